@@ -7,8 +7,8 @@
 #             refused, files of version 1, kills, a disk that fails, the scripts themselves (tools/check --help)
 # make docs   what scripts make of the sources, anew: docs/INDEX.md, docs/READING.md, docs/CALLS.md
 # make edits  the wrong bodies that the gate leaves out, edits/
-# make soak   what takes too long for the gate, after `make test`: plays, refused memory, kills, a disk that fails, large files of version 1, the programs and
-#             measures of bench/, the wrong bodies of edits/ (tools/soak --help)
+# make soak   what takes too long for the gate, after `make test`: plays, refused memory, kills, a disk that fails, large files of version 1, the screens with
+#             all pictures, the programs and measures of bench/, the wrong bodies of edits/ (tools/soak --help)
 # make release  an archive and a Debian package of build/procure, in build/release (tools/release --help)
 # make bench  measures build/procure (bench/desk --help)
 RT ?= rt

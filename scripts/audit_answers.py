@@ -18,6 +18,8 @@ from audit_office import Json, Unreadable, json_object
 # presenting, changing or `GET /tenders/R` answers its tenderer; securities and contracts are shown to the clerk and to their tenderer.
 OF_NOTICES = {"releases": ".json", "record": ".json", "minutes": ".txt", "terms": ".json", "evaluation": ".txt", "register": ".txt"}
 HELD = ("receipt", "security", "performance", "contract")
+# The folders of what `tools/mirror` keeps.
+MIRRORED = {"record": "records", "minutes": "minutes", "terms": "terms", "evaluation": "evaluations"}
 
 # Seconds that one answer is waited for in all, seconds of the longest wait that isn't asked for, and how often an office that can't answer is asked again.
 PATIENCE, LONGEST, AGAIN = 600, 30, 5
@@ -52,9 +54,17 @@ class Answers:
         self.fields = fields_in(key) if key else {}
         self.asked: dict[str, str | None] = {}
         self.list: list[Json] | None = None
+        self.is_mirror = os.path.exists(os.path.join(self.folder, "mirror.json")) if self.folder else False
+
+    def path_of(self, name: str) -> str:
+        """Where a file of the folder is, also of one that `tools/mirror` keeps."""
+        kind, _, rest = name.partition("-")
+        return os.path.join(self.folder, *([MIRRORED[kind], rest] if self.is_mirror and kind in MIRRORED else [name]))
 
     def names(self, kind: str, end: str) -> list[str]:
         """What stands behind `kind-` in the names of the folder's files."""
+        if self.is_mirror and kind in MIRRORED:
+            return sorted(os.path.basename(path)[:-len(end)] for path in glob.glob(os.path.join(glob.escape(self.folder), MIRRORED[kind], f"*{end}")))
         paths = glob.glob(os.path.join(glob.escape(self.folder), f"{kind}-*{end}")) if self.folder else []
         return sorted(os.path.basename(path)[len(kind) + 1:-len(end)] for path in paths)
 
@@ -123,9 +133,9 @@ class Answers:
 
     def saved(self, name: str) -> str | None:
         """The text of a file of the folder, or None where it isn't there."""
-        if not self.folder or not os.path.exists(os.path.join(self.folder, name)):
+        if not self.folder or not os.path.exists(self.path_of(name)):
             return None
-        with open(os.path.join(self.folder, name), encoding="utf-8", newline="") as file:
+        with open(self.path_of(name), encoding="utf-8", newline="") as file:
             return file.read()
 
     def of_notice(self, notice: str, kind: str) -> str | None:

@@ -8,14 +8,15 @@ import time
 from collections.abc import Callable, Mapping
 from typing import Any
 
+from client import AHEAD
 from common import fail
 
 Event = dict[str, Any]
 # What a page is answered in the server's place: a status and a body, or nothing.
 Answers = Mapping[str, tuple[int, bytes] | None]
 
-# Seconds until an answer, or what is waited for, must be there.
-PATIENCE = 60
+# Seconds until an answer, or what is waited for, must be there: more by AHEAD, as for deadlines.
+PATIENCE = max(60, 15 * AHEAD)
 KEYS = {"Tab": (9, ""), "Enter": (13, "\r")}
 DOMAINS = ("Page", "Runtime", "Log", "Network", "Audits")
 # Without a sandbox, since that isn't to be had by root in a container; the one page that it shows is that of this repository.
@@ -24,13 +25,16 @@ WORDS = ["--headless=new", "--no-sandbox", "--disable-gpu", "--disable-dev-shm-u
 
 
 class Browser:
-    """Chromium with a profile of its own in a folder; ended behind a `with`."""
+    """Chromium with a profile of its own in a folder; ended behind a `with`. Pictures are taken where they are asked for: each costs as much as a view."""
 
-    def __init__(self, program: str, folder: str) -> None:
+    def __init__(self, program: str, folder: str, pictures: bool = False) -> None:
+        self.pictures = pictures
         self.stream, end = socket.socketpair()
         self.stream.settimeout(PATIENCE)
         self.count, self.rest = 0, b""
         self.events: list[Event] = []
+        # Requests that wait to be answered.
+        self.paused: list[Event] = []
 
         def plumb() -> None:
             # It reads at 3 and writes at 4.
@@ -63,7 +67,8 @@ class Browser:
         number = self.count
         while (message := self.receive()).get("id") != number:
             # (An answer that came too late for its command is none.)
-            self.events += [message] if "method" in message else []
+            if "method" in message:
+                (self.paused if message["method"] == "Fetch.requestPaused" else self.events).append(message)
         if "error" in message:
             fail(f"chromium: {method}: {message['error']['message']}")
         return message["result"]
@@ -129,14 +134,13 @@ class Page:
             self.answer()
             if time.monotonic() > end:
                 fail(f"the page: {what}: doesn't come to hold; it shows {self.text()!r}")
-            time.sleep(0.01)
+            time.sleep(0.02)
             # Events come with the answer to a command.
             self.run("0")
 
     def answer(self) -> None:
         """Answers what the page has asked, where `answers` has it."""
-        paused = [event for event in self.browser.events if event["method"] == "Fetch.requestPaused"]
-        self.browser.events = [event for event in self.browser.events if event not in paused]
+        paused, self.browser.paused = self.browser.paused, []
         for event in paused:
             request = event["params"]["requestId"]
             path = "/" + event["params"]["request"]["url"].split("/", 3)[3]
@@ -198,8 +202,20 @@ class Page:
         return told
 
     def picture(self, path: str) -> None:
-        """A picture of the whole page, also of what one would have to scroll to."""
+        """A picture of the whole page, also of what one would have to scroll to; none where none are asked for."""
+        if not self.browser.pictures:
+            return
         size = self.ask("Page.getLayoutMetrics")["cssContentSize"]
-        clip = {"x": 0, "y": 0, "width": size["width"], "height": size["height"], "scale": 1}
+        self.take(path, size["width"], size["height"], 1)
+
+    def small_picture(self, path: str) -> None:
+        """A small picture of the top of a page, for README."""
+        if self.browser.pictures:
+            self.shape(1280)
+            self.take(path, 1280, 860, 0.6)
+
+    def take(self, path: str, width: int, height: int, scale: float) -> None:
+        clip = {"x": 0, "y": 0, "width": width, "height": height, "scale": scale}
         with open(path, "wb") as file:
-            file.write(base64.b64decode(self.ask("Page.captureScreenshot", format="png", captureBeyondViewport=True, optimizeForSpeed=True, clip=clip)["data"]))
+            shot = self.ask("Page.captureScreenshot", format="png", captureBeyondViewport=True, optimizeForSpeed=scale == 1, clip=clip)
+            file.write(base64.b64decode(shot["data"]))

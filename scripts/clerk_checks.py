@@ -32,10 +32,11 @@ def firms(scene: Scene) -> Client[Answer]:
 
 
 def budget_part(desk: Desk) -> None:
-    """A file with semicolons is told, one that is right shows what it changes, and is taken in."""
+    """A file with semicolons is told, one that is right shows what it changes, and is taken in; the same under another name is warned of."""
     desk.go("budget")
     desk.drop(BUDGET.replace(",", ";"), "budget.csv")
     desk.says("The fields are parted by semicolons")
+    check("rows that echo the semicolons are told", "1 thing is wrong in it" in desk.told())
     desk.drop("line,kind,amount,title\n1000,add,1.5,Roads\n2000,cut,5,Parks\n", "budget.csv")
     desk.says("has cents, or a part of a unit")
     desk.picture("budget-wrong")
@@ -43,11 +44,19 @@ def budget_part(desk: Desk) -> None:
     desk.says("The office would take this file in.")
     desk.picture("budget-right")
     desk.press("Take the file in")
+    check("the request isn't folded", "POST /budget/B1" not in desk.told())
+    desk.press("The request, as it is sent")
     desk.says("POST /budget/B1")
     desk.picture("order")
     told = desk.confirm("Take it in", "The budget file B1 was taken in.")
     check(f"the receipt is shown: {told}", '"rows":2' in told)
-    desk.page.wait("document.querySelector('main').innerText.includes('5,000')")
+    desk.page.wait("[...document.querySelectorAll('main section')].at(-1).innerText.includes('5,000')")
+    desk.drop(BUDGET.replace("Roads", "Roads and paths"), "B2.csv")
+    desk.says("Careful: the same amounts were taken in already, under B1.")
+    desk.says("Careful: 2 lines would have twice what they have: 1000, 2000.")
+    desk.press("Take the file in")
+    desk.page.wait("document.querySelector('dialog[open] .wrong')?.innerText.includes('under B1')")
+    desk.press("Not yet")
 
 
 def tenderers_part(desk: Desk) -> None:
@@ -58,7 +67,7 @@ def tenderers_part(desk: Desk) -> None:
         desk.says("The file was read into the fields below.")
         desk.press("Register a tenderer")
         desk.confirm("Register", f"{name} is registered.")
-        desk.says("Tenderers of this journal")
+        desk.page.wait(f"document.querySelector('main table')?.innerText.includes({json.dumps(address)})")
     desk.picture("tenderers")
 
 
@@ -91,6 +100,16 @@ def notice_part(desk: Desk) -> None:
     desk.says("The office would take this notice.")
     check("the free money stands beside the estimate", "Line 1000 has 5,000 free; this notice wants 1,900; 3,100 are left." in desk.told())
     check("what a sheet wrote is told", "\u201c1.600,00\u201d as 1600" in desk.told())
+    check("what is seldom meant is told", "Without a standstill the losers can't object" in desk.told())
+    for field, value in (("Days of validity", "10"), ("Days of standstill", "10"), ("Deadline", local(desk, time.time() + 86_400 * 3 - 60))):
+        desk.field(field, value)
+    for text in ("nothing could ever be signed", "The deadline is 2 days away."):
+        desk.says(text)
+    for field, value in (("Days of validity", "90"), ("Days of standstill", "0"), ("Deadline", local(desk, time.time() + 86_400 * 40))):
+        desk.field(field, value)
+    desk.field("Performance security", "1,000")
+    check("groups of three aren't taken", desk.page.run("hands.field('Performance security').value") == "1000")
+    desk.field("Performance security", "70")
     check("the size is told", re.search(r"The notice has \d+ of at most 65,536 bytes", desk.told()) is not None)
     desk.picture("notice-right")
     desk.press("See it as the public will")
@@ -116,7 +135,8 @@ def tenders_part(desk: Desk, scene: Scene) -> None:
     desk.go("today")
     desk.go("notice/N1")
     desk.says("In time, by lots: L1: 2, L2: 1.")
-    desk.press("Look")
+    desk.says("2 securities")
+    check(f"whose they are is told: {desk.told()}", "G1" in desk.told() and "told from the opening on" in desk.told() and "Beta" not in desk.told())
     desk.picture("receiving")
 
 
@@ -125,7 +145,7 @@ def opening_part(desk: Desk, deadline: float) -> None:
     wait_until(deadline + 1.1)
     desk.press("Open the tenders \u2026")
     desk.confirm("Open them", "3 tenders of notice N1 were opened.")
-    desk.says("Evaluation")
+    desk.says("2 tenders to examine")
     desk.go("minutes/N1")
     desk.says("3 tenders were opened.")
     check(f"the minutes are shown: {desk.told()}", all(word in desk.told() for word in ("Alpha & S\u00f6hne", "unreadable", "In the presence of", "540 EUR")))
@@ -138,25 +158,39 @@ def award_part(desk: Desk) -> None:
     desk.says("2 tenders to examine")
     desk.picture("evaluation")
     check("before the examination the award is off", desk.page.run("hands.button('Award \u2026', hands.part('Lot L1')).disabled"))
+    other = Desk(desk.scene)
+    other.give_key()
+    other.settle("today")
+    other.says("Lot L1: 2 tenders wait for their examination")
+    other.says("Tenders bind until")
+    other.go("notice/N1")
+    other.says("2 tenders to examine")
     for name, receipt in (("Alpha & S\u00f6hne", 1), ("Beta Ltd", 2)):
         desk.press("Responsive \u2026", place=f"Examination of {name}, receipt {receipt}")
         desk.confirm("That is what was found", f"The tender of {name} is examined.")
     desk.says("Lot L1 goes to Beta Ltd for 540 EUR.")
-    examined_elsewhere(desk.scene)
+    examined_elsewhere(other)
     desk.press("Award \u2026", place="Lot L1")
+    desk.says("Award lot L1 of N1 to Beta Ltd")
     desk.confirm("Award it", "Lot L1 is decided. Price: 540; receipt: 2.")
     desk.press("Award \u2026", place="Lot L2")
+    desk.says("Award lot L2 of N1 to nobody")
     desk.confirm("Award it", "Lot L2 is decided.")
+    desk.says("Lot L1: the award is to be signed")
+    check(f"a standstill is told that never was: {desk.told()}", "The standstill" not in desk.told())
     desk.press("Letters to those who tendered")
     desk.settle("letter/N1/L1")
-    check(f"there is a letter to each: {desk.told()}", "Your tender is accepted, at 540 EUR." in desk.told() and "Your price isn't the lowest." in desk.told())
+    tells(desk, "Your tender is accepted, at 540 EUR.", "Your security G2, of 60 EUR, is held until the lot's contract is signed, and goes back then.",
+          "it isn't accepted. Its price wasn't the lowest.", "Your security G1, of 50 EUR, is held", "From: City Office, Anna", "Signature: City Office, Anna")
     desk.picture("letters")
     desk.go("notice/N1")
     desk.press("The winner doesn't sign")
     desk.picture("awarded")
     desk.press("Pass over \u2026")
+    desk.says("Pass over Beta Ltd: lot L1 of N1 (award 1)")
     desk.confirm("Pass over", "The winner of award 1 was passed over.")
-    desk.says("Beta Ltd, for 540 EUR, was passed over.")
+    desk.says("It won; then the winner didn't sign.")
+    short_of_money(desk)
     desk.press("Award \u2026", place="Lot L1")
     desk.confirm("Award it", "Lot L1 is decided. Price: 570; receipt: 1.")
     desk.field("Reference of the performance security", "P1")
@@ -165,25 +199,40 @@ def award_part(desk: Desk) -> None:
     desk.says("The notice asks for at least 70.")
     desk.field("Its amount", "70")
     desk.press("Sign \u2026")
+    desk.says("Sign lot L1 of N1 with Alpha & S\u00f6hne (award 2)")
     desk.confirm("Sign", "Contract 2 is signed.")
+    desk.go("letter/N1/L1")
+    tells(desk, "Your security G1, of 50 EUR, was given back.", "It won; then the winner didn't sign.", "Your security G2, of 60 EUR, is forfeited.")
+    desk.go("notice/N1")
 
 
-def examined_elsewhere(scene: Scene) -> None:
-    """Another tab, which doesn't know of the examinations, is told so by the office, and may ask for the award anyway."""
-    other = Desk(scene)
-    other.give_key()
-    other.settle("today")
-    other.go("notice/N1")
+def tells(desk: Desk, *texts: str) -> None:
+    """The screen says each of these."""
+    missing = [text for text in texts if text not in desk.told()]
+    check(f"{missing} is missing: {desk.told()}", not missing)
+
+
+def short_of_money(desk: Desk) -> None:
+    """Where the line has less free than a price is above what the lot has reserved, the award can't be asked for."""
+    desk.page.answer_for({"/lines/1000": (200, b'{"free":29,"line":"1000","title":"Roads"}')})
+    desk.go("today")
+    desk.go("notice/N1")
+    desk.says("The price is 30 EUR above what the lot has reserved, and line 1000 has 29 EUR free")
+    check("an award that the office would refuse can be asked for", desk.page.run("hands.button('Award \u2026', hands.part('Lot L1')).disabled"))
+    desk.page.ask("Fetch.disable")
+    desk.go("today")
+    desk.go("notice/N1")
+
+
+def examined_elsewhere(other: Desk) -> None:
+    """A tab whose screen is older than the examinations is told of them by the office, and shows what was found then."""
     other.press("Responsive \u2026", place="Examination of Alpha & S\u00f6hne, receipt 1")
     other.page.wait("document.querySelector('dialog[open] .steps button')")
     other.page.run("hands.sure()")
     other.press("That is what was found")
     other.says("It was examined elsewhere, or withdrawn late, and that stays.")
     other.press("Close")
-    other.says("1 tender waits for its examination first.")
-    check("what the office said of the other stands there", "examined elsewhere, or withdrawn late" in other.told())
-    other.press("Were they examined elsewhere?")
-    other.page.wait("hands.button('Ask the office \u2026') && !hands.button('Ask the office \u2026').disabled")
+    other.says("Lot L1 goes to Beta Ltd for 540 EUR.")
     other.leave()
 
 
@@ -194,6 +243,7 @@ def contract_part(desk: Desk) -> None:
     for field, value in (("Number of the invoice or the change", "A1"), ("Amount", "60"), ("Reason", "More kerbs")):
         desk.field(field, value, place=form)
     desk.press("Change \u2026", place=form)
+    desk.says("Contract 2: lot L1, with Alpha & S\u00f6hne.")
     desk.confirm("Change it", "Contract 2 was changed. Outstanding: 630.")
     for number, amount, left in (("I-17", "400", "230"), ("I-18", "100", "130")):
         desk.field("Number of the invoice or the change", number, place="A payment")
@@ -207,13 +257,14 @@ def contract_part(desk: Desk) -> None:
     desk.says("This number was used in this contract.")
     desk.picture("contract")
     desk.press("End the contract")
-    desk.press("End regularly \u2026")
+    desk.press("End as agreed \u2026")
     desk.confirm("End it", "Contract 2 has ended.")
-    desk.says("Performance security P1, 70 EUR: given back")
+    desk.says("P1: Given back")
+    check(f"how it ended is told: {desk.told()}", "Ended as agreed" in desk.told())
 
 
 def journal_part(desk: Desk) -> None:
-    """The journal has an entry for each that was sent, comes back from its file, and knows then what no look shows."""
+    """The journal has an entry for each that was sent, and comes back from its file."""
     desk.go("journal")
     desk.picture("journal")
     entries = desk.page.run("import('/clerk/session.js').then(({ journal }) => journal().entries.map(({ path, status, who }) => [path, status, who]))")
@@ -221,15 +272,13 @@ def journal_part(desk: Desk) -> None:
     text = desk.page.run("Promise.all([import('/clerk/session.js'), import('/clerk/journal.js')]).then(([{ journal }, { fileOf }]) => fileOf(journal()))")
     check("the key is in the journal", '"abc"' not in text and "Office-Key" not in text)
     other = Desk(desk.scene, place="#notice/N1")
-    check("without the journal the terms aren't known", "This tab doesn't know" in other.told())
+    tells(other, "Whether it ended as agreed or by default is not published.", "Worth at its end", "Contract 2 ended, 500 EUR of 630 EUR paid.")
     other.go("journal")
     other.drop(text.replace("More kerbs", "Less kerbs"), "journal.jsonl")
     other.says("What was sent doesn't match its SHA-256")
     other.drop(text, "journal.jsonl")
     other.says("Entries, the last one first")
     other.page.wait("document.querySelectorAll('.entries > li').length === 16")
-    other.go("notice/N1")
-    check(f"with the journal they are: {other.told()}", "Terms that no record tells" in other.told() and "responsive" in other.told())
 
 
 def life(scene: Scene) -> None:
@@ -242,7 +291,7 @@ def life(scene: Scene) -> None:
     desk.picture("key")
     time.sleep(2.2)
     desk.field("Key", "abc")
-    desk.press("Hold the key in this tab")
+    desk.press("Begin with this key")
     desk.settle("today")
     budget_part(desk)
     tenderers_part(desk)
@@ -312,12 +361,18 @@ def stops(scene: Scene) -> None:
     for label, value in (("Identifier", "T9"), ("Name", "Gamma"), ("Address", "Mill Lane 3"), ("SHA-256 of the key", "ab " * 32)):
         desk.field(label, value)
     desk.press("Register a tenderer")
-    desk.page.answer_for({"/tenderers/T9": (504, b'{"front":"no answer"}')})
+    lists = {name: (200, json.dumps({"next": None, "tenderers": [{"address": "Mill Lane 3", "name": name, "tenderer": "T9"}]}).encode())
+             for name in ("Other", "Gamma")}
+    no_answer, exists = (504, b'{"front":"no answer"}'), (409, b'{"name":"Exists","refusal":10}')
+    desk.page.answer_for({"/tenderers/T9": no_answer, "/tenderers": no_answer})
     desk.page.wait("document.querySelector('dialog[open] .steps button')")
     desk.page.run("hands.sure()")
     desk.press("Register")
     desk.says("What became of it can't be told by a look.")
-    desk.page.answer_for({"/tenderers/T9": (409, b'{"name":"Exists","refusal":10}')})
+    desk.page.answer_for({"/tenderers/T9": no_answer, "/tenderers": lists["Other"]})
+    desk.press("Ask again what became of it")
+    desk.says("It isn't done: the office shows nothing of it.")
+    desk.page.answer_for({"/tenderers/T9": exists, "/tenderers": lists["Gamma"]})
     desk.press("Send the same again")
     desk.says("It is done.")
     found = desk.page.run("import('/clerk/session.js').then(({ journal }) => journal().entries.map(({ status, found }) => [status, found]))")

@@ -15,7 +15,7 @@ HANDS = """(() => {
   const dialog = () => document.querySelector("dialog[open]");
   const all = (selector, place) => [...(place ?? dialog() ?? document).querySelectorAll(selector)];
   const nameOf = (at) => at.getAttribute("aria-label") ?? text(at.querySelector("h2, h3"));
-  const text = (at) => at.textContent.replace(/\\s+/g, " ").trim();
+  const text = (at) => (at?.textContent ?? "").replace(/\\s+/g, " ").trim();
   window.hands = {
     field(label, place) {
       const labels = all("label", place).filter((at) => text(at) === label);
@@ -90,13 +90,16 @@ class Desk:
     def drop(self, text: str, name: str, at: int = 0) -> None:
         self.page.run(f"hands.drop({json.dumps(text)}, {json.dumps(name)}, {at})")
 
-    def confirm(self, send: str, done: str) -> str:
-        """Says once more that it is meant, sends, and gives what the desk tells then."""
+    def confirm(self, send: str, done: str, kind: str = "good") -> str:
+        """Says once more that it is meant, sends, and gives what the desk tells then, as something of a kind."""
         self.page.wait("document.querySelector('dialog[open] .steps button')")
         self.page.run("hands.sure()")
         self.press(send)
         self.says(done)
+        self.page.run("document.querySelectorAll('dialog[open] details').forEach((at) => { at.open = true; })")
         told = self.told()
+        shown = self.page.run("document.querySelector('dialog[open] [role=status] > *').className")
+        check(f"{done} is told as {shown}", shown == kind)
         self.press("Close")
         # The screen is drawn anew then.
         self.page.wait("!document.querySelector('dialog') && document.querySelector('main').getAttribute('aria-busy') === 'false'")
@@ -106,7 +109,7 @@ class Desk:
         self.go("key")
         self.field("Your name", "Anna")
         self.field("Key", f"Office-Key: {key}")
-        self.press("Hold the key in this tab")
+        self.press("Begin with this key")
 
     def give_key_by(self, language: str) -> None:
         """The key, in a language that the hand doesn't read."""
@@ -120,10 +123,12 @@ class Desk:
         """Leaves the desk, so that nothing of it asks any more."""
         self.page.ask("Fetch.disable")
         self.page.ask("Page.navigate", url="about:blank")
-        self.page.browser.events = [event for event in self.page.browser.events if event["method"] != "Fetch.requestPaused"]
+        self.page.browser.paused.clear()
 
     def picture(self, name: str) -> None:
         """The screen, narrow and wide, light and dark: within the window, and with contrast."""
+        if name == "evaluation":
+            self.page.small_picture(os.path.join(self.scene.pictures, "clerk.png"))
         for width in WIDTHS:
             self.page.shape(width)
             page_checks.is_within(name, width, self.page)

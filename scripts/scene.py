@@ -8,9 +8,10 @@ from front import Front
 
 @dataclass
 class Scene:
-    """The front, the browser, the office's process, and where pictures go."""
+    """The front, the browser, the office's process, where pictures go, and the program."""
 
     front: Front
     browser: Browser
     office: "subprocess.Popen[bytes]"
     pictures: str
+    program: str

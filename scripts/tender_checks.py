@@ -1,11 +1,12 @@
 """What `tests/tender_desk` asks of the tenderer's desk, in a browser: a tender's life by the desk alone, what can't be sent, and answers that are lost."""
 import json
 import os
+import signal
 import time
 from collections.abc import Callable
 from typing import Any
 
-from client import wait_until
+from client import text_of, wait_until
 from common import check
 from page_checks import is_quiet, keeps_nothing, refusals
 from tender_office import Scene
@@ -31,12 +32,13 @@ def key(scene: Scene) -> None:
     desk.says("its file was saved")
     desk.press("Ask whether")
     desk.says("The name and the key don't go together.")
-    desk.press("Save it as a file for the clerk")
+    desk.press("Save the sheet as a file for the clerk")
     told = json.loads(desk.saved("registration-T9.json"))
     check(f"the file for the clerk has {told}", told["key"] == digest_of(made.encode()))
     scene.client.clerk("/tenderers/T9", {name: told[name] for name in ("name", "address", "key")})
     desk.press("Ask whether")
     desk.says("The office knows T9 by this key.")
+    check("the way to an offer isn't told", desk.can_press("Make an offer"))
     scene.put("none.key", b"Office-Key: x\n")
     desk.press("Put it away")
     desk.says("No key is in this tab.")
@@ -50,12 +52,14 @@ def offer(scene: Scene) -> None:
     whether both belong together."""
     desk = Desk(scene, "T1")
     desk.at("offer", "Make an offer")
+    desk.says("take tenders")
+    check(f"open notices are listed: {desk.page.text()}", all(text in desk.page.text() for text in ("Road repair", "Things of all kinds", "closes in")))
     desk.fill("offer-notice", "N 1")
     desk.press("Show")
     desk.says("That is no number of the office.")
-    desk.fill("offer-notice", "N1")
+    desk.fill("offer-notice", "n1")
     desk.press("Show")
-    desk.shows("Road repair")
+    desk.shows("Road repair", "offer/N1")
     desk.press("Offer for lot L1")
     desk.shows("Offer for lot L1")
     for unit, text in (("12.5", "no point"), ("1000000001", "too much"), ("x", "Digits alone")):
@@ -81,7 +85,7 @@ def offer(scene: Scene) -> None:
     check(f"the office has {found.body!r}", (found["digest"], found["security"], found["lot"]) == (digest_of(RIGHT), receipt, "L1"))
     desk.press("Save the receipt")
     desk.press("Save what was sent")
-    kept, sent = json.loads(desk.saved(f"receipt-{receipt}.json")), desk.saved("N1-L1.csv")
+    kept, sent = json.loads(desk.saved(f"receipt-{receipt}.json")), desk.saved(f"N1-L1-receipt-{receipt}.csv")
     check(f"the receipt's file has {kept}", sent == RIGHT and all(kept[name] == found[name] for name in ("digest", "receipt", "moment", "state", "notice")))
     belongs(scene, desk, receipt)
     is_quiet(desk.page)
@@ -90,12 +94,12 @@ def offer(scene: Scene) -> None:
 def belongs(scene: Scene, desk: Desk, receipt: int) -> None:
     """The file and its receipt belong together, another file doesn't, and the office has the same."""
     desk.at("check", "Do a file")
-    desk.page.choose("check-file", scene.path("N1-L1.csv"))
+    desk.page.choose("check-file", scene.path(f"N1-L1-receipt-{receipt}.csv"))
     desk.says("63 bytes")
     desk.page.choose("check-receipt", scene.path(f"receipt-{receipt}.json"))
     desk.says("They belong together.")
     desk.press("Ask the office")
-    desk.says("The office has the same.")
+    desk.says("The office has the same tender.")
     desk.page.choose("check-file", scene.put("other.csv", RIGHT + b"\n"))
     desk.says("They don't belong together.")
     check("a wrong file is green", not desk.has("good", "belong") and "another length" in desk.page.text())
@@ -142,30 +146,57 @@ def changes(scene: Scene) -> None:
     old = scene.client.present("T2", "N1", "L1", RIGHT, "G5", 55)["receipt"]
     desk = Desk(scene, "T2")
     desk.at("tenders", "My tenders")
-    desk.fill("tender-number", str(old))
-    desk.press("Show")
-    desk.shows(f"Tender with receipt {old}")
+    desk.page.wait(f"[...document.querySelectorAll('main tbody a')].some((at) => at.textContent === 'Change or withdraw {old}')")
+    desk.at(f"tender/{old}", f"Tender with receipt {old}")
     desk.says("G5")
     desk.press("Change the tender")
+    desk.says(f"take the file that you saved with receipt {old}, as N1-L1-receipt-{old}.csv")
     desk.prices("N1", "L1", 140, 12)
     desk.press("Look at it")
     desk.press(f"Send it in the place of receipt {old}")
     new = desk.receipt()
+    check(f"what it took the place of isn't told: {desk.page.text()}", desk.has("good", f"the tender with receipt {old}, which no longer counts"))
+    check(f"the security isn't told: {desk.page.text()}", "G5, 55 EUR" in desk.page.text())
     states = [scene.client.tender("T2", receipt)["state"] for receipt in (old, new)]
     check(f"the tenders are {states}", states == ["withdrawn", "sealed"])
     desk.at(f"tender/{new}", f"Tender with receipt {new}")
-    check(f"the price of a withdrawal is told so: {desk.page.text()}", desk.has("look", "Nothing: the security of 55 (G5) goes back."))
+    desk.press("Change the tender")
+    desk.says("The prices that you sent from this tab are filled in.")
+    prices = [desk.page.run(f"document.getElementById('unit-{at}').value") for at in (0, 1)]
+    check(f"the prices that are filled in are {prices}", prices == ["140", "12"])
+    desk.at(f"tender/{new}", f"Tender with receipt {new}")
+    check(f"the price of a withdrawal is told so: {desk.page.text()}", desk.has("look", "Nothing: the security of 55 EUR (G5) goes back."))
+    check("what it costs late isn't told", desk.has("look", "After the deadline this notice lets nobody withdraw."))
     check("it can be withdrawn without a tick", not desk.can_press("Withdraw the tender"))
+    is_close(scene, desk, new)
+    desk.tick("withdraw-sure")
+    # (as where the deadline comes while the view stands there)
+    desk.page.run("void (Date.now = ((now) => () => now() + 172_800_000)(Date.now.bind(Date)))")
+    desk.press("Withdraw the tender")
+    desk.says("what it costs may be something else by now")
+    check("it is withdrawn at a price that wasn't told", scene.client.tender("T2", new)["state"] == "sealed")
     desk.tick("withdraw-sure")
     desk.press("Withdraw the tender")
     desk.says("The tender was withdrawn.")
     told = scene.client.tender("T2", new)["state"], scene.client.security("T2", old)["state"]
     check(f"the office has {told}", told == ("withdrawn", "returned"))
     desk.at("tenders", "My tenders")
-    desk.press("Look for all")
-    desk.says("tenders are yours")
+    desk.says(f"replaced by {new}")
     check("own tenders aren't found", desk.page.run("document.querySelectorAll('tbody tr').length") >= 4)
+    check("a notice wasn't looked into", not desk.can_press("Look into all"))
     is_quiet(desk.page)
+
+
+def is_close(scene: Scene, desk: Desk, receipt: int) -> None:
+    """Shortly before the deadline it is told what a withdrawal that comes late would cost."""
+    terms = {**json.loads(scene.front.ask("GET", "/notices/N1/terms").body), "late_withdrawal": "forfeits", "deadline": text_of(time.time() + 40)}
+    desk.page.answer_for({"/notices/N1/terms": (200, json.dumps(terms).encode())})
+    for place, head in (("check", "Do a file"), (f"tender/{receipt}", "Tender with")):
+        desk.at(place, head)
+    check(f"what it costs late isn't told: {desk.page.text()}", desk.has("bad", "where it comes late, the security of 55 EUR (G5) is forfeited"))
+    desk.page.ask("Fetch.disable")
+    for place, head in (("check", "Do a file"), (f"tender/{receipt}", "Tender with")):
+        desk.at(place, head)
 
 
 def lost(scene: Scene) -> None:
@@ -203,13 +234,15 @@ def lost(scene: Scene) -> None:
 
 
 def stopped(scene: Scene) -> None:
-    """The office is stopped in the middle of a sending: that is told, and once it serves again it is asked, and the tender sent."""
+    """The office is killed in the middle of a sending: that is told, and once it serves again it is asked, and the tender sent."""
     desk = Desk(scene, "T1")
     desk.prices("N4", "L4", 150, 12)
     desk.press("Look at it")
     desk.shows("Before it is sent")
-    scene.stop()
+    scene.office.send_signal(signal.SIGSTOP)
     desk.press("Send the tender")
+    desk.page.expect("the tender is on its way", lambda: not desk.can_press("Send the tender"))
+    scene.stop()
     desk.says("Whether it was done isn't known yet.")
     desk.press("Ask the office")
     desk.says("The office can't be asked now.")
@@ -245,6 +278,8 @@ def late(scene: Scene) -> None:
     wait_until(scene.deadline + 1.05)
     desk = Desk(scene, "T1")
     desk.prices("N2", "L1", 150, 12)
+    desk.fill("security-reference", "G9")
+    desk.fill("security-amount", "50")
     desk.press("Look at it")
     desk.shows("Before it is sent")
     check("a late tender can be sent without a tick", desk.has("bad", "The deadline has passed") and not desk.can_press("Send the tender"))
@@ -253,18 +288,21 @@ def late(scene: Scene) -> None:
     desk.receipt()
     check("a late tender is green", desk.has("bad", "The tender came late and was given back."))
     beta = Desk(scene, "T2")
+    beta.page.run("import('/tender/session.js').then(({ session }) => { session.changing = { notice: 'N2', lot: 'L1', receipt: 1 }; })")
+    beta.prices("N2", "L1", 140, 12)
+    beta.press("Look at it")
+    beta.shows("Before it is sent")
+    is_told = beta.has("bad", "The tender stands as it is, and binds you.")
+    check(f"a tender can be changed late: {beta.page.text()}", is_told and not beta.can_press("Send it in the place"))
     beta.at("tender/1", "Tender with receipt 1")
-    check(f"the price is told so: {beta.page.text()}", beta.has("bad", "the security of 60 (G2) is forfeited"))
+    check(f"the price is told so: {beta.page.text()}", beta.has("bad", "the security of 60 EUR (G2) is forfeited"))
     check("it can be withdrawn without a tick", not beta.can_press("Withdraw the tender"))
     beta.tick("withdraw-sure")
     beta.press("Withdraw the tender")
     beta.says("withdrawn late")
     check("the security isn't forfeited", scene.client.security("T2", 1)["state"] == "forfeited")
     beta.at("tender/2", "Tender with receipt 2")
-    beta.tick("withdraw-sure")
-    beta.press("Withdraw the tender")
-    beta.says("This notice lets nobody withdraw from the deadline on.")
-    check("it was withdrawn", scene.client.tender("T2", 2)["state"] == "sealed")
+    check("it can be withdrawn", beta.has("bad", "this notice lets nobody withdraw") and not beta.can_press("Withdraw the tender"))
 
 
 def results(scene: Scene) -> None:
@@ -280,8 +318,8 @@ def results(scene: Scene) -> None:
     time.sleep(2.1)
     desk = Desk(scene, "T2")
     desk.at("tender/2", "Tender with receipt 2")
-    for text in ("It was read with a price of 570 EUR.", "It stated 550 EUR; 1 figure was corrected.", "Award 1 to you for 570 EUR", "370 EUR", "70 (P1): held",
-                 "returned"):
+    for text in ("It was read with a price of 570 EUR.", "It stated 550 EUR; 1 figure was corrected.", "The contract was signed.", "370 EUR", "P1: Held",
+                 "Given back"):
         check(f"{text}: {desk.page.text()}", text in desk.page.text())
     desk.page.picture(os.path.join(scene.pictures, "results-desktop-light.png"))
     is_quiet(desk.page)

@@ -34,7 +34,6 @@ class Scene(scene.Scene):
     """What the tests of the desk share besides: the program and its file, which a test may stop and start again; who asks the office beside the desk; a folder
     for files."""
 
-    program: str
     file: str
     client: Client[Answer]
     folder: str

@@ -135,6 +135,8 @@ def with_file(scene: Scene, desk: Desk, language: str) -> None:
 def looked_at(scene: Scene, desk: Desk, name: str, language: str) -> None:
     """One view in all widths, light and dark."""
     page, called = desk.page, f"{name}, {language}"
+    if (name, language) == ("send", "en"):
+        page.small_picture(os.path.join(scene.pictures, "tender.png"))
     for width in WIDTHS:
         page.shape(width)
         is_within(called, width, page)
@@ -198,7 +200,7 @@ def other_digest(scene: Scene, desk: Desk) -> None:
     desk.page.answer_for({"/notices/N4/lots/L1/tenders": (200, json.dumps(body).encode()), "/tenders/77": (404, b"{}")})
     desk.press("Send the tender")
     desk.receipt()
-    check("another digest is green", desk.has("bad", "something else") and not desk.has("good", "exactly"))
+    check("another digest is green", desk.has("bad", "something else") and not desk.has("good", ""))
 
 
 def sums(_: Scene, desk: Desk) -> None:
@@ -236,7 +238,7 @@ PLANTS: list[tuple[str, str, str, str, Callable[[Scene, Desk], None]]] = [
     ("tenders", "press.disabled = true;", "press.disabled = false;", "T2", wants_tick),
     ("convert", "quantity !== null && quantity !== item.quantity", "false", "T1", cannot_send),
     ("session", "export const session = {", "localStorage.setItem('key', 'x');\nexport const session = {", "T1", stores_nothing),
-    ("main", "let asked = 0;", "let asked = 0;\nfetch('https://127.0.0.2/').catch(() => 0);", "T1", stores_nothing),
+    ("main", "const MENU = {", "fetch('https://127.0.0.2/').catch(() => 0);\nconst MENU = {", "T1", stores_nothing),
 ]
 
 

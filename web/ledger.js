@@ -1,63 +1,89 @@
-// The budget: a bar for each line, of what is paid, contracted, reserved and free of its appropriation.
-import { bar, count, element, given, key, number } from "./draw.js";
-import { title } from "./office.js";
+// The budget: a bar for each line, of what is paid, contracted, reserved and free of its appropriation; and a line with its procurements.
+import { grouped, rows, sum, tables, worthNow } from "./common/data.js";
+import { bar, element, given, key, link, placeOf, section, title } from "./common/draw.js";
+import { entriesOf, plain } from "./common/filters.js";
+import { field, growing, table } from "./common/forms.js";
+import { number } from "./common/money.js";
+import { ledger, line as lookAtLine, notices, officeNow, part } from "./common/office.js";
+import { POTS, pots } from "./common/pots.js";
+import { stateBadge } from "./common/states.js";
+import { say } from "./common/texts.js";
 
 const AT_ONCE = 20;
 
-function partsOf(line) {
-  return ["paid", "contracted", "reserved", "free"].map((kind) => ({ kind, name: kind[0].toUpperCase() + kind.slice(1), amount: line[kind] }));
+function potsOf(name, line) {
+  const parts = pots((kind) => line[kind]);
+  return [element("p", {}, say("see.appropriation"), " ", element("b", {}, number(line.appropriation))), bar(name, parts), key(parts, "")];
 }
 
-function pots(name, line) {
-  const parts = partsOf(line);
-  return [element("p", {}, "Appropriation ", element("b", {}, number(line.appropriation))), bar(name, parts), key(parts, "")];
+/** The title of a line: as the mirror has it, else as the office tells it; where it can't be had, the line goes by its identifier alone. */
+function addTitle(heading, line, titles) {
+  const told = titles.has(line) ? Promise.resolve(titles.get(line)) : lookAtLine(line).then(({ title: text }) => text);
+  told.then((text) => heading.append(": ", given(text)), () => heading.append(": –"));
 }
 
-function sumOf(lines) {
-  const names = ["appropriation", "free", "reserved", "contracted", "paid"];
-  return Object.fromEntries(names.map((name) => [name, lines.reduce((sum, line) => sum + line[name], 0)]));
+function card(line, titles, counts) {
+  const name = say("see.line.of", { line: line.line });
+  const heading = element("h3", {}, link(name, placeOf("line", line.line)));
+  addTitle(heading, line.line, titles);
+  const count = new Set(counts?.get(line.line)?.map(({ notice }) => notice)).size;
+  return element("li", { class: "card" }, heading, potsOf(name, line),
+    counts ? element("p", { class: "quiet" }, say("see.line.procurements", { count })) : null);
 }
 
-function card(line) {
-  const heading = element("h3", {}, `Line ${line.line}`);
-  // Where it can't be had, the line goes by its identifier alone.
-  title(line.line).then((text) => heading.append(": ", given(text)), () => {});
-  return element("li", { class: "card" }, heading, ...pots(`Line ${line.line}`, line));
-}
-
-/** A list that shows some lines and, by a button, some more. */
-function cards(lines) {
-  const list = element("ul", { class: "lines" });
-  const button = element("button", { type: "button", class: "more" });
-  let shown = 0;
-  const more = () => {
-    const next = lines.slice(shown, shown + AT_ONCE).map(card);
-    list.append(...next);
-    shown += next.length;
-    button.hidden = shown >= lines.length;
-    button.textContent = `Show more lines (${number(lines.length - shown)} left)`;
-    return next;
-  };
-  more();
-  button.addEventListener("click", () => {
-    const [first] = more();
-    first.tabIndex = -1;
-    first.focus();
+/** All lines; where they are many, those whose number or title has what is typed. */
+function search(lines, titles, counts) {
+  const shown = (some) => growing(element("ul", { class: "lines" }), some, (line) => card(line, titles, counts), AT_ONCE);
+  const { made, input, value } = field(say("see.budget.search"), { id: "by-line", kind: "search" });
+  const found = element("div", {}, shown(lines));
+  input.addEventListener("input", () => {
+    const asked = plain(value());
+    found.replaceChildren(...shown(lines.filter(({ line }) => plain(`${line} ${titles.get(line) ?? ""}`).includes(asked))));
   });
-  return [list, button];
+  return [lines.length > AT_ONCE ? made : null, found];
 }
 
 /** The whole budget. */
-export function drawLedger(lines) {
-  const heading = element("h1", { tabindex: "-1" }, "Budget");
+export async function drawBudget() {
+  const [lines, budget, lots] = await Promise.all([ledger(), rows("budget"), rows("lots")]);
+  const told = say("see.budget.lines", { count: lines.length });
   if (lines.length === 0) {
-    return [heading, element("p", {}, "No budget line has been imported yet.")];
+    return { title: say("see.page.ledger"), told, content: [title(say("see.page.ledger")), element("p", {}, say("see.budget.none"))] };
   }
-  const sum = sumOf(lines);
-  const all = Number.isSafeInteger(sum.appropriation) ? [element("section", { class: "card", "aria-labelledby": "all" },
-    element("h2", { id: "all" }, lines.length === 1 ? "The one line" : `All ${count(lines.length, "line")}`), ...pots("All lines", sum))] : [];
-  const words = "What a line may spend, its appropriation, is paid already, contracted and still to pay, reserved for lots that have no contract yet, or free.";
-  return [heading, element("p", { class: "intro" }, words), ...all,
-    element("section", { "aria-labelledby": "each" }, element("h2", { id: "each" }, "Line by line"), ...cards(lines)),
-    element("p", {}, "Drawn from ", element("a", { href: "/ledger" }, "/ledger"))];
+  const all = Object.fromEntries(["appropriation", ...POTS].map((name) => [name, sum(lines.map((line) => line[name]))]));
+  const whole = section(told, potsOf(say("see.budget.all"), all));
+  whole.classList.add("card");
+  const titles = new Map((budget ?? []).map(({ line, title: text }) => [line, text]));
+  const counts = lots && grouped(lots, ({ line }) => line);
+  return { title: say("see.page.ledger"), told, content: [title(say("see.page.ledger")), element("p", { class: "intro" }, say("see.budget.intro")),
+    Number.isSafeInteger(all.appropriation) ? whole : null,
+    section(say("see.budget.each"), search(lines, titles, counts)),
+    element("p", {}, say("see.from"), " ", link("/ledger", "/ledger"))] };
+}
+
+function lotTable(lots, entries, currency) {
+  const known = new Map(entries.map((one) => [one.notice, one]));
+  const cells = lots.filter(({ notice }) => known.has(notice)).map((lot) => {
+    const { title: text, state } = known.get(lot.notice);
+    const own = lot.status === "active" ? (lot.winner && state === "opened" ? "awarded" : state)
+      : lot.status === "complete" && lot.contract_status === "active" ? "running" : lot.status;
+    const amount = (value) => (value === null ? "–" : number(value));
+    return [link(given(text), placeOf("notice", lot.notice)), [`${lot.lot} `, given(lot.title)], stateBadge(own),
+      amount(lot.estimate), amount(worthNow(lot) ?? lot.price), amount(lot.paid)];
+  });
+  return table(say("see.line.table", { currency }), [say("see.procurement"), say("see.lot.short"), say("see.state"), say("see.estimate"), say("see.worth"),
+    say("see.paid")], cells, { figures: [3, 4, 5] });
+}
+
+/** A line, and what is bought of it. */
+export async function drawLine(name) {
+  const [line, list, data] = await Promise.all([lookAtLine(part(name)), notices(), tables("notices", "lots")]);
+  const own = (data?.lots ?? []).filter((lot) => lot.line === name);
+  const told = `${say("see.line.of", { line: name })}: ${line.title}`;
+  const bought = own.length > 0 ? lotTable(own, entriesOf(list, data, officeNow()), own[0].currency)
+    : element("p", {}, say(data ? "see.line.nothing" : "see.nodata"));
+  return { title: told, told, content: [title(say("see.line.of", { line: name }), ": ", given(line.title)),
+    element("section", { class: "card", "aria-label": say("see.pots") }, potsOf(say("see.line.of", { line: name }), line)),
+    section(say("see.line.bought"), bought),
+    element("p", {}, link(say("see.budget.back"), "#ledger"), " · ", link(say("see.line.list"), `#list?line=${encodeURIComponent(name)}`))] };
 }

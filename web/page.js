@@ -1,108 +1,49 @@
-// Which view is shown: that of a notice at #notice/NUMBER, that of the budget at #ledger, and else where to begin.
-import { count, element } from "./draw.js";
-import { drawLedger } from "./ledger.js";
-import { Refused, ledger, minutes, record, releases } from "./office.js";
-import { drawProcess, stateText } from "./process.js";
+// Which view of the portal is shown, by the address, in the language that is spoken.
+import { decoded, drawAround, refused, showViews } from "./common/frame.js";
+import { link } from "./common/draw.js";
+import { drawNotice } from "./common/process.js";
+import { addTexts, say } from "./common/texts.js";
+import { drawAbout, siteName } from "./about.js";
+import { drawFigures } from "./figures.js";
+import { drawFirm, drawFirms } from "./firms.js";
+import { drawBudget, drawLine } from "./ledger.js";
+import { drawList, meant } from "./list.js";
 
-const SITE = "Public procurement";
-const main = document.getElementById("content");
-const status = document.getElementById("status");
-const input = document.getElementById("notice");
-let asked = 0;
+await addTexts({ en: () => import("./en.js"), de: () => import("./de.js") });
+// The views by the first word of the address, each with the page of the menu that it belongs to. What stands behind the word is given to them.
+const VIEWS = { list: [drawList, "list"], notice: [drawNotice, "list"], ledger: [drawBudget, "ledger"], line: [drawLine, "ledger"], firms: [drawFirms, "firms"],
+  firm: [drawFirm, "firms"], figures: [drawFigures, "figures"], about: [drawAbout, "about"] };
+const PAGES = ["list", "ledger", "firms", "figures", "about"];
+let site = "";
 
-/** Identifiers of the office. Two of them can't be in an address: browsers take `.` and `..` for folders. */
-function isNotice(text) {
-  return /^[A-Za-z0-9_.-]{1,32}$/.test(text) && text !== "." && text !== "..";
-}
-
-async function noticeView(notice) {
-  if (!isNotice(notice)) {
-    throw new Refused("", "That is no number of a notice. A number has 1 to 32 letters, digits, _ . or -");
-  }
-  const [compiled, all, opened] = await Promise.all([record(notice), releases(notice), minutes(notice)]);
-  return { title: compiled.tender.title, told: `${stateText(compiled)}.`, content: drawProcess(notice, compiled, all, opened) };
-}
-
-async function ledgerView() {
-  const lines = await ledger();
-  return { title: "Budget", told: `Budget: ${count(lines.length, "line")}.`, content: drawLedger(lines) };
-}
-
-async function homeView() {
-  const seen = ["what is bought, and what it was estimated to cost", "who tendered, who won, at what price and why", "what was contracted, changed and paid"];
-  return { title: "", told: "", content: [element("h1", { tabindex: "-1" }, "What is bought, from whom, and for how much"),
-    element("p", {}, "With the number of a notice you see:"), element("ul", {}, seen.map((text) => element("li", {}, text))),
-    element("p", {}, "Where the money comes from and what is left of it stands in the ", element("a", { href: "#ledger" }, "budget, line by line"), ".")] };
-}
-
-function refusedView(fault) {
-  if (!(fault instanceof Refused)) {
-    console.error(fault);
-  }
-  const sentence = fault instanceof Refused ? fault.message : "The office's answer couldn't be drawn.";
-  return { title: "Not shown", told: sentence, content: [element("h1", { tabindex: "-1" }, "Not shown"), element("p", { class: "refusal" }, sentence)] };
-}
-
+/** The address as a view and what is told of it: `#notice/N1`, `#list?words=road`. */
 function place() {
-  const hash = location.hash.slice(1);
-  return hash.startsWith("notice/") ? { page: "notices", notice: decoded(hash.slice(7)) } : { page: hash === "ledger" ? "ledger" : "notices", notice: null };
+  const [, word, name, query] = /^#?([a-z]*)(?:\/([^?]*))?(?:\?(.*))?$/s.exec(location.hash) ?? [];
+  return Object.hasOwn(VIEWS, word ?? "") ? [word, name === undefined ? query ?? "" : decoded(name)] : ["list", ""];
 }
 
-function decoded(text) {
+async function around([word]) {
+  site = await siteName();
+  drawAround({ site, foot: say("see.foot"), pages: [...PAGES.map((name) => [`#${name}`, say(`see.page.${name}`)]), ["/tender/", say("see.page.tender")]],
+    current: `#${VIEWS[word][1]}` });
+}
+
+/** The view that is asked for. A notice's number leads there too where its letters are otherwise small or capital. */
+async function view([word, text]) {
   try {
-    return decodeURIComponent(text);
-  } catch {
-    return text;
-  }
-}
-
-function markPage(page, notice) {
-  for (const name of ["notices", "ledger"]) {
-    const link = document.getElementById(`to-${name}`);
-    if (name === page) {
-      link.setAttribute("aria-current", "page");
-    } else {
-      link.removeAttribute("aria-current");
+    return await VIEWS[word][0](text);
+  } catch (fault) {
+    const notice = word === "notice" && fault.name === "NoSuch" ? await meant(text).catch(() => null) : null;
+    if (notice === null || notice === text) {
+      return refused(fault, back());
     }
-  }
-  input.value = notice ?? "";
-}
-
-/** Shows what the address asks for; where another was asked for in the meantime, that one stays. */
-async function show(takesFocus) {
-  const turn = ++asked;
-  const { page, notice } = place();
-  markPage(page, notice);
-  status.textContent = "The office is asked …";
-  status.classList.remove("unseen");
-  main.setAttribute("aria-busy", "true");
-  const view = await (notice !== null ? noticeView(notice) : page === "ledger" ? ledgerView() : homeView()).catch(refusedView);
-  if (turn !== asked) {
-    return;
-  }
-  main.replaceChildren(...view.content);
-  main.setAttribute("aria-busy", "false");
-  document.title = view.title ? `${view.title} – ${SITE}` : SITE;
-  // What came of it is seen below, and so is only read out here.
-  status.textContent = view.told;
-  status.classList.add("unseen");
-  if (takesFocus) {
-    main.querySelector("h1").focus();
+    history.replaceState(history.state, "", `#notice/${notice}`);
+    return drawNotice(notice);
   }
 }
 
-document.getElementById("ask").addEventListener("submit", (event) => {
-  event.preventDefault();
-  const hash = `#notice/${encodeURIComponent(input.value.trim())}`;
-  if (location.hash === hash) {
-    show(true);
-  } else {
-    location.hash = hash;
-  }
-});
-document.getElementById("skip").addEventListener("click", (event) => {
-  event.preventDefault();
-  main.focus();
-});
-addEventListener("hashchange", () => show(true));
-show(false);
+function back() {
+  return link(say("see.page.list"), "#list");
+}
+
+showViews({ place, around, view, site: () => site, back });

@@ -1,21 +1,53 @@
-// A lot is awarded, its standstill runs, and the award is signed or passed over.
-import { element, given } from "../draw.js";
+// A lot from the opening to its contract: its tenders are examined, it is awarded, its standstill runs, and the award is signed or passed over.
 import { isId } from "../common/csv.js";
+import { element, given, link, placeOf } from "../common/draw.js";
+import { DIGITS, ID, areRight, button, field, form, note, steps } from "../common/forms.js";
 import { money, number } from "../common/money.js";
-import { officeNow } from "../common/office.js";
+import { line, officeNow } from "../common/office.js";
 import { say, sayParts } from "../common/texts.js";
-import { linkTo } from "./address.js";
-import { ofRelease, own } from "./fate.js";
-import { allRight, button, field, form, note } from "./forms.js";
+import { ofExamination, ofRelease, own } from "./fate.js";
 import { momentAndSpan } from "./load.js";
-import { jsonBody, sendThen } from "./send.js";
-import { outlookOf } from "./stage.js";
-import { MOST, wholeNumber } from "./values.js";
+import { jsonBody, send, sendThen } from "./send.js";
+import { isWaiting, outlookOf } from "./stage.js";
+import { MOST, digitsOf, wholeNumber } from "./values.js";
+
+/** The tenders of a lot that wait for their examination, each with what can be said of it. */
+export function examinations(notice, lot, again) {
+  const waiting = lot.tenders.filter(isWaiting);
+  if (lot.state !== "undecided" || waiting.length === 0) {
+    return null;
+  }
+  return element("div", {}, element("h4", {}, say("examine.title", { count: waiting.length })), element("p", {}, say("examine.what")),
+    waiting.map((one) => examination(notice, one, again)));
+}
+
+function examination(notice, one, again) {
+  const { terms, stage: { byPoints }, currency } = notice;
+  const most = 100 - (terms.price_weight ?? 0);
+  const quality = field(say("examine.quality"), { hint: say("examine.quality.hint", { most }), maxlength: "3", ...DIGITS });
+  const examine = async (responsive) => {
+    const points = responsive && byPoints ? wholeNumber(quality.value(), 0, most) : 0;
+    if (areRight([[quality, points === null ? say("examine.quality.wrong", { most }) : ""]])) {
+      await send(examinationOrder(notice, one, responsive && byPoints ? { responsive, quality: points } : { responsive }));
+      // (that it was decided elsewhere is news too)
+      again();
+    }
+  };
+  const told = `${say("see.tender.receipt", { receipt: String(one.receipt) })}, ${money(one.corrected, currency)}`;
+  return element("div", { class: "examination", role: "group", "aria-label": say("examine.of", { name: one.name, receipt: String(one.receipt) }) },
+    element("p", {}, element("b", {}, given(one.name)), " ", element("span", { class: "quiet" }, told)), byPoints ? quality.made : null,
+    steps(button(say("examine.yes"), () => examine(true)), button(say("examine.no"), () => examine(false), "second")));
+}
+
+function examinationOrder(notice, { name, receipt }, body) {
+  return { kind: "examine", values: { receipt: String(receipt), name }, path: `/tenders/${receipt}/examine`, body: jsonBody(body), isFinal: true,
+    says: [say(body.responsive ? "examine.does.yes" : "examine.does.no", { name }), say("examine.stays"), say("examine.reasons")],
+    again: "AlreadyDecided", find: () => ofExamination(notice.name, receipt, body.responsive) };
+}
 
 /** What a lot is waiting for. */
 export function awardPart(notice, lot, again) {
-  const parts = { undecided, awarded, contracted };
-  return parts[lot.state]?.(notice, lot, again) ?? element("p", {}, say(`award.${lot.state}`));
+  return { undecided, awarded }[lot.state]?.(notice, lot, again) ?? (lot.active ? element("p", {}, letters(notice, lot)) : null);
 }
 
 /** The name and the price of an award, for a text. */
@@ -23,31 +55,35 @@ function ofAward(award, currency) {
   return { name: given(award.suppliers[0].name), price: money(award.value.amount, currency) };
 }
 
-function letters(notice, lot) {
-  return linkTo(say("letters.link"), "letter", notice.name, lot.id);
+function letters({ name }, lot) {
+  return link(say("letters.link"), placeOf("letter", name, lot.id));
 }
 
-function contracted(notice, lot) {
-  const told = sayParts("award.signed", { ...ofAward(lot.active, notice.currency), contract: lot.contract?.id ?? "" });
-  return element("p", {}, told, " ", letters(notice, lot));
-}
-
+/** The button lights where the office would take the award; beside it stands what it would do. */
 function undecided(notice, lot, again) {
-  const { stage, byPoints, terms, currency } = notice;
-  const outlook = outlookOf(lot, byPoints, terms);
+  const { stage, currency } = notice;
+  const outlook = outlookOf(lot);
   const isOver = stage.isExpired && outlook.code !== "nobody";
-  const run = () => sendThen(awardOrder(notice, lot, outlook), again);
-  const award = button(say("award.send"), run);
+  const award = button(say("award.send"), () => sendThen(awardOrder(notice, lot, outlook), again));
   award.disabled = outlook.code === "waits" || isOver;
-  // Examined elsewhere, a tender waits here alone: what the office would refuse changes nothing.
-  const anyway = outlook.code !== "waits" || isOver ? null : element("details", {}, element("summary", {}, say("award.elsewhere")),
-    element("p", {}, say("award.elsewhere.more")), element("div", { class: "steps" }, button(say("award.anyway"), run, "second")));
-  return element("div", { class: "award" }, element("h4", {}, say("award.title")), passedList(lot, currency),
-    element("p", {}, outlookText(lot, outlook, currency)), isOver ? element("p", { class: "wrong" }, say("award.expired")) : null,
-    element("div", { class: "steps" }, award), anyway);
+  const lacking = element("p", { class: "wrong", role: "status" });
+  if (outlook.code === "best" && outlook.tender.corrected > lot.reserved) {
+    tellLacking(lot, outlook.tender.corrected - lot.reserved, currency, award, lacking).catch(() => {});
+  }
+  return element("div", { class: "award" }, element("h4", {}, say("step.award")), element("p", {}, outlookText(lot, outlook, currency)),
+    isOver ? element("p", { class: "wrong" }, say("award.expired")) : null, lacking, steps(award));
 }
 
-/** What an award would do, as far as this desk knows. */
+/** What a price is above what the lot has reserved, its line must have free: else the office takes no award. */
+async function tellLacking(lot, more, currency, award, place) {
+  const { free } = await line(lot.line);
+  if (free < more) {
+    award.disabled = true;
+    place.textContent = say("award.short", { more: money(more, currency), line: lot.line, free: money(free, currency) });
+  }
+}
+
+/** What an award would do. */
 function outlookText(lot, { code, count = 0, tender }, currency) {
   const values = { count, lot: lot.id, name: given(tender?.name ?? ""), price: tender ? money(tender.corrected, currency) : "" };
   return sayParts(`award.${code}`, values);
@@ -56,67 +92,61 @@ function outlookText(lot, { code, count = 0, tender }, currency) {
 function awardOrder(notice, lot, outlook) {
   const { name, releases, currency } = notice;
   const told = element("span", {}, outlookText(lot, outlook, currency));
-  const more = outlook.code === "best" ? [moneyText(lot, outlook.tender, currency), say("award.standstill")]
-    : outlook.code === "nobody" ? [] : [say("award.rule")];
-  return { kind: "award", values: { lot: lot.id, notice: name }, path: `/notices/${name}/lots/${lot.id}/award`, body: null, isFinal: true,
+  const standstill = notice.terms.standstill_days > 0 ? [say("award.standstill")] : [];
+  const more = outlook.code === "best" ? [moneyText(lot, outlook.tender, currency), ...standstill] : [];
+  const values = { lot: lot.id, notice: name, name: outlook.tender?.name ?? (outlook.code === "nobody" ? say("award.nobody.name") : "…") };
+  return { kind: "award", values, path: `/notices/${name}/lots/${lot.id}/award`, body: null, isFinal: true,
     says: [told, ...more], again: "AlreadyDecided", find: () => ofRelease(name, releases.length, own.award(lot.id)) };
 }
 
-/** What becomes of the money: the price is reserved in the place of the estimate. */
 function moneyText(lot, tender, currency) {
-  const difference = lot.estimate.amount - tender.corrected;
+  const difference = lot.reserved - tender.corrected;
   const values = { price: money(tender.corrected, currency), difference: money(Math.abs(difference), currency) };
   return say(difference >= 0 ? "award.less" : "award.more", values);
 }
 
-function passedList(lot, currency) {
-  return lot.passed.map((one) => element("p", { class: "quiet" }, sayParts("award.passed", ofAward(one, currency))));
-}
-
 function awarded(notice, lot, again) {
   const { active, standstillUntil } = lot;
-  const isRunning = standstillUntil !== null && officeNow() < standstillUntil;
-  return element("div", { class: "award" }, element("h4", {}, say("award.made")), passedList(lot, notice.currency),
+  const isRunning = officeNow() < standstillUntil;
+  const told = element("span", {}, momentAndSpan(standstillUntil));
+  return element("div", { class: "award" }, element("h4", {}, say("award.made")),
     element("p", {}, sayParts("award.to", { ...ofAward(active, notice.currency), award: active.id })),
-    element("p", {}, standstillText(standstillUntil, isRunning)), element("p", {}, letters(notice, lot)),
-    notice.stage.isExpired ? note("bad", say("award.expired")) : null, signing(notice, lot, again, isRunning), passing(notice, lot, again, isRunning));
+    lot.hasStandstill ? element("p", {}, sayParts(isRunning ? "standstill.until" : "standstill.over", { until: told })) : null,
+    element("p", {}, letters(notice, lot)), notice.stage.isExpired ? note("bad", say("award.expired")) : null,
+    signing(notice, lot, again, isRunning), passing(notice, lot, again, isRunning));
 }
 
-function standstillText(until, isRunning) {
-  if (until === null) {
-    return say("standstill.unknown");
-  }
-  const told = element("span", {}, momentAndSpan(until));
-  return isRunning ? sayParts("standstill.until", { until: told }) : sayParts("standstill.over", { since: told });
+/** What stands in the titles of a lot's award that was made. */
+function valuesOf({ name }, { id, active }) {
+  return { award: active.id, lot: id, notice: name, name: active.suppliers[0].name };
 }
 
-/** The signing, with the performance security that the notice asks for. */
+/** The signing, with the performance security where the notice asks for one. */
 function signing(notice, lot, again, isRunning) {
-  const asked = notice.terms?.performance ?? null;
-  const security = field({ label: say("sign.security"), hint: say("sign.security.hint"), more: { maxlength: "32", spellcheck: "false" } });
-  const hint = asked === null ? say("sign.unknown") : say("sign.asked", { amount: money(asked, notice.currency) });
-  const amount = field({ label: say("sign.amount"), hint, more: { inputmode: "numeric" } });
+  const { performance } = notice.terms;
+  const security = field(say("sign.security"), { hint: say("sign.security.hint"), ...ID });
+  const amount = field(say("sign.amount"), { hint: say("sign.asked", { amount: money(performance, notice.currency) }), ...DIGITS });
   const run = () => {
-    const typed = amount.value().replace(/\s/g, "");
-    const named = { security: security.value().trim(), amount: wholeNumber(typed, 1, MOST.amount) };
-    const isNamed = asked === null ? named.security !== "" || typed !== "" : asked > 0;
-    if (!isNamed || allRight([[security, isId(named.security) ? "" : say("id.wrong")], [amount, amountFault(named.amount, asked)]])) {
-      sendThen(signOrder(notice, lot, isNamed ? named : null), again);
+    const named = { security: security.value(), amount: wholeNumber(digitsOf(amount.value()) ?? "", 1, MOST.amount) };
+    if (performance === 0 || areRight([[security, isId(named.security) ? "" : say("id.wrong")], [amount, amountFault(named.amount, performance)]])) {
+      return sendThen(signOrder(notice, lot, performance > 0 ? named : null), again);
     }
   };
-  const fields = asked === 0 ? [element("p", {}, say("sign.none"))] : [security.element, amount.element];
-  const made = form(say("sign.title"), fields, say("sign.send"), run);
+  const fields = performance === 0 ? [element("p", {}, say("sign.none"))] : [security.made, amount.made];
+  const made = form(say("step.signing"), fields, say("sign.send"), run);
   made.querySelector("button[type=submit]").disabled = isRunning || notice.stage.isExpired;
-  return element("div", {}, element("h5", {}, say("sign.title")), made);
+  return element("div", {}, element("h5", {}, say("step.signing")), made);
 }
 
 function amountFault(amount, asked) {
-  return amount === null ? say("amount.wrong") : asked !== null && amount < asked ? say("sign.small", { amount: asked }) : "";
+  return amount === null ? say("amount.wrong") : amount < asked ? say("sign.small", { amount: asked }) : "";
 }
 
-function signOrder({ name, releases, currency }, { active }, named) {
+function signOrder(notice, lot, named) {
+  const { name, releases, currency } = notice;
+  const { active } = lot;
   const secured = named ? say("sign.held", { security: named.security, amount: number(named.amount) }) : say("sign.none");
-  return { kind: "sign", values: { award: active.id }, path: `/awards/${active.id}/sign`, body: named ? jsonBody(named) : null, isFinal: true,
+  return { kind: "sign", values: valuesOf(notice, lot), path: `/awards/${active.id}/sign`, body: named ? jsonBody(named) : null, isFinal: true,
     says: [element("span", {}, sayParts("sign.does", ofAward(active, currency))), secured, say("sign.back")],
     again: "AlreadyDecided", find: () => ofRelease(name, releases.length, own.sign(active.id)) };
 }
@@ -125,11 +155,13 @@ function signOrder({ name, releases, currency }, { active }, named) {
 function passing(notice, lot, again, isRunning) {
   const pass = button(say("fail.send"), () => sendThen(failOrder(notice, lot), again), "harm");
   pass.disabled = isRunning || notice.stage.isExpired;
-  return element("details", {}, element("summary", {}, say("fail.open")), element("p", {}, say("fail.what")), element("div", { class: "steps" }, pass));
+  return element("details", {}, element("summary", {}, say("fail.open")), element("p", {}, say("fail.what")), steps(pass));
 }
 
-function failOrder({ name, releases }, { id, active }) {
-  return { kind: "fail", values: { award: active.id }, path: `/awards/${active.id}/fail`, body: null, word: say("fail.word"),
+function failOrder(notice, lot) {
+  const { name, releases } = notice;
+  const { id, active } = lot;
+  return { kind: "fail", values: valuesOf(notice, lot), path: `/awards/${active.id}/fail`, body: null, word: say("fail.word"),
     says: [say("fail.does", { name: active.suppliers[0].name }), say("fail.again", { lot: id })],
     again: "AlreadyDecided", find: () => ofRelease(name, releases.length, own.fail(active.id)) };
 }

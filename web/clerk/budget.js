@@ -1,12 +1,15 @@
 // A budget file as the office takes it in: its rows, what is wrong in each record, what the office would answer, and what the file would change.
 import { binaryOf, contentOf, isId, isTextLine, isUtf8, numberOf, recordsOf, textOf, whyNoNumber } from "../common/csv.js";
+import { bytesOf } from "../common/digest.js";
 import { MOST } from "./values.js";
 
 const HEAD = ["line", "kind", "amount", "title"];
-const SEPARATORS = { ";": "semicolons", "\t": "tabs", "|": "strokes" };
+const SEPARATORS = { ";": "separator.semicolons", "\t": "separator.tabs", "|": "separator.strokes" };
 // How files begin that are no text of this kind.
 const KINDS = [[[0x50, 0x4b, 3, 4], "workbook"], [[0xd0, 0xcf, 0x11, 0xe0], "workbook"], [[0x25, 0x50, 0x44, 0x46], "pdf"], [[0xff, 0xfe], "utf16"],
   [[0xfe, 0xff], "utf16"]];
+// What is wrong with a file as a whole: what its rows lack then is an echo of it.
+const WHOLE = [...Object.values(SEPARATORS), ...KINDS.map(([, kind]) => kind)];
 
 /** What stands in a budget file: `rows` in order, and `faults`, each with the number of its record (the head is 1), the line of the file, a code and what it is
  * about. The first fault is the one that the office names. */
@@ -14,6 +17,9 @@ export function readBudget(bytes) {
   const { records, isOpen } = recordsOf(contentOf(binaryOf(bytes)));
   const faults = headFaults(bytes, records);
   const rows = [];
+  if (faults.some(({ code }) => WHOLE.includes(code))) {
+    return { bytes: bytes.length, rows, faults };
+  }
   for (const [at, record] of records.slice(1).entries()) {
     const row = rowOf(record);
     const place = { record: at + 2, line: record.line };
@@ -99,6 +105,16 @@ export function changesOf(rows, lines) {
   return { changes: [...changes.values()], faults };
 }
 
+/** By what a file may be one that was taken in before: the names under which entries of the journal have the same amounts of the same lines, and the lines that
+ * would have twice what they have. */
+export function repeatsOf(rows, changes, entries) {
+  const amounts = (some) => JSON.stringify(some.map(({ id, kind, amount }) => [id, kind, amount]).sort());
+  const isSame = ({ path, status, found, body }) => path.startsWith("/budget/") && (status === 200 || found === "done") && body !== null
+    && amounts(readBudget(bytesOf(body)).rows) === amounts(rows);
+  const isDouble = ({ before, appropriation }) => before.appropriation > 0n && appropriation === 2n * before.appropriation;
+  return { names: entries.filter(isSame).map(({ path }) => path.slice("/budget/".length)), lines: changes.filter(isDouble).map(({ id }) => id) };
+}
+
 /** A line before the first of its rows. */
 function begun(id, held) {
   const [appropriation, free] = [BigInt(held?.appropriation ?? 0), BigInt(held?.free ?? 0)];
@@ -119,23 +135,4 @@ function take(line, amount, kind) {
   line.appropriation = after(line.appropriation);
   line.free = after(line.free);
   line.isThere = true;
-}
-
-/** What the office would answer to this file, where its name wasn't used: `{ rows }` where it takes it in, else `{ name, what }`. */
-export function answerOf(reading, lines) {
-  if (reading.bytes > MOST.body) {
-    return { name: "TooLong" };
-  }
-  if (reading.faults.length > 0) {
-    return { name: "BadBody", what: `row ${Math.min(...reading.faults.map(({ record }) => record))}` };
-  }
-  const { faults } = changesOf(reading.rows, lines);
-  const has = (code) => faults.some((fault) => fault.code === code);
-  if (has("unknown")) {
-    return { name: "NoSuch", what: "line" };
-  }
-  if (has("short")) {
-    return { name: "InsufficientFunds" };
-  }
-  return has("past") || reading.rows.length > MOST.rows ? { name: "LimitReached" } : { rows: reading.rows.length };
 }

@@ -1,28 +1,27 @@
 // The budget: its lines, and a file that is checked row by row and shown with what it would change before it is sent.
-import { bar, element, given, key as legend } from "../draw.js";
-import { number } from "../common/money.js";
 import { bytesOfFile } from "../common/digest.js";
+import { bar, below, element, given, key as legend, section, title } from "../common/draw.js";
+import { ID, areRight, drop, field, form, note, table } from "../common/forms.js";
+import { number } from "../common/money.js";
 import { ledger, line as lineOf, sentenceOf } from "../common/office.js";
+import { POTS, pots } from "../common/pots.js";
 import { hasText, say } from "../common/texts.js";
-import { changesOf, readBudget } from "./budget.js";
+import { changesOf, readBudget, repeatsOf } from "./budget.js";
 import { ofBudget } from "./fate.js";
-import { allRight, dropped, field, form, note, section, table } from "./forms.js";
-import { isUsed } from "./known.js";
+import { isUsed } from "./journal.js";
 import { sendThen } from "./send.js";
 import { journal } from "./session.js";
 import { MOST, isAskable } from "./values.js";
 
-const MOST_SHOWN = 50;
-const COLUMNS = ["appropriation", "free", "reserved", "contracted", "paid"];
-// In the order in which a bar has them.
-const POTS = ["paid", "contracted", "reserved", "free"];
+const MOST_SHOWN = 50, MOST_NAMED = 5;
+const COLUMNS = POTS.toReversed();
 // The titles of lines, which change with a budget file alone: the front takes only so many looks a second.
 const titles = new Map();
 
 /** The title of a line, or null where it can't be had. */
 async function titleOf(name) {
   if (!titles.has(name)) {
-    titles.set(name, await lineOf(name).then(({ title }) => title, () => null));
+    titles.set(name, await lineOf(name).then(({ title: text }) => text, () => null));
   }
   return titles.get(name);
 }
@@ -34,25 +33,26 @@ export async function drawBudget(again) {
     place.replaceChildren(...await checked(file.name, await bytesOfFile(file), new Map(lines.map((one) => [one.line, one])), again));
     place.querySelector("h3")?.focus();
   };
-  const file = section(say("budget.file"), dropped(say("budget.drop"), say("budget.drop.hint"), ".csv,text/csv", take), place);
-  return { title: say("page.budget"), content: [element("h1", { tabindex: "-1" }, say("page.budget")), element("p", { class: "intro" }, say("budget.intro")),
-    file, section(say("budget.lines"), lineTable(lines))] };
+  return { title: say("page.budget"), content: [title(say("page.budget")), element("p", { class: "intro" }, say("budget.intro")),
+    section(say("budget.file"), drop(say("budget.drop"), formHint(), take, { accept: ".csv,text/csv" }), place),
+    section(say("budget.lines"), lineTable(lines))] };
 }
 
-/** Parts of a bar, each with the amount that is told of its pot. */
-function partsOf(amountOf) {
-  return POTS.map((kind) => ({ kind, name: say(`pot.${kind}`), amount: amountOf(kind) }));
+/** The form of a budget file, by two lines of one. */
+function formHint() {
+  const lines = ["line,kind,amount,title", say("budget.drop.row")].map((text) => element("span", { class: "code below" }, text));
+  return [say("budget.drop.hint"), lines];
 }
 
 /** The lines that are there, with a bar of their four pots. */
 function lineTable(lines) {
   if (lines.length === 0) {
-    return element("p", {}, say("budget.none"));
+    return element("p", {}, say("see.budget.none"));
   }
-  const heads = [[say("line"), false], ...COLUMNS.map((name) => [say(`pot.${name}`), true]), [say("budget.bar"), false]];
-  const rows = lines.slice(0, MOST_SHOWN).map((one) => [titled(one.line), ...COLUMNS.map((name) => number(one[name])),
-    bar(`${say("line")} ${one.line}`, partsOf((kind) => one[kind]))]);
-  return [table(say("budget.table"), heads, rows), andMore(lines), sums(lines)];
+  const heads = [say("see.line"), say("see.appropriation"), ...COLUMNS.map((name) => say(`see.pot.${name}`)), say("budget.bar")];
+  const rows = lines.slice(0, MOST_SHOWN).map((one) => [titled(one.line), number(one.appropriation), ...COLUMNS.map((name) => number(one[name])),
+    bar(`${say("see.line")} ${one.line}`, pots((kind) => one[kind]))]);
+  return [table(say("budget.table"), heads, rows, { figures: [1, 2, 3, 4, 5] }), andMore(lines), sums(lines)];
 }
 
 /** That there are more than are shown. */
@@ -62,13 +62,13 @@ function andMore(list) {
 
 /** What all lines have together, where a Number holds it. */
 function sums(lines) {
-  const all = partsOf((kind) => lines.reduce((sum, one) => sum + one[kind], 0));
+  const all = pots((kind) => lines.reduce((sum, one) => sum + one[kind], 0));
   return all.every(({ amount }) => Number.isSafeInteger(amount)) ? [element("p", { class: "quiet" }, say("budget.sums")), legend(all, "")] : [];
 }
 
 /** A line's identifier, with its title once that has come. */
 function titled(name) {
-  const place = element("span", { class: "quiet below" });
+  const place = below();
   titleOf(name).then((title) => place.append(given(title ?? "")));
   return [name, place];
 }
@@ -83,7 +83,16 @@ async function checked(name, bytes, lines, again) {
   if (all.length > 0) {
     return [head, note("bad", say("budget.refused", { count: all.length }), say("budget.refused.whole")), faultTable(all)];
   }
-  return [head, note("good", say("budget.right"), say("budget.right.more")), await changeTable(changes), sending(name, bytes, changes, again)];
+  const warnings = warningsOf(repeatsOf(reading.rows, changes, journal().entries));
+  return [head, note(warnings.length > 0 ? "look" : "good", say("budget.right"), say("budget.right.more"), warnings), await changeTable(changes),
+    sending(name, bytes, changes, warnings, again)];
+}
+
+/** That a file may have been taken in before. */
+function warningsOf({ names, lines }) {
+  const some = lines.length > MOST_NAMED ? [...lines.slice(0, MOST_NAMED), "…"] : lines;
+  return [names.length > 0 ? say("budget.again", { names: names.join(", ") }) : "",
+    lines.length > 0 ? say("budget.double", { lines: some.join(", "), count: lines.length }) : ""].filter(Boolean);
 }
 
 function limits({ bytes, rows }) {
@@ -92,9 +101,9 @@ function limits({ bytes, rows }) {
 }
 
 function faultTable(faults) {
-  const heads = [[say("budget.fileline"), true], [say("budget.wrong"), false], [say("budget.mend"), false]];
+  const heads = [say("budget.fileline"), say("budget.wrong"), say("budget.mend")];
   const rows = faults.slice(0, MOST_SHOWN).map((fault) => [number(fault.line), wrongText(fault), mendText(fault)]);
-  return element("div", {}, table(say("budget.faults"), heads, rows), andMore(faults));
+  return element("div", {}, table(say("budget.faults"), heads, rows, { figures: [0] }), andMore(faults));
 }
 
 function values({ value = "", free = 0n, amount = 0 }) {
@@ -117,17 +126,16 @@ function mendText(fault) {
 /** What each line has before and after, and its title where another one comes. */
 async function changeTable(changes) {
   const before = await Promise.all(changes.slice(0, MOST_SHOWN).map(({ id, isNew }) => (isNew ? null : titleOf(id))));
-  const heads = [[say("line"), false], [say("budget.appropriation"), true], [say("budget.difference"), true], [say("budget.free"), true],
-    [say("budget.newtitle"), false]];
+  const heads = [say("see.line"), say("see.appropriation"), say("budget.difference"), say("see.pot.free"), say("column.title")];
   const step = (from, to) => [number(from), " → ", element("b", {}, number(to))];
   const rows = changes.slice(0, MOST_SHOWN).map((change, at) => {
     const difference = change.appropriation - change.before.appropriation;
     const isSame = before[at] === null || before[at] === change.title;
-    const title = isSame ? given(change.title) : [given(before[at]), " → ", element("b", {}, given(change.title))];
-    const name = [change.id, change.isNew ? element("span", { class: "quiet below" }, say("budget.new")) : ""];
-    return [name, step(change.before.appropriation, change.appropriation), signed(difference), step(change.before.free, change.free), title];
+    const text = isSame ? given(change.title) : [given(before[at]), " → ", element("b", {}, given(change.title))];
+    const name = [change.id, change.isNew ? below(say("budget.new")) : ""];
+    return [name, step(change.before.appropriation, change.appropriation), signed(difference), step(change.before.free, change.free), text];
   });
-  return element("div", {}, table(say("budget.changes"), heads, rows), andMore(changes));
+  return element("div", {}, table(say("budget.changes"), heads, rows, { figures: [1, 2, 3] }), andMore(changes));
 }
 
 /** The name that a file may have in the office, from that which it has here. */
@@ -135,28 +143,28 @@ function nameOf(file) {
   return file.replace(/\.csv$/i, "").replace(/[^A-Za-z0-9_.-]/g, "-").slice(0, 32);
 }
 
-function sending(name, bytes, changes, again) {
-  const batch = field({ label: say("budget.batch"), hint: say("budget.batch.hint"), value: nameOf(name),
-    more: { maxlength: "32", autocapitalize: "none", spellcheck: "false" } });
+function sending(name, bytes, changes, warnings, again) {
+  const batch = field(say("budget.batch"), { hint: say("budget.batch.hint"), value: nameOf(name), ...ID });
   const run = () => {
-    const typed = batch.value().trim();
-    if (allRight([[batch, !isAskable(typed) ? say("id.wrong") : isUsed(journal(), `/budget/${typed}`) ? say("budget.used") : ""]])) {
-      sendThen(importOrder(typed, bytes, changes), () => {
+    const typed = batch.value();
+    if (areRight([[batch, !isAskable(typed) ? say("id.wrong") : isUsed(journal(), `/budget/${typed}`) ? say("budget.used") : ""]])) {
+      return sendThen(importOrder(typed, bytes, changes, warnings), () => {
         titles.clear();
         again();
       });
     }
   };
-  return form(say("budget.send"), [batch.element], say("budget.send"), run);
+  return form(say("budget.send"), [batch.made], say("budget.send"), run);
 }
 
 function signed(amount) {
   return `${amount < 0n ? "−" : "+"}${number(amount < 0n ? -amount : amount)}`;
 }
 
-function importOrder(batch, bytes, changes) {
+function importOrder(batch, bytes, changes, warnings) {
   const sum = changes.reduce((all, change) => all + change.appropriation - change.before.appropriation, 0n);
   return { kind: "budget", values: { batch }, path: `/budget/${batch}`, body: bytes, again: "Exists", find: () => ofBudget(changes),
-    says: [say("budget.does", { count: changes.length, sum: signed(sum) }), say("budget.once", { batch })],
+    says: [say("budget.does", { count: changes.length, sum: signed(sum) }), say("budget.once", { batch }),
+      ...warnings.map((text) => element("span", { class: "wrong" }, text))],
     explain: (fault) => (/^row \d+$/.test(fault.what) ? say("budget.row", { row: fault.what.slice(4) }) : sentenceOf(fault)) };
 }

@@ -1,10 +1,11 @@
-// Until the opening: the deadline is moved, the register grows, and all that isn't contracted is cancelled.
-import { element } from "../draw.js";
-import { moment, number } from "../common/money.js";
-import { officeNow, registerText, security, sentenceOf } from "../common/office.js";
+// Up to the opening: the deadline is moved, the register grows, and tenders are opened; and all that isn't contracted is cancelled.
+import { element, given, link, section } from "../common/draw.js";
+import { areRight, button, field, form, lineText, note, steps, table } from "../common/forms.js";
+import { clock, money, moment, number } from "../common/money.js";
+import { officeNow, registerText, securities, sentenceOf } from "../common/office.js";
 import { say } from "../common/texts.js";
-import { ofRelease, own } from "./fate.js";
-import { allRight, button, field, form, lineText, note, section, table } from "./forms.js";
+import { ofOpening, ofRelease, own } from "./fate.js";
+import { momentAndSpan } from "./load.js";
 import { jsonBody, sendThen } from "./send.js";
 import { caller } from "./session.js";
 import { localMilliseconds, localText, momentText } from "./values.js";
@@ -12,48 +13,57 @@ import { localMilliseconds, localText, momentText } from "./values.js";
 // Seconds between two looks at the register.
 const BETWEEN = 15;
 
+/** A field for a moment of this place, with the same in UTC below it. */
+export function momentField(label, hint, milliseconds, changed) {
+  const made = field(label, { hint, kind: "datetime-local", value: localText(milliseconds), step: "1" });
+  const told = element("p", { class: "quiet" });
+  const valueOf = () => localMilliseconds(made.input.value);
+  const tell = () => told.replaceChildren(valueOf() === null ? "" : moment(momentText(valueOf()) ?? ""));
+  made.input.addEventListener("input", () => {
+    tell();
+    changed?.(valueOf());
+  });
+  tell();
+  return { ...made, made: element("div", {}, made.made, told), milliseconds: valueOf };
+}
+
+function reasonField() {
+  return field(say("rationale"), { hint: say("rationale.hint") });
+}
+
 export function movePart(notice, again) {
   const { stage } = notice;
-  const later = field({ label: say("move.deadline"), hint: say("editor.deadline.hint"), kind: "datetime-local", value: localText(stage.deadline),
-    more: { step: "1" } });
-  const told = element("p", { class: "quiet" });
-  const why = field({ label: say("rationale"), hint: say("rationale.hint") });
-  const tell = () => {
-    const found = localMilliseconds(later.value());
-    told.replaceChildren(found === null ? "" : moment(momentText(found) ?? ""));
-  };
-  later.input.addEventListener("input", tell);
-  tell();
+  const later = momentField(say("move.deadline"), say("editor.deadline.hint"), stage.deadline);
+  const why = reasonField();
   const run = () => {
-    const [found, rationale] = [localMilliseconds(later.value()), why.value().trim()];
+    const found = later.milliseconds();
     const wrong = found === null ? say("fault.deadline") : found <= stage.deadline ? say("move.earlier") : "";
-    if (allRight([[later, wrong], [why, lineText(rationale)]])) {
-      sendThen(moveOrder(notice, { deadline: momentText(found), rationale }), again);
+    if (areRight([[later, wrong], [why, lineText(why.value())]])) {
+      return sendThen(moveOrder(notice, { deadline: momentText(found), rationale: why.value() }), again);
     }
   };
-  const fields = [later.element, told, why.element];
-  return section(say("move.title"), element("details", {}, element("summary", {}, say("move.open")), form(say("move.title"), fields, say("move.send"), run)));
+  return section(say("move.title"), element("details", {}, element("summary", {}, say("move.open")),
+    form(say("move.title"), [later.made, why.made], say("move.send"), run)));
 }
 
 function moveOrder({ name, releases }, body) {
   return { kind: "amend", values: { notice: name }, path: `/notices/${name}/amend`, body: jsonBody(body), isFinal: true,
-    says: [[say("move.does"), " ", moment(body.deadline)], say("published.reason"), say("move.stays")],
+    says: [[say("editor.does.deadline"), " ", moment(body.deadline)], say("published.reason"), say("move.stays")],
     // (sent again it would be moved again)
     again: null, find: () => ofRelease(name, releases.length, own.amend(body.deadline)) };
 }
 
 export function cancelPart(notice, again) {
-  const why = field({ label: say("rationale"), hint: say("rationale.hint") });
-  const lots = notice.stage.lots.filter(({ state }) => ["sealed", "undecided", "awarded"].includes(state)).map(({ id }) => id);
+  const why = reasonField();
+  const lots = notice.stage.lots.filter(({ state }) => ["undecided", "awarded"].includes(state)).map(({ id }) => id);
   const ending = { lots: lots.join(", "), count: lots.length };
   const run = () => {
-    const rationale = why.value().trim();
-    if (allRight([[why, lineText(rationale)]])) {
-      sendThen(cancelOrder(notice, ending, { rationale }), again);
+    if (areRight([[why, lineText(why.value())]])) {
+      return sendThen(cancelOrder(notice, ending, { rationale: why.value() }), again);
     }
   };
   return section(say("cancel.title"), element("details", {}, element("summary", {}, say("cancel.open")), element("p", {}, say("cancel.what", ending)),
-    form(say("cancel.title"), [why.element], say("cancel.send"), run, "harm")));
+    form(say("cancel.title"), [why.made], say("cancel.send"), run, "harm")));
 }
 
 function cancelOrder({ name, stage, releases }, ending, body) {
@@ -62,20 +72,33 @@ function cancelOrder({ name, stage, releases }, ending, body) {
     again: "NothingToCancel", find: () => ofRelease(name, releases.length, own.cancel()) };
 }
 
-/** The register, asked again while it is shown and may grow. */
-export function registerPart(notice) {
+/** The opening, by a button that is there from the deadline on. */
+export function openingPart({ name, stage, terms }, again) {
+  const isDue = stage.deadline <= officeNow();
+  const order = { kind: "open", values: { notice: name }, path: `/notices/${name}/open`, body: null, isFinal: true, again: "AlreadyOpened",
+    find: () => ofOpening(name), says: [say("open.does"), say("open.late"), say("open.minutes")] };
+  const open = button(say("open.send"), () => sendThen(order, again));
+  open.disabled = !isDue;
+  // (a second later the office's own clock has come there too)
+  const told = isDue ? [say("open.now"), " ", ...momentAndSpan(stage.deadline)]
+    : [say("see.deadline"), ": ", clock(terms.deadline, () => setTimeout(again, 1000))];
+  return section(say("step.opening"), element("p", {}, say("open.what")), element("p", {}, told), steps(open));
+}
+
+/** The register and the securities, asked again while they are shown and may grow. */
+export function registerPart({ name, currency, stage }) {
   if (caller() === null) {
-    return section(say("register.title"), element("p", {}, say("register.key"), " ", element("a", { href: "#key" }, say("key.give"))));
+    return section(say("register.title"), element("p", {}, say("register.key"), " ", link(say("key.give"), "#key")));
   }
   const [place, looked] = [element("div", {}), element("p", { class: "quiet" })];
-  const shown = { text: null };
+  let shown = "";
   const look = async () => {
     try {
-      const text = await registerText(notice.name, caller());
-      // Where nothing came, what was looked at stays open.
-      if (text !== shown.text) {
-        shown.text = text;
-        place.replaceChildren(...registerTable(text));
+      const [text, held] = await Promise.all([registerText(name, caller()), securities(name, caller())]);
+      // Where nothing came, what was looked at stays.
+      if (text + JSON.stringify(held) !== shown) {
+        shown = text + JSON.stringify(held);
+        place.replaceChildren(...registerTable(text), ...securityTable(held, currency));
       }
       looked.replaceChildren(say("register.looked"), " ", moment(momentText(officeNow())));
     } catch (fault) {
@@ -90,8 +113,10 @@ export function registerPart(notice) {
       look();
     }
   }, BETWEEN * 1000);
-  const grows = notice.stage.kind === "receiving" ? element("p", { class: "quiet" }, say("register.grows", { seconds: BETWEEN })) : null;
-  return section(say("register.title"), element("p", {}, say("register.what")), grows, place, looked);
+  const grows = stage.kind === "receiving" ? element("p", { class: "quiet" }, say("register.grows", { seconds: BETWEEN })) : null;
+  const told = [element("p", {}, say("register.what")), grows, place, looked];
+  return section(say("register.title"), stage.kind === "receiving" || stage.kind === "due" ? told
+    : element("details", {}, element("summary", {}, say("register.show")), told));
 }
 
 function registerTable(text) {
@@ -103,26 +128,15 @@ function registerTable(text) {
   for (const [, lot, , , state] of rows) {
     counts.set(lot, (counts.get(lot) ?? 0) + (state === "sealed" || state === "opened" ? 1 : 0));
   }
-  const heads = [[say("receipt"), true], [say("column.lot"), false], [say("register.came"), false], [say("register.length"), true], [say("state"), false],
-    [say("register.security"), false]];
-  const cells = rows.map(([receipt, lot, came, length, state]) =>
-    [receipt, lot, moment(came), number(Number(length)), say(`tender.${state}`), securityLook(receipt)]);
+  const heads = [say("receipt"), say("see.lot.short"), say("register.came"), say("register.length"), say("see.state")];
+  const cells = rows.map(([receipt, lot, came, length, state]) => [receipt, lot, moment(came), number(Number(length)), say(`state.${state}`)]);
   const told = [...counts].map(([lot, count]) => `${lot}: ${count}`).join(", ");
-  return [element("p", {}, say("register.counts", { counts: told })), table(say("register.table", { count: rows.length }), heads, cells)];
+  return [element("p", {}, say("register.counts", { counts: told })), table(say("register.table", { count: rows.length }), heads, cells, { figures: [0, 3] })];
 }
 
-/** A security is looked at when that is asked for, since it names its tenderer. */
-function securityLook(receipt) {
-  const place = element("span", { "aria-live": "polite" });
-  const look = button(say("register.look"), async () => {
-    try {
-      const one = await security(receipt, caller());
-      place.textContent = say("register.held", { ...one, amount: one.amount, state: say(`security.${one.state}`) });
-    } catch (fault) {
-      place.textContent = fault.name === "NoSuch" ? say("register.nosecurity") : sentenceOf(fault);
-    }
-    look.hidden = true;
-  }, "second small");
-  look.setAttribute("aria-label", say("register.lookat", { receipt }));
-  return [look, place];
+/** Whose each security is isn't told before the opening. */
+function securityTable(held, currency) {
+  const heads = [say("see.security"), say("see.lot.short"), say("contract.amount"), say("see.state"), say("see.tenderer")];
+  return held.length === 0 ? [] : [table(say("register.securities", { count: held.length }), heads, held.map(({ reference, lot, amount, state, tenderer }) =>
+    [given(reference), lot, money(amount, currency), say(`security.${state}`), tenderer ?? say("register.sealed")]), { figures: [2] })];
 }

@@ -1,89 +1,65 @@
 // A notice is written: its terms, its lots, what the office would refuse of it, what one should think of, and how large it is.
-import { element } from "../draw.js";
+import { element, link, placeOf, section, title } from "../common/draw.js";
+import { DIGITS, ID, button, field, steps } from "../common/forms.js";
 import { moment } from "../common/money.js";
-import { ledger, officeNow } from "../common/office.js";
+import { ledger, notices, officeNow, terms as termsOf } from "../common/office.js";
 import { say } from "../common/texts.js";
-import { addressOf, linkTo } from "./address.js";
-import { bound } from "./bound.js";
+import { momentField } from "./deadline.js";
 import { ofNotice } from "./fate.js";
-import { button, field, section } from "./forms.js";
-import { isUsed, noticesOf, publicationOf } from "./known.js";
-import { drawLots, drawMoney, pasting } from "./lots.js";
+import { bound, drawLots, drawMoney, pasting } from "./lots.js";
 import { bodyBytes, draftOf, faultsOf, newDraft, warningsOf } from "./notice.js";
 import { sendThen } from "./send.js";
-import { draft as kept, journal, keepDraft } from "./session.js";
-import { MOST, localMilliseconds, localText, momentText } from "./values.js";
-
-export { drawPreview } from "./preview.js";
+import { draft as kept, keepDraft } from "./session.js";
+import { MOST, momentText } from "./values.js";
 
 export async function drawEditor(again) {
-  const lines = new Map((await ledger()).map((one) => [one.line, one]));
+  const [ledgerLines, list] = await Promise.all([ledger(), notices()]);
   const draft = kept() ?? newDraft();
   keepDraft(draft);
-  const editor = { draft, lines, isChecked: false, again, inputs: new Map(), summary: element("div", {}), lots: element("div", {}) };
+  const editor = { draft, lines: new Map(ledgerLines.map((one) => [one.line, one])), list, isChecked: false, again, inputs: new Map(),
+    summary: element("div", {}), lots: element("div", {}) };
   editor.changed = () => drawSummary(editor);
   editor.redrawLots = () => {
     drawLots(editor);
     drawSummary(editor);
   };
-  const content = [element("h1", { tabindex: "-1" }, say("page.new")), element("p", { class: "intro" }, say("editor.intro")), earlier(editor),
-    section(say("editor.terms"), terms(editor)), section(say("editor.lots"), pasting(editor), editor.lots), section(say("editor.check"), editor.summary)];
+  const content = [title(say("page.new")), element("p", { class: "intro" }, say("editor.intro")), earlier(editor),
+    section(say("see.terms"), terms(editor)), section(say("editor.lots"), pasting(editor), editor.lots), section(say("editor.check"), editor.summary)];
   editor.redrawLots();
   return { title: say("page.new"), content };
 }
 
 /** A notice that was published before, to begin with. */
-function earlier(editor) {
-  const names = noticesOf(journal()).filter((name) => publicationOf(journal(), name));
-  if (names.length === 0) {
+function earlier({ list, again }) {
+  if (list.length === 0) {
     return null;
   }
-  const options = names.map((name) => [name, `${name}: ${publicationOf(journal(), name).title}`]);
-  const chosen = field({ label: say("editor.earlier"), kind: "choice", options, value: names[0] });
-  const take = button(say("editor.take"), () => {
-    keepDraft({ ...draftOf(publicationOf(journal(), chosen.value())), deadline: null });
-    editor.again();
+  const options = list.toSorted((one, other) => (one.published < other.published ? 1 : -1)).map(({ notice, title: text }) => [notice, `${notice}: ${text}`]);
+  const chosen = field(say("see.notice"), { kind: "choice", options, value: options[0][0] });
+  const take = button(say("editor.take"), async () => {
+    keepDraft(draftOf(await termsOf(chosen.value())));
+    again();
   }, "second");
-  return element("details", {}, element("summary", {}, say("editor.fromearlier")), chosen.element, element("div", { class: "steps" }, take));
+  return element("details", {}, element("summary", {}, say("editor.fromearlier")), chosen.made, steps(take));
 }
 
 function terms(editor) {
   const { draft } = editor;
-  const id = { maxlength: "32", autocapitalize: "none", spellcheck: "false" };
-  const digits = { inputmode: "numeric" };
-  const choice = (name) => [["refused", say(`editor.${name}.refused`)], ["forfeits", say(`editor.${name}.forfeits`)]];
-  const weight = bound(editor, "weight", draft, "weight", { label: say("editor.weight"), hint: say("editor.weight.hint"), more: digits });
-  const criteria = bound(editor, "criteria", draft, "criteria", { label: say("editor.criteria"), kind: "choice",
-    options: [["price", say("editor.price")], ["points", say("editor.points")]] });
-  const showWeight = () => { weight.element.hidden = draft.criteria !== "points"; };
+  const own = (name, options = {}) => bound(editor, name, draft, name, say(`editor.${name}`), options);
+  const hinted = (name, more = {}) => own(name, { hint: say(`editor.${name}.hint`), ...more });
+  const pairs = (...names) => names.map((name) => [name.split(".").at(-1), say(`editor.${name}`)]);
+  const weight = hinted("weight", DIGITS);
+  const criteria = own("criteria", { kind: "choice", options: pairs("price", "points") });
+  const showWeight = () => { weight.made.hidden = draft.criteria !== "points"; };
   criteria.input.addEventListener("input", showWeight);
   showWeight();
-  return element("div", { class: "fields" },
-    bound(editor, "name", draft, "name", { label: say("editor.name"), hint: say("editor.name.hint"), more: id }).element,
-    bound(editor, "title", draft, "title", { label: say("editor.title") }).element,
-    deadline(editor),
-    bound(editor, "validity", draft, "validity", { label: say("editor.validity"), hint: say("editor.validity.hint"), more: digits }).element,
-    bound(editor, "standstill", draft, "standstill", { label: say("editor.standstill"), hint: say("editor.standstill.hint"), more: digits }).element,
-    criteria.element, weight.element,
-    bound(editor, "late", draft, "late", { label: say("editor.late"), kind: "choice", options: choice("late") }).element,
-    bound(editor, "performance", draft, "performance", { label: say("editor.performance"), hint: say("editor.performance.hint"), more: digits }).element);
-}
-
-/** The deadline is chosen in local time, and shown as it will be published. */
-function deadline(editor) {
-  const { draft } = editor;
-  const told = element("p", { class: "quiet" });
-  const made = field({ label: say("editor.deadline"), hint: say("editor.deadline.hint"), kind: "datetime-local", value: localText(draft.deadline),
-    more: { step: "1" } });
-  const tell = () => told.replaceChildren(draft.deadline === null ? "" : moment(momentText(draft.deadline) ?? ""));
-  made.input.addEventListener("input", () => {
-    draft.deadline = localMilliseconds(made.value());
-    tell();
+  const deadline = momentField(say("see.deadline"), say("editor.deadline.hint"), draft.deadline, (found) => {
+    draft.deadline = found;
     editor.changed();
   });
-  tell();
-  editor.inputs.set("deadline", made);
-  return element("div", {}, made.element, told);
+  editor.inputs.set("deadline", deadline);
+  return element("div", { class: "fields" }, [hinted("name", ID), own("title"), deadline, hinted("validity", DIGITS), hinted("standstill", DIGITS), criteria,
+    weight, own("late", { kind: "choice", options: pairs("late.refused", "late.forfeits") }), hinted("performance", DIGITS)].map(({ made }) => made));
 }
 
 /** A fault as a sentence. */
@@ -94,7 +70,7 @@ function faultText({ code, value = "", least = 0, most = 0, amount = 0, free = 0
 /** Where a fault is, in words. */
 function placeText(editor, path) {
   const [, lot, , item] = path.split(".");
-  const label = editor.inputs.get(path)?.element.querySelector("label")?.textContent ?? say("editor.lots");
+  const label = editor.inputs.get(path)?.made.querySelector("label")?.textContent ?? say("editor.lots");
   if (lot === undefined) {
     return label;
   }
@@ -109,7 +85,7 @@ function drawSummary(editor) {
   drawMoney(editor);
   const now = officeNow();
   const faults = faultsOf(draft, lines, now);
-  if (isUsed(journal(), `/notices/${draft.name}`)) {
+  if (editor.list.some(({ notice }) => notice === draft.name)) {
     faults.push({ field: "name", code: "used", value: draft.name });
   }
   for (const [path, one] of editor.inputs) {
@@ -120,9 +96,16 @@ function drawSummary(editor) {
     keepDraft(null);
     editor.again();
   }, "second");
-  const preview = faults.length === 0 ? linkTo(say("editor.preview"), "preview") : "";
+  const preview = faults.length === 0 ? link(say("editor.preview"), "#preview", "button second") : noPreview();
   summary.replaceChildren(sizePart(bodyBytes(draft).length), faultList(editor, faults), ...warnings(draft, now),
-    element("div", { class: "steps" }, button(say("editor.publish"), () => publish(editor, faults)), preview, empty));
+    steps(button(say("editor.publish"), () => publish(editor, faults)), preview, empty));
+}
+
+/** The way to the preview where there is none yet, and why. */
+function noPreview() {
+  const off = button(say("editor.preview"), () => {}, "second");
+  off.disabled = true;
+  return [off, element("span", { class: "quiet" }, say("editor.nopreview"))];
 }
 
 /** How large the notice is, in words and as a bar. */
@@ -137,6 +120,9 @@ const MOST_FAULTS = 12;
 function faultList(editor, faults) {
   if (faults.length === 0) {
     return element("div", { class: "good" }, element("p", {}, say("editor.right")));
+  }
+  if (!editor.isChecked && JSON.stringify(editor.draft) === JSON.stringify(newDraft())) {
+    return element("p", { class: "quiet" }, say("editor.begin"));
   }
   const go = (fault) => button(placeText(editor, fault.field), () => focusOn(editor, fault), "second small");
   const listed = faults.slice(0, MOST_FAULTS).map((fault) => element("li", {}, go(fault), " ", faultText(fault)));
@@ -164,11 +150,11 @@ function publish(editor, faults) {
   drawSummary(editor);
   if (faults.length > 0) {
     focusOn(editor, faults[0]);
-    return;
+    return null;
   }
-  sendThen(publication(draft), () => {
+  return sendThen(publication(draft), () => {
     keepDraft(null);
-    location.hash = addressOf("notice", draft.name);
+    location.hash = placeOf("notice", draft.name);
   });
 }
 

@@ -1,5 +1,7 @@
 // What became of a command to which no answer came, as looks tell it: true where it is done, false where it isn't, null where that can't be told.
-import { Refused, line, minutesText, releases } from "../common/office.js";
+import { evaluationOf } from "../common/findings.js";
+import { Refused, evaluationText, line, minutesText, releases, tenderers } from "../common/office.js";
+import { caller } from "./session.js";
 
 /** What a look says, or null where what is asked for isn't there. */
 async function unlessMissing(look) {
@@ -29,6 +31,18 @@ export async function ofNotice(notice) {
 
 export async function ofOpening(notice) {
   return (await minutesText(notice)) !== null;
+}
+
+/** An examination: the evaluation tells what was answered. Where it was answered otherwise, that was elsewhere. */
+export async function ofExamination(notice, receipt, responsive) {
+  const lots = [...evaluationOf(await evaluationText(notice, caller()), true).values()];
+  const answer = lots.map(({ tenders }) => tenders.get(receipt)?.answer).find(Boolean);
+  return answer === "-" ? false : answer === (responsive ? "responsive" : "unresponsive") ? true : null;
+}
+
+/** A registration: the tenderer is there, by this name and at this address. (By another one it is another's.) */
+export async function ofRegistration(tenderer, { name, address }) {
+  return (await tenderers(caller())).some((one) => one.tenderer === tenderer && one.name === name && one.address === address);
 }
 
 /** What publishes: one of the releases behind those that were there before is its own. */

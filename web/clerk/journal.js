@@ -99,12 +99,7 @@ function keyOf({ moment, method, path, digest, status, answer }) {
   return JSON.stringify([moment, method, path, digest, status, answer]);
 }
 
-/** Whether the command of an entry is done: it was accepted, or no answer came and it was found to be done. */
-export function isDone(entry) {
-  return entry.status === 200 || entry.found === "done";
-}
-
-/** The commands of a journal that are done, of paths of this form. */
-export function doneOf(journal, form) {
-  return journal.entries.filter((entry) => isDone(entry) && form.test(entry.path));
+/** Whether a command at this path was accepted, or its name was used, as far as this journal tells. */
+export function isUsed(journal, path) {
+  return journal.entries.some((entry) => entry.path === path && (entry.status === 200 || entry.found === "done" || /"name":"Exists"/.test(entry.answer ?? "")));
 }

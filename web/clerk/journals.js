@@ -1,31 +1,28 @@
 // The journal: what was sent from this desk and what came back; saved as a file, and taken up again from one.
-import { element } from "../draw.js";
 import { bytesOfFile, inGroups } from "../common/digest.js";
+import { below, element, section, title } from "../common/draw.js";
+import { button, drop, note, printButton, save, steps } from "../common/forms.js";
 import { moment } from "../common/money.js";
 import { officeNow } from "../common/office.js";
 import { say } from "../common/texts.js";
-import { button, download, dropped, note, section } from "./forms.js";
 import { fileOf, joined, readFile } from "./journal.js";
 import { journal, replaceJournal } from "./session.js";
 import { momentText, textOf } from "./values.js";
 
-export async function drawJournal(again) {
+export function drawJournal(again) {
   const { entries, saved } = journal();
   const told = element("div", { role: "status" });
-  const save = async () => {
-    const text = await fileOf(journal());
-    download(`journal-${momentText(officeNow()).replace(/[-:]/g, "")}.jsonl`, text, "application/jsonl");
+  const keep = button(say("journal.save"), async () => {
+    save(`journal-${momentText(officeNow()).replace(/[-:]/g, "")}.jsonl`, await fileOf(journal()), "application/jsonl");
     journal().saved = entries.length;
     again();
-  };
-  const take = async (file) => told.replaceChildren(await taken(textOf(await bytesOfFile(file)), again));
-  const keep = button(say("journal.save"), save);
+  });
   keep.disabled = entries.length === 0;
-  const list = entries.length === 0 ? element("p", {}, say("journal.empty")) : element("ol", { class: "entries" }, [...entries].reverse().map(entryPart));
-  return { title: say("page.journal"), content: [element("h1", { tabindex: "-1" }, say("page.journal")),
-    element("p", { class: "intro" }, say("journal.intro")), savedNote(entries.length, saved),
-    element("div", { class: "steps" }, keep, button(say("print"), () => print(), "second")),
-    section(say("journal.take"), dropped(say("journal.drop"), say("journal.drop.hint"), ".jsonl,application/jsonl", take), told),
+  const take = async (file) => told.replaceChildren(await taken(textOf(await bytesOfFile(file)), again));
+  const list = entries.length === 0 ? element("p", {}, say("journal.empty")) : element("ol", { class: "entries" }, entries.toReversed().map(entryPart));
+  return { title: say("page.journal"), content: [title(say("page.journal")), element("p", { class: "intro" }, say("journal.intro")),
+    savedNote(entries.length, saved), steps(keep, printButton()),
+    section(say("journal.take"), drop(say("journal.drop"), say("journal.drop.hint"), take, { accept: ".jsonl,application/jsonl" }), told),
     section(say("journal.entries"), list)] };
 }
 
@@ -56,14 +53,13 @@ function outcome({ status, found }) {
   if (status === 200 || found === "done") {
     return ["right", say("journal.done")];
   }
-  const told = found === null ? say("journal.refused", { status: String(status) }) : say(found === "not done" ? "journal.notdone" : "journal.unknown");
-  return ["wrong", told];
+  return ["wrong", found === null ? say("journal.refused", { status: String(status) }) : say(found === "not done" ? "journal.notdone" : "journal.unknown")];
 }
 
 function entryPart(entry) {
   const [kind, text] = outcome(entry);
   return element("li", { value: String(entry.number) }, element("b", {}, entry.title), " ", element("span", { class: kind }, text),
-    element("span", { class: "quiet below" }, moment(entry.moment), ` · ${entry.who}`),
+    below(moment(entry.moment), ` · ${entry.who}`),
     element("details", {}, element("summary", {}, say("journal.more")), element("p", { class: "code" }, `${entry.method} ${entry.path}`),
       element("p", { class: "quiet" }, say("journal.body", { bytes: entry.bytes }), " ", element("span", { class: "code" }, inGroups(entry.digest))),
       entry.body ? element("pre", { tabindex: "0" }, entry.body) : "",

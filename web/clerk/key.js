@@ -1,8 +1,8 @@
 // The key: asked for, tried at the office, and held by this tab alone.
-import { element } from "../draw.js";
+import { element, title } from "../common/draw.js";
+import { areRight, field, form, note } from "../common/forms.js";
 import { sentenceOf } from "../common/office.js";
 import { say } from "../common/texts.js";
-import { allRight, field, form, note } from "./forms.js";
 import { holdKey } from "./session.js";
 
 /** A key as it stands in a file for curl, or alone. */
@@ -11,23 +11,23 @@ function keyIn(text) {
 }
 
 export function drawKey() {
-  const name = field({ label: say("key.name"), hint: say("key.name.hint"), more: { maxlength: "100" } });
-  const key = field({ label: say("key.key"), hint: say("key.key.hint"), kind: "password", more: { autocomplete: "off" } });
+  const name = field(say("key.name"), { hint: say("key.name.hint"), maxlength: "100" });
+  const key = field(say("key.key"), { hint: say("key.key.hint"), kind: "password" });
   const place = element("div", { role: "alert" });
   const hold = async () => {
     const typed = keyIn(key.value());
     const isKey = /^[\x21-\x7e]{1,200}$/.test(typed);
-    if (!allRight([[name, name.value().trim() === "" ? say("key.name.wrong") : ""], [key, isKey ? "" : say("key.key.wrong")]])) {
+    if (!areRight([[name, name.value() === "" ? say("key.name.wrong") : ""], [key, isKey ? "" : say("key.key.wrong")]])) {
       return;
     }
     try {
-      await holdKey(typed, name.value().trim());
+      await holdKey(typed, name.value());
       key.input.value = "";
       location.hash = "#today";
     } catch (fault) {
       place.replaceChildren(note("bad", sentenceOf(fault)));
     }
   };
-  return { title: say("key.title"), content: [element("h1", { tabindex: "-1" }, say("key.title")), element("p", { class: "intro" }, say("key.intro")),
-    form(say("key.title"), [name.element, key.element], say("key.hold"), hold), place, note("look", say("key.care"), say("key.care.more"))] };
+  return { title: say("key.title"), content: [title(say("key.title")), element("p", { class: "intro" }, say("key.intro")),
+    form(say("key.title"), [name.made, key.made], say("key.hold"), hold), place, note("look", say("key.care"), say("key.care.more"))] };
 }

@@ -1,34 +1,57 @@
-// A notice as the desk sees it: what today's looks show of it, and where it stands.
-import { badge, element, given } from "../draw.js";
+// A notice as the desk sees it: what the looks show of it, to the clerk where the key is held, and where it stands.
+import { badge, element, given } from "../common/draw.js";
+import { evaluationOf } from "../common/findings.js";
 import { moment, span } from "../common/money.js";
-import { minutesText, officeNow, record, releases, tendersOf } from "../common/office.js";
+import { contract, evaluationText, officeNow, performance, record, securities, terms } from "../common/office.js";
+import { seenOf } from "../common/seen.js";
 import { say, sayParts } from "../common/texts.js";
-import { examinationsOf, termsOf } from "./known.js";
-import { journal, keepRecord } from "./session.js";
+import { caller } from "./session.js";
 import { stageOf, stepOf, tasksOf } from "./stage.js";
-import { momentText } from "./values.js";
+import { DAY, momentText } from "./values.js";
 
-/** The record, the releases and the minutes of a notice, its terms as far as they are known here (or null), and its stage. */
+/** What there is to see of a notice, and its stage. */
+export async function stagedOf(name) {
+  const seen = await seenOf(name, caller());
+  return { ...seen, currency: seen.compiled.tender.value.currency, stage: stageOf(seen, officeNow()) };
+}
+
+/** Where an opened notice stands, by as few looks as tell it: the front takes only so many at a time. */
+export async function stageOfOpened(name) {
+  const [compiled, own, text] = await Promise.all([record(name), terms(name), evaluationText(name, caller())]);
+  const evaluation = evaluationOf(text, caller() !== null);
+  const tenders = [...evaluation].flatMap(([lot, shown]) => [...shown.tenders].map(([receipt, { reading, price }]) =>
+    ({ lot, receipt, reading, corrected: price })));
+  return stageOf({ compiled, terms: own, tenders, evaluation }, officeNow());
+}
+
+/** The performance security of a contract, or null. */
+async function heldOf(number) {
+  try {
+    return await performance(number, caller());
+  } catch (fault) {
+    if (fault.name === "NoSuch") {
+      return null;
+    }
+    throw fault;
+  }
+}
+
+/** The same, with what is shown to the clerk alone: its securities, and its contracts with theirs. */
 export async function loadNotice(name) {
-  const [compiled, all, minutes] = await Promise.all([record(name), releases(name), minutesText(name)]);
-  keepRecord(name, compiled);
-  const terms = termsOf(journal(), name);
-  const stage = stageOf({ compiled, releases: all, tenders: tendersOf(minutes), terms, examined: examinationsOf(journal()), now: officeNow() });
-  return { name, compiled, releases: all, minutes, terms, stage, currency: compiled.tender.lots[0].value.currency,
-    byPoints: compiled.tender.awardCriteria !== "priceOnly" };
+  const notice = await stagedOf(name);
+  if (caller() === null) {
+    return { ...notice, securities: null, contracts: new Map() };
+  }
+  const contracts = (notice.compiled.contracts ?? []).map(async ({ id }) => [id, { seen: await contract(id, caller()), held: await heldOf(id) }]);
+  const [held, ...seen] = await Promise.all([securities(name, caller()), ...contracts]);
+  return { ...notice, securities: held, contracts: new Map(seen) };
 }
 
 const KINDS = { receiving: "open", due: "running", opened: "running", cancelled: "stopped" };
 
 /** The stage as a badge. */
 export function stageBadge(stage) {
-  return stepOf(stage) === "over" ? badge("done", say("stage.over")) : badge(KINDS[stage.kind], say(`stage.${stage.kind}`));
-}
-
-const LOTS = { sealed: "open", undecided: "running", awarded: "running", contracted: "done", cancelled: "stopped", unsuccessful: "stopped" };
-
-export function lotBadge(lot) {
-  return badge(LOTS[lot.state], say(`lot.${lot.state}`));
+  return stepOf(stage) === "over" ? badge("ended", say("stage.over")) : badge(KINDS[stage.kind], say(`stage.${stage.kind}`));
 }
 
 /** A moment in milliseconds, with how far away it is. */
@@ -38,9 +61,16 @@ export function momentAndSpan(milliseconds) {
   return [moment(momentText(milliseconds) ?? ""), " ", element("span", { class: "quiet" }, away)];
 }
 
+// So long before tenders cease to bind it presses.
+const CLOSE = 14 * DAY;
+
 /** What is to be done next, each as a sentence. */
 export function tasks(stage) {
+  const now = officeNow();
   const shown = (milliseconds) => (milliseconds ? element("span", {}, momentAndSpan(milliseconds)) : "");
-  return tasksOf(stage, officeNow()).map(({ code, lot = "", count = 0, contract = "", until, since }) =>
-    sayParts(`task.${code}`, { lot: given(lot), count, contract, until: shown(until), since: shown(since) }));
+  return tasksOf(stage, now).map(({ code, lot = "", count = 0, contract: number = "", until, since }) => {
+    const isClose = code === "expired" || (code === "binds" && until - now < CLOSE);
+    return element("li", isClose ? { class: "wrong" } : {},
+      sayParts(`task.${code}`, { lot: given(lot), count, contract: number, until: shown(until), since: shown(since) }));
+  });
 }

@@ -1,31 +1,43 @@
 // The lots of a notice that is written: typed, or pasted from a sheet; the free money of each line beside its estimates.
-import { element } from "../draw.js";
+import { element } from "../common/draw.js";
+import { DIGITS, ID, button, field, note, steps } from "../common/forms.js";
 import { number } from "../common/money.js";
 import { say } from "../common/texts.js";
-import { bound } from "./bound.js";
-import { button, field, note } from "./forms.js";
 import { newLot, wantedOf } from "./notice.js";
 import { COLUMNS, lotsOf } from "./sheet.js";
-import { MOST } from "./values.js";
+import { MOST, digitsOf } from "./values.js";
 
-// So many lots are shown unfolded.
+// So many lots are shown unfolded, and so many budget lines to be chosen; of more one types the name, and is shown those that begin so.
 const UNFOLDED = 3;
+const MOST_CHOSEN = 100;
+
+/** A field of the draft: what is typed is in the draft at once, a number by its digits alone, which the field shows once it is left. `path` is the field's name
+ * in the faults. */
+export function bound(editor, path, object, name, label, options) {
+  const made = field(label, { ...options, value: object[name] });
+  made.input.addEventListener("input", () => {
+    object[name] = (options.inputmode && digitsOf(made.input.value)) || made.input.value;
+    editor.changed();
+  });
+  made.input.addEventListener("change", () => { made.input.value = object[name]; });
+  editor.inputs.set(path, made);
+  return made;
+}
 
 /** A table that is pasted takes the place of the lots. */
 export function pasting(editor) {
   const columns = Object.keys(COLUMNS).map((name) => say(`column.${name}`)).join(", ");
-  const text = field({ label: say("lots.paste"), hint: say("lots.paste.hint", { columns }), kind: "lines" });
+  const text = field(say("lots.paste"), { hint: say("lots.paste.hint", { columns }), kind: "lines" });
   const told = element("div", { "aria-live": "polite" });
   const take = () => {
-    const { lots, faults, changes } = lotsOf(text.value());
+    const { lots, faults, changes } = lotsOf(text.input.value);
     told.replaceChildren(...outcome(lots, faults, changes));
     if (lots.length > 0) {
       editor.draft.lots = lots.map((lot) => ({ ...lot, security: lot.security || "0" }));
       editor.redrawLots();
     }
   };
-  const steps = element("div", { class: "steps" }, button(say("lots.take"), take));
-  return element("details", {}, element("summary", {}, say("lots.pasting")), text.element, steps, told);
+  return element("details", {}, element("summary", {}, say("lots.pasting")), text.made, steps(button(say("lots.take"), take)), told);
 }
 
 const MOST_TOLD = 20;
@@ -57,7 +69,7 @@ export function drawLots(editor) {
   const choices = element("datalist", { id: "lines" }, [...editor.lines.values()].map(({ line, free }) =>
     element("option", { value: line }, say("lots.free", { free }))));
   editor.lots.replaceChildren(choices, ...lots.map((lot, at) => lotPart(editor, lot, at)),
-    element("div", { class: "steps" }, lots.length < MOST.lots ? add : ""));
+    steps(lots.length < MOST.lots ? add : ""));
 }
 
 /** Goes to a field, and unfolds what it stands in. */
@@ -78,14 +90,12 @@ function nextId(letter, list) {
 
 function lotPart(editor, lot, at) {
   const path = `lots.${at}`;
-  const id = { maxlength: "32", autocapitalize: "none", spellcheck: "false" };
-  const digits = { inputmode: "numeric" };
   const summary = element("summary", {});
   const entitle = () => summary.replaceChildren(say("lots.lot", { lot: lot.id, title: lot.title, items: lot.items.length, count: lot.items.length }));
-  const own = (name, options) => {
-    const made = bound(editor, `${path}.${name}`, lot, name, options);
-    made.input.addEventListener("input", entitle);
-    return made.element;
+  const own = (name, column, options = {}) => {
+    const { input, made } = bound(editor, `${path}.${name}`, lot, name, say(`column.${column}`), options);
+    input.addEventListener("input", entitle);
+    return made;
   };
   entitle();
   const money = element("p", { class: "quiet" });
@@ -94,13 +104,20 @@ function lotPart(editor, lot, at) {
     editor.draft.lots.splice(at, 1);
     editor.redrawLots();
   }, "second");
-  const fields = [own("id", { label: say("column.lot"), more: id }), own("title", { label: say("column.lotTitle") }),
-    own("line", { label: say("column.line"), more: { ...id, list: "lines" } }),
-    element("div", {}, own("estimate", { label: say("column.estimate"), more: digits }), money),
-    own("security", { label: say("column.security"), hint: say("lots.security.hint"), more: digits })];
+  const fields = [own("id", "lot", ID), own("title", "lotTitle"), element("div", {}, own("line", "line", lineOptions(editor, lot.line)), money),
+    own("estimate", "estimate", DIGITS), own("security", "security", { hint: say("lots.security.hint"), ...DIGITS })];
   const isOpen = editor.draft.lots.length <= UNFOLDED ? { open: "" } : {};
   return element("details", { class: "card", ...isOpen }, summary, element("div", { class: "fields" }, fields), itemTable(editor, lot, path),
-    element("div", { class: "steps" }, addItem(editor, lot, path), editor.draft.lots.length > 1 ? away : ""));
+    steps(addItem(editor, lot, path), editor.draft.lots.length > 1 ? away : ""));
+}
+
+/** The budget lines as what is chosen, each with its free money; one that isn't there stays, so that it can be told. */
+function lineOptions({ lines }, held) {
+  if (lines.size > MOST_CHOSEN) {
+    return { ...ID, list: "lines", hint: say("lots.noline") };
+  }
+  const known = [...lines.values()].map(({ line, free }) => [line, `${line} (${say("lots.free", { free })})`]);
+  return { kind: "choice", options: [["", say("lots.noline")], ...known, ...(held === "" || lines.has(held) ? [] : [[held, held]])] };
 }
 
 function addItem(editor, lot, path) {
@@ -114,20 +131,19 @@ function addItem(editor, lot, path) {
 /** The items of a lot: a row of fields for each. */
 function itemTable(editor, lot, path) {
   const rows = lot.items.map((item, at) => {
-    const own = (name, label, more) => bound(editor, `${path}.items.${at}.${name}`, item, name, { label: say(`column.${label}`), more }).element;
+    const own = (name, column, options) => bound(editor, `${path}.items.${at}.${name}`, item, name, say(`column.${column}`), options).made;
     const away = button("×", () => {
       lot.items.splice(at, 1);
       editor.redrawLots();
     }, "second small");
     away.setAttribute("aria-label", say("lots.removeitem", { item: item.id || String(at + 1) }));
     return element("div", { class: "item", role: "group", "aria-label": say("lots.item", { number: String(at + 1) }) },
-      own("id", "item", { maxlength: "32", autocapitalize: "none", spellcheck: "false" }), own("title", "title", {}),
-      own("quantity", "quantity", { inputmode: "numeric" }), lot.items.length > 1 ? away : "");
+      own("id", "item", ID), own("title", "title", {}), own("quantity", "quantity", DIGITS), lot.items.length > 1 ? away : "");
   });
   return element("div", { class: "items" }, element("p", { class: "quiet" }, say("lots.items.hint")), rows);
 }
 
-/** Beside each estimate: what its line has free, and what is left when the notice is published. */
+/** Below each budget line: what it has free, and what is left when the notice is published. */
 export function drawMoney(editor) {
   const wanted = wantedOf(editor.draft);
   for (const [at, place] of editor.money) {
@@ -135,7 +151,7 @@ export function drawMoney(editor) {
     const held = editor.lines.get(line);
     const left = held ? held.free - wanted.get(line) : 0;
     place.className = held && left < 0 ? "wrong" : "quiet";
-    place.textContent = !held ? (line === "" ? say("lots.noline") : say("lots.unknown", { line }))
+    place.textContent = !held ? (line === "" ? "" : say("lots.unknown", { line }))
       : say(left < 0 ? "lots.short" : "lots.left", { line, free: held.free, wanted: wanted.get(line), left: number(Math.abs(left)) });
   }
 }

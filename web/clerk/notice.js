@@ -1,7 +1,7 @@
 // A notice before it is published: its body as it is sent, what the office would refuse of it, and what one should think of. Pure: runs in node too.
-import { isId } from "../common/csv.js";
+import { isId, lineFault } from "../common/csv.js";
 import { bytesOf } from "../common/digest.js";
-import { DAY, MOST, isAskable, lineFault, millisecondsOf, momentText, wholeNumber } from "./values.js";
+import { DAY, MOST, isAskable, momentText, wholeNumber } from "./values.js";
 
 /** What the editor begins with: all values are texts, as they are typed. */
 export function newDraft() {
@@ -53,28 +53,6 @@ export function faultsOf(draft, lines, now) {
   return found;
 }
 
-/** What the office would answer to the body: `{ name, what }`, or null where it takes it. */
-export function refusalOf(draft, lines, now, isUsed) {
-  const faults = faultsOf(draft, lines, now);
-  if (faults.some(({ code }) => code === "size")) {
-    return { name: "TooLong" };
-  }
-  const of = (code) => faults.find((fault) => fault.code === code);
-  const wrong = faults.find(({ code }) => !["size", "line.unknown", "deadline.passed", "money", "lots.many", "items.many"].includes(code) && code !== "name");
-  if (wrong) {
-    return { name: "BadBody", what: WHAT[wrong.field] ?? "lots" };
-  }
-  if (of("line.unknown")) {
-    return { name: "NoSuch", what: "line" };
-  }
-  const name = isUsed ? "Exists" : of("deadline.passed") ? "DeadlinePassed" : of("money") ? "InsufficientFunds" : of("lots.many") || of("items.many")
-    ? "LimitReached" : null;
-  return name ? { name } : null;
-}
-
-const WHAT = { title: "title", deadline: "deadline", validity: "validity_days", standstill: "standstill_days", criteria: "criteria", weight: "price_weight",
-  performance: "performance" };
-
 function headFaults(draft) {
   const range = (field, least, most) => (wholeNumber(draft[field], least, most) === null ? [{ field, code: "number", least, most, value: draft[field] }] : []);
   return [
@@ -96,7 +74,7 @@ function lotFaults(draft, lot, at) {
   const ids = draft.lots.map(({ id }) => id);
   return [
     ...idFaults(`${at}.id`, lot.id, ids), ...textFaults(`${at}.title`, lot.title),
-    ...(isId(lot.line) ? [] : [{ field: `${at}.line`, code: "id", value: lot.line }]),
+    ...(isId(lot.line) ? [] : [{ field: `${at}.line`, code: lot.line === "" ? "line.none" : "id", value: lot.line }]),
     ...range(`${at}.estimate`, lot.estimate, 1, MOST.amount), ...range(`${at}.security`, lot.security, 0, MOST.amount),
     ...(lot.items.length === 0 ? [{ field: `${at}.items`, code: "items.none" }] : []),
     ...lot.items.flatMap((item, each) => [
@@ -185,12 +163,10 @@ function itemWarnings(draft) {
     ...(size > MOST.body * 0.9 && size <= MOST.body ? [{ code: "size", value: size }] : [])];
 }
 
-/** The draft of a body that was published before, to begin a new notice with. */
-export function draftOf(body) {
-  const text = (value, none) => String(value ?? none);
-  return { name: "", title: body.title, deadline: millisecondsOf(body.deadline), validity: text(body.validity_days, "90"),
-    standstill: text(body.standstill_days, "10"), criteria: body.criteria, weight: text(body.price_weight, "60"), late: body.late_withdrawal ?? "refused",
-    performance: text(body.performance, "0"),
-    lots: body.lots.map((lot) => ({ ...lot, estimate: text(lot.estimate, ""), security: text(lot.security, "0"),
-      items: lot.items.map((item) => ({ ...item, quantity: text(item.quantity, "") })) })) };
+/** The draft of a notice that was published before, by its terms, to begin a new one with. */
+export function draftOf({ title, validity_days: validity, standstill_days: standstill, criteria, price_weight: weight, late_withdrawal: late, ...more }) {
+  const lots = more.lots.map(({ id, title: text, line, estimate, security, items }) => ({ id, title: text, line, estimate: String(estimate),
+    security: String(security), items: items.map((item) => ({ ...item, quantity: String(item.quantity) })) }));
+  return { name: "", title, deadline: null, validity: String(validity), standstill: String(standstill), criteria, weight: String(weight ?? 60), late,
+    performance: String(more.performance), lots };
 }

@@ -1,37 +1,35 @@
-// A notice as the public will see it: drawn by the public's own page, from the release that the publication makes.
-import { ledger, officeNow } from "../common/office.js";
+// A notice as the public will see it: drawn as the public's own page does, from the release that the publication makes.
+import { element, link, title } from "../common/draw.js";
+import { note } from "../common/forms.js";
+import { ledger, notices, officeNow, record } from "../common/office.js";
+import { drawProcess } from "../common/process.js";
 import { say } from "../common/texts.js";
-import { element } from "../draw.js";
-import { drawProcess } from "../process.js";
-import { linkTo } from "./address.js";
-import { note } from "./forms.js";
 import { bodyOf, faultsOf } from "./notice.js";
-import { currency, draft, recordsSeen } from "./session.js";
+import { draft } from "./session.js";
 import { momentText } from "./values.js";
 
-/** What the publication's release compiles to. The buyer and the currency are the settings' own, and known once a record was seen. */
-function compiledOf(body, name) {
-  const unit = currency() || say("preview.currency");
+/** What the publication's release compiles to. The buyer and the currency are the settings' own, and known of an earlier notice. */
+function compiledOf(body, name, earlier) {
+  const unit = earlier?.tender.value.currency ?? say("preview.currency");
   const value = (amount) => ({ amount, currency: unit });
-  const buyer = [...recordsSeen().values()][0]?.buyer.name ?? say("preview.buyer");
-  const itemsOf = (lot) => lot.items.map(({ id, title, quantity }) => ({ description: title, id: `${lot.id}/${id}`, quantity, relatedLot: lot.id }));
+  const itemsOf = (lot) => lot.items.map(({ id, title: text, quantity }) => ({ description: text, id: `${lot.id}/${id}`, quantity, relatedLot: lot.id }));
   const tender = { awardCriteria: body.criteria === "price" ? "priceOnly" : "ratedCriteria", id: name, items: body.lots.flatMap(itemsOf),
     lots: body.lots.map((lot) => ({ id: lot.id, status: "active", title: lot.title, value: value(lot.estimate) })), status: "active", title: body.title,
     tenderPeriod: { startDate: momentText(officeNow()), endDate: body.deadline }, value: value(body.lots.reduce((sum, { estimate }) => sum + estimate, 0)) };
-  return { buyer: { name: buyer }, language: document.documentElement.lang, tender };
+  return { buyer: { name: earlier?.buyer.name ?? say("preview.buyer") }, language: earlier?.language ?? document.documentElement.lang, tender };
 }
 
 export async function drawPreview() {
   const written = draft();
-  const lines = new Map((await ledger()).map((one) => [one.line, one]));
-  if (!written || faultsOf(written, lines, officeNow()).length > 0) {
-    return { title: say("editor.preview"), content: [element("h1", { tabindex: "-1" }, say("editor.preview")), note("look", say("preview.none")),
-      element("p", {}, linkTo(say("preview.back"), "new"))] };
+  const [lines, list] = await Promise.all([ledger(), notices()]);
+  const back = element("p", {}, link(say("preview.back"), "#new"));
+  if (!written || faultsOf(written, new Map(lines.map((one) => [one.line, one])), officeNow()).length > 0) {
+    return { title: say("editor.preview"), content: [title(say("editor.preview")), note("look", say("preview.none")), back] };
   }
-  const compiled = compiledOf(bodyOf(written), written.name);
+  const body = bodyOf(written);
+  const compiled = compiledOf(body, written.name, list.length > 0 ? await record(list[0].notice) : null);
   const release = { tag: ["planning", "tender"], date: momentText(officeNow()), tender: compiled.tender };
-  const drawn = drawProcess(written.name, compiled, [release], { lots: new Map(), refused: { message: say("preview.sealed") } });
-  // (the last part links to what isn't there before it is published)
-  return { title: say("editor.preview"), content: [note("look", say("preview.note"), say("preview.hidden")),
-    element("p", {}, linkTo(say("preview.back"), "new")), ...drawn.slice(0, -1)] };
+  return { title: say("editor.preview"), content: [note("look", say("preview.note")), back,
+    drawProcess({ name: written.name, compiled, releases: [release], terms: { price_weight: null, ...body }, tenders: null, evaluation: null,
+      isPreview: true })] };
 }

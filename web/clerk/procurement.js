@@ -1,28 +1,25 @@
-// One notice: where it stands, what can be done now, and the parts for each of it.
-import { element, facts, given } from "../draw.js";
-import { money, moment } from "../common/money.js";
+// One notice: what everybody sees of it, where it stands, what can be done now, and the parts for each of it.
+import { element, link, placeOf, section } from "../common/draw.js";
+import { note } from "../common/forms.js";
+import { drawProcess } from "../common/process.js";
 import { say } from "../common/texts.js";
-import { linkTo } from "./address.js";
-import { contractParts } from "./contracts.js";
-import { cancelPart, movePart, registerPart } from "./deadline.js";
-import { lotParts } from "./evaluation.js";
-import { note, section } from "./forms.js";
-import { loadNotice, momentAndSpan, stageBadge, tasks } from "./load.js";
-import { openingPart } from "./opening.js";
+import { awardPart, examinations } from "./award.js";
+import { contractPart } from "./contracts.js";
+import { cancelPart, movePart, openingPart, registerPart } from "./deadline.js";
+import { loadNotice, tasks } from "./load.js";
 import { STEPS, stepOf } from "./stage.js";
 
 export async function drawProcurement(again, name) {
   const notice = await loadNotice(name);
-  const { compiled, stage, currency } = notice;
-  const { title, tenderPeriod, value } = compiled.tender;
-  const content = [element("h1", { tabindex: "-1" }, given(title)), element("p", {}, stageBadge(stage)), path(stage),
-    facts([[say("notice"), name], [say("buyer"), given(compiled.buyer.name)], [say("estimate"), money(value.amount, currency)],
-      [say("editor.deadline"), element("span", {}, moment(tenderPeriod.endDate))]]),
-    doing(notice), termsNote(notice), ...parts(notice, again)];
-  for (const text of content.flat(Infinity).filter(Boolean).flatMap((part) => [...part.querySelectorAll("bdi")])) {
-    text.lang = compiled.language;
-  }
-  return { title: `${name}: ${title}`, content };
+  const { compiled, stage } = notice;
+  const lotOf = ({ id }) => stage.lots.find((lot) => lot.id === id);
+  // (behind what is done with a lot the focus goes there)
+  const behind = ({ id }) => () => again("", false, `lot-${id}`);
+  const ofLot = (lot) => (stage.kind === "opened" ? [examinations, awardPart].map((part) => part(notice, lotOf(lot), behind(lot))) : null);
+  const ofContract = (one) => ({ ...notice.contracts.get(one.id), more: contractPart(notice, one, behind) });
+  const isPressing = (lot) => stage.kind === "opened" && ["undecided", "awarded"].includes(lotOf(lot).state);
+  const content = drawProcess({ ...notice, above: [path(stage), doing(stage), parts(notice, again)], ofLot, ofContract, isPressing });
+  return { title: `${name}: ${compiled.tender.title}`, content: [content, stage.canCancel ? cancelPart(notice, again) : null] };
 }
 
 /** The steps, with the one that it is at. */
@@ -33,39 +30,18 @@ function path(stage) {
 }
 
 /** What is to be done next. */
-function doing({ stage }) {
+function doing(stage) {
   const list = tasks(stage);
-  return list.length === 0 ? note("good", say("task.none")) : note("look", say("task.title"), element("ul", {}, list.map((task) => element("li", {}, task))));
-}
-
-/** The terms that the record doesn't tell. */
-function termsNote({ terms, stage, currency }) {
-  if (terms === null) {
-    return note("look", say("terms.unknown"), element("p", {}, say("terms.unknown.do"), " ", linkTo(say("page.journal"), "journal")));
-  }
-  const { validity, standstill, criteria, weight, late, performance } = terms;
-  const decides = criteria === "price" ? say("editor.price") : say("terms.points", { weight, quality: 100 - weight });
-  const secured = performance === 0 ? say("terms.noperformance") : money(performance, currency);
-  return element("details", {}, element("summary", {}, say("terms.title")), facts([
-    [say("editor.validity"), element("span", {}, `${validity}: `, momentAndSpan(stage.bindsUntil))], [say("editor.standstill"), String(standstill)],
-    [say("editor.criteria"), decides], [say("editor.late"), say(`editor.late.${late}`)], [say("editor.performance"), secured]]));
+  return list.length === 0 ? element("p", { class: "note" }, say("task.none")) : note("look", say("today.next"), element("ul", {}, list));
 }
 
 function parts(notice, again) {
-  const { kind, canCancel } = notice.stage;
-  const cancel = canCancel ? [cancelPart(notice, again)] : [];
-  const before = { receiving: [movePart, openingPart, registerPart], due: [openingPart, registerPart],
-    opened: [minutesPart, lotParts, contractParts, registerPart], cancelled: [registerPart] };
-  return [...before[kind].map((part) => part(notice, again)), ...cancel, publicPart(notice)];
+  const of = { receiving: [movePart, openingPart, registerPart], due: [openingPart, registerPart], opened: [minutesPart, registerPart],
+    cancelled: [registerPart] };
+  return of[notice.stage.kind].map((part) => part(notice, again));
 }
 
 function minutesPart({ name }) {
-  return section(say("minutes.title"), element("p", {}, linkTo(say("minutes.link"), "minutes", name)));
-}
-
-/** Where anybody sees this notice. */
-function publicPart({ name }) {
-  const paths = ["record", "releases"].map((path) => `/notices/${name}/${path}`);
-  return section(say("public.title"), element("p", {}, element("a", { href: `/#notice/${name}` }, say("public.page")),
-    ...paths.flatMap((path) => [" · ", element("a", { href: path }, path)])));
+  return section(say("minutes.title"), element("p", {}, link(say("minutes.link"), placeOf("minutes", name)), " · ",
+    link(say("public.page"), `/#notice/${name}`)));
 }

@@ -1,10 +1,11 @@
 // A command of the clerk: shown as it is sent, asked for once more, sent once, and kept in the journal with what came back. Where no answer comes, what became
 // of it is asked by looks.
-import { element } from "../draw.js";
 import { bytesOf, inGroups, sha256 } from "../common/digest.js";
+import { element } from "../common/draw.js";
+import { ID, button, field, note, steps, tick } from "../common/forms.js";
+import { moment } from "../common/money.js";
 import { Refused, command, officeNow, sentenceOf } from "../common/office.js";
 import { hasText, say } from "../common/texts.js";
-import { button, field, note, tick } from "./forms.js";
 import { addEntry } from "./journal.js";
 import { caller, journal, who } from "./session.js";
 import { momentText, textOf } from "./values.js";
@@ -12,9 +13,9 @@ import { momentText, textOf } from "./values.js";
 const LONGEST_SHOWN = 6000;
 
 /** An order: `kind` names its texts, `values` stand in them; `says` is what it will do; `path` and `body` (bytes, or null) are sent. One that `isFinal` can't
- * be undone and is confirmed by a tick, one with a `word` by typing it. `find` looks whether it was done where no answer came (true, false, or null where no
- * look tells), and `again` is the refusal that tells it when the same is sent once more, or null where that would do it twice. Gives the office's answer once
- * it is done, else null. */
+ * be undone and is confirmed by a tick, one with a `word` by typing it; that one `isSad` is told once it is done without green. `find` looks whether it was
+ * done where no answer came (true, false, or null where no look tells), and `again` is the refusal that tells it when the same is sent once more, or null
+ * where that would do it twice. Gives the office's answer once it is done, else null. */
 export function send(order) {
   return new Promise((finish) => {
     const dialog = element("dialog", { class: "order", "aria-labelledby": "order-title" });
@@ -42,11 +43,11 @@ export async function sendThen(order, behind) {
   }
 }
 
-function draw(state, content, steps) {
+function draw(state, content, buttons) {
   const { kind, values = {} } = state.order;
   const status = element("div", { role: "status" }, content);
   state.dialog.replaceChildren(element("h2", { id: "order-title", tabindex: "-1" }, say(`order.${kind}.title`, values)), status,
-    element("div", { class: "steps" }, steps));
+    steps(buttons));
 }
 
 function closing(state, text = say("order.close")) {
@@ -63,31 +64,30 @@ async function drawAsked(state) {
   sending.disabled = sure !== null;
   sure?.input.addEventListener("input", () => { sending.disabled = !sure.isGiven(); });
   const says = element("ul", {}, order.says.map((part) => element("li", {}, part)));
-  draw(state, [says, requestShown(order, bytes, digest), sure?.element ?? ""], [sending, closing(state, say("order.back"))]);
+  draw(state, [says, sure?.made ?? null, requestShown(order, bytes, digest)], [sending, closing(state, say("order.back"))]);
   (sure?.input ?? sending).focus();
 }
 
 /** By what one says once more that it is meant: a tick, or a word; null where it can be undone. */
 function confirmation(order) {
   if (order.word) {
-    const typed = field({ label: say("order.word", { word: order.word }), more: { autocapitalize: "none", spellcheck: "false" } });
-    return { element: typed.element, input: typed.input, isGiven: () => typed.value().trim() === order.word };
+    const typed = field(say("order.word", { word: order.word }), ID);
+    return { ...typed, isGiven: () => typed.value() === order.word };
   }
   if (order.isFinal) {
-    const ticked = tick(say("order.final"));
+    const ticked = tick(say("order.final"), () => {});
     return { ...ticked, isGiven: () => ticked.input.checked };
   }
   return null;
 }
 
-/** The request as it is sent, but for the key. */
+/** The request as it is sent, but for the key: folded, since it says to few what the sentences above it say to all. */
 function requestShown(order, bytes, digest) {
   const text = textOf(bytes) ?? say("order.notext");
   const head = `POST ${order.path}\nOffice-Caller: clerk\nOffice-Key: ••••••\nContent-Length: ${bytes.length}`;
   const body = text.length > LONGEST_SHOWN ? `${text.slice(0, LONGEST_SHOWN)}\n${say("order.more", { count: text.length - LONGEST_SHOWN })}` : text;
   const whole = bytes.length > 0 ? `${head}\n\n${body}` : head;
-  return element("details", { open: "" }, element("summary", {}, say("order.request")), element("pre", { tabindex: "0" }, whole),
-    element("p", { class: "quiet" }, say("order.digest"), " ", element("span", { class: "code" }, inGroups(digest))));
+  return folded(say("order.request"), whole, element("p", { class: "quiet" }, say("order.digest"), " ", element("span", { class: "code" }, inGroups(digest))));
 }
 
 /** Sends the command, and keeps what came back. */
@@ -117,10 +117,16 @@ async function outcomeOf({ path, body }) {
   }
 }
 
-/** The entry of a command. One that is sent again has an entry of its own, and where it is refused since it was done, both are done. */
+/** What a look says of an order; null where none does. */
+function foundOf({ find }) {
+  return Promise.resolve(find?.() ?? null).catch(() => null);
+}
+
+/** The entry of a command. One that is sent again has an entry of its own, and where it is refused since it was done, both are done. (What a look shows to be
+ * another's wasn't done by this.) */
 async function keep(state, { answer, fault }) {
   const { path, body, kind, values = {}, again } = state.order;
-  const isDone = state.isOpen && fault instanceof Refused && fault.name === again;
+  const isDone = state.isOpen && fault instanceof Refused && fault.name === again && (await foundOf(state.order)) !== false;
   if (state.isOpen && (isDone || answer?.status === 200)) {
     state.entry.found = isDone ? "done" : "not done";
   }
@@ -129,14 +135,25 @@ async function keep(state, { answer, fault }) {
     answer, found: isDone ? "done" : null });
 }
 
+/** A text to the letter, and what stands below it, unfolded by its name. */
+function folded(name, text, ...content) {
+  return element("details", {}, element("summary", {}, name), element("pre", { tabindex: "0" }, text), content);
+}
+
 function receipt(state, text) {
-  return [text ? element("pre", {}, text) : "", element("p", { class: "quiet" }, say("order.kept", { number: String(state.entry.number) }))];
+  return [element("p", { class: "quiet" }, say("order.kept", { number: String(state.entry.number) })), text ? folded(say("order.answer"), text) : ""];
+}
+
+/** When a command was taken in: as its answer says, or else by the clock of the server. */
+function takenIn({ entry }, value) {
+  return element("p", {}, say("order.at"), " ", moment(value.moment ?? entry.moment));
 }
 
 function drawDone(state, { value, answer }) {
   state.value = value;
-  const { kind, values = {} } = state.order;
-  draw(state, note("good", say(`order.${kind}.done`, { ...values, ...flat(value), count: value.opened ?? 0 }), receipt(state, answer.text)), [closing(state)]);
+  const { kind, values = {}, isSad = false } = state.order;
+  draw(state, note(isSad ? "look" : "good", say(`order.${kind}.done`, { ...values, ...flat(value), count: value.opened ?? 0 }),
+    takenIn(state, value), receipt(state, answer.text)), [closing(state)]);
   focusFirst(state);
 }
 
@@ -166,7 +183,7 @@ function drawRefused(state, fault) {
 async function drawOpen(state, fault) {
   const { order, entry } = state;
   draw(state, note("look", say("order.open"), sentenceOf(fault), say("order.asking")), []);
-  const found = await Promise.resolve(order.find?.() ?? null).catch(() => null);
+  const found = await foundOf(order);
   entry.found = found === true ? "done" : found === false ? "not done" : "unknown";
   const asks = button(say("order.askagain"), () => drawOpen(state, fault), "second");
   if (found === true) {

@@ -1,8 +1,8 @@
-// What this tab holds while it is open, and nothing else does: the key, who sits here, the journal, and the records that were seen. Nothing of it is stored.
+// What this tab holds while it is open, and nothing else does: the key, who sits here, the journal, and a draft. Nothing of it is stored.
 import { Refused, registerText } from "../common/office.js";
 import { newJournal } from "./journal.js";
 
-const session = { caller: null, who: "", journal: newJournal(globalThis.location?.origin ?? null), records: new Map(), draft: null };
+const session = { caller: null, who: "", journal: newJournal(globalThis.location?.origin ?? null), draft: null };
 
 export function journal() {
   return session.journal;
@@ -37,20 +37,6 @@ export async function holdKey(key, name) {
 
 export function forgetKey() {
   session.caller = null;
-}
-
-/** Keeps a record that was seen, for what is looked up over several notices. */
-export function keepRecord(notice, compiled) {
-  session.records.set(notice, compiled);
-}
-
-export function recordsSeen() {
-  return session.records;
-}
-
-/** The currency that the office publishes in, as far as a record told it. */
-export function currency() {
-  return [...session.records.values()][0]?.tender.lots[0]?.value.currency ?? "";
 }
 
 /** The draft of a notice, which stays while other screens are looked at. */

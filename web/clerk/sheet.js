@@ -1,4 +1,5 @@
 // Tables that are pasted from a sheet, as TSV or CSV: their cells, and lots with items from them. Nothing of the page: runs in node too.
+import { recordsOf } from "../common/csv.js";
 import { digitsOf } from "./values.js";
 
 const SIGNS = ["\t", ";", ","];
@@ -17,50 +18,12 @@ const NAMES = Object.keys(COLUMNS);
 const NUMBERS = ["estimate", "security", "quantity"];
 
 /** The rows of a pasted text, each a list of cells, with the line where it begins; empty rows aren't there. The sign between cells is the tab where there is
- * one, else the semicolon, else the comma; quotation marks are read as sheets write them. */
-export function rowsOf(text) {
+ * one, else the semicolon, else the comma. */
+function rowsOf(text) {
   const sign = SIGNS.find((it) => text.includes(it)) ?? "\t";
-  const read = { rows: [], cells: [], cell: "", isQuoted: false, line: 1, begun: 1 };
-  const content = text.replace(/^\ufeff/, "").replace(/\r\n?/g, "\n");
-  for (let at = 0; at < content.length; at += 1) {
-    at += take(read, content, at, sign);
-  }
-  endRow(read);
-  return read.rows;
-}
-
-/** Takes the character at a place, and says how many more it took. */
-function take(read, content, at, sign) {
-  const char = content[at];
-  read.line += char === "\n" ? 1 : 0;
-  if (read.isQuoted) {
-    if (char !== '"') {
-      read.cell += char;
-    } else if (content[at + 1] === '"') {
-      read.cell += '"';
-      return 1;
-    } else {
-      read.isQuoted = false;
-    }
-  } else if (char === '"' && read.cell === "") {
-    read.isQuoted = true;
-  } else if (char === sign) {
-    read.cells.push(read.cell);
-    read.cell = "";
-  } else if (char === "\n") {
-    endRow(read);
-  } else {
-    read.cell += char;
-  }
-  return 0;
-}
-
-function endRow(read) {
-  const cells = [...read.cells, read.cell].map((cell) => cell.replace(/\s+/g, " ").trim());
-  if (cells.some((cell) => cell !== "")) {
-    read.rows.push({ line: read.begun, cells });
-  }
-  Object.assign(read, { cells: [], cell: "", begun: read.line });
+  return recordsOf(text.replace(/^\ufeff/, ""), sign).records
+    .map(({ line, fields }) => ({ line, cells: fields.map((cell) => cell.replace(/\s+/g, " ").trim()) }))
+    .filter(({ cells }) => cells.some((cell) => cell !== ""));
 }
 
 /** Which column has which name, by the words of a head; null where the row is no head. */

@@ -1,96 +1,47 @@
-// Where a procurement stands, and what can be done with it now: from its record, its releases and its minutes, and from the terms and the examinations as far
-// as they are known. Pure: runs in node too.
+// Where a procurement stands, and what can be done with it now: from its terms, its record, its minutes and its evaluation. Pure: runs in node too.
+import { awardsOf, contractOf, paidOf } from "../common/findings.js";
+import { ranked } from "../common/tenders.js";
 import { DAY } from "./values.js";
 
-/** The stage of a notice: `receiving` up to its deadline, `due` behind it, `opened`, or `cancelled`, which it is before its opening alone. */
-export function kindOf(compiled, now) {
-  const { status, numberOfTenderers, tenderPeriod } = compiled.tender;
-  if (numberOfTenderers !== undefined) {
-    return "opened";
-  }
-  return status === "cancelled" ? "cancelled" : now < Date.parse(tenderPeriod.endDate) ? "receiving" : "due";
+/** The whole: `kind` (`receiving` up to the deadline, `due` behind it, `opened`, or `cancelled`, which it is before its opening alone), until when tenders
+ * bind, and the lots. */
+export function stageOf({ compiled, terms, tenders, evaluation }, now) {
+  const deadline = Date.parse(terms.deadline);
+  const bindsUntil = deadline + terms.validity_days * DAY;
+  const kind = terms.state === "receiving" ? (now < deadline ? "receiving" : "due") : terms.state;
+  const byPoints = terms.criteria === "points";
+  const lots = terms.lots.map((lot) => lotOf(lot, { compiled, terms, tenders: tenders ?? [], shown: evaluation?.get(lot.id) ?? null, byPoints }));
+  const canCancel = lots.some(({ state }) => ["undecided", "awarded"].includes(state));
+  return { kind, deadline, bindsUntil, isExpired: now >= bindsUntil, byPoints, lots, canCancel };
 }
 
-/** The whole: `kind`, `deadline`, until when tenders bind (null where that isn't known), and the lots. `tenders` are those of the minutes. */
-export function stageOf({ compiled, releases, tenders, terms, examined, now }) {
-  const deadline = Date.parse(compiled.tender.tenderPeriod.endDate);
-  const bindsUntil = terms ? deadline + terms.validity * DAY : null;
-  const kind = kindOf(compiled, now);
-  const passed = passedOver(releases);
-  const lots = compiled.tender.lots.map((lot) => lotOf({ compiled, lot, passed, terms, examined, kind, tenders: tenders.filter((one) => one.lot === lot.id) }));
-  return { kind, deadline, bindsUntil, isExpired: bindsUntil !== null && now >= bindsUntil, lots,
-    canCancel: lots.some(({ state }) => ["sealed", "undecided", "awarded"].includes(state)) };
+function lotOf(lot, { compiled, terms, tenders, shown, byPoints }) {
+  const own = tenders.filter((one) => one.lot === lot.id).map((one) => ({ ...one, found: shown?.tenders.get(one.receipt) ?? null }));
+  const active = awardsOf(compiled, lot).find(({ status }) => status === "active") ?? null;
+  // (what a winner had who was passed over stays reserved)
+  return { ...lot, shown, active, contract: active ? contractOf(compiled, active) ?? null : null, tenders: ranked(own, byPoints, shown),
+    reserved: awardsOf(compiled, lot).at(-1)?.value.amount ?? lot.estimate, hasStandstill: terms.standstill_days > 0,
+    standstillUntil: active ? Date.parse(active.date) + terms.standstill_days * DAY : null };
 }
 
-/** The awards that were passed over: those that a release cancels without cancelling the tender. */
-function passedOver(releases) {
-  const alone = releases.filter(({ tag }) => tag.includes("awardCancellation") && !tag.includes("tenderCancellation"));
-  return new Set(alone.flatMap(({ awards }) => (awards ?? []).map(({ id }) => id)));
+/** Whether a tender may win. */
+export function isAdmissible({ found }) {
+  return found?.standing === "admissible";
 }
 
-const ENDED = { complete: "contracted", cancelled: "cancelled", unsuccessful: "unsuccessful" };
-
-function lotOf({ compiled, lot, passed, terms, examined, kind, tenders }) {
-  const awards = (compiled.awards ?? []).filter(({ relatedLots }) => relatedLots?.includes(lot.id));
-  const active = awards.find(({ status }) => status === "active") ?? null;
-  const contract = active ? ((compiled.contracts ?? []).find(({ awardID }) => awardID === active.id) ?? null) : null;
-  const state = ENDED[lot.status] ?? (active ? "awarded" : kind === "opened" ? "undecided" : "sealed");
-  const failed = awards.filter(({ id }) => passed.has(id)).map(({ suppliers }) => suppliers?.[0]?.id);
-  const judged = tenders.map((tender) => ({ ...tender, found: examined.get(tender.receipt) ?? null, isFailed: failed.includes(`T-${tender.tenderer}`) }));
-  return { id: lot.id, title: lot.title, estimate: lot.value, state, awards, passed: awards.filter(({ id }) => passed.has(id)), active, contract,
-    tenders: ranked(judged, terms, compiled.tender.awardCriteria), standstillUntil: active && terms ? Date.parse(active.date) + terms.standstill * DAY : null };
+/** Whether a tender waits for its examination. */
+export function isWaiting({ reading, found }) {
+  return reading === "priced" && found?.answer === "-" && found.standing !== "failed";
 }
 
-/** Whether a tender may win, as far as this desk knows. */
-export function isAdmissible(tender) {
-  return tender.reading === "priced" && tender.found?.responsive === true && !tender.isFailed;
-}
-
-/** Whether a tender waits for its examination, as far as this desk knows. */
-export function isWaiting(tender) {
-  return tender.reading === "priced" && tender.found === null && !tender.isFailed;
-}
-
-/** Whether a tender was examined elsewhere, or withdrawn late: the office said so, and not what was found. */
-export function isElsewhere(tender) {
-  return tender.found?.responsive === null && !tender.isFailed;
-}
-
-/** Thousandths of points: the lowest price of the admissible has the whole weight, each other the share that the lowest is of it; quality counts as it is. */
-export function pointsOf(tender, lowest, weight) {
-  const ofPrice = tender.corrected === 0 ? weight * 1000 : Number((BigInt(weight) * 1000n * BigInt(lowest)) / BigInt(tender.corrected));
-  return ofPrice + (tender.found.quality ?? 0) * 1000;
-}
-
-/** The tenders of a lot, from the best to the last: the admissible ones by the notice's criteria, then those that wait by price, then the others. By points,
- * only where the weight is known. */
-function ranked(tenders, terms, criteria) {
-  const admissible = tenders.filter(isAdmissible);
-  const lowest = Math.min(...admissible.map(({ corrected }) => corrected));
-  const byPoints = criteria !== "priceOnly";
-  const weight = byPoints ? (terms?.weight ?? null) : null;
-  const withPoints = tenders.map((tender) => ({ ...tender, points: weight !== null && isAdmissible(tender) ? pointsOf(tender, lowest, weight) : null }));
-  const group = (tender) => (isAdmissible(tender) ? 0 : isWaiting(tender) ? 1 : tender.reading === "priced" ? 2 : 3);
-  return withPoints.sort((one, other) => group(one) - group(other) || (other.points ?? 0) - (one.points ?? 0) || price(one) - price(other)
-    || one.receipt - other.receipt);
-}
-
-function price(tender) {
-  return tender.reading === "priced" ? tender.corrected : 0;
-}
-
-/** What an award would do now, as far as this desk knows: `waits`, with how many; `nobody`; `best`, with the tender; `unknown`, where points decide and their
- * weight isn't known here. The office decides. */
-export function outlookOf(lot, byPoints, terms) {
-  const waiting = lot.tenders.filter(isWaiting);
-  if (waiting.length > 0) {
-    return { code: "waits", count: waiting.length };
-  }
-  const admissible = lot.tenders.filter(isAdmissible);
-  if (lot.tenders.some(isElsewhere) || (byPoints && terms === null && admissible.length > 1)) {
+/** What an award would do now: `waits`, with how many; `nobody`; `best`, with the tender; `unknown`, where the evaluation isn't shown. The office decides. */
+export function outlookOf({ tenders, shown }) {
+  const waiting = tenders.filter(isWaiting);
+  if (shown === null && tenders.length > 0) {
     return { code: "unknown" };
   }
-  return admissible.length === 0 ? { code: "nobody" } : { code: "best", tender: admissible[0] };
+  return waiting.length > 0 ? { code: "waits", count: waiting.length }
+    : tenders.some(isAdmissible) ? { code: "best", tender: tenders.find(isAdmissible) } : { code: "nobody" };
 }
 
 /** The steps of a procurement, in their order. */
@@ -112,30 +63,43 @@ function stepOfLot({ state, tenders, contract }) {
   return state === "awarded" ? "signing" : state === "contracted" && contract?.status !== "terminated" ? "contract" : "over";
 }
 
-/** What is to be done next with a notice, in the order in which it presses: codes with a lot, a contract or a moment. */
-export function tasksOf(stage, now) {
-  if (stage.kind === "cancelled") {
-    return [];
-  }
-  if (stage.kind === "receiving") {
-    return [{ code: "wait", until: stage.deadline }];
-  }
-  if (stage.kind === "due") {
-    return [{ code: "open", since: stage.deadline }];
-  }
-  const tasks = stage.lots.flatMap((lot) => tasksOfLot(lot, now));
-  const isPressing = stage.bindsUntil !== null && stage.lots.some(({ state }) => state === "undecided" || state === "awarded");
-  return [...(isPressing ? [{ code: stage.isExpired ? "expired" : "binds", until: stage.bindsUntil }] : []), ...tasks];
+/** When a task is due, or since when; what has no moment comes last, and first that nothing binds any more. */
+function momentOf({ code, until, since }) {
+  return code === "expired" ? 0 : until ?? since ?? Infinity;
 }
 
-function tasksOfLot(lot, now) {
-  if (lot.state === "undecided") {
-    const waiting = lot.tenders.filter(isWaiting).length;
-    return [waiting > 0 ? { code: "examine", lot: lot.id, count: waiting } : { code: "award", lot: lot.id }];
+/** The stage of a notice of the list. Of one whose tenders come, the list tells all: its stage is made of that. */
+export function stageOfEntry({ state, deadline, stage }) {
+  return stage ?? { kind: state === "open" ? "receiving" : "due", deadline: Date.parse(deadline), lots: [] };
+}
+
+/** Notices of the list by when the first thing is due that is to be done with each, whatever it is. */
+export function inOrder(entries, now) {
+  const due = (entry) => Math.min(...tasksOf(stageOfEntry(entry), now).map(momentOf));
+  return entries.toSorted((one, other) => due(one) - due(other));
+}
+
+/** What is to be done next with a notice, what is due first above: codes with a lot, a contract or a moment. */
+export function tasksOf(stage, now) {
+  const { kind, deadline, bindsUntil, isExpired, lots } = stage;
+  if (kind !== "opened") {
+    return { receiving: [{ code: "wait", until: deadline }], due: [{ code: "open", since: deadline }], cancelled: [] }[kind];
   }
-  if (lot.state === "awarded") {
-    const isOver = lot.standstillUntil !== null && now >= lot.standstillUntil;
-    return [{ code: isOver ? "sign" : lot.standstillUntil === null ? "signs" : "standstill", lot: lot.id, until: lot.standstillUntil }];
+  const isBinding = lots.some(({ state }) => state === "undecided" || state === "awarded");
+  return [...(isBinding ? [{ code: isExpired ? "expired" : "binds", until: bindsUntil }] : []), ...lots.flatMap((lot) => tasksOfLot(lot, now))]
+    .sort((one, other) => momentOf(one) - momentOf(other));
+}
+
+function tasksOfLot({ id, state, tenders, contract, standstillUntil, hasStandstill }, now) {
+  if (state === "undecided") {
+    const waiting = tenders.filter(isWaiting).length;
+    return [waiting > 0 ? { code: "examine", lot: id, count: waiting } : { code: "award", lot: id }];
   }
-  return lot.state === "contracted" && lot.contract?.status !== "terminated" ? [{ code: "contract", lot: lot.id, contract: lot.contract?.id }] : [];
+  if (state === "awarded") {
+    return [{ code: !hasStandstill ? "unsigned" : now >= standstillUntil ? "sign" : "standstill", lot: id, until: standstillUntil }];
+  }
+  if (state !== "contracted" || !contract || contract.status === "terminated") {
+    return [];
+  }
+  return [{ code: paidOf(contract) < contract.value.amount ? "contract" : "end", lot: id, contract: contract.id }];
 }

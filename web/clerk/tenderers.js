@@ -1,17 +1,17 @@
-// Tenderers: registration from the sheet or the file that a tenderer's desk made. (The office has no list of tenderers yet: those of this journal are shown.)
-import { element, given } from "../draw.js";
-import { isId } from "../common/csv.js";
+// Tenderers: registration from the sheet or the file that a tenderer's desk made, and their list.
 import { bytesOfFile, inGroups } from "../common/digest.js";
-import { moment } from "../common/money.js";
+import { element, given, section, title } from "../common/draw.js";
+import { plain } from "../common/filters.js";
+import { ID, areRight, drop, field, form, lineText, note, table } from "../common/forms.js";
+import { tenderers } from "../common/office.js";
 import { say } from "../common/texts.js";
-import { allRight, dropped, field, form, lineText, note, section, table } from "./forms.js";
-import { isUsed, tenderersOf } from "./known.js";
+import { ofRegistration } from "./fate.js";
 import { jsonBody, sendThen } from "./send.js";
-import { journal } from "./session.js";
+import { caller } from "./session.js";
 import { isAskable, textOf } from "./values.js";
 
 /** The registration that a text holds: JSON, or lines `name: value` with a digest in groups somewhere; null where it holds none. */
-export function registrationIn(text) {
+function registrationIn(text) {
   try {
     const told = JSON.parse(text);
     return typeof told?.key === "string" ? { tenderer: String(told.tenderer ?? ""), name: String(told.name ?? ""), address: String(told.address ?? ""),
@@ -23,12 +23,10 @@ export function registrationIn(text) {
 }
 
 export async function drawTenderers(again) {
-  const fields = {
-    tenderer: field({ label: say("tenderer.id"), hint: say("tenderer.id.hint"), more: { maxlength: "32", autocapitalize: "none", spellcheck: "false" } }),
-    name: field({ label: say("tenderer.name"), hint: say("tenderer.name.hint") }),
-    address: field({ label: say("tenderer.address") }),
-    key: field({ label: say("tenderer.key"), hint: say("tenderer.key.hint"), more: { autocapitalize: "none", spellcheck: "false" } }),
-  };
+  const list = caller() === null ? null : await tenderers(caller());
+  const fields = { tenderer: field(say("tenderer.id"), { hint: say("tenderer.id.hint"), ...ID }),
+    name: field(say("tenderer.name"), { hint: say("tenderer.name.hint") }), address: field(say("tenderer.address")),
+    key: field(say("tenderer.key"), { hint: say("tenderer.key.hint") }) };
   const place = element("div", { "aria-live": "polite" });
   const take = async (file) => {
     const told = registrationIn(textOf(await bytesOfFile(file)) ?? "");
@@ -36,42 +34,50 @@ export async function drawTenderers(again) {
     for (const [name, one] of Object.entries(fields)) {
       one.input.value = told?.[name] ?? one.value();
     }
+    if (told?.key) {
+      fields.key.input.value = inGroups(told.key);
+    }
     fields.tenderer.input.focus();
   };
-  const content = [element("h1", { tabindex: "-1" }, say("page.tenderers")), element("p", { class: "intro" }, say("tenderer.intro")),
-    dropped(say("tenderer.drop"), say("tenderer.drop.hint"), ".json,application/json", take), place,
-    form(say("tenderer.register"), Object.values(fields).map((one) => one.element), say("tenderer.register"), () => register(fields, again))];
-  return { title: say("page.tenderers"), content: [...content, section(say("tenderer.list"), known())] };
+  return { title: say("page.tenderers"), content: [title(say("page.tenderers")), element("p", { class: "intro" }, say("tenderer.intro")),
+    drop(say("tenderer.drop"), say("tenderer.drop.hint"), take, { accept: ".json,application/json" }), place,
+    form(say("tenderer.register"), Object.values(fields).map((one) => one.made), say("tenderer.register"), () => register(fields, list ?? [], again)),
+    section(say("tenderer.list"), list === null ? element("p", {}, say("register.key")) : listed(list))] };
 }
 
-function register(fields, again) {
-  const [tenderer, name, address] = [fields.tenderer, fields.name, fields.address].map((one) => one.value().trim());
+function register(fields, list, again) {
+  const [tenderer, name, address] = [fields.tenderer, fields.name, fields.address].map((one) => one.value());
   const key = fields.key.value().replace(/\s/g, "").toLowerCase();
   const isKey = /^[0-9a-f]{64}$/.test(key);
-  if (allRight([[fields.tenderer, idFault(tenderer)], [fields.name, lineText(name)], [fields.address, lineText(address)],
+  if (areRight([[fields.tenderer, idFault(tenderer, list)], [fields.name, lineText(name)], [fields.address, lineText(address)],
     [fields.key, isKey ? "" : say("tenderer.key.wrong")]])) {
-    sendThen(registration(tenderer, { name, address, key }), again);
+    return sendThen(registration(tenderer, { name, address, key }), again);
   }
 }
 
-function idFault(tenderer) {
-  if (!isAskable(tenderer)) {
-    return say("id.wrong");
-  }
-  return tenderer === "clerk" ? say("tenderer.clerk") : isUsed(journal(), `/tenderers/${tenderer}`) ? say("tenderer.used") : "";
+function idFault(tenderer, list) {
+  return !isAskable(tenderer) ? say("id.wrong") : tenderer === "clerk" ? say("tenderer.clerk")
+    : list.some((one) => one.tenderer === tenderer) ? say("tenderer.used") : "";
 }
 
 function registration(tenderer, body) {
   const digest = [say("tenderer.shown"), " ", element("span", { class: "code" }, inGroups(body.key))];
   return { kind: "tenderer", values: { tenderer, name: body.name }, path: `/tenderers/${tenderer}`, body: jsonBody(body), isFinal: true, again: "Exists",
-    says: [say("tenderer.does", { tenderer, ...body }), digest, say("tenderer.stays")] };
+    find: () => ofRegistration(tenderer, body), says: [say("tenderer.does", { tenderer, ...body }), digest, say("tenderer.stays")] };
 }
 
-function known() {
-  const list = tenderersOf(journal()).filter(({ tenderer }) => isId(tenderer));
+/** The list, and a field that looks for names in it. */
+function listed(list) {
   if (list.length === 0) {
     return element("p", {}, say("tenderer.none"));
   }
-  const heads = [[say("tenderer.id"), false], [say("tenderer.name"), false], [say("tenderer.address"), false], [say("tenderer.since"), false]];
-  return table(say("tenderer.table"), heads, list.map((one) => [one.tenderer, given(one.name ?? ""), given(one.address ?? ""), moment(one.moment)]));
+  const rowsOf = (some) => table(say("tenderer.table", { count: some.length }), [say("tenderer.id"), say("tenderer.name"), say("tenderer.address")],
+    some.map((one) => [one.tenderer, given(one.name), given(one.address)]));
+  const found = element("div", {}, rowsOf(list));
+  const name = field(say("tenderer.search"), { kind: "search" });
+  name.input.addEventListener("input", () => {
+    const asked = plain(name.value());
+    found.replaceChildren(rowsOf(list.filter((one) => plain(`${one.tenderer} ${one.name} ${one.address}`).includes(asked))));
+  });
+  return [name.made, found];
 }

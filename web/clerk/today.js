@@ -1,57 +1,62 @@
-// Today: the notices that this tab knows, where each stands, and what is to be done with it. (The office has no list of notices yet.)
-import { element, given } from "../draw.js";
-import { Refused, sentenceOf } from "../common/office.js";
+// Today: what is to be done with which notice, and what runs out, by the office's list and the terms. What is over is left out, as far as the mirror tells it.
+import { tables } from "../common/data.js";
+import { below, element, given, link, placeOf, section, title } from "../common/draw.js";
+import { entriesOf, noticeOf } from "../common/filters.js";
+import { ID, areRight, button, field, form, note, steps, table } from "../common/forms.js";
+import { notices, officeNow, sentenceOf } from "../common/office.js";
+import { stateBadge } from "../common/states.js";
 import { say } from "../common/texts.js";
-import { addressOf, linkTo } from "./address.js";
-import { allRight, field, form, note, section, table } from "./forms.js";
-import { noticesOf } from "./known.js";
-import { loadNotice, stageBadge, tasks } from "./load.js";
-import { journal, recordsSeen } from "./session.js";
-import { isAskable } from "./values.js";
+import { stageBadge, stageOfOpened, tasks } from "./load.js";
+import { inOrder, stageOfEntry, stepOf } from "./stage.js";
 
-const MOST_AT_ONCE = 25;
+const OVER = ["complete", "unsuccessful", "cancelled"];
+// Of so many opened notices it is asked at once where they stand.
+const AT_ONCE = 30;
+const asked = { count: AT_ONCE };
 
-export async function drawToday() {
-  const names = [...new Set([...noticesOf(journal()), ...recordsSeen().keys()])].filter(isAskable);
-  const shown = await Promise.all(names.slice(0, MOST_AT_ONCE).map((name) => loadNotice(name).catch((fault) => ({ name, fault }))));
-  // What isn't there, as a notice that the office refused to publish, is no notice.
-  const found = shown.filter(({ fault }) => !(fault instanceof Refused && fault.name === "NoSuch"));
-  const content = [element("h1", { tabindex: "-1" }, say("today.title")), element("p", { class: "intro" }, say("today.intro"))];
-  content.push(found.length > 0 ? noticeTable(found.sort(byPressing)) : note("look", say("today.none"), say("today.none.do")));
-  if (names.length > MOST_AT_ONCE) {
-    content.push(element("p", { class: "quiet" }, say("today.most", { count: MOST_AT_ONCE })));
+/** An opened notice with its stage, or with why it can't be had. */
+function staged(entry) {
+  return stageOfOpened(entry.notice).then((stage) => ({ ...entry, stage }), (fault) => ({ ...entry, fault }));
+}
+
+function tasksOfEntry(entry) {
+  if (entry.fault) {
+    return sentenceOf(entry.fault);
   }
-  return { title: say("today.title"), content: [...content, section(say("today.open"), opening()), section(say("today.ways"), ways())] };
+  const found = tasks(stageOfEntry(entry));
+  return found.length === 0 ? say("task.none") : element("ul", {}, found);
 }
 
-/** What is due comes first, then what is open, and what is over last. */
-function byPressing(one, other) {
-  const places = { due: 0, opened: 1, receiving: 2, cancelled: 3 };
-  const place = ({ stage }) => (stage ? (stage.kind === "opened" && tasks(stage).length === 0 ? 3 : places[stage.kind]) : 4);
-  return place(one) - place(other) || (one.stage?.deadline ?? 0) - (other.stage?.deadline ?? 0);
+function noticeTable(entries) {
+  return table(say("today.table"), [say("see.notice"), say("see.state"), say("today.next")], entries.map((entry) => [
+    [link(entry.notice, placeOf("notice", entry.notice)), below(given(entry.title))], entry.stage ? stageBadge(entry.stage) : stateBadge(entry.state),
+    tasksOfEntry(entry)]), { kind: "figures tasks" });
 }
 
-function noticeTable(found) {
-  const heads = [[say("notice"), false], [say("state"), false], [say("today.next"), false]];
-  return table(say("today.table"), heads, found.map(({ name, compiled, stage, fault }) => {
-    const title = compiled ? element("span", { class: "below" }, given(compiled.tender.title)) : null;
-    const list = stage ? tasks(stage) : [];
-    const next = fault ? sentenceOf(fault) : list.length === 0 ? say("task.none") : element("ul", {}, list.map((task) => element("li", {}, task)));
-    return [[linkTo(name, "notice", name), title].filter(Boolean), stage ? stageBadge(stage) : "–", next];
-  }));
+export async function drawToday(again) {
+  const [list, data] = await Promise.all([notices(), tables("notices", "lots", "tenders")]);
+  const entries = entriesOf(list, data, officeNow());
+  const coming = entries.filter(({ state }) => state === "open" || state === "waiting");
+  const opened = entries.filter((entry) => !coming.includes(entry) && !OVER.includes(entry.state))
+    .sort((one, other) => (one.state === "running") - (other.state === "running"));
+  const found = await Promise.all(opened.slice(0, asked.count).map(staged));
+  const shown = inOrder([...coming, ...found.filter(({ stage }) => !stage || stepOf(stage) !== "over")], officeNow());
+  const left = opened.length - found.length;
+  const more = button(say("list.more", { count: left }), () => {
+    asked.count += AT_ONCE;
+    again();
+  }, "second");
+  return { title: say("page.today"), content: [title(say("page.today")), element("p", { class: "intro" }, say("today.intro")),
+    shown.length > 0 ? noticeTable(shown) : note("look", say(list.length === 0 ? "see.list.empty" : "task.none")), left > 0 ? steps(more) : null,
+    section(say("today.open"), opening(list))] };
 }
 
-function opening() {
-  const name = field({ label: say("today.name"), hint: say("today.name.hint"), more: { maxlength: "32", autocapitalize: "none", spellcheck: "false" } });
-  return form(say("today.open"), [name.element], say("today.show"), () => {
-    const typed = name.value().trim();
-    if (allRight([[name, isAskable(typed) ? "" : say("id.wrong")]])) {
-      location.hash = addressOf("notice", typed);
+function opening(list) {
+  const name = field(say("today.name"), { hint: say("today.name.hint"), ...ID });
+  return form(say("today.open"), [name.made], say("today.show"), () => {
+    const found = noticeOf(list, name.value());
+    if (areRight([[name, found ? "" : say("refusal.NoSuch.notice")]])) {
+      location.hash = placeOf("notice", found);
     }
   });
-}
-
-function ways() {
-  const way = (page) => element("li", {}, linkTo(say(`page.${page}`), page), ": ", say(`today.way.${page}`));
-  return element("ul", {}, ["budget", "tenderers", "new", "journal"].map(way));
 }

@@ -1,11 +1,11 @@
 // The office's values: lines of text, numbers and moments, as docs/API.md has them. Nothing of the page: this runs in node too.
-import { bytesOf } from "../common/digest.js";
 import { isId } from "../common/csv.js";
 
 export const MOST = { body: 65_536, rows: 500, line: 10 ** 15, amount: 10 ** 12, lots: 20, items: 50, quantity: 10 ** 6, text: 200, validity: 365,
   standstill: 90 };
 export const DAY = 86_400_000;
 const LAST_SECOND = Date.UTC(2099, 11, 31, 23, 59, 59);
+
 /** The text that bytes are in UTF-8, or null where they are none. */
 export function textOf(bytes) {
   try {
@@ -18,20 +18,6 @@ export function textOf(bytes) {
 /** Whether an identifier can stand in an address that a browser asks for: of `.` and `..` it makes folders. */
 export function isAskable(text) {
   return isId(text) && text !== "." && text !== "..";
-}
-
-/** Why a text is no line of text: `empty`, `control`, `long` or `coding`; null where it is one. */
-export function lineFault(text) {
-  if (text === "") {
-    return "empty";
-  }
-  if (/[\u0000-\u001f\u007f]/.test(text)) {
-    return "control";
-  }
-  if (!text.isWellFormed()) {
-    return "coding";
-  }
-  return bytesOf(text).length > MOST.text ? "long" : null;
 }
 
 /** The number that digits write, within bounds, or null. */
@@ -57,16 +43,6 @@ export function digitsOf(text) {
 export function momentText(milliseconds) {
   const second = Math.floor(milliseconds / 1000) * 1000;
   return Number.isFinite(second) && second >= 0 && second <= LAST_SECOND ? new Date(second).toISOString().replace(/\.\d{3}Z$/, "Z") : null;
-}
-
-/** The milliseconds of a moment of the office, or null. */
-export function millisecondsOf(moment) {
-  if (!/^\d{4}-\d\d-\d\dT\d\d:\d\d:\d\dZ$/.test(moment ?? "")) {
-    return null;
-  }
-  const found = Date.parse(moment);
-  // (a day that isn't in the month is another one then)
-  return momentText(found) === moment ? found : null;
 }
 
 /** The milliseconds of what a field for date and time of this place holds (`2026-03-01T13:00`), or null. */

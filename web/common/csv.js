@@ -72,6 +72,12 @@ export function isTextLine(field) {
   return /^[^\0-\x1f\x7f]{1,200}$/.test(field) && isUtf8(field);
 }
 
+/** Why a text that somebody typed is no line of text: `empty`, `control`, `long` or `coding`; null where it is one. */
+export function lineFault(text) {
+  return text === "" ? "empty" : /[\0-\x1f\x7f]/.test(text) ? "control" : !text.isWellFormed() ? "coding"
+    : new TextEncoder().encode(text).length > 200 ? "long" : null;
+}
+
 /** Whether such a text is UTF-8. */
 export function isUtf8(binary) {
   try {
@@ -80,11 +86,6 @@ export function isUtf8(binary) {
   } catch {
     return false;
   }
-}
-
-/** Fields as a record of a file, each between quotation marks where it must be. */
-export function recordText(fields) {
-  return `${fields.map((field) => (/[",\r\n]/.test(field) ? `"${field.replaceAll('"', '""')}"` : field)).join(",")}\n`;
 }
 
 // What a field that is no number looks like. (Blanks that sheets put between digits: space, no-break space, narrow no-break space.)

@@ -1,41 +1,56 @@
-// What pages are filled in by: fields with a label and what is wrong beside them, files that are dropped or chosen, buttons; tables; and what is saved or
-// printed.
-import { element } from "../draw.js";
+// What pages are filled in by: fields with a label and what is wrong beside them, files that are dropped or chosen, buttons; tables, lists that grow; and what
+// is saved or printed.
+import { element, fresh } from "./draw.js";
+import { lineFault } from "./csv.js";
 import { say } from "./texts.js";
 
-/** A field below its label. `tell(sentence)` says what is wrong with it; nothing is right. */
-export function field(id, label, { hint = "", value = "", ...attributes } = {}) {
-  const input = element("input", { id, name: id, autocomplete: "off", spellcheck: "false", autocapitalize: "none", ...attributes });
+/** A field below its label: what was `made`, its `input`, its `value()`, and `tell(sentence)`, which says what is wrong with it, where an empty one is right.
+ * `kind` is a type of input, `lines` (a text of several), or `choice` with `options`, pairs of value and text. */
+export function field(label, { id = fresh("field"), kind = "text", hint = "", value = "", options = [], ...attributes } = {}) {
+  const about = [hint ? `${id}-hint` : "", `${id}-wrong`].filter(Boolean).join(" ");
+  const own = { id, name: id, "aria-describedby": about, spellcheck: "false", ...attributes };
+  const input = kind === "choice" ? element("select", own, options.map(([name, text]) => element("option", { value: name }, text)))
+    : kind === "lines" ? element("textarea", { rows: "6", ...own }) : element("input", { type: kind, autocomplete: "off", autocapitalize: "none", ...own });
   input.value = value;
-  return entry(id, label, hint, input);
-}
-
-/** A choice of one of several: pairs of value and text. */
-export function choice(id, label, pairs, { hint = "", value = "" } = {}) {
-  const input = element("select", { id, name: id }, pairs.map(([name, text]) => element("option", { value: name }, text)));
-  input.value = value;
-  return entry(id, label, hint, input);
-}
-
-function entry(id, label, hint, input) {
-  const wrong = element("p", { id: `${id}-wrong`, class: "wrong" });
-  const told = hint ? element("p", { id: `${id}-hint`, class: "quiet" }, hint) : null;
-  input.setAttribute("aria-describedby", [told ? `${id}-hint` : "", `${id}-wrong`].filter(Boolean).join(" "));
+  const wrong = element("p", { id: `${id}-wrong`, class: "wrong", hidden: "" });
   const tell = (sentence) => {
     wrong.textContent = sentence;
-    input.toggleAttribute("aria-invalid", Boolean(sentence));
+    wrong.hidden = !sentence;
+    input.toggleAttribute("aria-invalid", false);
     if (sentence) {
       input.setAttribute("aria-invalid", "true");
     }
   };
-  return { made: element("div", { class: "entry" }, element("label", { for: id }, label), told, input, wrong), input, tell };
+  return { made: element("div", { class: "entry" }, element("label", { for: id }, label), input,
+    hint ? element("p", { id: `${id}-hint`, class: "quiet" }, hint) : null, wrong), input, value: () => input.value.trim(), tell };
+}
+
+/** The attributes of a field for an identifier of the office, and for a whole number. */
+export const ID = { maxlength: "32" };
+export const DIGITS = { inputmode: "numeric" };
+
+/** Tells fields what is wrong with each, puts the focus on the first of these, and says whether all is right. `pairs` are fields with a sentence each, which is
+ * empty where nothing is wrong. */
+export function areRight(pairs) {
+  for (const [one, sentence] of pairs) {
+    one.tell(sentence);
+  }
+  const wrong = pairs.find(([, sentence]) => sentence);
+  wrong?.[0].input.focus();
+  return wrong === undefined;
+}
+
+/** Why a text is no line of text, as a sentence, or nothing. */
+export function lineText(text) {
+  const fault = lineFault(text);
+  return fault ? say(`text.${fault}`) : "";
 }
 
 /** A box to tick. */
-export function tick(id, text, changed) {
+export function tick(text, changed, id = fresh("tick")) {
   const input = element("input", { id, type: "checkbox" });
   input.addEventListener("change", () => changed(input.checked));
-  return element("label", { class: "tick", for: id }, input, element("span", {}, text));
+  return { made: element("label", { class: "tick", for: id }, input, element("span", {}, text)), input };
 }
 
 /** A button. While what it does goes on it can't be pressed again. */
@@ -43,19 +58,19 @@ export function button(text, act, kind = "") {
   const made = element("button", { type: "button", class: kind }, text);
   made.addEventListener("click", async () => {
     made.disabled = true;
-    try {
-      await act();
-    } finally {
-      made.disabled = false;
-    }
+    await Promise.resolve(act()).finally(() => { made.disabled = false; });
   });
   return made;
 }
 
+export function steps(...content) {
+  return element("div", { class: "steps" }, content);
+}
+
 /** A form of some fields and its button: `act` is done where the button is pressed, or Enter. */
-export function form(fields, text, act) {
-  const press = element("button", { type: "submit" }, text);
-  const made = element("form", { novalidate: "" }, fields, element("div", { class: "steps" }, press));
+export function form(name, fields, text, act, kind = "") {
+  const press = element("button", { type: "submit", class: kind }, text);
+  const made = element("form", { novalidate: "", "aria-label": name }, fields, steps(press));
   made.addEventListener("submit", async (event) => {
     event.preventDefault();
     if (!press.disabled) {
@@ -67,8 +82,8 @@ export function form(fields, text, act) {
 }
 
 /** A place for a file: dropped there, or chosen by the field in it. */
-export function drop(id, label, hint, take) {
-  const input = element("input", { id, type: "file", "aria-describedby": `${id}-hint` });
+export function drop(label, hint, take, { id = fresh("file"), ...attributes } = {}) {
+  const input = element("input", { id, type: "file", "aria-describedby": `${id}-hint`, ...attributes });
   const made = element("div", { class: "drop" }, element("label", { for: id }, label), element("p", { id: `${id}-hint`, class: "quiet" }, hint), input);
   input.addEventListener("change", async () => {
     if (input.files.length > 0) {
@@ -92,45 +107,60 @@ export function drop(id, label, hint, take) {
 }
 
 /** What is good, to be looked at, or wrong (`good`, `look`, `bad`), said below a heading. */
-export function told(kind, head, ...content) {
-  return element("div", { class: kind, role: kind === "bad" ? "alert" : "group" }, element("p", {}, head), ...content);
+export function note(kind, head, ...content) {
+  const parts = content.flat(Infinity).filter(Boolean).map((part) => (part instanceof Node ? part : element("p", {}, part)));
+  return element("div", kind === "bad" ? { class: kind, role: "alert" } : { class: kind }, element("p", {}, head), parts);
 }
 
 /** A table. On a phone each row is a block, and browsers drop the roles of such a table, so they are written out. `figures` are the columns of figures. */
 export function table(caption, heads, rows, { figures = [], foot = null, kind = "figures" } = {}) {
   const kindOf = (at) => (figures.includes(at) ? { class: "figure" } : {});
-  const rowOf = (cells, name) => element("tr", { role: "row" }, cells.map((cell, at) => (at === 0
+  const rowOf = (cells) => element("tr", { role: "row" }, cells.map((cell, at) => (at === 0
     ? element("th", { scope: "row", role: "rowheader", "data-name": heads[at], ...kindOf(at) }, cell)
-    : element("td", { role: "cell", ...(name ? { "data-name": heads[at] } : {}), ...kindOf(at) }, cell))));
-  return element("table", { role: "table", class: kind }, element("caption", {}, caption),
+    : element("td", { role: "cell", "data-name": heads[at], ...kindOf(at) }, cell))));
+  return element("table", { role: "table", class: kind }, caption ? element("caption", {}, caption) : null,
     element("thead", { role: "rowgroup" }, element("tr", { role: "row" },
       heads.map((text, at) => element("th", { scope: "col", role: "columnheader", ...kindOf(at) }, text)))),
-    element("tbody", { role: "rowgroup" }, rows.map((cells) => rowOf(cells, true))),
-    foot ? element("tfoot", { role: "rowgroup" }, rowOf(foot, true)) : null);
+    element("tbody", { role: "rowgroup" }, rows.map(rowOf)), foot ? element("tfoot", { role: "rowgroup" }, rowOf(foot)) : null);
+}
+
+/** Entries in a list, and a button that shows some more of them. */
+export function growing(list, all, make, many) {
+  const more = element("button", { type: "button", class: "more second" });
+  let shown = 0;
+  const grow = () => {
+    const next = all.slice(shown, shown + many).map(make);
+    list.append(...next);
+    shown += next.length;
+    more.hidden = shown >= all.length;
+    more.textContent = say("list.more", { count: all.length - shown });
+    return next;
+  };
+  grow();
+  more.addEventListener("click", () => grow()[0].querySelector("a").focus());
+  return [list, more];
 }
 
 /** Saves bytes or a text as a file of this name. */
 export function save(name, content, type = "text/plain") {
   const address = URL.createObjectURL(new Blob([content], { type }));
-  const link = element("a", { href: address, download: name });
-  document.body.append(link);
-  link.click();
-  link.remove();
+  const at = element("a", { href: address, download: name });
+  document.body.append(at);
+  at.click();
+  at.remove();
   setTimeout(() => URL.revokeObjectURL(address), 60_000);
 }
 
-/** A button that prints the sheet of the view, and nothing else of it. */
 export function printButton() {
-  return button(say("sheet.print"), () => {
-    document.body.classList.add("one-sheet");
-    window.print();
-    document.body.classList.remove("one-sheet");
-  }, "second");
+  return button(say("sheet.print"), () => print(), "second");
 }
 
-/** What a sheet ends with: where it comes from and when, and a line for each who signs. */
-export function sheetEnd(...signs) {
-  const when = new Date().toISOString().replace(/\.\d+Z$/, "Z");
-  return [element("p", { class: "quiet" }, say("sheet.from", { address: location.origin + location.pathname, when })),
-    element("div", { class: "signs" }, signs.map((text) => element("div", {}, text)))];
+/** What is printed alone, of a view that is a sheet. */
+export function sheet(...content) {
+  return element("div", { class: "sheet" }, content);
+}
+
+/** What a sheet ends with: a line for each who signs. */
+export function signs(...names) {
+  return element("div", { class: "signs" }, names.map((text) => element("div", {}, text)));
 }

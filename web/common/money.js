@@ -1,10 +1,23 @@
-// Amounts and moments as they are shown, and amounts as they are typed.
-import { element } from "../draw.js";
+// Amounts and moments as they are shown, amounts as they are typed, and how long it is to a deadline.
+import { element } from "./draw.js";
+import { officeNow } from "./office.js";
 import { language, say } from "./texts.js";
+
+// Each form of numbers and moments, made once: making one takes longer than a hundred uses of it.
+const forms = new Map();
+
+function form(kind, parts) {
+  const tag = language() === "en" ? "en-GB" : language();
+  const name = `${tag} ${kind.name} ${JSON.stringify(parts)}`;
+  if (!forms.has(name)) {
+    forms.set(name, new kind(tag, parts));
+  }
+  return forms.get(name);
+}
 
 /** Whole units with groups of three, in the way of the language. */
 export function number(amount) {
-  return new Intl.NumberFormat(language()).format(amount);
+  return form(Intl.NumberFormat, {}).format(amount);
 }
 
 /** An amount with its currency, which may be unknown. */
@@ -26,21 +39,30 @@ export function typed(text, most) {
   return trimmed.length > 16 || Number(trimmed) > most ? { fault: "above" } : { value: Number(trimmed) };
 }
 
-const PARTS = { day: "numeric", month: "long", year: "numeric", hour: "2-digit", minute: "2-digit", second: "2-digit", hourCycle: "h23" };
+const DAY = { day: "numeric", month: "long", year: "numeric" };
+const TIME = { hour: "2-digit", minute: "2-digit", second: "2-digit", hourCycle: "h23" };
 
-function formatted(date, more) {
-  return new Intl.DateTimeFormat(language() === "en" ? "en-GB" : language(), { ...PARTS, ...more }).format(date);
+function formatted(date, parts) {
+  return form(Intl.DateTimeFormat, parts).format(date);
 }
 
-/** A moment of the office: in UTC, as it counts, and where the reader is. */
+/** The day of a moment, in UTC. */
+export function day(text) {
+  const date = new Date(text);
+  return element("time", { datetime: text }, Number.isNaN(date.getTime()) ? text : formatted(date, { ...DAY, timeZone: "UTC" }));
+}
+
+/** A moment of the office: in UTC, as it counts, and where the reader is. What stands second, by the text, has no day where that is the same. */
 export function moment(text) {
   const date = new Date(text);
   if (Number.isNaN(date.getTime())) {
     return element("span", {}, text);
   }
-  const here = formatted(date, { timeZoneName: "short" });
-  const utc = `${formatted(date, { timeZone: "UTC" })} UTC`;
-  return element("time", { datetime: text }, date.getTimezoneOffset() === 0 ? utc : say("moment.both", { utc, here }));
+  const isSameDay = formatted(date, DAY) === formatted(date, { ...DAY, timeZone: "UTC" });
+  const [here, utc] = [{ timeZoneName: "short" }, { timeZone: "UTC" }].map((zone) => (isWhole) =>
+    formatted(date, { ...(isWhole || !isSameDay ? DAY : {}), ...TIME, ...zone }));
+  const both = () => say("moment.both", { utc: `${utc(true)} UTC`, here: here(false), local: here(true), second: `${utc(false)} UTC` });
+  return element("time", { datetime: text }, date.getTimezoneOffset() === 0 ? `${utc(true)} UTC` : both());
 }
 
 /** How long it is from one moment to another, in seconds, as `2 days, 3 hours` or `4 minutes`. */
@@ -50,4 +72,30 @@ export function span(seconds) {
   const told = seconds < 1 ? [["seconds", 1]] : units.slice(at, at + 2);
   return told.map(([name, unit], place) => [name, Math.floor((place === 0 ? seconds : seconds % units[at][1]) / unit)])
     .filter(([, count], place) => place === 0 || count > 0).map(([name, count]) => say(`span.${name}`, { count })).join(", ");
+}
+
+// From so many seconds on it presses.
+const CLOSE = 600;
+
+/** How long it is to a deadline by the server's clock, told anew each second for as long as it stands in the page; `over` is called once the deadline has
+ * come. The last second is one in which tenders are taken. */
+export function clock(deadline, over = () => {}) {
+  const shown = element("span", { role: "timer", "aria-live": "off" });
+  const tell = () => {
+    const left = Math.ceil((Date.parse(deadline) - officeNow()) / 1000);
+    shown.textContent = left > 0 ? say("clock.left", { span: span(left) }) : say("clock.over");
+    shown.className = left < CLOSE ? "clock wrong" : "clock";
+    return left > 0;
+  };
+  if (tell()) {
+    const timer = setInterval(() => {
+      if (!shown.isConnected) {
+        clearInterval(timer);
+      } else if (!tell()) {
+        clearInterval(timer);
+        over();
+      }
+    }, 1000);
+  }
+  return shown;
 }

@@ -60,11 +60,11 @@ function refusalOf(answer, text) {
 }
 
 /** The text of an answer. A caller is `{ caller, key }`, or nothing for the public. */
-async function send(path, { method = "GET", caller = null, body = undefined } = {}) {
+async function send(path, { method = "GET", caller = null, body = undefined, cache = "no-store" } = {}) {
   const headers = caller ? { "Office-Caller": caller.caller, "Office-Key": caller.key } : {};
   let answer, text;
   try {
-    answer = await fetch(path, { method, headers, body, credentials: "omit", cache: "no-store", redirect: "error", signal: AbortSignal.timeout(LONGEST) });
+    answer = await fetch(path, { method, headers, body, credentials: "omit", cache, redirect: "error", signal: AbortSignal.timeout(LONGEST) });
     text = await answer.text();
   } catch {
     throw new Refused({ kind: "away" });
@@ -144,31 +144,58 @@ export async function record(notice) {
   return compiled;
 }
 
+/** All rows of a list that comes in pages: a page of a hundred after another. */
+async function listed(path, name, caller = null) {
+  const found = [];
+  let next = "";
+  do {
+    const page = await lookJson(`${path}${next && `?after=${next}`}`, caller);
+    found.push(...page[name]);
+    next = page.next;
+  } while (next);
+  return found;
+}
+
+/** All notices. */
+export function notices() {
+  return listed("/notices", "notices");
+}
+
+/** On which terms a notice takes tenders. */
+export function terms(notice) {
+  return lookJson(`/notices/${part(notice)}/terms`);
+}
+
+/** The evaluation of a notice as the office wrote it, which shows the clerk all lots; null where nothing was opened. */
+export function evaluationText(notice, caller = null) {
+  return ifOpened(`/notices/${part(notice)}/evaluation`, caller);
+}
+
+/** A file that stands beside the office, as those of its mirror: its text, or null where it isn't there. A browser keeps it, and asks whether it changed. */
+export async function file(path) {
+  try {
+    return await send(path, { cache: "no-cache" });
+  } catch (fault) {
+    if (fault.status === 404) {
+      return null;
+    }
+    throw fault;
+  }
+}
+
 /** A notice's releases, in order. */
 export async function releases(notice) {
   return (await lookJson(`/notices/${part(notice)}/releases`)).releases ?? [];
 }
 
-/** On which terms a notice takes tenders: what the record tells of them. What it doesn't tell is null, and stands in the tender documents. */
-export async function terms(notice) {
-  const compiled = await record(notice);
-  const { tender } = compiled;
-  const itemsOf = (lot) => (tender.items ?? []).filter(({ relatedLot }) => relatedLot === lot.id)
-    .map(({ id, quantity, description }) => ({ id: id.slice(lot.id.length + 1), quantity, title: description }));
-  return { notice, title: tender.title, language: compiled.language, buyer: compiled.buyer?.name ?? "", deadline: tender.tenderPeriod.endDate,
-    criteria: tender.awardCriteria === "priceOnly" ? "price" : "points", state: stateOf(tender), late_withdrawal: null, performance: null, validity_days: null,
-    standstill_days: null, price_weight: null, currency: tender.lots[0].value.currency,
-    lots: tender.lots.map((lot) => ({ id: lot.id, title: lot.title, estimate: lot.value.amount, state: lot.status, security: null, items: itemsOf(lot) })) };
-}
-
-function stateOf(tender) {
-  return tender.numberOfTenderers !== undefined ? "opened" : tender.status === "cancelled" ? "cancelled" : "receiving";
-}
-
 /** The minutes of an opening as the office wrote them; null where nothing was opened. */
-export async function minutesText(notice) {
+export function minutesText(notice) {
+  return ifOpened(`/notices/${part(notice)}/minutes`);
+}
+
+async function ifOpened(path, caller = null) {
   try {
-    return await look(`/notices/${part(notice)}/minutes`);
+    return await look(path, caller);
   } catch (fault) {
     if (fault.name === "NotOpened") {
       return null;
@@ -214,6 +241,16 @@ export function tender(receipt, caller) {
   return lookJson(`/tenders/${Number(receipt)}`, caller);
 }
 
+/** The caller's tenders of a notice. */
+export async function ownTenders(notice, caller) {
+  return (await lookJson(`/notices/${part(notice)}/tenders`, caller)).tenders;
+}
+
+/** A contract, with its payments and changes. */
+export function contract(number, caller) {
+  return lookJson(`/contracts/${Number(number)}`, caller);
+}
+
 /** A tender's security. */
 export function security(number, caller) {
   return lookJson(`/securities/${Number(number)}`, caller);
@@ -227,6 +264,16 @@ export function performance(contract, caller) {
 /** The register of a notice as the office wrote it. */
 export function registerText(notice, caller) {
   return look(`/notices/${part(notice)}/register`, caller);
+}
+
+/** The tender securities of a notice. */
+export async function securities(notice, caller) {
+  return (await lookJson(`/notices/${part(notice)}/securities`, caller)).securities;
+}
+
+/** All tenderers. */
+export function tenderers(caller) {
+  return listed("/tenderers", "tenderers", caller);
 }
 
 // Commands of a tenderer.

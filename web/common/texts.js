@@ -1,12 +1,10 @@
 // Languages: which one is spoken, and its texts by their names. The texts of a language stand in a file of its own; a page adds those that it needs beside
 // these.
-import de from "./de.js";
-import en from "./en.js";
 
 const NAMES = { en: "English", de: "Deutsch" };
-const books = { en: { ...en }, de: { ...de } };
-// What a page's texts are loaded by, once their language is spoken.
-const loaders = { en: [], de: [] };
+const books = { en: {}, de: {} };
+// What texts are loaded by, once their language is spoken.
+const loaders = { en: [() => import("./en.js")], de: [() => import("./de.js")] };
 let spoken = first();
 
 /** The language that the address asks for (`?language=de`), else the first of the browser's that is known, else English. */
@@ -16,25 +14,19 @@ function first() {
   return wanted.find((tag) => Object.hasOwn(NAMES, tag)) ?? "en";
 }
 
-/** Adds texts, as `{ en: { name: text }, de: { name: text } }`, or for each language a function that loads a module of them, which is called where the
- * language is spoken. A name that is there already gets the new text. */
+/** Adds texts: for each language a function that loads a module of them, which is called where the language is spoken. A name that is there already gets the
+ * new text. */
 export async function addTexts(more) {
   for (const [tag, texts] of Object.entries(more)) {
-    if (typeof texts === "function") {
-      loaders[tag].push(texts);
-    } else {
-      Object.assign(books[tag], texts);
-    }
+    loaders[tag].push(texts);
   }
   await load(spoken);
 }
 
 async function load(tag) {
-  while (loaders[tag].length > 0) {
-    const loaded = await loaders[tag][0]();
-    Object.assign(books[tag], loaded.default);
-    loaders[tag].shift();
-  }
+  const loaded = await Promise.all(loaders[tag].map((one) => one()));
+  Object.assign(books[tag], ...loaded.map((one) => one.default));
+  loaders[tag] = [];
 }
 
 /** The language that is spoken, as `en`. */
@@ -51,9 +43,7 @@ export function languages() {
  * to draw anew. */
 export async function chooseLanguage(tag) {
   const wanted = Object.hasOwn(NAMES, tag) ? tag : "en";
-  if (loaders[wanted].length > 0) {
-    await load(wanted);
-  }
+  await load(wanted);
   spoken = wanted;
   if (globalThis.history?.replaceState) {
     const address = new URL(location.href);

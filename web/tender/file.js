@@ -1,7 +1,7 @@
 // An offer from a file: taken as it is, made to what the office reads with each change told, or refused with each line and reason.
-import { element } from "../draw.js";
+import { element } from "../common/draw.js";
 import { bytesOfFile } from "../common/digest.js";
-import { drop, table, told } from "../common/forms.js";
+import { drop, note, table } from "../common/forms.js";
 import { money } from "../common/money.js";
 import { hasText, say } from "../common/texts.js";
 import { MOST_READ, converted } from "./convert.js";
@@ -38,17 +38,16 @@ function linesOf(caption, kind, entries) {
 /** What became of the offer's file. */
 export function outcome({ file, terms }) {
   if (file.kind === "refused") {
-    return told("bad", say("file.refused", { file: file.name }), ...linesOf(say("file.refused.caption"), "fault", file.faults),
-      element("p", {}, say("file.refused.what")));
+    return note("bad", say("file.refused", { file: file.name }), linesOf(say("file.refused.caption"), "fault", file.faults), say("file.refused.what"));
   }
   const price = money(file.reading.price, terms.currency);
   if (file.kind === "converted") {
-    return told("look", say("file.converted", { file: file.name, price }), element("p", {}, say("file.converted.what")),
-      ...linesOf(say("file.converted.caption"), "change", file.changes));
+    return note("look", say("file.converted", { file: file.name, price }), say("file.converted.what"),
+      linesOf(say("file.converted.caption"), "change", file.changes));
   }
   const { corrections } = file.reading;
-  return corrections === 0 ? told("good", say("file.asItIs", { file: file.name, price }))
-    : told("look", say("file.corrected", { file: file.name, price, count: corrections }), element("p", {}, say("file.corrected.what")));
+  return corrections === 0 ? note("good", say("file.asItIs", { file: file.name, price }))
+    : note("look", say("file.corrected", { file: file.name, price, count: corrections }), say("file.corrected.what"));
 }
 
 /** Where a file is dropped for the offer; `changed` is called where one was read. */
@@ -59,5 +58,5 @@ export function drawFile(offer, changed) {
     offer.file = { name: file.name, ...found };
     changed(say(`file.is.${found.kind.replaceAll(" ", "").toLowerCase()}`, { file: file.name }), found.kind === "refused");
   };
-  return [element("p", {}, say("file.why")), drop("offer-file", say("file.drop"), say("file.drop.hint"), take), offer.file ? outcome(offer) : null];
+  return [element("p", {}, say("file.why")), drop(say("file.drop"), say("file.drop.hint"), take, { id: "offer-file" }), offer.file ? outcome(offer) : null];
 }

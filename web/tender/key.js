@@ -1,8 +1,9 @@
 // The key: read from its file, made anew, asked whether it is registered; and the sheet by which the clerk registers it.
-import { element, facts, given } from "../draw.js";
 import { isId } from "../common/csv.js";
 import { bytesOf, bytesOfFile, inGroups, newKey, sha256 } from "../common/digest.js";
-import { drop, button, field, form, printButton, save, sheetEnd, told } from "../common/forms.js";
+import { element, facts, given, link, section, title } from "../common/draw.js";
+import { ID, areRight, button, drop, field, form, lineText, note, printButton, save, sheet, signs, steps } from "../common/forms.js";
+import { sourceOf } from "../common/frame.js";
 import { sentenceOf, tender } from "../common/office.js";
 import { say } from "../common/texts.js";
 import { putAway, session } from "./session.js";
@@ -35,88 +36,72 @@ async function ask(where) {
     await tender(1, session.caller);
   } catch (fault) {
     if (!["NoSuch", "NotYourTender"].includes(fault.name)) {
-      where.replaceChildren(told("bad", sentenceOf(fault), fault.name === "BadKey" ? element("p", {}, say("key.unknown")) : null));
+      where.replaceChildren(note("bad", sentenceOf(fault), fault.name === "BadKey" ? say("key.unknown") : null));
       return;
     }
   }
-  where.replaceChildren(told("good", say("key.registered", { name: session.caller.caller })));
+  where.replaceChildren(note("good", say("key.registered", { name: session.caller.caller }), link(say("offer.title"), "#offer", "button")));
 }
 
 function ofKey(context) {
   if (!session.caller) {
-    return [element("p", {}, say("key.drop.why")), drop("key-file", say("key.drop"), say("key.drop.hint"), (file) => take(file, context))];
+    return [element("p", {}, say("key.drop.why")), drop(say("key.drop"), say("key.drop.hint"), (file) => take(file, context), { id: "key-file" }),
+      element("details", {}, element("summary", {}, say("key.lost")), element("p", {}, say("key.lost.what")))];
   }
   const answer = element("div", { "aria-live": "polite" });
-  return [told("good", say("key.there", { name: session.caller.caller }), element("p", {}, say("key.there.why"))),
+  return [note("good", say("key.there", { name: session.caller.caller }), say("key.there.why")),
     session.registration.isSaved ? element("p", { class: "right" }, say("key.saved")) : null, answer,
-    element("div", { class: "steps" }, button(say("key.ask"), () => ask(answer)),
-      button(say("key.away"), () => { putAway(); context.redraw(say("key.away.done")); }, "second"))];
+    steps(button(say("key.ask"), () => ask(answer)), button(say("key.away"), () => { putAway(); context.redraw(say("key.away.done")); }, "second"))];
 }
 
 async function make(fields, context) {
-  const faults = { tenderer: isId(fields.tenderer.input.value.trim()), name: isLine(fields.name.input.value), address: isLine(fields.address.input.value) };
-  for (const [name, isRight] of Object.entries(faults)) {
-    fields[name].tell(isRight ? "" : say(`key.wrong.${name}`));
-  }
-  const wrong = Object.keys(faults).find((name) => !faults[name]);
-  if (wrong) {
-    fields[wrong].input.focus();
+  const { tenderer, name, address } = fields;
+  if (!areRight([[tenderer, isId(tenderer.value()) ? "" : say("key.wrong.tenderer")], [name, lineText(name.value())], [address, lineText(address.value())]])) {
     return;
   }
   const key = newKey();
-  const caller = fields.tenderer.input.value.trim();
-  session.registration = { tenderer: caller, name: fields.name.input.value.trim(), address: fields.address.input.value.trim(),
-    digest: await sha256(bytesOf(key)), isSaved: false };
+  const caller = tenderer.value();
+  session.registration = { tenderer: caller, name: name.value(), address: address.value(), digest: await sha256(bytesOf(key)), isSaved: false };
   save(`${caller}.key`, keyFile({ caller, key }));
   putAway();
   context.redraw(say("key.made", { file: `${caller}.key` }));
 }
 
-/** Whether a text can be registered as a line: 1 to 200 bytes without control characters. */
-function isLine(text) {
-  const bytes = bytesOf(text.trim());
-  return bytes.length >= 1 && bytes.length <= 200 && !/[\0-\x1f\x7f]/.test(text.trim());
-}
-
 function ofMaking(context) {
   const { registration } = session;
-  const made = (name, more = {}) => {
-    const one = field(`key-${name}`, say(`key.${name}`), { hint: say(`key.${name}.hint`), value: registration.typed?.[name] ?? registration[name], ...more });
+  const made = (name, more) => {
+    const value = registration.typed?.[name] ?? registration[name];
+    const one = field(say(`key.${name}`), { id: `key-${name}`, hint: say(`key.${name}.hint`), value, ...more });
     one.input.addEventListener("input", () => { registration.typed = { ...registration.typed, [name]: one.input.value }; });
     return one;
   };
-  const fields = { tenderer: made("tenderer", { maxlength: 32 }), name: made("name", { autocapitalize: "words" }),
-    address: made("address", { autocapitalize: "words" }) };
-  return [element("p", {}, say("key.make.why")), form(Object.values(fields).map((one) => one.made), say("key.make"), () => make(fields, context))];
+  const fields = { tenderer: made("tenderer", ID), name: made("name", { autocapitalize: "words" }), address: made("address", { autocapitalize: "words" }) };
+  return [element("p", {}, say("key.make.why")),
+    form(say("key.new"), Object.values(fields).map((one) => one.made), say("key.make"), () => make(fields, context))];
 }
 
 /** The sheet for the clerk: who is to be registered, and the key's SHA-256. */
-function sheet(context) {
+function registrationSheet(context) {
   const { tenderer, name, address, digest } = session.registration;
   const file = `${JSON.stringify({ tenderer, name, address, key: digest })}\n`;
   const keep = button(say("key.sheet.save"), () => save(`registration-${tenderer}.json`, file, "application/json"), "second");
   const other = button(say("key.another"), () => {
     session.registration = { tenderer: "", name: "", address: "", digest: "" };
-    context.redraw("");
+    context.redraw();
   }, "second");
-  return [element("div", { class: "steps" }, printButton(), keep, other),
-    element("section", { class: "sheet", "aria-labelledby": "sheet-head" }, element("h2", { id: "sheet-head" }, say("key.sheet")),
-      element("p", {}, say("key.sheet.why")),
-      facts([[say("key.tenderer"), given(tenderer)], [say("key.name"), given(name)], [say("key.address"), given(address)]]),
-      element("p", {}, say("key.sheet.digest")), element("p", { class: "code" }, inGroups(digest)),
-      ...sheetEnd(say("key.sheet.sign.tenderer"), say("key.sheet.sign.clerk")))];
+  return [section(say("key.next"), element("ol", {}, ["give", "ask", "offer"].map((name) => element("li", {}, say(`key.next.${name}`))))),
+    steps(printButton(), keep, other), sheet(element("h2", {}, say("key.sheet")), element("p", {}, say("key.sheet.why")),
+    facts([[say("key.tenderer"), given(tenderer)], [say("key.name"), given(name)], [say("key.address"), given(address)]]),
+    element("p", {}, say("key.sheet.digest")), element("p", { class: "code" }, inGroups(digest)), element("p", { class: "quiet" }, sourceOf()),
+    signs(say("key.sheet.sign.tenderer"), say("key.sheet.sign.clerk")))];
 }
 
 /** The view of the key. */
 export function drawKey(context) {
   const { registration } = session;
   const isMade = registration.digest !== "";
-  return { title: say("key.title"), content: [
-    element("h1", { tabindex: "-1" }, say("key.title")),
-    isMade && !registration.isSaved ? told("look", say("key.dropMade", { file: `${registration.tenderer}.key` }),
-      element("p", {}, say("key.dropMade.why"))) : null,
-    element("section", { "aria-labelledby": "key-use" }, element("h2", { id: "key-use" }, say("key.use")), ofKey(context)),
-    ...(isMade ? sheet(context) : []),
-    session.caller || isMade ? null : element("section", { "aria-labelledby": "key-new" }, element("h2", { id: "key-new" }, say("key.new")), ofMaking(context)),
-  ].filter(Boolean) };
+  return { title: say("key.title"), isSheet: isMade, content: [title(say("key.title")),
+    isMade && !registration.isSaved ? note("look", say("key.dropMade", { file: `${registration.tenderer}.key` }), say("key.dropMade.why")) : null,
+    session.caller || isMade ? null : section(say("key.new"), ofMaking(context)), section(say("key.use"), ofKey(context)),
+    isMade ? registrationSheet(context) : null] };
 }

@@ -1,100 +1,44 @@
-// Which view is shown, by the address; the language; and whose key is in this tab.
-import { element } from "../draw.js";
-import { told } from "../common/forms.js";
-import { sentenceOf } from "../common/office.js";
-import { addTexts, chooseLanguage, language, languages, say } from "../common/texts.js";
-import { drawHome } from "./home.js";
+// Which view of the desk is shown, by the address, where one begins, and whose key is in this tab.
+import { badge, element, link, title } from "../common/draw.js";
+import { drawAround, showViews, words } from "../common/frame.js";
+import { addTexts, say } from "../common/texts.js";
 import { drawKey } from "./key.js";
 import { drawOffer } from "./offer.js";
 import { drawCheck } from "./receipt.js";
 import { drawSend } from "./send.js";
-import { session } from "./session.js";
-import { drawTender, drawTenders } from "./tenders.js";
+import { readyOf, session } from "./session.js";
 
 await addTexts({ en: () => import("./en.js"), de: () => import("./de.js") });
-const main = document.getElementById("content");
-const status = document.getElementById("status");
-const PAGES = { "": drawHome, key: drawKey, offer: drawOffer, send: drawSend, tenders: drawTenders, tender: drawTender, check: drawCheck };
-let asked = 0;
+// (what shows own tenders is loaded where it is wanted alone)
+const own = (name) => async (...asked) => (await import("./tenders.js"))[name](...asked);
+const VIEWS = { "": drawHome, key: drawKey, offer: drawOffer, send: drawSend, tenders: own("drawTenders"), tender: own("drawTender"), check: drawCheck };
+const MENU = { "": "home.short", key: "key.title", offer: "offer.short", tenders: "tenders.title", check: "receipt.number" };
+
+function step(number, name, isDone) {
+  return element("li", { class: "card" }, element("h2", {}, `${number}. ${say(`home.${name}`)} `, isDone ? badge("done", say("home.done")) : null),
+    element("p", {}, say(`home.${name}.why`)), element("p", {}, link(say(`home.${name}.go`), `#${name}`, isDone ? "button second" : "button")));
+}
+
+/** Where to begin: the steps of a tender, each with how far it is. */
+function drawHome() {
+  return { title: say("home.title"), content: [title(say("home.title")), element("p", {}, say("home.why")),
+    element("ol", { class: "lines stepwise" }, step(1, "key", session.caller !== null), step(2, "offer", readyOf(session.offer) !== null),
+      step(3, "tenders", false), step(4, "check", false)), element("p", { class: "quiet" }, say("home.keeps"))] };
+}
 
 /** The page and the names behind it in the address. */
 function place() {
-  const [page, ...names] = location.hash.slice(1).split("/").map((text) => {
-    try {
-      return decodeURIComponent(text);
-    } catch {
-      return text;
-    }
-  });
-  return Object.hasOwn(PAGES, page) ? [page, ...names] : [""];
+  const [page, ...names] = words();
+  return Object.hasOwn(VIEWS, page) ? [page, ...names] : [""];
 }
 
-/** What stands around the views: the page's own words, the way to each view, and the languages. */
-function drawFrame(page) {
-  document.documentElement.lang = language();
-  for (const at of document.querySelectorAll("[data-text]")) {
-    at.textContent = say(at.dataset.text);
-  }
-  for (const at of document.querySelectorAll("[data-label]")) {
-    at.setAttribute("aria-label", say(at.dataset.label));
-  }
+function around([page]) {
   const own = { send: "offer", tender: "tenders" }[page] ?? page;
-  for (const link of document.querySelectorAll("header nav a")) {
-    link.toggleAttribute("aria-current", link.hash.slice(1) === own);
-    if (link.hash.slice(1) === own) {
-      link.setAttribute("aria-current", "page");
-    }
-  }
+  drawAround({ site: say("frame.site"), foot: say("frame.foot"), current: `#${own}`,
+    pages: [...Object.entries(MENU).map(([name, text]) => [`#${name}`, say(text)]), ["/", say("frame.public")]] });
   document.getElementById("who").textContent = session.caller ? say("who.key", { name: session.caller.caller }) : say("who.none");
-  document.getElementById("languages").replaceChildren(...languages().map(([tag, name]) => {
-    const one = element("button", { type: "button", lang: tag, "aria-pressed": String(tag === language()) }, name);
-    one.addEventListener("click", async () => {
-      await chooseLanguage(tag).catch((fault) => console.warn(fault));
-      await show();
-      document.querySelector(`#languages [lang=${language()}]`).focus();
-    });
-    return one;
-  }));
 }
 
-async function viewOf([page, ...names]) {
-  const context = { redraw: (sentence, isWrong = false, focus = "h1") => show({ sentence, isWrong, focus }) };
-  try {
-    return await PAGES[page](context, ...names);
-  } catch (fault) {
-    return { title: say("frame.refused"), content: [element("h1", { tabindex: "-1" }, say("frame.refused")), told("bad", sentenceOf(fault)),
-      element("p", {}, element("a", { href: "#" }, say("home.title")))] };
-  }
-}
-
-/** Shows what the address asks for; where another was asked for meanwhile, that one stays. `sentence` tells what was done, `focus` is where the focus goes. */
-async function show({ sentence = "", isWrong = false, focus = "h1" } = {}) {
-  asked += 1;
-  const turn = asked;
-  const where = place();
-  drawFrame(where[0]);
-  main.setAttribute("aria-busy", "true");
-  const view = await viewOf(where);
-  if (turn !== asked) {
-    return;
-  }
-  drawFrame(where[0]);
-  main.replaceChildren(...view.content);
-  main.setAttribute("aria-busy", "false");
-  document.title = `${view.title} – ${say("frame.site")}`;
-  status.textContent = sentence;
-  status.className = sentence === "" ? "unseen" : isWrong ? "wrong" : "right";
-  (focus === "h1" ? main.querySelector("h1") : document.getElementById(focus))?.focus();
-}
-
-document.getElementById("skip").addEventListener("click", (event) => {
-  event.preventDefault();
-  main.focus();
-});
-// A file that is dropped beside its place would else take the page's place, and the key with it.
-for (const kind of ["dragover", "drop"]) {
-  addEventListener(kind, (event) => event.preventDefault());
-}
 // What was typed and what has no answer yet is told of before the tab is closed.
 addEventListener("beforeunload", (event) => {
   const isUnkept = session.sent?.isOpen || (session.sent?.receipt?.digest && !session.sent.isKept);
@@ -102,6 +46,5 @@ addEventListener("beforeunload", (event) => {
     event.preventDefault();
   }
 });
-addEventListener("hashchange", () => show());
-// (As the page is loaded the focus stays where the browser puts it: at its beginning.)
-show({ focus: "" });
+showViews({ place, around, view: ([page, ...names], redraw) => VIEWS[page]({ redraw }, ...names), site: () => say("frame.site"),
+  back: () => link(say("home.title"), "#") });

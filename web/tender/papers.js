@@ -1,5 +1,5 @@
 // What the office makes of a tender's file at the opening, to the letter (crates/tender_papers/specs, Files and Tender). It decides; faults.js explains. It
-// wants no page, so it runs in node too, where tests/desk_files compares it with tools/check_tender, which is compared with the office.
+// wants no page, so it runs in node too, where tests/tender_files compares it with tools/check_tender, which is compared with the office.
 import { binaryOf, contentOf, numberOf, recordsOf } from "../common/csv.js";
 
 export const HEAD = ["item", "quantity", "unit", "total"];

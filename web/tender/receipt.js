@@ -1,7 +1,8 @@
 // Receipts: shown beside the digest that was computed here, printed, saved; and whether a file and a receipt belong together.
-import { element, facts, given } from "../draw.js";
 import { bytesOfFile, inGroups, sha256 } from "../common/digest.js";
-import { button, drop, printButton, save, sheetEnd, told } from "../common/forms.js";
+import { element, facts, given, link, placeOf, title } from "../common/draw.js";
+import { button, drop, note, printButton, save, sheet, steps } from "../common/forms.js";
+import { sourceOf } from "../common/frame.js";
 import { money, moment } from "../common/money.js";
 import { sentenceOf, tender } from "../common/office.js";
 import { hasText, say } from "../common/texts.js";
@@ -9,23 +10,27 @@ import { session } from "./session.js";
 
 const MOST_RECEIPT = 16384;
 
-/** What a receipt says, as facts. */
-export function factsOf(receipt, price = null) {
+/** A security: its reference and amount where they are known, and the office's number of it. */
+function securityOf(number, { named, currency }) {
+  return number === null || number === undefined ? say("send.noSecurity")
+    : [named ? [given(named.security), `, ${money(named.amount, currency)}`, element("br")] : null, say("receipt.security", { number: String(number) })];
+}
+
+/** What a receipt says, as facts; `known` is what else is known: `named`, the security, in a `currency`, and `more` facts. */
+export function factsOf(receipt, known = {}) {
   const { tenderer, notice, lot, state, security } = receipt;
-  const named = security === null || security === undefined ? say("send.noSecurity") : say("receipt.security", { number: String(security) });
-  return facts([[say("receipt.number"), String(receipt.receipt)], tenderer ? [say("send.as"), given(String(tenderer))] : null,
-    notice ? [say("offer.notice"), given(String(notice))] : null, lot ? [say("receipt.lot"), given(String(lot))] : null,
-    [say("receipt.moment"), moment(String(receipt.moment))], [say("receipt.state"), hasText(`state.${state}`) ? say(`state.${state}`) : String(state)],
-    [say("offer.security"), named], price].filter(Boolean));
+  return facts([[say("receipt.number"), String(receipt.receipt)], tenderer ? [say("see.tenderer"), given(String(tenderer))] : null,
+    notice ? [say("see.notice"), given(String(notice))] : null, lot ? [say("see.lot.short"), given(String(lot))] : null,
+    [say("receipt.moment"), moment(String(receipt.moment))], [say("see.state"), hasText(`state.${state}`) ? say(`state.${state}`) : String(state)],
+    [say("see.security"), securityOf(security, known)], ...(known.more ?? [])].filter(Boolean));
 }
 
 /** Whether what the office received is what was sent: green only where the digests are equal. */
-export function compared(own, others, kind = "receipt") {
+function compared(own, others, kind = "receipt") {
   const isSame = own === others;
-  return told(isSame ? "good" : "bad", say(`${kind}.${isSame ? "same" : "differs"}`),
-    element("p", {}, say("receipt.own")), element("p", { class: "code" }, inGroups(own)),
-    element("p", {}, say("receipt.office")), element("p", { class: "code" }, inGroups(others)),
-    isSame ? null : element("p", {}, say(`${kind}.differs.what`)));
+  const digest = (text) => element("p", { class: "code" }, inGroups(text));
+  return note(isSame ? "good" : "bad", say(`${kind}.${isSame ? "same" : "differs"}`), say("receipt.own"), digest(own), say("receipt.office"), digest(others),
+    isSame ? null : say(`${kind}.differs.what`));
 }
 
 /** The file of a receipt: what the office answered, with the tenderer and where it was handed in. */
@@ -39,25 +44,30 @@ function fileOf(receipt) {
 export function drawReceipt(sent) {
   const { receipt } = sent;
   const isLate = receipt.state === "returned";
-  const offered = [say("receipt.price"), money(sent.price, sent.currency)];
-  const title = say("receipt.title", { receipt: String(receipt.receipt) });
-  return { title, content: [element("h1", { tabindex: "-1" }, title),
-    isLate ? told("bad", say("receipt.late"), element("p", {}, say("receipt.late.what")))
-      : told("good", say("receipt.sealed"), element("p", {}, say("receipt.sealed.what"))),
+  const isSame = sent.digest === receipt.digest;
+  const old = sent.replaces === null ? null : String(sent.replaces);
+  const more = [[say("see.price"), money(sent.price, sent.currency)], old && [say("send.replaces"), old]];
+  const nameOf = `${receipt.notice}-${receipt.lot}-receipt-${receipt.receipt}.csv`;
+  const head = say("receipt.title", { receipt: String(receipt.receipt) });
+  const keep = button(say("receipt.save"), () => {
+    save(`receipt-${receipt.receipt}.json`, fileOf(receipt), "application/json");
+    sent.isKept = true;
+  });
+  return { title: head, isSheet: true, content: [title(head),
+    isLate ? note("bad", say("receipt.late"), say("receipt.late.what"))
+      : note(isSame ? "good" : "look", say("receipt.sealed"), old && say("receipt.replaced", { receipt: old }),
+        isSame ? say("receipt.sealed.what") : null),
     compared(sent.digest, receipt.digest),
-    element("section", { class: "sheet", "aria-labelledby": "receipt-head" }, element("h2", { id: "receipt-head" }, say("receipt.sheet")),
-      factsOf({ ...receipt, tenderer: session.caller?.caller }, offered),
-      element("p", {}, say("receipt.digest")), element("p", { class: "code" }, receipt.digest),
-      element("p", { class: "quiet" }, say("receipt.secret")), ...sheetEnd()),
-    element("div", { class: "steps" }, button(say("receipt.save"), () => {
-      save(`receipt-${receipt.receipt}.json`, fileOf(receipt), "application/json");
-      sent.isKept = true;
-    }), button(say("receipt.saveFile"), () => save(sent.name, sent.bytes, "text/csv")), printButton(),
-      element("a", { class: "button second", href: "#tenders" }, say("tenders.title")))] };
+    sheet(element("h2", {}, say("receipt.sheet")), factsOf({ ...receipt, tenderer: session.caller?.caller }, { ...sent, more }),
+      element("p", {}, say("receipt.digest")), element("p", { class: "code" }, inGroups(receipt.digest)),
+      element("p", { class: "quiet" }, say("receipt.secret")), element("p", { class: "quiet" }, sourceOf())),
+    steps(keep, button(say("receipt.saveFile"), () => save(nameOf, sent.bytes, "text/csv")), printButton(),
+      sent.lots > 1 ? link(say("receipt.lots"), placeOf("offer", receipt.notice), "button second") : null,
+      link(say("tenders.title"), "#tenders", "button second"))] };
 }
 
 /** The receipt in a file: an object with a digest and a number; null where it is none. */
-export function receiptIn(text) {
+function receiptIn(text) {
   try {
     const told = JSON.parse(text);
     return /^[0-9a-f]{64}$/i.test(told?.digest) && Number.isInteger(told.receipt) ? { ...told, digest: told.digest.toLowerCase() } : null;
@@ -71,19 +81,21 @@ const chosen = { file: null, receipt: null };
 /** What the office itself says of the receipt, to whom it belongs. */
 async function askOffice(where) {
   try {
-    const found = await tender(chosen.receipt.receipt, session.caller);
-    const isSame = found.digest === chosen.receipt.digest && found.moment === chosen.receipt.moment;
-    where.replaceChildren(told(isSame ? "good" : "bad", say(isSame ? "check.stands" : "check.other"), factsOf(found)));
+    const found = await tender(chosen.receipt.value.receipt, session.caller);
+    const isSame = found.digest === chosen.receipt.value.digest && found.moment === chosen.receipt.value.moment;
+    where.replaceChildren(note(isSame ? "good" : "bad", say(isSame ? "check.stands" : "check.other"), factsOf(found)));
   } catch (fault) {
-    where.replaceChildren(told("bad", sentenceOf(fault)));
+    where.replaceChildren(note("bad", sentenceOf(fault)));
   }
 }
 
-function outcome() {
-  const { file, receipt } = chosen;
-  const parts = [file ? element("p", {}, say("check.file", { file: file.name, count: file.length })) : null,
-    receipt ? [element("p", {}, say("check.receipt", { file: receipt.file })), receipt.value ? null : told("bad", say("check.noReceipt"))] : null];
-  return parts.flat().filter(Boolean);
+function outcome({ file, receipt }) {
+  const value = receipt?.value;
+  const isLength = !file || !value || value.length === undefined || value.length === file.length;
+  return [file ? element("p", {}, say("check.file", { file: file.name, count: file.length })) : null,
+    receipt ? element("p", {}, say("check.receipt", { file: receipt.name })) : null, receipt && !value ? note("bad", say("check.noReceipt")) : null,
+    file && value ? compared(file.digest, value.digest, "check") : null, isLength ? null : element("p", { class: "wrong" }, say("check.length")),
+    value ? sheet(element("h2", {}, say("receipt.sheet")), factsOf(value)) : null];
 }
 
 /** The view that takes a file and a receipt, and says whether they belong together. */
@@ -94,19 +106,13 @@ export function drawCheck({ redraw }) {
     redraw("", false, "check-file");
   };
   const takeReceipt = async (file) => {
-    const value = file.size <= MOST_RECEIPT ? receiptIn(new TextDecoder().decode(await bytesOfFile(file))) : null;
-    chosen.receipt = { file: file.name, value, ...value };
+    chosen.receipt = { name: file.name, value: file.size <= MOST_RECEIPT ? receiptIn(new TextDecoder().decode(await bytesOfFile(file))) : null };
     redraw("", false, "check-receipt");
   };
-  const isBoth = chosen.file && chosen.receipt?.value;
   const where = element("div", { "aria-live": "polite" });
-  const isLength = !isBoth || chosen.receipt.length === undefined || chosen.receipt.length === chosen.file.length;
-  return { title: say("check.title"), content: [element("h1", { tabindex: "-1" }, say("check.title")), element("p", {}, say("check.why")),
-    drop("check-file", say("check.file.drop"), say("check.file.hint"), takeFile),
-    drop("check-receipt", say("check.receipt.drop"), say("check.receipt.hint"), takeReceipt), ...outcome(),
-    isBoth ? compared(chosen.file.digest, chosen.receipt.digest, "check") : null, isLength ? null : element("p", { class: "wrong" }, say("check.length")),
-    chosen.receipt?.value ? element("section", { class: "sheet", "aria-labelledby": "told" }, element("h2", { id: "told" }, say("receipt.sheet")),
-      factsOf(chosen.receipt)) : null,
-    chosen.receipt?.value && session.caller ? element("div", { class: "steps" }, button(say("check.ask"), () => askOffice(where)))
-      : chosen.receipt?.value ? element("p", { class: "quiet" }, say("check.ask.key")) : null, where].filter(Boolean) };
+  return { title: say("check.title"), content: [title(say("check.title")), element("p", {}, say("check.why")),
+    drop(say("check.file.drop"), say("check.file.hint"), takeFile, { id: "check-file" }),
+    drop(say("check.receipt.drop"), say("check.receipt.hint"), takeReceipt, { id: "check-receipt" }), outcome(chosen),
+    !chosen.receipt?.value ? null : session.caller ? steps(button(say("check.ask"), () => askOffice(where)))
+      : element("p", { class: "quiet" }, say("check.ask.key")), where] };
 }

@@ -1,65 +1,49 @@
-// What became of a tender that was opened: what was read of it, the awards and contracts of its tenderer for its lot, and what is outstanding of them.
-import { badge, element, facts, given } from "../draw.js";
-import { table, told } from "../common/forms.js";
-import { money, moment, number } from "../common/money.js";
-import { Refused, minutesText, performance, record, sentenceOf, tendersOf } from "../common/office.js";
+// What became of a tender that was opened: what was read of it, and why it won or didn't; the contracts of its tenderer for its lot, and what is outstanding.
+import { contractPart } from "../common/contract.js";
+import { badge, element, given, link } from "../common/draw.js";
+import { awardsOf, contractOf, kindOfSigned, outcomeOf } from "../common/findings.js";
+import { note } from "../common/forms.js";
+import { money } from "../common/money.js";
+import { contract, performance } from "../common/office.js";
+import { seenOf } from "../common/seen.js";
+import { tenderTable } from "../common/tenders.js";
 import { say } from "../common/texts.js";
 import { session } from "./session.js";
 
-/** What was read of the tender, by the minutes. */
-function readPart(found, tenders, currency) {
-  const own = tenders.find(({ receipt }) => receipt === found.receipt);
-  if (!own) {
+/** What was read of the tender, by the minutes, and what became of it. A contract that ended isn't green: it may have ended by default. */
+function readPart({ reading, corrected, stated, corrections }, [kind, name], contract, currency) {
+  if (reading !== "priced") {
+    return note("bad", say(`see.why.${reading}`), say("results.lost"));
+  }
+  const values = { price: money(corrected, currency), stated: money(stated, currency), count: corrections };
+  return note(corrections > 0 ? "look" : "good", say("results.priced", values), corrections > 0 ? say("results.corrected", values) : null,
+    element("p", {}, badge(name === "signed" ? kindOfSigned(contract) : kind, say(`see.outcome.${name}`)), " ", say(`see.why.${name}`)));
+}
+
+/** A contract of the caller's, as the office tells it to its tenderer. */
+async function ownContract(one, award, lot, notice) {
+  const [seen, held] = await Promise.all([contract(one.id, session.caller), performance(one.id, session.caller).catch((fault) => {
+    if (fault.name !== "NoSuch") {
+      throw fault;
+    }
     return null;
-  }
-  if (own.reading !== "priced") {
-    return told("bad", say(`results.${own.reading}`), element("p", {}, say("results.lost")));
-  }
-  const values = { price: money(own.corrected, currency), stated: money(own.stated, currency), count: own.corrections };
-  return told("good", say("results.priced", values), own.corrections > 0 ? element("p", {}, say("results.corrected", values)) : null);
-}
-
-/** All tenders for the lot, as everybody may read them. */
-function allOf(found, tenders, currency) {
-  const rows = tenders.filter(({ lot }) => lot === found.lot)
-    .map(({ name, reading, corrected }) => [given(name), reading === "priced" ? money(corrected, currency) : say(`results.${reading}.short`)]);
-  return table(say("results.caption", { count: rows.length, lot: found.lot }), [say("results.tenderer"), say("results.price")], rows, { figures: [1] });
-}
-
-/** The performance security of a contract, or that there is none. */
-async function performanceOf(contract) {
-  try {
-    const { amount, reference, state } = await performance(contract, session.caller);
-    return `${number(amount)} (${reference}): ${say(`security.${state}`)}`;
-  } catch (fault) {
-    return fault instanceof Refused && fault.name === "NoSuch" ? say("offer.security.none") : sentenceOf(fault);
-  }
-}
-
-async function contractPart(one) {
-  const paid = (one.implementation?.transactions ?? []).reduce((sum, { value }) => sum + value.amount, 0);
-  const isEnded = one.status === "terminated";
-  const { amount, currency } = one.value;
-  return element("section", { class: "card" }, element("h3", {}, say("results.contract", { number: one.id }), " ",
-    isEnded ? badge("done", say("results.ended")) : badge("running", say("results.runs"))),
-  facts([[say("results.worth"), money(amount, currency)], [say("results.paid"), money(paid, currency)],
-    [say("results.outstanding"), money(isEnded ? 0 : amount - paid, currency)], [say("results.signed"), moment(one.dateSigned)],
-    [say("offer.performance"), await performanceOf(one.id)]]));
+  })]);
+  return contractPart(one, award, lot, notice, { seen, held });
 }
 
 /** The parts of a tender's view that the opening and what came behind it fill. */
-export async function drawResults(found, { currency }) {
-  const [text, compiled] = await Promise.all([minutesText(found.notice), record(found.notice)]);
-  const tenders = tendersOf(text);
-  const isOwn = ({ suppliers, relatedLots }) => suppliers?.[0]?.id === `T-${session.caller.caller}` && relatedLots?.includes(found.lot);
-  const own = (compiled.awards ?? []).filter(isOwn);
-  const contracts = (compiled.contracts ?? []).filter(({ awardID }) => own.some(({ id }) => id === awardID));
-  const badgeOf = (status) => (status === "active" ? badge("done", say("results.award.active")) : badge("stopped", say("results.award.ended")));
-  const won = own.map(({ id, status, value }) => element("p", {}, badgeOf(status), " ",
-    say("results.award", { number: id, price: money(value.amount, value.currency) })));
+export async function drawResults(found) {
+  const notice = await seenOf(found.notice);
+  const { compiled, terms } = notice;
   const lot = compiled.tender.lots.find(({ id }) => id === found.lot);
-  const none = own.length > 0 ? null : element("p", {}, say(lot?.status === "active" ? "results.waits" : "results.notWon"));
-  const parts = await Promise.all(contracts.map(contractPart));
-  return [element("h2", {}, say("results.title")), readPart(found, tenders, currency), allOf(found, tenders, currency), ...won, none, ...parts,
-    element("p", {}, element("a", { href: `/#notice/${found.notice}` }, say("offer.public")))].filter(Boolean);
+  const tenders = (notice.tenders ?? []).filter((one) => one.lot === lot.id);
+  const shown = notice.evaluation?.get(lot.id);
+  const read = tenders.find(({ receipt }) => receipt === found.receipt);
+  const awards = awardsOf(compiled, lot).filter(({ suppliers }) => suppliers[0].id === `T-${session.caller.caller}`);
+  const contracts = awards.map((award) => [contractOf(compiled, award), award]).filter(([one]) => one);
+  const outcome = read ? outcomeOf(read, shown, terms.criteria === "points") : null;
+  return [element("h2", {}, say("results.title")), read ? readPart(read, outcome, contracts.at(-1)?.[0], lot.value.currency) : null,
+    element("h3", {}, say("see.lot", { lot: lot.id }), " ", given(lot.title)), tenders.length > 0 ? tenderTable(notice, lot, tenders, shown) : null,
+    await Promise.all(contracts.map(([one, award]) => ownContract(one, award, lot, notice))),
+    element("p", {}, link(say("offer.public"), `/#notice/${found.notice}`))];
 }

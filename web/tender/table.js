@@ -1,6 +1,6 @@
 // The table of an offer: a unit price for each item of the lot, each product and the sum as one types.
-import { element, given } from "../draw.js";
-import { table } from "../common/forms.js";
+import { element, given } from "../common/draw.js";
+import { DIGITS, table } from "../common/forms.js";
 import { money, number } from "../common/money.js";
 import { say } from "../common/texts.js";
 import { MOST_PRICE, MOST_UNIT } from "./papers.js";
@@ -8,7 +8,7 @@ import { sumOf, unitsOf } from "./session.js";
 
 /** Where a price can be typed for an item, and where its product and what is wrong with it are told. */
 function rowOf(offer, item, at, changed) {
-  const input = element("input", { id: `unit-${at}`, inputmode: "numeric", autocomplete: "off", "aria-label": say("table.unit.of", { item: item.id }),
+  const input = element("input", { id: `unit-${at}`, ...DIGITS, autocomplete: "off", "aria-label": say("table.unit.of", { item: item.id }),
     "aria-describedby": `unit-${at}-wrong` });
   input.value = offer.units[item.id] ?? "";
   const product = element("output", { for: `unit-${at}`, class: "figure" });

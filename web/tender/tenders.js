@@ -1,179 +1,175 @@
-// The caller's tenders: those that are known, found by their receipts, each with its state and security; changed or withdrawn.
-import { badge, element, facts, given } from "../draw.js";
-import { bytesOfFile, inGroups } from "../common/digest.js";
-import { button, drop, field, form, table, tick, told } from "../common/forms.js";
-import { money, moment, number } from "../common/money.js";
-import { Refused, officeNow, security, sentenceOf, tender, terms, withdraw } from "../common/office.js";
+// The caller's tenders, looked for notice by notice, each with its state and security; changed or withdrawn.
+import { inGroups } from "../common/digest.js";
+import { badge, below, element, facts, given, link, placeOf, section, title } from "../common/draw.js";
+import { button, note, steps, table, tick } from "../common/forms.js";
+import { clock, money, moment } from "../common/money.js";
+import { Refused, notices, officeNow, ownTenders, security, sentenceOf, tender, withdraw } from "../common/office.js";
 import { hasText, say } from "../common/texts.js";
-import { becameOf } from "./became.js";
-import { backFrom, lastReceipt } from "./find.js";
-import { clock } from "./offer.js";
-import { factsOf, receiptIn } from "./receipt.js";
+import { factsOf } from "./receipt.js";
 import { drawResults } from "./results.js";
-import { keep } from "./send.js";
-import { session } from "./session.js";
+import { becameOf, openPart, refusedPart } from "./send.js";
+import { keep, keptOf, noticeOf, session } from "./session.js";
 
-const KINDS = { sealed: "open", opened: "done", withdrawn: "stopped", returned: "stopped" };
+const KINDS = { sealed: "open", opened: "ended", withdrawn: "stopped", returned: "stopped" };
+// How many notices are looked into by themselves, and how many at a time.
+const AT_FIRST = 30, TOGETHER = 6;
 
-export function stateBadge(state) {
-  return badge(KINDS[state] ?? "running", hasText(`state.${state}`) ? say(`state.${state}`) : state);
+/** The receipt of what took a tender's place, where that is known: it was sent from this tab, or took the security over. */
+function successorOf({ receipt, security: number }) {
+  const heirs = session.tenders.filter((one) => one.receipt > receipt && number !== null && one.security === number);
+  return keptOf(receipt).successor ?? heirs.at(-1)?.receipt;
+}
+
+function stateBadge(one) {
+  const { state } = one;
+  const successor = state === "withdrawn" ? successorOf(one) : undefined;
+  return successor ? badge("ended", say("tenders.replaced", { receipt: String(successor) }))
+    : badge(KINDS[state] ?? "running", hasText(`state.${state}`) ? say(`state.${state}`) : state);
 }
 
 function list() {
-  const known = [...session.tenders.values()].toSorted((one, other) => other.receipt - one.receipt);
-  if (known.length === 0) {
+  if (session.tenders.length === 0) {
     return element("p", {}, say("tenders.none"));
   }
-  const heads = ["receipt.number", "tenders.what", "receipt.moment", "receipt.state"].map((name) => say(name));
-  return table(say("tenders.caption", { count: known.length }), heads, known.map(({ receipt, notice, lot, moment: came, state }) => [
-    element("a", { href: `#tender/${receipt}` }, String(receipt)), [given(notice ?? "–"), ", ", say("offer.lot", { lot: lot ?? "–" })],
-    came ? moment(came) : "–", stateBadge(state)]));
+  const heads = ["receipt.number", "tenders.what", "receipt.moment", "see.state", "tenders.do"].map((name) => say(name));
+  return table(say("tenders.caption", { count: session.tenders.length }), heads, session.tenders.map(({ receipt, moment: came, state, isOpen, ...one }) => [
+    String(receipt), [given(one.title), below(given(one.notice), ", ", say("see.lot", { lot: one.lot }))], moment(came), stateBadge({ ...one, receipt, state }),
+    link(say(state === "sealed" && isOpen ? "tenders.do.change" : "tenders.do.look", { receipt: String(receipt) }), placeOf("tender", String(receipt)))]));
 }
 
-/** Goes back over all receipts, and keeps those that are the caller's. */
-async function search(where, redraw) {
+/** Looks into these notices, and keeps what of their tenders is the caller's, the newest first. */
+async function lookInto(rows) {
+  const found = await Promise.all(rows.map(async ({ notice, title: named, deadline }) =>
+    (await ownTenders(notice, session.caller)).map((one) => ({ ...one, notice, title: named, isOpen: Date.parse(deadline) > officeNow() }))));
+  const names = rows.map(({ notice }) => notice);
+  session.tenders = [...session.tenders.filter(({ notice }) => !names.includes(notice)), ...found.flat()].sort((one, other) => other.receipt - one.receipt);
+  names.forEach((name) => session.seen.add(name));
+}
+
+/** All of these, some at a time, until they are done or it is told to stop. */
+async function lookThrough(rows, where, redraw) {
   let isStopped = false;
-  const line = element("p", { role: "status" }, say("tenders.asks"));
-  where.replaceChildren(line, element("div", { class: "steps" }, button(say("became.stop"), () => { isStopped = true; }, "second")));
+  const line = element("p", { role: "status" });
+  where.replaceChildren(line, steps(button(say("tenders.stop"), () => { isStopped = true; }, "second")));
   try {
-    const last = await lastReceipt(session.caller, Math.max(0, ...session.tenders.keys()));
-    for await (const { receipt, found } of backFrom(last, 1, session.caller)) {
-      if (found) {
-        keep(found);
-      }
-      line.textContent = say("tenders.looks", { receipt: String(receipt), last: String(last) });
-      if (isStopped) {
-        break;
-      }
+    for (let at = 0; at < rows.length && !isStopped; at += TOGETHER) {
+      line.textContent = say("tenders.looks", { at, count: rows.length });
+      await lookInto(rows.slice(at, at + TOGETHER));
     }
-    redraw(say("tenders.found", { count: session.tenders.size }));
+    redraw(say("tenders.found", { count: session.tenders.length }));
   } catch (fault) {
-    where.replaceChildren(told("bad", sentenceOf(fault)));
+    where.replaceChildren(note("bad", sentenceOf(fault)));
   }
 }
 
-/** The view of all tenders that are known. */
-export function drawTenders({ redraw }) {
+function withoutKey() {
+  return { title: say("tenders.title"), content: [title(say("tenders.title")), note("bad", say("who.none"), link(say("key.title"), "#key"))] };
+}
+
+/** The view of all tenders. Notices that take tenders, and those that were opened last, are looked into at once. */
+export async function drawTenders({ redraw }) {
   if (!session.caller) {
-    return { title: say("tenders.title"), content: [element("h1", { tabindex: "-1" }, say("tenders.title")),
-      told("bad", say("send.noKey"), element("p", {}, element("a", { href: "#key" }, say("key.title"))))] };
+    return withoutKey();
   }
-  const receipt = field("tender-number", say("tenders.number"), { inputmode: "numeric", maxlength: 10 });
-  const byNumber = form([receipt.made], say("offer.show"), () => {
-    const isOne = /^[1-9]\d{0,9}$/.test(receipt.input.value.trim());
-    receipt.tell(isOne ? "" : say("typed.digits"));
-    if (isOne) {
-      location.hash = `#tender/${receipt.input.value.trim()}`;
-    }
-  });
-  const wrong = element("p", { class: "wrong", role: "status" });
-  const take = async (file) => {
-    const found = file.size < 16384 ? receiptIn(new TextDecoder().decode(await bytesOfFile(file))) : null;
-    wrong.textContent = found ? "" : say("check.noReceipt");
-    if (found) {
-      location.hash = `#tender/${found.receipt}`;
-    }
-  };
+  const rows = (await notices()).sort((one, other) => (other.state === "receiving") - (one.state === "receiving") || (one.deadline < other.deadline ? 1 : -1));
+  const left = () => rows.filter(({ notice }) => !session.seen.has(notice));
+  const isOwn = (name) => session.tenders.some(({ notice }) => notice === name);
+  const again = rows.filter(({ state, notice }) => session.seen.has(notice) && (state === "receiving" || isOwn(notice)));
+  await lookInto([...again, ...left()].slice(0, AT_FIRST));
   const where = element("div", {});
-  return { title: say("tenders.title"), content: [element("h1", { tabindex: "-1" }, say("tenders.title")), list(),
-    element("section", { "aria-labelledby": "find" }, element("h2", { id: "find" }, say("tenders.find")), element("p", {}, say("tenders.find.why")), where,
-      element("div", { class: "steps" }, button(say("tenders.search"), () => search(where, redraw))), byNumber,
-      drop("tender-receipt", say("tenders.drop"), say("check.receipt.hint"), take), wrong)] };
+  const others = left();
+  return { title: say("tenders.title"), content: [title(say("tenders.title")), list(), others.length === 0 ? null
+    : [element("p", {}, say("tenders.others", { count: others.length })), where,
+      steps(button(say("tenders.search"), () => lookThrough(others, where, redraw)))]] };
 }
 
-/** What a withdrawal costs, by what is known of the notice and of the security; and whether it is to be had at all. */
-function priceOf(one, held, isLate) {
-  const amount = held ? `${number(held.amount)} (${held.reference})` : "";
-  if (!isLate) {
-    return { kind: "look", sentence: held ? say("withdraw.free.security", { amount }) : say("withdraw.free") };
-  }
-  if (one.late_withdrawal === "refused") {
+// So many milliseconds before the deadline what is sent may come late: the server's clock is told in whole seconds, and the office takes one after another.
+const CLOSE = 60_000;
+
+/** When a withdrawal would come: `free` before the deadline, `close` to it, where coming late costs something, or `late`. */
+function timeOf({ deadline, late_withdrawal: rule }) {
+  const left = Date.parse(deadline) - officeNow();
+  return left <= 0 ? "late" : left < CLOSE && rule === "forfeits" ? "close" : "free";
+}
+
+/** What a withdrawal costs then, by the terms and the security; and whether it is to be had at all. */
+function costOf(one, held, time) {
+  const amount = held ? `${money(held.amount, one.currency)} (${held.reference})` : "";
+  if (time === "late" && one.late_withdrawal === "refused") {
     return { kind: "bad", sentence: say("withdraw.refused"), isRefused: true };
   }
-  const lost = held ? say("withdraw.late.security", { amount }) : say("withdraw.late.none");
-  return { kind: "bad", sentence: one.late_withdrawal === null ? `${lost} ${say("withdraw.late.unknown")}` : lost };
+  const what = held ? "security" : "none";
+  const behind = time !== "free" ? null : say(one.late_withdrawal === "refused" ? "withdraw.refused" : `withdraw.behind.${what}`, { amount });
+  return { kind: time === "free" ? "look" : "bad", sentence: say(`withdraw.${time}.${what}`, { amount }), behind };
 }
 
 async function take(sent, where, redraw) {
+  const settle = async () => {
+    try {
+      const { kind } = await becameOf(sent, session.caller);
+      if (kind === "done") {
+        redraw(say("withdraw.done"));
+      } else {
+        where.replaceChildren(note("look", say(`withdraw.became.${kind}`)), steps(button(say("became.ask"), settle)));
+      }
+    } catch (other) {
+      where.replaceChildren(...openPart(other, settle));
+    }
+  };
   try {
     const { value } = await withdraw(sent.receipt, session.caller);
-    keep({ receipt: sent.receipt, state: value.state });
+    session.seen.delete(sent.notice);
     redraw(say(value.state === "withdrawn" ? "withdraw.done" : "withdraw.late.done"));
   } catch (fault) {
-    if (!(fault instanceof Refused) || !fault.isOpen) {
-      const help = `withdraw.help.${fault.name}`;
-      where.replaceChildren(told("bad", sentenceOf(fault), element("p", {}, say("send.unchanged")), hasText(help) ? element("p", {}, say(help)) : null));
-      return;
-    }
-    openPart(sent, fault, where, redraw);
+    where.replaceChildren(...[fault instanceof Refused && fault.isOpen ? openPart(fault, settle) : refusedPart(fault, "withdraw.help")].flat());
   }
 }
 
-/** What is shown where no answer to a withdrawal came. */
-function openPart(sent, fault, where, redraw) {
-  const settle = async () => {
-    try {
-      const { kind, tender: found } = await becameOf(sent, session.caller);
-      keep(found);
-      if (kind === "done") {
-        redraw(say("withdraw.done"));
-        return;
-      }
-      where.replaceChildren(told("look", say(`withdraw.became.${kind}`)), element("div", { class: "steps" }, button(say("became.ask"), settle)));
-    } catch (other) {
-      openPart(sent, other, where, redraw);
-    }
-  };
-  where.replaceChildren(told("bad", say("send.open"), element("p", {}, sentenceOf(fault)), element("p", {}, say("send.open.what"))),
-    element("div", { class: "steps" }, button(say("became.ask"), settle)));
-}
-
-/** The part that withdraws a tender: the price is said before the button, and the button wants a tick. */
+/** The part that withdraws a tender: the price is said before the button, and the button wants a tick. Where it is another by then, it is said anew. */
 function withdrawPart(found, one, held, redraw) {
-  const isLate = Date.parse(one.deadline) <= officeNow();
-  const { kind, sentence, isRefused } = priceOf(one, held, isLate);
+  const time = timeOf(one);
+  const { kind, sentence, behind, isRefused } = costOf(one, held, time);
   const where = element("div", { "aria-live": "polite" });
-  const sent = { kind: "withdraw", receipt: found.receipt, isLate };
-  const press = button(say("withdraw.press", { receipt: String(found.receipt) }), () => take(sent, where, redraw), "harm");
+  const sent = { kind: "withdraw", notice: found.notice, receipt: found.receipt, isLate: time !== "free" };
+  const press = button(say("withdraw.press", { receipt: String(found.receipt) }),
+    () => (timeOf(one) === time ? take(sent, where, redraw) : redraw(say("withdraw.anew"), true)), "harm");
   press.disabled = true;
-  const sure = tick("withdraw-sure", say("withdraw.sure"), (isTicked) => { press.disabled = !isTicked; });
-  return element("section", { "aria-labelledby": "withdraw" }, element("h2", { id: "withdraw" }, say("withdraw.title")),
-    told(kind, say("withdraw.price"), element("p", {}, sentence)), isRefused ? null : [sure, element("div", { class: "steps" }, press)], where);
+  const sure = tick(say("withdraw.sure"), (isTicked) => { press.disabled = !isTicked; }, "withdraw-sure");
+  return section(say("withdraw.title"), note(kind, say("withdraw.price"), sentence, behind), isRefused ? null : [sure.made, steps(press)], where);
 }
 
 function changePart(found, one) {
   const press = button(say("tenders.change", { receipt: String(found.receipt) }), () => {
     session.changing = { notice: found.notice, lot: found.lot, receipt: found.receipt };
-    location.hash = `#offer/${found.notice}/${found.lot}`;
+    location.hash = placeOf("offer", found.notice, found.lot);
   });
-  return element("section", { "aria-labelledby": "change" }, element("h2", { id: "change" }, say("change.title")),
-    element("p", {}, say("change.why"), " ", clock(one.deadline)), element("div", { class: "steps" }, press));
+  return section(say("change.title"), element("p", {}, say("change.why"),
+    found.security === null ? "" : ` ${say("change.security")}`, " ", clock(one.deadline)), steps(press));
 }
 
 /** A tender's security as it stands. */
-function securityPart(held) {
-  return element("section", { "aria-labelledby": "held" }, element("h2", { id: "held" }, say("offer.security")), facts([
-    [say("offer.reference"), given(held.reference)], [say("security.amount"), number(held.amount)], [say("security.state"), say(`security.${held.state}`)]]),
-  element("p", { class: "quiet" }, say(`security.${held.state}.why`)));
+function securityPart(held, currency) {
+  return section(say("see.security"), facts([[say("offer.reference"), given(held.reference)], [say("security.amount"), money(held.amount, currency)],
+    [say("see.state"), say(`security.${held.state}`)]]), element("p", { class: "quiet" }, say(`security.${held.state}.why`)));
 }
 
 /** The view of one tender, asked for anew. */
 export async function drawTender({ redraw }, receipt) {
   if (!session.caller) {
-    return drawTenders({ redraw });
+    return withoutKey();
   }
   const found = await tender(receipt, session.caller);
-  keep(found);
-  const [one, held] = await Promise.all([terms(found.notice), found.security === null ? null : security(found.security, session.caller)]);
-  const isDecided = one.lots.find(({ id }) => id === found.lot)?.state !== "active";
-  const isOut = found.state === "withdrawn" || found.state === "returned" || held?.state === "forfeited" || isDecided;
+  const [one, held] = await Promise.all([noticeOf(found.notice), found.security === null ? null : security(found.security, session.caller)]);
+  const lot = one.lots.find(({ id }) => id === found.lot);
+  const isOut = found.state === "withdrawn" || found.state === "returned" || held?.state === "forfeited" || lot.state !== "undecided";
   const isBefore = Date.parse(one.deadline) > officeNow();
-  const results = found.state === "opened" ? await drawResults(found, one) : [];
-  const title = say("tenders.one", { receipt: String(receipt) });
-  return { title, content: [element("h1", { tabindex: "-1" }, title),
-    element("p", {}, stateBadge(found.state)), element("p", {}, given(one.title)), factsOf(found),
-    element("p", {}, say("tenders.digest", { count: found.length })), element("p", { class: "code" }, inGroups(found.digest)),
-    ...results, held ? securityPart(held) : null, found.state === "sealed" && isBefore ? changePart(found, one) : null,
-    isOut ? null : withdrawPart(found, one, held, redraw),
-    element("p", {}, element("a", { href: "#tenders" }, say("tenders.title")))].filter(Boolean) };
+  const named = held ? { security: held.reference, amount: held.amount } : null;
+  keep(found.receipt, { named });
+  const head = say("tenders.one", { receipt: String(receipt) });
+  return { title: head, content: [title(head), element("p", {}, stateBadge(found)), element("p", {}, given(one.title), " – ", given(lot.title)),
+    factsOf(found, { named, currency: one.currency }), element("p", {}, say("tenders.digest", { count: found.length })),
+    element("p", { class: "code" }, inGroups(found.digest)),
+    found.state === "opened" ? await drawResults(found) : null, held ? securityPart(held, one.currency) : null,
+    found.state === "sealed" && isBefore ? changePart(found, one) : null, isOut ? null : withdrawPart(found, one, held, redraw),
+    element("p", {}, link(say("tenders.title"), "#tenders"))] };
 }

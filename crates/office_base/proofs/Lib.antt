@@ -8,4 +8,4 @@ pub mod JoinedSums
 pub mod SumsOver
 pub mod EntrySums
 pub mod ExactKeys
-mod Pages
+mod AllPages

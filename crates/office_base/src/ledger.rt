@@ -3,9 +3,10 @@ ghost use Rattle.std.specs.Prelude.{◌≡◌, ◌+◌, ◌^◌, ◌<◌, ◌≤
 ghost use Rattle.office_base.specs.EntrySums.{sums_with_entry};
 
 use crate::records::EntryKind;
+use crate::rows::Rows;
 use office_commands::amounts::EntryAmount;
 use office_values::id::Id;
-use office_values::money::Total;
+use office_values::money::{Amount, Total};
 
 /// Where the money of a budget line is.
 #[derive(Clone, Copy)]
@@ -56,6 +57,25 @@ impl ContractSums {
                 paid: self.paid + units,
                 ..self
             },
+        }
+    }
+}
+
+/// What the pots of a budget line are made of: what each of its lots has reserved, and what each contract of these lots comes to.
+#[derive(Drop)]
+pub struct LineAmounts {
+    pub reserved: Rows<Amount>,
+    pub contracts: Rows<ContractSums>,
+}
+
+impl LineAmounts {
+    /// These amounts, one for each lot, and the sums of these contracts. Takes no memory.
+    pub fn from_vecs(reserved: Vec<Amount>, contracts: Vec<ContractSums>) -> LineAmounts
+        ensures { result ≡ record { reserved = reserved.items; contracts = contracts.items } }
+    {
+        LineAmounts {
+            reserved: Rows::from_vec(reserved),
+            contracts: Rows::from_vec(contracts),
         }
     }
 }

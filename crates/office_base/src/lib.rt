@@ -7,6 +7,7 @@ pub mod json_text;
 mod keys;
 pub mod laws;
 pub mod ledger;
+pub mod pages;
 pub mod pots;
 pub mod puts;
 pub mod reading;

@@ -4,11 +4,11 @@ ghost use Rattle.office_values.specs.declared.refusal.Refusal.TheVariants.{Unava
 ghost use Rattle.office_base.specs.Tables.{Tables, IsSorted};
 ghost use Rattle.office_base.specs.Tables.{line_at, batch_at, tenderer_at, notice_at, lot_at, envelope_at, seal_at, security_at, award_at, contract_at, entry_at, release_at, compiled_at, late_at, performance_at, lots_of_notice, lots_of_line, envelopes_of_notice, envelopes_of_lot, envelopes_of_tenderer, securities_of_notice, securities_of_lot, awards_of_notice, contracts_of_notice, entries_of_contract, releases_of_notice};
 ghost use Rattle.office_base.specs.Pages.{notices_after, tenderers_after};
-ghost use Rattle.office_base.specs.Joined.{reservations, sums_of_line, ledger_of, LinesFit};
+ghost use Rattle.office_base.specs.Joined.{amounts_of_line, ledger_of, LinesFit};
 ghost use Rattle.office_base.specs.Shelves.{Meaning, Keeps, LooksUp, AddsUp, Changes};
 
 use crate::counts::Sequence;
-use crate::ledger::{ContractSums, LedgerRow};
+use crate::ledger::{LedgerRow, LineAmounts};
 use crate::puts::Put;
 use crate::records::{
     AwardRow, BatchRow, ClockRow, CompiledRow, ContractRow, EntryRow, EnvelopeRow, LateRow,
@@ -16,7 +16,6 @@ use crate::records::{
 };
 use office_values::given::AskedNumber;
 use office_values::id::Id;
-use office_values::money::Amount;
 use office_values::refusal::Refusal;
 
 /// Why a shelf did not answer. Its content is as before.
@@ -191,13 +190,10 @@ pub trait Lookups {
     fn list_releases_of_notice(&mut self, notice: &Id) -> Result<Vec<ReleaseRow>, ShelfFault>
         ensures { LooksUp meaning self.old self.new result (λ t rows. rows.items ≡ releases_of_notice notice.now t) };
 
-    /// What each lot of a budget line has reserved, in the order of their notices and identifiers.
-    fn list_reservations_of_line(&mut self, line: &Id) -> Result<Vec<Amount>, ShelfFault>
-        ensures { LooksUp meaning self.old self.new result (λ t amounts. amounts.items ≡ reservations line.now t) };
-
-    /// What each contract of the lots of a budget line comes to, lot by lot, in the order of their notices, identifiers and numbers.
-    fn list_contract_sums_of_line(&mut self, line: &Id) -> Result<Vec<ContractSums>, ShelfFault>
-        ensures { LooksUp meaning self.old self.new result (λ t sums. sums.items ≡ sums_of_line line.now t) };
+    /// What each lot of a budget line has reserved, in the order of their notices and identifiers, and what each contract of these lots
+    /// comes to, lot by lot, in the order of their numbers.
+    fn list_amounts_of_line(&mut self, line: &Id) -> Result<LineAmounts, ShelfFault>
+        ensures { LooksUp meaning self.old self.new result (λ t amounts. amounts ≡ amounts_of_line line.now t) };
 
     /// The pots of each budget line, in the order of their identifiers. Where a sum over joined rows is out of its range that is a fault
     /// of the store, and counted as one.

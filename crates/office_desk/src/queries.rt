@@ -14,7 +14,6 @@ mod minutes;
 mod notices;
 mod own_tenders;
 mod packages;
-mod pages;
 mod performance;
 mod register;
 mod securities;

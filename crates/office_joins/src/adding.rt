@@ -1,15 +1,15 @@
 //! What the rows of the selects add up to.
 ghost use Rattle.std.specs.Prelude.{◌≡◌, ℕ, List, map, IfOk};
-ghost use Rattle.office_base.specs.Joined.{ledger_of, sums_of_line, LinesFit};
+ghost use Rattle.office_base.specs.Joined.{amounts_of_line, ledger_of, LinesFit};
 ghost use Rattle.office_base.specs.Tables.{Tables, IsSorted};
 ghost use Rattle.office_ledger.specs.Joins.{joined, joined_lots};
 ghost use Rattle.office_joins.specs.Cells.{joined_cells};
 ghost use Rattle.office_joins.specs.Shows.{joined_lot_cells};
 
 use crate::reading::{joined_lot, joined_lots_come_back, joined_row, joined_rows_come_back};
-use office_base::ledger::{ContractSums, LedgerRow};
+use office_base::ledger::{LedgerRow, LineAmounts};
 use office_base::shelf::ShelfFault;
-use office_ledger::contract_list::ContractList;
+use office_ledger::amount_list::AmountList;
 use office_ledger::ledger_sums::LedgerSums;
 use sqlite::Row;
 use std::alloc::Global;
@@ -29,17 +29,18 @@ pub fn ledger_of_rows(alloc: Global, rows: &[Row]) -> Result<Vec<LedgerRow>, She
     sums.finish()
 }
 
-/// What the contracts of a line come to, from the rows of the select of its lots. A row that no office writes is a fault of the store.
-pub fn sums_of_rows(alloc: Global, rows: &[Row]) -> Result<Vec<ContractSums>, ShelfFault>
-    ensures { (t : Tables) (line : List ℕ) → IsSorted t → rows.now ≡ map joined_lot_cells (joined_lots line t) → IfOk result (λ sums. sums.items ≡ sums_of_line line t) }
+/// What the lots of a line have reserved and their contracts come to, from the rows of the select of these lots, each taken once. A row
+/// that no office writes is a fault of the store.
+pub fn amounts_of_rows(alloc: Global, rows: &[Row]) -> Result<LineAmounts, ShelfFault>
+    ensures { (t : Tables) (line : List ℕ) → IsSorted t → rows.now ≡ map joined_lot_cells (joined_lots line t) → IfOk result (λ amounts. amounts ≡ amounts_of_line line t) }
 {
     joined_lots_come_back();
-    let mut sums = ContractList::new(alloc);
+    let mut amounts = AmountList::new(alloc);
     'rows: for row in rows {
         match joined_lot(row) {
-            Ok(joined) => sums.take(joined)?,
+            Ok(joined) => amounts.take(joined)?,
             Err(fault) => return Err(fault),
         }
     }
-    sums.finish()
+    amounts.finish()
 }

@@ -5,3 +5,4 @@ pub mod Lines
 pub mod Rooms
 pub mod Following
 pub mod Listed
+pub mod Reserved

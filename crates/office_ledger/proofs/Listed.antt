@@ -16,7 +16,7 @@ use Rattle.office_base.specs.declared.shelf.ShelfFault.{ShelfFault}
 use Rattle.office_ledger.specs.Joins.{entry_part, with_entry, with_contract, joined_contract, joined_lot, joined_lots}
 use Rattle.office_ledger.specs.Listing.{Listing, HasListed}
 use Rattle.office_ledger.specs.Inside.Adding.{fold_rows}
-use Rattle.office_ledger.specs.Inside.Listing.{Listed, nothing_listed, all_listed, is_current, enter_listed, entry_of_current, list_entry, list_contract, list_lot, listed}
+use Rattle.office_ledger.specs.Inside.Listing.{Listed, nothing_listed, all_listed, is_current, enter_listed, entry_of_current, list_entry, list_contract, list_lot, listed, nothing_reserved, list_reserved}
 use Rattle.office_ledger.specs.declared.contract_list.CurrentContract.{CurrentContract}
 use Rattle.office_ledger.specs.declared.joined.JoinedEntry.{JoinedEntry}
 use Rattle.office_ledger.specs.declared.joined.JoinedLot.{JoinedLot}
@@ -160,9 +160,11 @@ module _ (t : Tables) (sorted : IsSorted t) where
 -- ---- a row more
 
 pub listed_next : (rows : List JoinedLot) (row : JoinedLot) (old new : Listing) {T : Type 0} (result : Result T ShelfFault) → HasListed rows old
-    → OnOk result (new ≡ record { listed = list_lot row old.listed; left = old.left - 1 }) → OnOk result (0 < old.left) → OnOk result (HasListed (rows ++ row ∷ []) new)
+    → OnOk result (new ≡ record { reserved = list_reserved row old.reserved; contracts = record { listed = list_lot row old.contracts.listed; left = old.contracts.left - 1 } })
+    → OnOk result (0 < old.contracts.left) → OnOk result (HasListed (rows ++ row ∷ []) new)
 listed_next rows row old new (Ok v) h is more = record {
-  sums = ap (λ (s : Listing). s.listed) is ∙ ap (list_lot row) h.sums ∙ sym (fold_rows-append list_lot rows (row ∷ []) nothing_listed);
-  counted = omega (arith, ap (λ (s : Listing). s.left) is, more, h.counted, length-snoc rows row);
+  reserved = ap (λ (s : Listing). s.reserved) is ∙ ap (list_reserved row) h.reserved ∙ sym (fold_rows-append list_reserved rows (row ∷ []) nothing_reserved);
+  sums = ap (λ (s : Listing). s.contracts.listed) is ∙ ap (list_lot row) h.sums ∙ sym (fold_rows-append list_lot rows (row ∷ []) nothing_listed);
+  counted = omega (arith, ap (λ (s : Listing). s.contracts.left) is, more, h.counted, length-snoc rows row);
 }
 listed_next rows row old new (Err e) h is more = tt

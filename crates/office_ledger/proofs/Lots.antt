@@ -123,7 +123,7 @@ module _ (t : Tables) (sorted : IsSorted t) where
   LotsAbove None ls = Unit {0}
   LotsAbove (Some current) ls = StartsAbove lot_cmp lot_key current ls
 
-  not_open : (current : Option (List ℕ × List ℕ)) (l : LotRow) (ls : List LotRow) → LotsAbove current (l ∷ ls) → is_lot (lot_key l) current ≡ false
+  pub not_open : (current : Option (List ℕ × List ℕ)) (l : LotRow) (ls : List LotRow) → LotsAbove current (l ∷ ls) → is_lot (lot_key l) current ≡ false
   not_open None l ls h = refl
   not_open (Some current) l ls h = same_key current (lot_key l) ∙ ap is_eq h
 

@@ -1,13 +1,8 @@
 //! The sums of a line's contracts, added up from the joined rows of its lots as they come.
-ghost use Rattle.std.specs.Prelude.{◌≡◌, ◌≤◌, ◌+◌, ◌-◌, ◌^◌, ◌<◌, ◌++◌, ℕ, List, [], ◌∷◌, length, OnOk, OnErr, IfOk, IfErr, None};
+ghost use Rattle.std.specs.Prelude.{◌≡◌, ◌-◌, ◌^◌, ◌<◌, OnOk, OnErr, IfOk, IfErr, None};
 ghost use Rattle.office_base.specs.Faults.{IsFaultOf};
-ghost use Rattle.office_base.specs.Joined.{sums_of_line};
-ghost use Rattle.office_base.specs.Tables.{Tables, IsSorted};
 ghost use Rattle.office_base.specs.declared.shelf.ShelfFault.TheVariants.{NoMemory};
-ghost use Rattle.office_ledger.specs.Joins.{joined_lots};
-ghost use Rattle.office_ledger.specs.Listing.{HasListed};
-ghost use Rattle.office_ledger.specs.Inside.Listing.{all_listed, is_current, enter_listed, list_lot};
-ghost use Rattle.office_ledger.specs.declared.joined.JoinedLot.{JoinedLot};
+ghost use Rattle.office_ledger.specs.Inside.Listing.{nothing_listed, all_listed, is_current, enter_listed, list_lot};
 
 use crate::joined::{JoinedContract, JoinedLot};
 use office_base::ledger::ContractSums;
@@ -35,10 +30,9 @@ pub struct ContractList {
 }
 
 impl Model for ContractList {
-    ghost use Rattle.office_ledger.specs.Listing.{Listing};
-    ghost use Rattle.office_ledger.specs.Inside.Listing.{EntriesFit};
+    ghost use Rattle.office_ledger.specs.Inside.Listing.{ContractListing, EntriesFit};
 
-    ghost Value = { Listing };
+    ghost Value = { ContractListing };
 
     ghost view = { λ s. record { listed = record { done = s.done.items; current = s.current }; left = s.left } };
 
@@ -48,7 +42,8 @@ impl Model for ContractList {
 impl ContractList {
     /// A list that has taken no row.
     pub fn new(alloc: Global) -> ContractList
-        ensures { HasListed [] result }
+        ensures listed { result.listed ≡ nothing_listed }
+        ensures left { result.left ≡ 2 ^ 64 - 1 }
     {
         ContractList {
             done: Vec::new(alloc),
@@ -111,8 +106,9 @@ impl ContractList {
         Ok(())
     }
 
-    fn add(&mut self, lot: &JoinedLot) -> Result<(), ShelfFault>
-        ensures added { OnOk result (self.new ≡ record { listed = list_lot lot.now self.old.listed; left = self.old.left - 1 }) }
+    /// Takes a row more: a contract counts at the first of its rows. A fault leaves the list as it was.
+    pub fn take(&mut self, lot: &JoinedLot) -> Result<(), ShelfFault>
+        ensures taken { OnOk result (self.new ≡ record { listed = list_lot lot.now self.old.listed; left = self.old.left - 1 }) }
         ensures counted { OnOk result (0 < self.old.left) }
         ensures kept { OnErr result (self.new ≡ self.old) }
         ensures fault { IfErr result (IsFaultOf (self.old.left ≡ 0)) }
@@ -135,18 +131,9 @@ impl ContractList {
         Ok(())
     }
 
-    /// Takes a row more: a contract counts at the first of its rows. A fault leaves the list as it was.
-    pub fn take(&mut self, lot: JoinedLot) -> Result<(), ShelfFault>
-        ensures taken { (rows : List JoinedLot) → HasListed rows self.old → OnOk result (HasListed (rows ++ lot ∷ []) self.new) }
-        ensures kept { OnErr result (self.new ≡ self.old) }
-        ensures fault { (rows : List JoinedLot) → HasListed rows self.old → IfErr result (IsFaultOf (2 ^ 64 ≤ length (rows ++ lot ∷ []))) }
-    {
-        self.add(&lot)
-    }
-
-    /// The sums of the contracts of a line, where all joined rows of its lots were taken.
+    /// The sums of the contracts whose rows were taken.
     pub fn finish(mut self) -> Result<Vec<ContractSums>, ShelfFault>
-        ensures sums { (t : Tables) (line : List ℕ) → IsSorted t → HasListed (joined_lots line t) self → IfOk result (λ sums. sums.items ≡ sums_of_line line t) }
+        ensures sums { IfOk result (λ sums. sums.items ≡ all_listed self.listed) }
         ensures fault { IfErr result (λ e. e ≡ NoMemory) }
     {
         match self.end_contract() {

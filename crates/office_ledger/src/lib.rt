@@ -1,7 +1,8 @@
 //! The joined ledger: budget lines with their lots, contracts and entries, row by row, and what they add up to.
 #![tactic(auto)]
 
-pub mod contract_list;
+pub mod amount_list;
+mod contract_list;
 pub mod examples;
 pub mod joined;
 pub mod ledger_sums;

@@ -10,7 +10,7 @@ use crate::tables::MemoryTables;
 use crate::{sums, tables};
 use office_base::counts::Sequence;
 use office_base::laws::changes_keep_order;
-use office_base::ledger::{ContractSums, LedgerRow};
+use office_base::ledger::{LedgerRow, LineAmounts};
 use office_base::puts::Put;
 use office_base::records::{
     AwardRow, BatchRow, ClockRow, CompiledRow, ContractRow, EntryRow, EnvelopeRow, LateRow,
@@ -19,7 +19,6 @@ use office_base::records::{
 use office_base::shelf::{Lookups, Shelf, ShelfFault};
 use office_values::given::AskedNumber;
 use office_values::id::Id;
-use office_values::money::Amount;
 use std::alloc::Global;
 use std::marker::Model;
 
@@ -355,16 +354,9 @@ impl Lookups for MemoryShelf {
         }
     }
 
-    fn list_reservations_of_line(&mut self, line: &Id) -> Result<Vec<Amount>, ShelfFault> {
-        match sums::reservations_of_line(self.alloc, &self.tables, line) {
+    fn list_amounts_of_line(&mut self, line: &Id) -> Result<LineAmounts, ShelfFault> {
+        match sums::amounts_of_line(self.alloc, &self.tables, line) {
             Ok(amounts) => Ok(amounts),
-            Err(_) => Err(self.refused()),
-        }
-    }
-
-    fn list_contract_sums_of_line(&mut self, line: &Id) -> Result<Vec<ContractSums>, ShelfFault> {
-        match sums::contract_sums_of_line(self.alloc, &self.tables, line) {
-            Ok(sums) => Ok(sums),
             Err(_) => Err(self.refused()),
         }
     }

@@ -1,6 +1,6 @@
 //! What the rows of an office in memory add up to.
 ghost use Rattle.std.specs.Prelude.{◌≡◌, ◌+◌, ℕ, ◌++◌, IfOk, OnOk, option_map, map};
-ghost use Rattle.office_base.specs.Joined.{reservations, sums_of, sums_under, sums_of_line};
+ghost use Rattle.office_base.specs.Joined.{amounts_of_line, sums_of, sums_under};
 ghost use Rattle.office_base.specs.Tables.{IsSorted, contracts_of_lot, lot_key};
 ghost use Rattle.office_memory.specs.Inside.Adding.{IsLedgerRow, IsLedger};
 ghost use Rattle.office_memory.specs.MemoryTables.{tables_of};
@@ -8,7 +8,7 @@ ghost use Rattle.office_memory.specs.MemoryTables.{tables_of};
 use crate::child::rows_of;
 use crate::tables::MemoryTables;
 use keyed_table::table::Table;
-use office_base::ledger::{ContractSums, LedgerRow};
+use office_base::ledger::{ContractSums, LedgerRow, LineAmounts};
 use office_base::pots::{joined_sums, pots_over};
 use office_base::records::{ContractRow, EntryRow, LineRow, LotRow};
 use office_values::id::Id;
@@ -24,17 +24,6 @@ fn reserved_by(alloc: Global, lots: &[&LotRow]) -> Result<Vec<Amount>, AllocErro
         amounts.push(lot.reserved)?;
     }
     Ok(amounts)
-}
-
-/// What the lots of a line have reserved, in the order of their keys.
-pub fn reservations_of_line(
-    alloc: Global,
-    tables: &MemoryTables,
-    line: &Id,
-) -> Result<Vec<Amount>, AllocError>
-    ensures { IfOk result (λ amounts. amounts.items ≡ reservations line.now (tables_of tables.now)) }
-{
-    reserved_by(alloc, &tables.lots.rows_of_group(alloc, line)?)
 }
 
 // What a contract comes to.
@@ -85,16 +74,19 @@ fn sums_under(
     Ok(sums)
 }
 
-/// What each contract of the lots of a line comes to, lot by lot, in the order of their keys. Costs, for each lot, a look at the
-/// contracts of its notice, and the entries of its own.
-pub fn contract_sums_of_line(
+/// What each lot of a line has reserved, and what each contract of these lots comes to, lot by lot, in the order of their keys. Costs, for
+/// each lot, a look at the contracts of its notice, and the entries of its own.
+pub fn amounts_of_line(
     alloc: Global,
     tables: &MemoryTables,
     line: &Id,
-) -> Result<Vec<ContractSums>, AllocError>
-    ensures { IfOk result (λ sums. sums.items ≡ sums_of_line line.now (tables_of tables.now)) }
+) -> Result<LineAmounts, AllocError>
+    ensures { IfOk result (λ amounts. amounts ≡ amounts_of_line line.now (tables_of tables.now)) }
 {
-    sums_under(alloc, tables, tables.lots.rows_of_group(alloc, line)?)
+    let lots = tables.lots.rows_of_group(alloc, line)?;
+    let reserved = reserved_by(alloc, &lots)?;
+    let contracts = sums_under(alloc, tables, lots)?;
+    Ok(LineAmounts::from_vecs(reserved, contracts))
 }
 
 // A line in the ledger; None where a sum is out of its range.
@@ -106,10 +98,12 @@ fn ledger_row(
     ensures { IsSorted (tables_of tables.now) → IfOk result (IsLedgerRow (tables_of tables.now) row.now) }
 {
     joined_sums();
-    let lots = tables.lots.rows_of_group(alloc, &row.line)?;
-    let reserved = reserved_by(alloc, &lots)?;
-    let sums = sums_under(alloc, tables, lots)?;
-    match pots_over(row, &reserved, &sums) {
+    let amounts = amounts_of_line(alloc, tables, &row.line)?;
+    match pots_over(
+        row,
+        amounts.reserved.as_slice(),
+        amounts.contracts.as_slice(),
+    ) {
         Some(pots) => Ok(Some(LedgerRow {
             line: row.line,
             pots,

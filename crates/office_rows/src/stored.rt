@@ -1,9 +1,7 @@
 //! Rows of an answer as records.
-ghost use Rattle.std.specs.Prelude.{◌≡◌, ◌≤◌, [], ◌∷◌, IfOk, IfErr, IfSome, map, slice_get, option_map};
+ghost use Rattle.std.specs.Prelude.{◌≡◌, IfOk, IfErr, IfSome, map, slice_get, option_map};
 ghost use Rattle.std.specs.List.{AllByRecursion};
-ghost use Rattle.sqlite_value.specs.Order.{Row as Values, column};
-ghost use Rattle.office_values.specs.Money.{amount_limit};
-ghost use Rattle.office_rows.specs.Values.{whole, number_in_value};
+ghost use Rattle.sqlite_value.specs.Order.{Row as Values};
 ghost use Rattle.office_base.specs.Faults.{IsFaultOf};
 ghost use Rattle.office_rows.specs.Unwritten.{IsUnwritten};
 ghost use Rattle.office_rows.specs.Budget.{line_values, line_read, batch_values, batch_read};
@@ -420,19 +418,6 @@ impl Stored for FormerClock {
                 awards: bounded_at(row, 3)?,
             },
         })
-    }
-}
-
-impl Stored for Amount {
-    ghost read = { λ row. number_in_value (column row 0) };
-
-    ghost row_of = { λ amount. whole amount ∷ [] };
-
-    ghost fits = { λ amount. amount ≤ amount_limit };
-
-    fn from_row(_alloc: Global, row: &Row) -> Result<Amount, ShelfFault> {
-        has_columns(row, 1)?;
-        amount_at(row, 0)
     }
 }
 

@@ -379,20 +379,6 @@ list_lots_of_line_means schema n it =
     (one_test schema it.place (at_tree lots n) it.found lots.name (outputs_of (at_tree lots n) [] (columns_of lots)) (3, column_of (codes "line") Text true) 1 (left (columns_of lots)) _ (refl, refl, refl, tt) refl refl (inl (inl refl, refl), refl, refl))
     (refl, refl, refl, (refl, refl, refl, tt)) (refl, (refl, tt)) (rw (it.stored, found_by_tree schema lots n it))
 
-abbrev pub list_reservations_of_line : List ℕ
-list_reservations_of_line = codes "SELECT reserved FROM lots WHERE line = ?1 ORDER BY notice, lot"
-
-list_reservations_of_line_read : IsSelect list_reservations_of_line (codes "lots") (names_of ((8, column_of (codes "reserved") Integer true) ∷ [])) (Some (equals_e (codes "line") 1)) (codes "notice" ∷ codes "lot" ∷ [])
-unfolding everything parsed_in
-list_reservations_of_line_read = record { is = refl; statement = refl; formats = refl }
-
-pub list_reservations_of_line_means : (schema : Schema) (n : ℕ) → IsIn schema lots n → StatementMeans schema list_reservations_of_line (Select (record { lets = []; body = select n (4 ∷ []) (9 ∷ []) (1 ∷ 2 ∷ []) }) (names_of ((8, column_of (codes "reserved") Integer true) ∷ [])))
-unfolding same_name alone chosen first_found
-list_reservations_of_line_means schema n it =
-    selects_mean schema lots n it ((8, column_of (codes "reserved") Integer true) ∷ []) ((0, column_of (codes "notice") Text true) ∷ (1, column_of (codes "lot") Text true) ∷ []) list_reservations_of_line (refl, refl, refl, tt) (Some (equals_e (codes "line") 1)) _ _ _ list_reservations_of_line_read
-    (one_test schema it.place (at_tree lots n) it.found lots.name (outputs_of (at_tree lots n) [] ((8, column_of (codes "reserved") Integer true) ∷ [])) (3, column_of (codes "line") Text true) 1 (left ((8, column_of (codes "reserved") Integer true) ∷ [])) _ (refl, refl, refl, tt) refl refl (inl (inl refl, refl), refl, refl))
-    (refl, refl, refl, (refl, refl, refl, tt)) (refl, (refl, tt)) (rw (it.stored, found_by_tree schema lots n it))
-
 abbrev pub list_envelopes_of_notice : List ℕ
 list_envelopes_of_notice = codes "SELECT receipt, notice, lot, tenderer, moment, length, digest, security, state, reading, stated, corrected, corrections, responsive, quality, failed FROM envelopes WHERE notice = ?1 ORDER BY receipt"
 

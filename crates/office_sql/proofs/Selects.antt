@@ -6,13 +6,11 @@ use Rattle.std.specs.Cmp.{nat_cmp_total}
 use Rattle.std.specs.Cmp.Lexicographic.{nat_list_cmp_total}
 use Rattle.std.specs.FinMap.{nat_cmp-IsAntisymmetric as numbers_exact}
 use Rattle.sqlite_value.specs.declared.value.Value.TheVariants.{Int, Text}
-use Rattle.sqlite_value.specs.Order.{Row, column}
+use Rattle.sqlite_value.specs.Order.{Row}
 use Rattle.sqlite_value.proofs.OrderLemmas.{value_cmp-Text}
-use Rattle.sqlite_sql.specs.Query.{Output}
 use Rattle.sqlite.specs.State.{State, Shown}
 use Rattle.office_values.specs.Ids.{id_cmp, same_id}
 use Rattle.office_base.specs.Tables.{Tables, same_number, line_key, line_at, batch_key, batch_at, tenderer_key, tenderer_at, notice_key, notice_at, lot_key, lot_at, envelope_key, envelope_at, seal_key, seal_at, security_key, security_at, award_key, award_at, contract_key, contract_at, entry_key, entry_at, release_key, release_at, compiled_key, compiled_at, late_key, late_at, performance_key, performance_at, entry_cmp, lot_cmp, release_cmp, awards_of_notice, contracts_of_notice, entries_of_contract, envelopes_of_lot, envelopes_of_notice, envelopes_of_tenderer, of_tenderer, lots_of_line, lots_of_notice, releases_of_notice, securities_of_lot, securities_of_notice}
-use Rattle.office_base.specs.Joined.{reservations}
 use Rattle.office_base.specs.declared.records.LineRow.{LineRow}
 use Rattle.office_base.specs.declared.records.BatchRow.{BatchRow}
 use Rattle.office_base.specs.declared.records.TendererRow.{TendererRow}
@@ -31,7 +29,6 @@ use Rattle.office_base.specs.declared.records.PerformanceRow.{PerformanceRow}
 use Rattle.office_base.specs.declared.records.ClockRow.{ClockRow}
 use Rattle.office_base.proofs.ExactKeys.{ids_exact, lots_exact, entries_exact, releases_exact, same_id_is}
 use Rattle.office_base.proofs.Orders.{lots_total, entries_total, releases_total}
-use Rattle.office_rows.specs.Values.{number_in_value}
 use Rattle.office_rows.specs.Budget.{line_values, line_read, line_by_rowid, batch_values, batch_read, batch_by_rowid}
 use Rattle.office_rows.specs.Notices.{tenderer_values, tenderer_read, tenderer_by_rowid, notice_values, notice_read, notice_by_rowid, former_values, former_read, former_by_rowid, late_values, late_read, late_by_rowid, lot_values, lot_read, lot_by_rowid}
 use Rattle.office_rows.specs.Tenders.{envelope_values, envelope_read, seal_values, seal_read, security_values, security_read}
@@ -46,7 +43,7 @@ use Rattle.office_sql.specs.Schema.{former_notices}
 use Rattle.office_sql.specs.Standing.{Stand, Holds}
 use Rattle.office_sql.proofs.Cells.{text_tested, number_tested, three_tested, numbers_cmp, and_true, then_equal, pair_then, both_equal, same_number_is}
 use Rattle.office_sql.proofs.Keys.{clock_total, clock_exact}
-use Rattle.office_sql.proofs.SelectTexts.{get_line, get_line_means, get_batch, get_batch_means, get_tenderer, get_tenderer_means, get_notice, get_notice_means, get_lot, get_lot_means, get_envelope, get_envelope_means, get_seal, get_seal_means, get_security, get_security_means, get_award, get_award_means, get_contract, get_contract_means, get_entry, get_entry_means, get_release, get_release_means, get_compiled, get_compiled_means, get_late, get_late_means, get_performance, get_performance_means, get_clock, get_clock_means, get_version, get_version_means, list_lines, list_lines_means, list_former, list_former_means, list_lots_of_notice, list_lots_of_notice_means, list_lots_of_line, list_lots_of_line_means, list_reservations_of_line, list_reservations_of_line_means, list_envelopes_of_notice, list_envelopes_of_notice_means, list_envelopes_of_tenderer, list_envelopes_of_tenderer_means, list_securities_of_notice, list_securities_of_notice_means, list_awards_of_notice, list_awards_of_notice_means, list_contracts_of_notice, list_contracts_of_notice_means, list_entries_of_contract, list_entries_of_contract_means, list_releases_of_notice, list_releases_of_notice_means}
+use Rattle.office_sql.proofs.SelectTexts.{get_line, get_line_means, get_batch, get_batch_means, get_tenderer, get_tenderer_means, get_notice, get_notice_means, get_lot, get_lot_means, get_envelope, get_envelope_means, get_seal, get_seal_means, get_security, get_security_means, get_award, get_award_means, get_contract, get_contract_means, get_entry, get_entry_means, get_release, get_release_means, get_compiled, get_compiled_means, get_late, get_late_means, get_performance, get_performance_means, get_clock, get_clock_means, get_version, get_version_means, list_lines, list_lines_means, list_former, list_former_means, list_lots_of_notice, list_lots_of_notice_means, list_lots_of_line, list_lots_of_line_means, list_envelopes_of_notice, list_envelopes_of_notice_means, list_envelopes_of_tenderer, list_envelopes_of_tenderer_means, list_securities_of_notice, list_securities_of_notice_means, list_awards_of_notice, list_awards_of_notice_means, list_contracts_of_notice, list_contracts_of_notice_means, list_entries_of_contract, list_entries_of_contract_means, list_releases_of_notice, list_releases_of_notice_means}
 use Rattle.office_sql.proofs.LotTexts.{list_envelopes_of_lot, list_envelopes_of_lot_means, list_securities_of_lot, list_securities_of_lot_means}
 use Rattle.office_sql.proofs.Asking.{shows_rows, lists, gets, filter-all}
 
@@ -159,16 +156,6 @@ pub select_list_lots_of_line : (old new : State) (rows : List Row) (t : Tables) 
 select_list_lots_of_line old new rows t was k h =
     lists lot_cmp lots_total lots_exact lot_key (row_behind_rowid lot_values) lot_by_rowid lot_values lot_read (λ v x. refl) old new rows (was.places Lots) t.lots (was.stands Lots) list_lots_of_line (Text k ∷ []) (4 ∷ []) (range_with_len 1 9) (1 ∷ 2 ∷ []) _ (list_lots_of_line_means old.now.schema (was.places Lots) (was.tables Lots)) (λ (x : LotRow). same_id x.line k) (λ v x. and_true _ ∙ text_tested x.line k)
     (λ (x : LotRow). Text x.notice ∷ Text x.lot ∷ []) (λ v x. refl) (λ x y. pair_then _ _ _ _ (value_cmp-Text x.notice y.notice) (value_cmp-Text x.lot y.lot)) h
-
--- each row shows one amount
-amounts : (xs : List LotRow) → map (λ (r : Row). number_in_value (column r 0)) (map (λ (o : Output). o.1) (map (λ (x : LotRow). (Text x.notice ∷ Text x.lot ∷ [], Int (pos x.reserved) ∷ [])) xs)) ≡ map (λ (x : LotRow). x.reserved) xs
-amounts [] = refl
-amounts (x ∷ xs) = ap (λ l. x.reserved ∷ l) (amounts xs)
-
-pub select_list_reservations_of_line : (old new : State) (rows : List Row) (t : Tables) → Holds old.now t → (k : List ℕ) → Shown list_reservations_of_line (Text k ∷ []) old new rows → map (λ (r : Row). number_in_value (column r 0)) rows ≡ reservations k t
-select_list_reservations_of_line old new rows t was k h =
-    ap (map (λ (r : Row). number_in_value (column r 0))) (shows_rows lot_cmp lots_total lots_exact lot_key (row_behind_rowid lot_values) lot_by_rowid lot_values lot_read (λ v x. refl) old new rows (was.places Lots) t.lots (was.stands Lots) list_reservations_of_line (Text k ∷ []) (4 ∷ []) (9 ∷ []) (1 ∷ 2 ∷ []) _ (list_reservations_of_line_means old.now.schema (was.places Lots) (was.tables Lots)) (λ (x : LotRow). same_id x.line k) (λ v x. and_true _ ∙ text_tested x.line k)
-    (λ (x : LotRow). (Text x.notice ∷ Text x.lot ∷ [], Int (pos x.reserved) ∷ [])) (λ v x. refl) (λ x y a b. pair_then _ _ _ _ (value_cmp-Text x.notice y.notice) (value_cmp-Text x.lot y.lot)) h) ∙ amounts _
 
 pub select_list_envelopes_of_notice : (old new : State) (rows : List Row) (t : Tables) → Holds old.now t → (k : List ℕ) → Shown list_envelopes_of_notice (Text k ∷ []) old new rows → map envelope_read rows ≡ envelopes_of_notice k t
 select_list_envelopes_of_notice old new rows t was k h =

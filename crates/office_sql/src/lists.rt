@@ -3,7 +3,6 @@ ghost use Rattle.std.specs.Prelude.{◌≡◌};
 ghost use Rattle.sqlite.specs.Held.{state};
 ghost use Rattle.sqlite.specs.State.{HasCleanDisk, Survives};
 ghost use Rattle.office_base.specs.Tables.{awards_of_notice, contracts_of_notice, entries_of_contract, envelopes_of_lot, envelopes_of_notice, envelopes_of_tenderer, lots_of_line, lots_of_notice, releases_of_notice, securities_of_lot, securities_of_notice};
-ghost use Rattle.office_base.specs.Joined.{reservations};
 ghost use Rattle.office_sql.specs.Steps.{Tells, Refused};
 
 use crate::ask::ask_all;
@@ -14,7 +13,6 @@ use office_base::records::{
 use office_base::shelf::ShelfFault;
 use office_values::given::AskedNumber;
 use office_values::id::Id;
-use office_values::money::Amount;
 use sqlite::{Alter, Connection};
 use std::alloc::Global;
 
@@ -67,24 +65,6 @@ pub fn list_lots_of_line<S: Alter>(
         alloc,
         conn,
         "SELECT notice, lot, title, line, estimate, security, items, state, reserved FROM lots WHERE line = ?1 ORDER BY notice, lot",
-        &[id_value(line)],
-    )
-}
-
-/// What each lot of a budget line has reserved, in the order of their notices and identifiers.
-pub fn list_reservations_of_line<S: Alter>(
-    alloc: Global,
-    conn: &mut Connection<S>,
-    line: &Id,
-) -> Result<Vec<Amount>, ShelfFault>
-    ensures got { Tells S.Store conn.old conn.new result (λ t rows. rows.items ≡ reservations line.now t) }
-    ensures kept { HasCleanDisk (state S.Store conn.new) → Refused (state S.Store conn.old) (state S.Store conn.new) }
-    ensures survives { Survives (state S.Store conn.old) (state S.Store conn.new) (λ _. ⊥) }
-{
-    ask_all(
-        alloc,
-        conn,
-        "SELECT reserved FROM lots WHERE line = ?1 ORDER BY notice, lot",
         &[id_value(line)],
     )
 }

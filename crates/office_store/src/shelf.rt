@@ -8,7 +8,7 @@ ghost use Rattle.office_store.specs.SqlMeaning.{sql_meaning};
 use crate::sums;
 use office_base::counts::Sequence;
 use office_base::laws::changes_keep_order;
-use office_base::ledger::{ContractSums, LedgerRow};
+use office_base::ledger::{LedgerRow, LineAmounts};
 use office_base::puts::Put;
 use office_base::records::{
     AwardRow, BatchRow, ClockRow, CompiledRow, ContractRow, EntryRow, EnvelopeRow, LateRow,
@@ -21,7 +21,6 @@ use office_sql::laws::trees_tell_one_office;
 use office_sql::{lists, lookups, pages};
 use office_values::given::AskedNumber;
 use office_values::id::Id;
-use office_values::money::Amount;
 use sqlite::{Alter, Connection};
 use std::alloc::Global;
 use std::marker::Model;
@@ -340,16 +339,9 @@ impl<S: Alter> Lookups for SqlShelf<S> {
         }
     }
 
-    fn list_reservations_of_line(&mut self, line: &Id) -> Result<Vec<Amount>, ShelfFault> {
-        match lists::list_reservations_of_line(self.alloc, &mut self.conn, line) {
+    fn list_amounts_of_line(&mut self, line: &Id) -> Result<LineAmounts, ShelfFault> {
+        match sums::amounts_of_line(self.alloc, &mut self.conn, line) {
             Ok(amounts) => Ok(amounts),
-            Err(fault) => Err(self.count(fault)),
-        }
-    }
-
-    fn list_contract_sums_of_line(&mut self, line: &Id) -> Result<Vec<ContractSums>, ShelfFault> {
-        match sums::contract_sums(self.alloc, &mut self.conn, line) {
-            Ok(sums) => Ok(sums),
             Err(fault) => Err(self.count(fault)),
         }
     }

@@ -2,16 +2,16 @@
 ghost use Rattle.std.specs.Prelude.{◌≡◌, [], IfOk};
 ghost use Rattle.sqlite.specs.Held.{state};
 ghost use Rattle.sqlite.specs.State.{HasCleanDisk, Survives};
-ghost use Rattle.office_base.specs.Joined.{LinesFit, ledger_of, sums_of_line};
+ghost use Rattle.office_base.specs.Joined.{LinesFit, amounts_of_line, ledger_of};
 ghost use Rattle.office_base.specs.Tables.{Tables, IsSorted};
 ghost use Rattle.office_sql.specs.Steps.{Refused, ShowsTables};
 ghost use Rattle.office_store.specs.LedgerRows.{HasTaken, KeepsOffice};
 
 use crate::joined_rows::take_row;
 use crate::ledger_rows::ready;
-use office_base::ledger::{ContractSums, LedgerRow};
+use office_base::ledger::{LedgerRow, LineAmounts};
 use office_base::shelf::ShelfFault;
-use office_joins::adding::sums_of_rows;
+use office_joins::adding::amounts_of_rows;
 use office_joins::select::{
     join_is_no_write, join_is_plain, list_joined, list_joined_of_line, lots_are_shown,
     stored_rows_show,
@@ -58,13 +58,13 @@ pub(crate) fn ledger<S: Alter>(
     }
 }
 
-/// What each contract of the lots of a line comes to.
-pub(crate) fn contract_sums<S: Alter>(
+/// What each lot of a line has reserved, and what each contract of these lots comes to.
+pub(crate) fn amounts_of_line<S: Alter>(
     alloc: Global,
     conn: &mut Connection<S>,
     line: &Id,
-) -> Result<Vec<ContractSums>, ShelfFault>
-    ensures got { HasCleanDisk (state S.Store conn.new) → (t : Tables) → IsSorted t → ShowsTables (state S.Store conn.old) t → IfOk result (λ sums. sums.items ≡ sums_of_line line.now t) }
+) -> Result<LineAmounts, ShelfFault>
+    ensures got { HasCleanDisk (state S.Store conn.new) → (t : Tables) → IsSorted t → ShowsTables (state S.Store conn.old) t → IfOk result (λ amounts. amounts ≡ amounts_of_line line.now t) }
     ensures kept { HasCleanDisk (state S.Store conn.new) → Refused (state S.Store conn.old) (state S.Store conn.new) }
     ensures survives { Survives (state S.Store conn.old) (state S.Store conn.new) (λ _. ⊥) }
 {
@@ -75,7 +75,7 @@ pub(crate) fn contract_sums<S: Alter>(
         list_joined_of_line(),
         &[ValueRef::Text(line.as_bytes())],
     ) {
-        Ok(rows) => sums_of_rows(alloc, rows.as_slice()),
+        Ok(rows) => amounts_of_rows(alloc, rows.as_slice()),
         Err(error) => Err(fault(error)),
     }
 }

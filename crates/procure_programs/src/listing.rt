@@ -1,15 +1,12 @@
 //! The list of an office's notices, page by page.
-ghost use Rattle.std.specs.Prelude.{◌≡◌, IfOk};
+ghost use Rattle.std.specs.Prelude.{IfOk};
 ghost use Rattle.std.specs.Io.KnownBytes.{Appends};
-ghost use Rattle.office_base.specs.Limits.{page_limit};
-ghost use Rattle.office_base.specs.Pages.{next_after};
 ghost use Rattle.office_base.specs.Shelves.{Looks};
-ghost use Rattle.office_base.specs.Tables.{notice_key};
 ghost use Rattle.tender_papers.specs.Listing.{listing_text};
 ghost use Rattle.procure_programs.specs.Listing.{WritesPage};
 
 use office_base::laws;
-use office_base::records::NoticeRow;
+use office_base::pages::{ASKED_ROWS, next_after, page_of};
 use office_base::shelf::Lookups;
 use office_values::id::Id;
 use office_values::refusal::Refusal;
@@ -20,22 +17,6 @@ use std::alloc::Global;
 use std::io::Write;
 use tender_papers::listing::listing_text;
 
-// As many rows as a page has, and as many as are looked up for one.
-const PAGE_ROWS: usize = 100;
-
-const ASKED_ROWS: u32 = 101;
-
-// Of one row more than a page has: the name of the last of the page, where one more is there.
-fn next_of(rows: &[NoticeRow]) -> Option<Id>
-    ensures { result ≡ next_after notice_key page_limit rows.now }
-{
-    if rows.len() > PAGE_ROWS {
-        Some(rows[PAGE_ROWS - 1].notice)
-    } else {
-        None
-    }
-}
-
 // Writes a page of the notices behind this one, or of all, and answers the last of them, where one more follows.
 fn write_page<H: Lookups, W: Write>(
     alloc: Global,
@@ -45,15 +26,13 @@ fn write_page<H: Lookups, W: Write>(
 ) -> Result<Option<Id>, ProgramFault>
     ensures { Looks H.meaning shelf.old shelf.new (λ s. IfOk result (WritesPage after s writer.old.contents writer.new.contents)) }
 {
-    let mut rows = match shelf.list_notices_after(after, ASKED_ROWS) {
+    let rows = match shelf.list_notices_after(after, ASKED_ROWS) {
         Ok(rows) => rows,
         Err(fault) => return Err(ProgramFault::Refused(Refusal::from(fault))),
     };
-    let next = next_of(&rows);
-    rows.truncate(PAGE_ROWS);
-    let text = listing_text(alloc, &rows)?;
+    let text = listing_text(alloc, page_of(rows.as_slice()))?;
     match send(writer, text.as_slice()) {
-        Ok(()) => Ok(next),
+        Ok(()) => Ok(next_after(rows.as_slice())),
         Err(_) => Err(ProgramFault::Output),
     }
 }

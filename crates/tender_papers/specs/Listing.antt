@@ -1,4 +1,4 @@
--- The list of an office's notices, as a text: a line for each of them (UNCITRAL Model Law 2011, article 5).
+-- The list of the notices of an office, by which it invited tenders (UNCITRAL Model Law 2011, article 33), as a text: a line for each of them.
 use Rattle.std.specs.Prelude.{ℕ, List, [], ◌∷◌, Option, Some, None, codes, decimal}
 use Rattle.std.specs.List.{flat_map}
 use Rattle.office_values.specs.Moments.{moment_text}

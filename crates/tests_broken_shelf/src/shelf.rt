@@ -4,7 +4,7 @@ ghost use Rattle.office_base.specs.Faults.{one_fault_more};
 ghost use Rattle.office_base.specs.Tables.{IsSorted};
 
 use office_base::counts::Sequence;
-use office_base::ledger::{ContractSums, LedgerRow};
+use office_base::ledger::{LedgerRow, LineAmounts};
 use office_base::puts::Put;
 use office_base::records::{
     AwardRow, BatchRow, ClockRow, CompiledRow, ContractRow, EntryRow, EnvelopeRow, LateRow,
@@ -14,7 +14,6 @@ use office_base::shelf::{Lookups, Shelf, ShelfFault};
 use office_memory::memory::MemoryShelf;
 use office_values::given::AskedNumber;
 use office_values::id::Id;
-use office_values::money::Amount;
 use std::alloc::Global;
 
 // Breaks, or passes the call on and counts its fault.
@@ -260,12 +259,8 @@ impl Lookups for BrokenShelf {
         passed!(self, self.shelf.list_releases_of_notice(notice))
     }
 
-    fn list_reservations_of_line(&mut self, line: &Id) -> Result<Vec<Amount>, ShelfFault> {
-        passed!(self, self.shelf.list_reservations_of_line(line))
-    }
-
-    fn list_contract_sums_of_line(&mut self, line: &Id) -> Result<Vec<ContractSums>, ShelfFault> {
-        passed!(self, self.shelf.list_contract_sums_of_line(line))
+    fn list_amounts_of_line(&mut self, line: &Id) -> Result<LineAmounts, ShelfFault> {
+        passed!(self, self.shelf.list_amounts_of_line(line))
     }
 
     // Each fault is named, since the contract of the ledger says for each why it comes.

@@ -1,6 +1,7 @@
 //! What an office on disks says of one row of each of its tables.
 use crate::office::OfficeOnDisks;
 use office_base::counts::Sequence;
+use office_base::ledger::LineAmounts;
 use office_base::shelf::{Lookups, ShelfFault};
 use office_values::given::AskedNumber;
 use office_values::id::Id;
@@ -54,6 +55,12 @@ fn are_there<R: Drop>(answer: Result<Vec<R>, ShelfFault>) -> Result<bool, ShelfF
     Ok(!answer?.is_empty())
 }
 
+// Whether there are lots that may have reserved something.
+fn are_reserved(answer: Result<LineAmounts, ShelfFault>) -> Result<bool, ShelfFault> {
+    let amounts = answer?;
+    Ok(!amounts.reserved.as_slice().is_empty())
+}
+
 fn ask_for_money<H: Lookups>(
     shelf: &mut H,
     question: Question,
@@ -67,7 +74,7 @@ fn ask_for_money<H: Lookups>(
         Question::Contract => Some(is_there(shelf.get_contract(one))),
         Question::Performance => Some(is_there(shelf.get_performance(one))),
         Question::Entry => Some(is_there(shelf.get_entry(one, &Id::read(b"P1")?))),
-        Question::Reservations => Some(are_there(shelf.list_reservations_of_line(&line))),
+        Question::Reservations => Some(are_reserved(shelf.list_amounts_of_line(&line))),
         Question::Ledger => Some(are_there(shelf.ledger())),
         _ => None,
     }

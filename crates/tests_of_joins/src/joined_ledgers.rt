@@ -1,9 +1,9 @@
 //! Tests of the ledger that is added up from joined rows.
-use office_base::ledger::{ContractSums, LedgerRow};
+use office_base::ledger::{ContractSums, LedgerRow, LineAmounts};
 use office_base::records::EntryKind;
 use office_base::shelf::ShelfFault;
 use office_commands::amounts::EntryAmount;
-use office_ledger::contract_list::ContractList;
+use office_ledger::amount_list::AmountList;
 use office_ledger::joined::{JoinedContract, JoinedEntry, JoinedLot, JoinedRow};
 use office_ledger::ledger_sums::LedgerSums;
 use office_values::given::GivenNumber;
@@ -154,12 +154,9 @@ fn raises_and_cuts_count(rt: HostRuntime) {
     assert!(rt; is_ledger(rt.alloc(), &rows, &RAISED_AND_CUT));
 }
 
-// What the contracts of these rows come to; None where one of them is none.
-fn listed(
-    alloc: Global,
-    rows: &[Option<JoinedLot>],
-) -> Option<Result<Vec<ContractSums>, ShelfFault>> {
-    let mut list = ContractList::new(alloc);
+// What the lots of these rows have reserved and their contracts come to; None where one of them is none.
+fn listed(alloc: Global, rows: &[Option<JoinedLot>]) -> Option<Result<LineAmounts, ShelfFault>> {
+    let mut list = AmountList::new(alloc);
     for row in rows {
         let Some(row) = row else {
             return None;
@@ -175,28 +172,38 @@ fn is_sum(sums: &ContractSums, wanted: [u128; 3]) -> bool {
     [sums.gained, sums.lost, sums.paid] == wanted
 }
 
-// The contracts of these rows are two, of these sums.
+// Three lots have reserved this, and two contracts come to this.
+pub(crate) fn are_amounts(amounts: &LineAmounts) -> bool {
+    let reserved = match amounts.reserved.as_slice() {
+        [first, second, third] => [first.units(), second.units(), third.units()] == [7, 0, 30],
+        _ => false,
+    };
+    match amounts.contracts.as_slice() {
+        [first, second] => {
+            reserved && is_sum(first, [100, 20, 20]) && is_sum(second, [50, 0, 0])
+        }
+        _ => false,
+    }
+}
+
 fn are_listed(alloc: Global, rows: &[Option<JoinedLot>]) -> bool {
     match listed(alloc, rows) {
-        Some(Ok(sums)) => match sums.as_slice() {
-            [first, second] => is_sum(first, [100, 20, 20]) && is_sum(second, [50, 0, 0]),
-            _ => false,
-        },
+        Some(Ok(amounts)) => are_amounts(&amounts),
         _ => false,
     }
 }
 
 #[test]
-fn contracts_are_listed(rt: HostRuntime) {
+fn amounts_are_listed(rt: HostRuntime) {
     let rows = [
         lot(
             "A",
-            0,
+            7,
             contract(1, 100, entry("P1", EntryKind::Payment, 10)),
         ),
         lot(
             "A",
-            0,
+            7,
             contract(1, 100, entry("P2", EntryKind::Payment, 10)),
         ),
         lot("B", 0, contract(2, 50, None)),

@@ -1,6 +1,7 @@
 //! Tests of the selects over a store in memory.
-use office_base::ledger::{ContractSums, LedgerRow};
-use office_joins::adding::{ledger_of_rows, sums_of_rows};
+use crate::joined_ledgers::are_amounts;
+use office_base::ledger::LedgerRow;
+use office_joins::adding::{amounts_of_rows, ledger_of_rows};
 use office_joins::select::{list_joined, list_joined_of_line};
 use sqlite::{Connection, MemStore, Row, params};
 use std::alloc::Global;
@@ -16,7 +17,7 @@ CREATE INDEX contracts_of_notice ON contracts (notice)";
 // Rows that aren't in the order of their keys.
 const ROWS: &str =
     "INSERT INTO lines VALUES ('2000', 'Parks', 50, 50), ('1000', 'Roads', 1000, 820);
-INSERT INTO lots VALUES ('N1', 'C', 'South', '1000', 30, 0, '', 'undecided', 30), ('N1', 'B', 'East', '1000', 50, 0, '', 'contracted', 0), ('N1', 'A', 'North', '1000', 100, 0, '', 'contracted', 0);
+INSERT INTO lots VALUES ('N1', 'C', 'South', '1000', 30, 0, '', 'undecided', 30), ('N1', 'B', 'East', '1000', 50, 0, '', 'contracted', 0), ('N1', 'A', 'North', '1000', 100, 0, '', 'contracted', 7);
 INSERT INTO contracts VALUES (2, 'N1', 'B', 'T1', 50, 0, NULL, NULL, 0), (1, 'N1', 'A', 'T1', 100, 0, NULL, NULL, 0);
 INSERT INTO entries VALUES (1, 'P2', 'payment', 10, 0, NULL), (1, 'P1', 'payment', 10, 0, NULL)";
 
@@ -50,7 +51,7 @@ fn are_lines(ledger: &[LedgerRow]) -> bool {
                 parks.pots.contracted.units(),
             );
             roads.line.as_str() == "1000"
-                && [reserved, contracted, roads.pots.paid.units()] == [30, 130, 20]
+                && [reserved, contracted, roads.pots.paid.units()] == [37, 130, 20]
                 && [appropriation, of_parks] == [50, 0]
         }
         _ => false,
@@ -76,23 +77,16 @@ fn the_ledger_is_selected(rt: HostRuntime) {
     assert!(rt; ledger_is_selected(rt.alloc()));
 }
 
-fn is_sum(sums: &ContractSums, wanted: [u128; 3]) -> bool {
-    [sums.gained, sums.lost, sums.paid] == wanted
-}
-
-fn are_sums(alloc: Global, rows: &[Row]) -> bool {
-    match sums_of_rows(alloc, rows) {
-        Ok(sums) => match sums.as_slice() {
-            [first, second] => is_sum(first, [100, 20, 20]) && is_sum(second, [50, 0, 0]),
-            _ => false,
-        },
+fn are_added_up(alloc: Global, rows: &[Row]) -> bool {
+    match amounts_of_rows(alloc, rows) {
+        Ok(amounts) => are_amounts(&amounts),
         Err(_) => false,
     }
 }
 
-fn sums_are_selected(alloc: Global) -> bool {
+fn amounts_are_selected(alloc: Global) -> bool {
     match joined_of_line(alloc, "1000") {
-        Some(rows) => are_sums(alloc, rows.as_slice()),
+        Some(rows) => are_added_up(alloc, rows.as_slice()),
         None => false,
     }
 }
@@ -105,7 +99,7 @@ fn none_are_selected(alloc: Global) -> bool {
 }
 
 #[test]
-fn sums_of_a_line_are_selected(rt: HostRuntime) {
-    assert!(rt; sums_are_selected(rt.alloc()));
+fn amounts_of_a_line_are_selected(rt: HostRuntime) {
+    assert!(rt; amounts_are_selected(rt.alloc()));
     assert!(rt; none_are_selected(rt.alloc()));
 }

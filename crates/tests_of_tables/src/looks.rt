@@ -193,10 +193,12 @@ fn is_page_or_lot(shelf: &mut MemoryShelf, list: List, wanted: &[Shown]) -> Opti
 fn is_sum(shelf: &mut MemoryShelf, sum: Sum, wanted: &[Shown]) -> Option<bool> {
     match sum {
         Sum::Reservations(line) => {
-            are_listed(shelf.list_reservations_of_line(&id(line)?), wanted)
+            let amounts = shelf.list_amounts_of_line(&id(line)?).ok()?;
+            Some(all_show(amounts.reserved.as_slice(), wanted))
         }
         Sum::ContractSums(line) => {
-            are_listed(shelf.list_contract_sums_of_line(&id(line)?), wanted)
+            let amounts = shelf.list_amounts_of_line(&id(line)?).ok()?;
+            Some(all_show(amounts.contracts.as_slice(), wanted))
         }
         Sum::Pots(line) => is_found(pots(shelf, &id(line)?), wanted),
         Sum::Ledger => are_listed(shelf.ledger(), wanted),

@@ -4,7 +4,7 @@ ghost use Rattle.sqlite.specs.Steps.{over_memory};
 ghost use Rattle.office_store.specs.SqlMeaning.{sql_meaning, inside};
 
 use office_base::counts::Sequence;
-use office_base::ledger::{ContractSums, LedgerRow};
+use office_base::ledger::{LedgerRow, LineAmounts};
 use office_base::puts::Put;
 use office_base::records::{
     AwardRow, BatchRow, ClockRow, CompiledRow, ContractRow, EntryRow, EnvelopeRow, LateRow,
@@ -14,7 +14,6 @@ use office_base::shelf::{Lookups, Shelf, ShelfFault};
 use office_store::shelf::SqlShelf;
 use office_values::given::AskedNumber;
 use office_values::id::Id;
-use office_values::money::Amount;
 use sqlite::MemStore;
 use std::alloc::Global;
 
@@ -198,12 +197,8 @@ impl Lookups for SqlOffice {
         self.shelf.list_releases_of_notice(notice)
     }
 
-    fn list_reservations_of_line(&mut self, line: &Id) -> Result<Vec<Amount>, ShelfFault> {
-        self.shelf.list_reservations_of_line(line)
-    }
-
-    fn list_contract_sums_of_line(&mut self, line: &Id) -> Result<Vec<ContractSums>, ShelfFault> {
-        self.shelf.list_contract_sums_of_line(line)
+    fn list_amounts_of_line(&mut self, line: &Id) -> Result<LineAmounts, ShelfFault> {
+        self.shelf.list_amounts_of_line(line)
     }
 
     fn ledger(&mut self) -> Result<Vec<LedgerRow>, ShelfFault> {

@@ -9,8 +9,8 @@ ghost use Rattle.office_plans.specs.Replies.{reply_text};
 ghost use Rattle.office_plans.specs.RowMembers.{listed_tenderer_entries};
 ghost use Rattle.office_desk.specs.Steps.{IsShown, TellsQuery, read_text};
 
-use crate::queries::pages::{ASKED_ROWS, next_after, page_of};
 use json::Writer;
+use office_base::pages::{ASKED_ROWS, next_after, page_of};
 use office_base::records::TendererRow;
 use office_base::shelf::Lookups;
 use office_commands::command::Caller;

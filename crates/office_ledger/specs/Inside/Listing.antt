@@ -1,4 +1,4 @@
--- The sums of contracts as their joined rows come, lot by lot.
+-- What lots have reserved and contracts come to as their joined rows come, lot by lot.
 use Rattle.std.specs.Prelude.{ℕ, ◌+◌, ◌*◌, ◌^◌, ◌<◌, Bool, false, cond, ◌&&◌, List, [], ◌∷◌, ◌++◌, Option, Some, None}
 use Rattle.office_values.specs.Ids.{same_id}
 use Rattle.office_base.specs.EntrySums.{sums_with_entry}
@@ -8,7 +8,9 @@ use Rattle.office_ledger.specs.declared.joined.JoinedLot.{JoinedLot}
 use Rattle.office_ledger.specs.declared.joined.JoinedContract.{JoinedContract}
 use Rattle.office_ledger.specs.declared.joined.JoinedEntry.{JoinedEntry}
 use Rattle.office_ledger.specs.declared.contract_list.CurrentContract.{CurrentContract}
-use Rattle.office_ledger.specs.Inside.Adding.{fold_rows}
+use Rattle.office_ledger.specs.Inside.Adding.{is_lot, joined_lot_key, fold_rows}
+
+-- ---- the contracts
 
 -- the contracts that are done, and the one whose rows are coming
 pub record Listed : Type 0 where
@@ -65,3 +67,28 @@ listed rows = fold_rows list_lot rows nothing_listed
 abbrev pub EntriesFit : ℕ → Option CurrentContract → Type 0
 EntriesFit n None = Unit {0}
 EntriesFit n (Some c) = (c.sums.gained + n * 2 ^ 50 < 2 ^ 128) × (c.sums.lost + n * 2 ^ 50 < 2 ^ 128) × (c.sums.paid + n * 2 ^ 50 < 2 ^ 128)
+
+-- the sums so far, and how many rows may still come
+pub record ContractListing : Type 0 where
+  pub listed : Listed
+  pub left : ℕ
+
+-- ---- the lots
+
+-- what lots have reserved, an amount for each, and the lot whose rows are coming
+pub record LotListing : Type 0 where
+  pub amounts : List ℕ
+  pub lot : Option (List ℕ × List ℕ)
+
+abbrev pub nothing_reserved : LotListing
+nothing_reserved = record { amounts = []; lot = None }
+
+-- the first row of a lot tells what it has reserved
+abbrev pub begin_lot : JoinedLot → LotListing → LotListing
+begin_lot l s = record { amounts = s.amounts ++ l.reserved ∷ []; lot = Some (joined_lot_key l) }
+
+abbrev pub list_reserved : JoinedLot → LotListing → LotListing
+list_reserved l s = cond (is_lot (joined_lot_key l) s.lot) s (begin_lot l s)
+
+abbrev pub all_reserved : List JoinedLot → LotListing
+all_reserved rows = fold_rows list_reserved rows nothing_reserved

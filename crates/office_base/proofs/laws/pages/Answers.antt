@@ -1,4 +1,4 @@
-use Rattle.office_base.proofs.Pages.{tables_are_paged}
+use Rattle.office_base.proofs.AllPages.{tables_are_paged}
 use Rattle.office_base.proofs.laws.pages.Goals as goal
 
 pub returns : goal.returns

@@ -1,0 +1,10 @@
+use Rattle.std.proofs.Common.{sym, arith, length-take-le, take_all}
+use Rattle.office_base.specs.Limits.{page_limit}
+use Rattle.office_base.proofs.pages.page_of.Goals as goal
+
+-- a front of a length that is written out computes element by element, so that no lemma fits
+pub slice_bounds-result-end : goal.slice_bounds-result-end
+slice_bounds-result-end g c = sym (length-take-le page_limit c.args.rows.now (omega arith))
+
+pub returns-else-rows-gt-PAGE_ROWS : goal.returns-else-rows-gt-PAGE_ROWS
+returns-else-rows-gt-PAGE_ROWS g c = sym (take_all page_limit c.args.rows.now (omega arith))

@@ -1,0 +1,199 @@
+"""What `tests/desks` asks: a procurement from the budget to the last payment by the screens of the clerk, of three firms and of the public, and nothing else;
+and what becomes of a firm that has lost its key."""
+import time
+from collections.abc import Callable
+
+import clerk_checks
+import clerk_desk
+import page_checks
+import tender_page
+from client import AHEAD, wait_until
+from common import check
+from tender_office import Scene
+
+# Seconds from the publication to the deadline: for three firms at their desks.
+SOON = AHEAD + 36
+FIRMS = {"T1": ("Alpha & Söhne", "High Street 1"), "T2": ("Beta Ltd", "Low Street 2"), "T3": ("Gamma", "Mill Lane 3")}
+# What a sheet of the second firm writes.
+SHEET = "Pos;Menge;EP;GP\r\nI1;3;140,00;420,00\r\nI2;10;12,00;120,00\r\nSumme;;;540,00\r\n".encode("cp1252")
+
+
+def make_key(scene: Scene, name: str, firm: str, address: str) -> tender_page.Desk:
+    """A firm makes its key, saves it, drops it in again, and saves what is for the clerk."""
+    desk = tender_page.Desk(scene)
+    desk.at("key", "Key")
+    for field, text in (("tenderer", name), ("name", firm), ("address", address)):
+        desk.fill(f"key-{field}", text)
+    desk.press("Make the key")
+    desk.saved(f"{name}.key")
+    desk.press("Save the sheet as a file for the clerk")
+    desk.saved(f"registration-{name}.json")
+    desk.page.choose("key-file", scene.path(f"{name}.key"))
+    desk.says("its file was saved")
+    return desk
+
+
+def register(clerk: clerk_desk.Desk, scene: Scene, name: str) -> None:
+    """The clerk registers a firm from its file."""
+    clerk.go("tenderers")
+    with open(scene.path(f"registration-{name}.json")) as file:
+        clerk.drop(file.read(), f"registration-{name}.json")
+    clerk.says("The file was read into the fields below.")
+    clerk.press("Register a tenderer")
+    clerk.confirm("Register", f"{name} is registered.")
+
+
+def hand_in(desk: tender_page.Desk) -> int:
+    """Looks at an offer, and sends it: its receipt, which must be green."""
+    desk.press("Look at it")
+    desk.shows("Before it is sent")
+    desk.press("Send the tender")
+    receipt = desk.receipt()
+    check(f"the receipt says {desk.page.text()}", desk.has("good", "The office received exactly what was sent.") and not desk.has("bad", ""))
+    return receipt
+
+
+def secure(desk: tender_page.Desk, reference: str) -> None:
+    desk.fill("security-reference", reference)
+    desk.fill("security-amount", "50")
+
+
+def offers(desks: dict[str, tender_page.Desk], scene: Scene) -> None:
+    """The first firm types prices for both lots, the second drops a sheet's file; the third has its prices ready, and waits too long."""
+    desks["T1"].at("offer", "Make an offer")
+    desks["T1"].press("Road repair")
+    desks["T1"].shows("Road repair")
+    desks["T1"].prices("N1", "L1", 150, 12)
+    secure(desks["T1"], "G1")
+    first = hand_in(desks["T1"])
+    desks["T1"].prices("N1", "L2", 290)
+    hand_in(desks["T1"])
+    desks["T2"].at("offer/N1/L1", "Offer for")
+    desks["T2"].press("Take a file")
+    desks["T2"].page.choose("offer-file", scene.put("sheet.csv", SHEET))
+    desks["T2"].says("was made to what the office reads: 540 EUR")
+    secure(desks["T2"], "G2")
+    hand_in(desks["T2"])
+    desks["T1"].at("tenders", "My tenders")
+    desks["T1"].says("2 tenders, the newest first")
+    desks["T1"].at(f"tender/{first}", "Tender with")
+    check("what a withdrawal costs isn't told", desks["T1"].has("look", "Nothing: the security of 50 EUR (G1) goes back."))
+    desks["T3"].prices("N1", "L1", 100, 10)
+    secure(desks["T3"], "G3")
+
+
+def too_late(desk: tender_page.Desk, deadline: float) -> None:
+    """What comes behind the deadline is warned of, recorded, and given back."""
+    wait_until(deadline + 1.1)
+    desk.press("Look at it")
+    desk.shows("Before it is sent")
+    check("a late tender can be sent without a tick", desk.has("bad", "The deadline has passed") and not desk.can_press("Send the tender"))
+    desk.tick("send-late")
+    desk.press("Send the tender")
+    desk.receipt()
+    check("a late tender is green", desk.has("bad", "The tender came late and was given back."))
+
+
+def decide(clerk: clerk_desk.Desk) -> None:
+    """The opening, the examinations, the awards and the contracts."""
+    clerk.go("today")
+    clerk.says("The tenders are to be opened.")
+    clerk.go("notice/N1")
+    clerk.press("Open the tenders …")
+    clerk.confirm("Open them", "3 tenders of notice N1 were opened.")
+    for name, receipt in (("Alpha & Söhne", 1), ("Alpha & Söhne", 2), ("Beta Ltd", 3)):
+        clerk.press("Responsive …", place=f"Examination of {name}, receipt {receipt}")
+        clerk.confirm("That is what was found", f"The tender of {name} is examined.")
+    for lot, price in (("L1", 540), ("L2", 290)):
+        clerk.press("Award …", place=f"Lot {lot}")
+        clerk.confirm("Award it", f"Lot {lot} is decided. Price: {price}")
+    for lot, contract in (("L1", 1), ("L2", 2)):
+        clerk.field("Reference of the performance security", f"P{contract}", place=f"Lot {lot}")
+        clerk.field("Its amount", "70", place=f"Lot {lot}")
+        clerk.press("Sign …", place=f"Lot {lot}")
+        clerk.confirm("Sign", f"Contract {contract} is signed.")
+
+
+def pay(clerk: clerk_desk.Desk) -> None:
+    """Two payments of the first contract, which ends then; the second one ends by default, in red."""
+    for number, amount, left in (("I-1", "300", "240"), ("I-2", "240", "0")):
+        clerk.field("Number of the invoice or the change", number, place="Lot L1")
+        clerk.field("Amount", amount, place="Lot L1")
+        clerk.press("Pay …", place="Lot L1")
+        clerk.confirm("Pay", f"Paid. Outstanding: {left}.")
+    clerk.says("Lot L1: contract 1 is paid in full, and is to be ended")
+    clerk.field("Number of the invoice or the change", "I-1", place="Lot L2")
+    clerk.says("Careful: the number I-1 was used in contract 1 too.")
+    clerk.press("End the contract", place="Lot L1")
+    clerk.press("End as agreed …", place="Lot L1")
+    clerk.confirm("End it", "Contract 1 has ended.")
+    clerk.press("End the contract", place="Lot L2")
+    clerk.press("End by the contractor's default …", place="Lot L2")
+    clerk.confirm("End it", "Contract 2 has ended.", "look")
+    clerk.says("Ended by default")
+    check("a default is green", not clerk.page.run("document.querySelector('main :is(.good, .badge.done)') !== null"))
+    shown = clerk.page.run("[...document.querySelectorAll('.contract h4 .badge')].map((at) => [at.className, at.innerText])")
+    check(f"the contracts are {shown}", [it[0] for it in shown] == ["badge ended", "badge stopped"])
+
+
+def life(scene: Scene) -> None:
+    """A procurement from the budget to the last payment, by the desks alone: a budget, three firms and their keys, a notice, tenders in time and a late one,
+    the opening, awards, contracts and payments; and what the firms and the public see of it then."""
+    clerk = clerk_desk.Desk(scene)
+    clerk.give_key()
+    clerk.settle("today")
+    clerk_checks.budget_part(clerk)
+    desks = {name: make_key(scene, name, *told) for name, told in FIRMS.items()}
+    for name in FIRMS:
+        register(clerk, scene, name)
+    deadline = int(time.time()) + SOON
+    clerk_checks.publish_part(clerk, "N1", "Road repair", deadline)
+    # (The front keeps public answers for a second.)
+    time.sleep(2.1)
+    offers(desks, scene)
+    clerk.says("In time, by lots: L1: 2, L2: 1.")
+    too_late(desks["T3"], deadline)
+    decide(clerk)
+    pay(clerk)
+    time.sleep(2.1)
+    desks["T2"].at("tender/3", "Tender with receipt 3")
+    for text in ("The contract was signed.", "Ended as agreed", "P1: Given back"):
+        desks["T2"].says(text)
+    desks["T1"].at("tender/2", "Tender with receipt 2")
+    desks["T1"].says("P2: Forfeited")
+    red = desks["T1"].page.run("document.querySelector('.contract .badge.stopped')?.innerText")
+    check(f"a default isn't red: {red}", str(red).endswith("Ended by default"))
+    check("a default is green", not desks["T1"].page.run("document.querySelector('main .badge.done') !== null"))
+    page = page_checks.page_of(scene, "#notice/N1")
+    for text in ("Its price wasn't the lowest.", "540 EUR", "All contracts ended", "Given back", "Contract 2 ended, 0 EUR of 290 EUR paid."):
+        check(f"the public sees {page.text()}", text in page.text())
+    for one in (clerk.page, *(desk.page for desk in desks.values())):
+        page_checks.keeps_nothing(scene, one)
+
+
+def lost_key(scene: Scene) -> None:
+    """A key that is lost can't be had again: the firm reads what to do, makes another one, and is registered anew; what it handed in before is another's
+    then."""
+    clerk = clerk_desk.Desk(scene)
+    clerk.give_key()
+    clerk.settle("today")
+    desk = tender_page.Desk(scene)
+    desk.at("key", "Key")
+    desk.page.run("document.querySelector('main details').open = true")
+    desk.says("let the clerk register it under another identifier")
+    desk.page.choose("key-file", scene.put("wrong.key", b"Office-Caller: T1\nOffice-Key: " + b"0" * 64 + b"\n"))
+    desk.says("The key of T1 is in this tab")
+    desk.press("Ask whether")
+    desk.says("The name and the key don't go together.")
+    other = make_key(scene, "T4", "Alpha & Söhne", "High Street 1")
+    register(clerk, scene, "T4")
+    other.press("Ask whether")
+    other.says("The office knows T4 by this key.")
+    other.at("tenders", "My tenders")
+    other.says("None of your tenders was found.")
+    other.page.run("location.hash = '#tender/1'")
+    other.says("This belongs to another tenderer.")
+    page_checks.is_quiet(other.page)
+
+
+CHECKS: list[Callable[[Scene], None]] = [life, lost_key]

@@ -1,0 +1,89 @@
+"""What `tools/mirror` leaves for readers: an index, which is a table of all procurements that needs no script, and a feed of what happened last."""
+import html
+from xml.sax.saxutils import escape, quoteattr
+
+from mirror_office import Json, Notice
+
+# So many entries has the feed, the newest first.
+NEWEST = 100
+# Where a procurement stands, by the status of its tender; before the opening it receives tenders.
+STATES = {"active": "opened", "complete": "contracted", "cancelled": "cancelled", "unsuccessful": "ended without a contract"}
+WORDS = """<p>All that this office published: the procurements below, and files to download. Amounts are whole units of the currency, moments are UTC.</p>
+<p lang="de">Alles, was diese Vergabestelle veröffentlicht hat: unten die Vergaben, dazu Dateien zum Herunterladen. Beträge sind ganze Einheiten der Währung,
+Zeiten UTC.</p>"""
+WITNESS = """<p>The chain has a line for each release that was ever seen here, each with the SHA-256 of all lines before it. Who keeps its last line from today
+can show later whether anything published until now was changed. <code>tools/mirror URL FOLDER</code> keeps such a copy by itself and tells.</p>"""
+
+
+def page(base: str, moment: str, files: list[tuple[str, int, str]], notices: list[Notice], head: str) -> str:
+    """The index. `files` are names, lengths and digests; `head` is the last digest of the chain."""
+    rows = [f"<tr><td><a href={quoteattr(name)}>{html.escape(name)}</a></td><td>{length:,}</td><td><code>{digest}</code></td></tr>\n"
+            for name, length, digest in files]
+    newest = sorted(notices, key=lambda one: (one.row["published"], one.name), reverse=True)
+    return f"""<!DOCTYPE html>
+<html lang="en">
+<head>
+<meta charset="utf-8">
+<meta name="viewport" content="width=device-width, initial-scale=1">
+<meta name="color-scheme" content="light dark">
+<title>Open data of the procurement office</title>
+<link rel="stylesheet" href="/page.css">
+<link rel="alternate" type="application/atom+xml" href="feed.atom">
+</head>
+<body>
+<main>
+<h1>Open data of the procurement office</h1>
+{WORDS}
+<p>From <a href={quoteattr(base)}>{html.escape(base)}</a>, looked at {moment}.</p>
+<h2>Procurements</h2>
+<table>
+<thead><tr><th>Procurement</th><th>State</th><th>Deadline</th><th>Estimate</th></tr></thead>
+<tbody>
+{"".join(notice_row(one) for one in newest)}</tbody>
+</table>
+<h2>Files</h2>
+<table>
+<thead><tr><th>File</th><th>Bytes</th><th>SHA-256</th></tr></thead>
+<tbody>
+{"".join(rows)}</tbody>
+</table>
+<p>Beside them are <code>records/NOTICE.json</code>, <code>terms/NOTICE.json</code>, <code>minutes/NOTICE.txt</code> and <code>evaluations/NOTICE.txt</code>, as
+the office answered them. In the tables a text that begins with = + - or @ has an apostrophe in front, so that no sheet takes it for a formula.</p>
+<h2>The chain</h2>
+{WITNESS}
+<p>Its last digest: <code>{head}</code></p>
+</main>
+</body>
+</html>
+"""
+
+
+def notice_row(one: Notice) -> str:
+    value = one.compiled["tender"]["value"]
+    link = f"<a href={quoteattr(f'records/{one.name}.json')}>{html.escape(one.name)}</a> <bdi>{html.escape(one.row['title'])}</bdi>"
+    state = "receives tenders" if one.row["state"] == "receiving" else STATES[one.compiled["tender"]["status"]]
+    return (f"<tr><td>{link}</td><td>{state}</td><td>{html.escape(one.row['deadline'])}</td>"
+            f"<td>{value['amount']:,} {html.escape(value['currency'])}</td></tr>\n")
+
+
+def feed(base: str, moment: str, notices: list[Notice]) -> str:
+    """The feed (RFC 4287): an entry for each of the last releases."""
+    releases = [(release["date"], one, release) for one in notices for release in one.releases]
+    newest = sorted(releases, key=lambda it: (it[0], it[2]["id"]), reverse=True)[:NEWEST]
+    updated = newest[0][0] if newest else moment
+    head = (f"<id>{escape(base)}/data/feed.atom</id>\n<title>Procurements</title>\n<updated>{escape(updated)}</updated>\n"
+            f"<author><name>{escape(author(notices))}</name></author>\n")
+    links = f"<link rel=\"self\" href={quoteattr(base + '/data/feed.atom')}/>\n<link href={quoteattr(base + '/')}/>\n"
+    entries = "".join(entry(base, one, release) for _, one, release in newest)
+    return f'<?xml version="1.0" encoding="utf-8"?>\n<feed xmlns="http://www.w3.org/2005/Atom">\n{head}{links}{entries}</feed>\n'
+
+
+def author(notices: list[Notice]) -> str:
+    return str(notices[0].compiled["buyer"]["name"]) if notices else "The procurement office"
+
+
+def entry(base: str, one: Notice, release: Json) -> str:
+    tags = ", ".join(release["tag"])
+    return (f"<entry>\n<id>urn:ocds:{escape(release['id'])}</id>\n<title>{escape(one.row['title'])} ({escape(one.name)}): {escape(tags)}</title>\n"
+            f"<updated>{escape(release['date'])}</updated>\n<link href={quoteattr(f'{base}/#notice/{one.name}')}/>\n"
+            f"<summary>{escape(tags)}</summary>\n</entry>\n")

@@ -1,0 +1,51 @@
+// The city's own words: its name, imprint, contact, privacy and accessibility, from the file that it fills in; and what this page is made of.
+import { file } from "./common/office.js";
+import { language, say } from "./common/texts.js";
+import { element, given, link, section, title } from "./common/draw.js";
+
+const PARTS = ["imprint", "contact", "privacy", "accessibility"];
+let city = null;
+
+/** The city's file, asked for once; one that isn't there, or can't be read, has nothing in it. */
+async function cityFile() {
+  try {
+    city ??= JSON.parse((await file("/city.json")) ?? "{}");
+  } catch (fault) {
+    console.warn(`city.json: ${fault.message}`);
+    city = {};
+  }
+  return city;
+}
+
+/** What the city says of a part, in the language that is spoken or in another one. */
+function wordsOf(part) {
+  const told = Object.entries(part ?? {}).filter(([, words]) => words.length > 0);
+  return (told.find(([tag]) => tag === language()) ?? told[0] ?? [language(), []]);
+}
+
+/** The name of the page: the city's, else a plain one. */
+export async function siteName() {
+  const [, name] = wordsOf((await cityFile()).name);
+  return typeof name === "string" ? name : say("see.site");
+}
+
+// An address in the city's words is one to follow: of the web, or of mail.
+const ADDRESS = /(https?:\/\/[^\s<>"]+[^\s<>".,;)]|[^\s<>"@]+@[^\s<>"@]+\.[a-z]{2,})/i;
+
+function paragraph(text) {
+  return element("p", {}, text.split(ADDRESS).map((part, at) => (at % 2 === 0 ? given(part)
+    : link(part, part.includes("://") ? part : `mailto:${part}`))));
+}
+
+/** The view of all of it. */
+export async function drawAbout() {
+  const words = await cityFile();
+  const parts = PARTS.map((name) => {
+    const [tag, told] = wordsOf(words[name]);
+    return section(say(`see.about.${name}`),
+      element("div", { lang: tag }, told.length > 0 ? told.map(paragraph) : element("p", { lang: language(), class: "quiet" }, say("see.about.nothing"))));
+  });
+  return { title: say("see.about"), told: say("see.about"), content: [title(say("see.about")), parts,
+    section(say("see.about.made"), element("p", {}, say("see.about.drawn")), element("p", {}, say("see.about.kept")),
+      element("p", {}, link(say("see.about.data"), "/data/"), " · ", link("openapi.yaml", "/openapi.yaml")))] };
+}

@@ -1,0 +1,51 @@
+// Charts: bars of SVG between their names and their figures, so that words stay as large as all others, on a phone too. Kinds are told apart by patterns.
+import { element } from "./common/draw.js";
+
+const SPACE = "http://www.w3.org/2000/svg";
+
+function drawn(name, attributes, ...children) {
+  const made = document.createElementNS(SPACE, name);
+  for (const [key, value] of Object.entries(attributes)) {
+    made.setAttribute(key, value);
+  }
+  made.append(...children);
+  return made;
+}
+
+// A pattern of each kind that isn't plain, as wide as high, with what is drawn in it.
+const PATTERNS = {
+  contracted: () => [9, drawn("path", { d: "M-2 11 11 -2 M-2 2 2 -2 M7 11 11 7", class: "stripe" })],
+  reserved: () => [8, drawn("circle", { cx: "4", cy: "4", r: "2.5", class: "dot" })],
+};
+let charts = 0;
+
+function patternsOf(chart, kinds) {
+  const defined = kinds.filter((kind) => PATTERNS[kind]).map((kind) => {
+    const [size, mark] = PATTERNS[kind]();
+    return drawn("pattern", { id: `${chart}-${kind}`, width: size, height: size, patternUnits: "userSpaceOnUse" },
+      drawn("rect", { width: size, height: size, class: "ground" }), mark);
+  });
+  return defined.length > 0 ? [drawn("defs", {}, ...defined)] : [];
+}
+
+/** One bar, whose length stands for the sum of its parts, where `most` is as wide as the chart. */
+function barOf(chart, parts, most) {
+  let at = 0;
+  const pieces = parts.filter(({ amount }) => amount > 0).map(({ kind, amount }) => {
+    const width = (100 * amount) / most;
+    const fill = PATTERNS[kind] ? { fill: `url(#${chart}-${kind})` } : {};
+    const piece = drawn("rect", { x: `${at}%`, y: "1", width: `${width}%`, height: "20", class: `piece ${kind}`, ...fill });
+    at += width;
+    return piece;
+  });
+  return drawn("svg", { width: "100%", height: "22", class: "chart", "aria-hidden": "true" }, ...patternsOf(chart, parts.map(({ kind }) => kind)), ...pieces);
+}
+
+/** Bars below each other. A row has a `name` (a text or elements), `parts` of a kind and an amount, and what is `told` of it behind the bar. They are a list
+ * of names and figures to who doesn't see them. */
+export function bars(label, rows) {
+  charts += 1;
+  const most = Math.max(1, ...rows.map(({ parts }) => parts.reduce((sum, { amount }) => sum + amount, 0)));
+  return element("ul", { class: "bars", "aria-label": label }, rows.map(({ name, parts, told }, at) => element("li", {},
+    element("span", { class: "name" }, name), barOf(`chart-${charts}-${at}`, parts, most), element("b", { class: "figure" }, told))));
+}

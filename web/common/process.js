@@ -1,0 +1,127 @@
+// A procurement, from its record, its releases, its terms, its minutes and its evaluation.
+import { against, contractPart } from "./contract.js";
+import { badge, below, element, facts, given, link, listed, placeOf, section, title } from "./draw.js";
+import { addedTo, awardsOf, contractOf, kindOfSigned, paidOf, passedOver, stateOf, stateOfLot } from "./findings.js";
+import { table } from "./forms.js";
+import { clock, money, moment, number } from "./money.js";
+import { officeNow } from "./office.js";
+import { seenOf } from "./seen.js";
+import { say } from "./texts.js";
+import { tenderTable } from "./tenders.js";
+import { asked, termList } from "./terms.js";
+import { timeline } from "./timeline.js";
+
+// More lots than these are folded, but for those that somebody unfolded before, or of which something is to be done.
+const FEW = 3;
+const unfolded = new Set();
+
+function stateBadge([kind, name]) {
+  return badge(kind, say(`see.is.${name}`));
+}
+
+function items({ compiled }, lot) {
+  const own = (compiled.tender.items ?? []).filter(({ relatedLot }) => relatedLot === lot.id);
+  return listed(4, say("see.items"), own.map((item) => [`${number(item.quantity)} × `, given(item.description)]));
+}
+
+function awardPart({ compiled, passed }, lot, award) {
+  const contract = contractOf(compiled, award);
+  const active = contract ? [kindOfSigned(contract), "signed"] : ["running", "unsigned"];
+  const [kind, name] = award.status === "active" ? active : ["stopped", passed.has(award.id) ? "passed" : "awardended"];
+  return [element("b", {}, given(award.suppliers[0].name)), ": ", money(award.value.amount, award.value.currency), " ", badge(kind, say(`see.award.${name}`)),
+    element("span", { class: "below" }, against(award.value, lot.value)), below(say("see.awarded"), " ", moment(award.date))];
+}
+
+function tenderPart(notice, lot) {
+  const tenders = notice.tenders?.filter((tender) => tender.lot === lot.id) ?? null;
+  if (tenders === null) {
+    return say(lot.status === "cancelled" ? "see.unopened.cancelled" : "see.unopened");
+  }
+  const shown = notice.evaluation?.get(lot.id);
+  return tenders.length === 0 ? element("p", {}, say("see.notenders"))
+    : [shown ? null : element("p", { class: "note" }, say("see.hidden")), tenderTable(notice, lot, tenders, shown)];
+}
+
+function lotPart(notice, lot, folds) {
+  const { compiled } = notice;
+  const { currency } = lot.value;
+  const made = awardsOf(compiled, lot);
+  const own = notice.terms.lots.find(({ id }) => id === lot.id);
+  const line = notice.linked ? link(own.line, placeOf("line", own.line)) : own.line;
+  const head = [say("see.lot", { lot: lot.id }), " ", given(lot.title), " ", stateBadge(stateOfLot(compiled, lot))];
+  const contracts = made.map((award) => [contractOf(compiled, award), award]).filter(([one]) => one);
+  const content = [
+    facts([[say("see.estimate"), money(lot.value.amount, currency)], [say("see.line"), line], [say("see.security.asked"), asked(own.security, currency)]]),
+    items(notice, lot), listed(4, say("see.awards", { count: made.length }), made.map((award) => awardPart(notice, lot, award)), { class: "awards" }),
+    element("h4", {}, say("see.tenders")), tenderPart(notice, lot), notice.ofLot?.(lot),
+    contracts.map(([one, award]) => contractPart(one, award, lot, notice, notice.ofContract?.(one)))];
+  return element("article", { id: `lot-${lot.id}`, tabindex: "-1", class: "card", "aria-label": say("see.lot", { lot: lot.id }) },
+    folds ? folded(`${notice.name}/${lot.id}`, notice.isPressing?.(lot), head, content) : [element("h3", {}, head), content]);
+}
+
+/** A lot that is folded, and stays as it is where the view is drawn anew. */
+function folded(name, isPressing, head, content) {
+  const made = element("details", isPressing || unfolded.has(name) ? { open: "" } : {}, element("summary", {}, element("h3", {}, head)), content);
+  made.addEventListener("toggle", () => (made.open ? unfolded.add(name) : unfolded.delete(name)));
+  return made;
+}
+
+/** What each lot was estimated at, was bought for, came to and was paid, once something was awarded. */
+function moneyTable({ compiled }) {
+  const { lots, value: { currency } } = compiled.tender;
+  const rows = lots.map((lot) => {
+    const award = awardsOf(compiled, lot).find(({ status }) => status === "active");
+    const contract = award && contractOf(compiled, award);
+    return [lot, award?.value.amount ?? null, contract ? addedTo(contract, award) : null, contract ? paidOf(contract) : null];
+  });
+  if (rows.every(([, price]) => price === null)) {
+    return null;
+  }
+  const total = (at) => rows.reduce((sum, row) => sum + (row[at] ?? 0), 0);
+  const shown = (amount) => (amount === null ? "–" : number(amount));
+  const cells = rows.map(([lot, ...amounts]) => [[`${lot.id} `, given(lot.title)], number(lot.value.amount), ...amounts.map(shown)]);
+  const foot = rows.length > 1 ? [say("see.together"), number(compiled.tender.value.amount), ...[1, 2, 3].map((at) => number(total(at)))] : null;
+  return section(say("see.money"), table(say("see.money.what", { currency }),
+    [say("see.lot.short"), say("see.estimate"), say("see.price"), say("see.added"), say("see.paid")], cells, { figures: [1, 2, 3, 4], foot }));
+}
+
+function factsOf({ name, compiled: { tender, buyer }, isPreview }, state) {
+  const count = tender.numberOfTenderers;
+  const deadline = [moment(tender.tenderPeriod.endDate), state === "open" && !isPreview ? [" ", clock(tender.tenderPeriod.endDate)] : null];
+  const tenderers = count !== undefined ? number(count) : say(tender.status === "cancelled" ? "see.tenderers.none" : "see.tenderers.sealed");
+  return facts([[say("see.notice"), name], [say("see.buyer"), given(buyer.name)], [say("see.estimate"), money(tender.value.amount, tender.value.currency)],
+    [say("see.published"), moment(tender.tenderPeriod.startDate)], [say("see.deadline"), deadline], [say("see.tenderers"), tenderers]]);
+}
+
+/** Where the office itself tells all of it. */
+function sources({ name, tenders }) {
+  const paths = ["record", "releases", "terms", ...(tenders ? ["minutes", "evaluation"] : [])].map((path) => `/notices/${name}/${path}`);
+  return section(say("see.raw"), element("ul", {}, paths.map((path) => element("li", {}, link(path, path)))));
+}
+
+/** The whole of a notice, which has what `seenOf` gives. Beside it: whether it is but a preview, whether lines and firms are views of this page (`linked`),
+ * what stands `above` its lots, what is added to each lot and contract (`ofLot`, `ofContract`), and of which lots something is to be done (`isPressing`). */
+export function drawProcess(notice) {
+  const { compiled, releases: all } = notice;
+  const { tender } = compiled;
+  const state = stateOf(compiled, officeNow());
+  const told = { ...notice, passed: passedOver(all) };
+  const drawn = [title(given(tender.title)), element("p", {}, stateBadge(state)), factsOf(notice, state[1]), notice.above,
+    element("div", { class: "process" },
+      element("div", {}, moneyTable(notice), section(say("see.lots.title"), tender.lots.map((lot) => lotPart(told, lot, tender.lots.length > FEW)))),
+      element("div", {}, section(say("see.terms"), termList(notice.terms, tender.value.currency)), section(say("see.happened"), timeline(all, compiled)))),
+    notice.isPreview ? null : sources(notice)].flat(Infinity).filter(Boolean);
+  for (const text of drawn.flatMap((part) => [...part.querySelectorAll("bdi")])) {
+    text.lang = compiled.language;
+  }
+  return drawn;
+}
+
+/** The public's view of a notice. */
+export async function drawNotice(name) {
+  const notice = await seenOf(name);
+  const { compiled } = notice;
+  const [, state] = stateOf(compiled, officeNow());
+  const offer = state === "open" ? element("p", {}, link(say("see.offer"), `/tender/#offer/${name}`, "button")) : null;
+  return { title: compiled.tender.title, told: say(`see.is.${state}`), content: drawProcess({ ...notice, linked: true, above: offer }) };
+}

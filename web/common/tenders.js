@@ -1,0 +1,72 @@
+// The opened tenders of a lot as a table: prices, points with their arithmetic, what was found and what became of each, and of its security.
+import { badge, below, element, given, link, placeOf } from "./draw.js";
+import { awardsOf, contractOf, kindOfSigned, lowestOf, outcomeOf, pointsOf, securityOf } from "./findings.js";
+import { table } from "./forms.js";
+import { money, number } from "./money.js";
+import { language, say } from "./texts.js";
+
+function who({ name, address, receipt, tenderer }, linked) {
+  return [linked ? link(given(name), placeOf("firm", tenderer)) : given(name), below(given(address)),
+    below(say("see.tender.receipt", { receipt: String(receipt) }))];
+}
+
+function priceOf({ reading, stated, corrected, corrections }, currency) {
+  if (reading !== "priced") {
+    return "–";
+  }
+  return [money(corrected, currency), corrections > 0 ? below(say("see.tender.stated", { stated: number(stated), count: corrections })) : null];
+}
+
+/** The points of a tender, as they are computed: `60 × 500 ÷ 750 = 40`, quality, and their sum. */
+function pointsShown(found, weight, lowest) {
+  const points = found ? pointsOf(found) : null;
+  if (points === null) {
+    return "–";
+  }
+  const decimals = (value) => new Intl.NumberFormat(language(), { maximumFractionDigits: 3 }).format(value);
+  const price = found.price === 0 ? say("see.points.free", { weight })
+    : `${number(weight)} × ${number(lowest)} ÷ ${number(found.price)} = ${decimals(points.price)}`;
+  return [element("b", {}, decimals(points.sum)), below(say("see.points.price"), " ", price), below(say("see.points.quality"), " ", number(points.quality))];
+}
+
+/** From the best to the last: by points, as far as they are shown, then by price, then by who came first. */
+export function ranked(tenders, byPoints, shown) {
+  const price = ({ reading, corrected }) => (reading === "priced" ? corrected : Infinity);
+  const points = ({ receipt }) => (byPoints ? shown?.tenders.get(receipt)?.points ?? -1 : 0);
+  return tenders.toSorted((one, other) => points(other) - points(one)
+    || (price(one) === price(other) ? one.receipt - other.receipt : price(one) - price(other)));
+}
+
+/** What became of a tender: its badge, and why. */
+function found(tender, shown, byPoints, contract) {
+  const [kind, name] = outcomeOf(tender, shown, byPoints);
+  return [badge(name === "signed" ? kindOfSigned(contract) : kind, say(`see.outcome.${name}`)), element("span", { class: "below" }, say(`see.why.${name}`))];
+}
+
+/** What became of a tender's security: as `securities` has it, for whom they are shown, else as it follows from what is published. */
+function securityShown({ terms, securities }, lot, tender, shown) {
+  const own = securities?.findLast((one) => one.lot === lot.id && one.tenderer === tender.tenderer);
+  const told = own ? [say(`security.${own.state}`), below(given(own.reference), ", ", money(own.amount, lot.value.currency))]
+    : securities ? "–" : say(`security.${securityOf(tender, shown, lot.status, terms.late_withdrawal === "forfeits")}`);
+  return element("span", { class: "word" }, told);
+}
+
+/** The table. `notice` has what the releases compile to, the terms, and the securities of its tenders for whom they are shown; firms are links in the public's
+ * page. `shown` is the lot's evaluation or nothing. */
+export function tenderTable(notice, lot, tenders, shown) {
+  const { compiled, terms, linked = false } = notice;
+  const byPoints = terms.criteria === "points";
+  const lowest = lowestOf(shown);
+  const contract = awardsOf(compiled, lot).map((award) => contractOf(compiled, award)).find(Boolean);
+  const isSecured = terms.lots.find(({ id }) => id === lot.id)?.security > 0;
+  const weight = terms.price_weight;
+  const hasPoints = byPoints && shown;
+  const heads = [say("see.tenderer"), say("see.price"), ...(hasPoints ? [say("see.points")] : []), say("see.found"),
+    ...(isSecured ? [say("see.security")] : [])];
+  const rows = ranked(tenders, byPoints, shown).map((tender) => [who(tender, linked), priceOf(tender, lot.value.currency),
+    ...(hasPoints ? [pointsShown(shown.tenders.get(tender.receipt), weight, lowest)] : []), found(tender, shown, byPoints, contract),
+    ...(isSecured ? [securityShown(notice, lot, tender, shown)] : [])]);
+  const caption = say(hasPoints ? "see.table.points" : "see.table", { count: rows.length, lot: lot.id });
+  const rule = hasPoints && lowest !== null ? say("see.points.rule", { weight, lowest: number(lowest), rest: 100 - weight }) : null;
+  return [rule ? element("p", { class: "quiet" }, rule) : null, table(caption, heads, rows, { figures: hasPoints ? [1, 2] : [1] })];
+}

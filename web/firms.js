@@ -1,0 +1,106 @@
+// Firms: what each tendered for, what it won, and what it was paid; by the tables of the mirror.
+import { grouped, sum, tables, worthNow } from "./common/data.js";
+import { badge, below, element, facts, given, link, placeOf, title } from "./common/draw.js";
+import { plain } from "./common/filters.js";
+import { kindOfSigned } from "./common/findings.js";
+import { field, table } from "./common/forms.js";
+import { day, number } from "./common/money.js";
+import { Refused } from "./common/office.js";
+import { say } from "./common/texts.js";
+
+function amount(value) {
+  return value === null ? "–" : number(value);
+}
+
+/** Each firm with its sums, who was paid most first. */
+function firmsOf({ tenders, contracts, payments }) {
+  const [contracted, paid] = [grouped(contracts, ({ tenderer }) => tenderer), grouped(payments, ({ tenderer }) => tenderer)];
+  const firms = [...grouped(tenders, ({ tenderer }) => tenderer)].map(([tenderer, own]) => {
+    const won = contracted.get(tenderer) ?? [];
+    return { tenderer, name: own.at(-1).name, address: own.at(-1).address, tenders: own.length, won: won.length, worth: sum(won.map(worthNow)),
+      paid: sum((paid.get(tenderer) ?? []).map((one) => one.amount)) };
+  });
+  return firms.sort((one, other) => other.paid - one.paid || other.worth - one.worth || other.tenders - one.tenders || (one.name < other.name ? -1 : 1));
+}
+
+function firmTable(firms, currency) {
+  const cells = firms.map((firm) => [[link(given(firm.name), placeOf("firm", firm.tenderer)), below(given(firm.address))],
+    number(firm.tenders), number(firm.won), number(firm.worth), number(firm.paid)]);
+  const heads = [say("see.firm"), say("see.tenders"), say("see.contracts"), say("see.worth"), say("see.paid")];
+  return table(say("see.firms.table", { count: firms.length, currency }), heads, cells, { figures: [1, 2, 3, 4] });
+}
+
+function without() {
+  return { title: say("see.page.firms"), told: say("see.nodata"),
+    content: [title(say("see.page.firms")), element("p", { class: "note" }, say("see.nodata"))] };
+}
+
+/** All firms that tendered; what is looked for stands in the address. */
+export async function drawFirms(text) {
+  const data = await tables("tenders", "contracts", "payments");
+  if (data === null) {
+    return without();
+  }
+  const firms = firmsOf(data);
+  const currency = data.contracts[0]?.currency ?? "";
+  const { made, input, value } = field(say("see.firms.search"), { id: "by-name", kind: "search", value: new URLSearchParams(text).get("name") ?? "" });
+  const chosen = () => firmTable(firms.filter(({ name, tenderer }) => plain(`${name} ${tenderer}`).includes(plain(value()))), currency);
+  const found = element("div", {}, chosen());
+  input.addEventListener("input", () => {
+    history.replaceState(history.state, "", value() ? `#firms?${new URLSearchParams({ name: value() })}` : "#firms");
+    found.replaceChildren(chosen());
+  });
+  return { title: say("see.page.firms"), told: say("see.firms.count", { count: firms.length }),
+    content: [title(say("see.page.firms")), element("p", { class: "intro" }, say("see.firms.intro")),
+      firms.length === 0 ? element("p", {}, say("see.firms.none")) : [made, found]] };
+}
+
+/** What became of a tender, by the tables alone: by its award where it had one, else by what was found of it. */
+function outcome(tender, lot, award, contract) {
+  const [kind, name] = contract ? [kindOfSigned(contract), "signed"] : award?.status === "active" ? ["running", "won"]
+    : award ? ["stopped", tender.standing === "failed" ? "passed" : "awardended"] : withoutAward(tender, lot);
+  return badge(kind, say(`see.outcome.${name}`));
+}
+
+function withoutAward({ reading, standing, answer }, lot) {
+  if (reading !== "priced" || standing === "failed" || answer === "unresponsive") {
+    return ["stopped", reading !== "priced" ? reading : standing === "failed" ? "late" : answer];
+  }
+  if (standing === "admissible") {
+    return ["open", lot.winner ? "notchosen" : "undecided"];
+  }
+  return lot.status === "active" ? ["running", "waits"] : ["stopped", "unexamined"];
+}
+
+/** A firm, with each of its tenders. */
+export async function drawFirm(tenderer) {
+  const data = await tables("notices", "lots", "tenders", "awards", "contracts", "payments");
+  if (data === null) {
+    return without();
+  }
+  const firm = firmsOf(data).find((one) => one.tenderer === tenderer);
+  if (!firm) {
+    throw new Refused({ name: "NoSuch" });
+  }
+  const notices = new Map(data.notices.map((row) => [row.notice, row]));
+  const lots = new Map(data.lots.map((row) => [`${row.notice}/${row.lot}`, row]));
+  const ofTender = (all, { notice, lot }) => all.filter((row) => row.tenderer === tenderer && row.notice === notice && row.lot === lot).at(-1);
+  const own = data.tenders.filter((row) => row.tenderer === tenderer).sort((one, other) => other.receipt - one.receipt);
+  const cells = own.map((tender) => {
+    const contract = ofTender(data.contracts, tender);
+    const { title: text, opened } = notices.get(tender.notice);
+    const found = outcome(tender, lots.get(`${tender.notice}/${tender.lot}`), ofTender(data.awards, tender), contract);
+    return [[link(given(text), placeOf("notice", tender.notice)), below(say("see.lot", { lot: tender.lot }), " ", day(opened))],
+    amount(tender.corrected), found, amount(contract ? worthNow(contract) : null), amount(contract?.paid ?? null)];
+  });
+  const currency = data.notices[0].currency;
+  const years = [...grouped(data.payments.filter((row) => row.tenderer === tenderer), ({ date }) => date.slice(0, 4))].sort().reverse();
+  const byYear = years.map(([year, some]) => below(`${year}: ${number(sum(some.map((one) => one.amount)))}`));
+  const heads = [say("see.procurement"), say("see.price"), say("see.found"), say("see.worth"), say("see.paid")];
+  return { title: firm.name, told: firm.name, content: [title(given(firm.name)),
+    element("p", { class: "quiet" }, given(firm.address)),
+    facts([[say("see.tenders"), number(firm.tenders)], [say("see.contracts"), number(firm.won)], [say("see.worth"), `${number(firm.worth)} ${currency}`],
+      [say("see.paid"), [`${number(firm.paid)} ${currency}`, byYear]]]),
+    table(say("see.firm.table", { count: own.length, currency }), heads, cells, { figures: [1, 3, 4] }),
+    element("p", {}, link(say("see.firms.back"), "#firms"))] };
+}
