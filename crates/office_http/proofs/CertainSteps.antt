@@ -26,6 +26,7 @@ use Rattle.office_http.specs.Meaning.{Meant, Refuses, Gives, Sees, meant, meant_
 use Rattle.office_http.specs.Response.{response_of}
 use Rattle.office_http.specs.declared.reply.Reply.TheVariants.{Refused}
 
+-- a refusal, with the method of the path where the request has another
 abbrev Reason : Type 0
 Reason = Refusal × Option Allow
 

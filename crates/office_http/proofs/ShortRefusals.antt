@@ -1,8 +1,8 @@
 -- How long the response to a refusal is at most.
-use Rattle.std.proofs.Common.{◌≡◌, ℕ, ◌+◌, ◌≤◌, List, ◌++◌, length, Option, None, Some, refl, sym, ap, subst, arith, ◌∙◌, append_assoc, length-append}
+use Rattle.std.proofs.Common.{◌≡◌, ℕ, ◌≤◌, List, ◌++◌, length, Option, None, Some, refl, sym, subst, arith, ◌∙◌, length-append}
 use Rattle.std.specs.Fmt.{digits}
 use Rattle.std.specs.Prelude.{codes, decimal, option_map}
-use Rattle.office_values.specs.Refusals.{About, Named, Record, field_name, name_of_refusal, number_of_refusal, status_of_refusal, subject_of_refusal, thing_name, told}
+use Rattle.office_values.specs.Refusals.{Named, Record, field_name, name_of_refusal, number_of_refusal, status_of_refusal, subject_of_refusal, thing_name, told}
 use Rattle.office_values.specs.declared.refusal.What.{What}
 use Rattle.office_values.specs.declared.refusal.Field.{Field}
 use Rattle.office_values.specs.declared.refusal.Field.TheVariants as fields
@@ -13,7 +13,7 @@ use Rattle.office_values.specs.declared.refusal.Refusal.{Refusal}
 use Rattle.office_values.specs.declared.refusal.Refusal.TheVariants.{BadHead, TooLong, Coding, NoRoute, WrongMethod, BadKey, Forbidden, BadBody, NoSuch, Exists, NotYourTender, DeadlinePassed, DeadlineEarlier, NotOpenForTenders, AlreadyPresented, SecurityMissing, SecurityTooSmall, SecurityNotAsked, NotSealed, TooEarlyToOpen, AlreadyOpened, NotOpened, AlreadyDecided, NotAllExamined, Expired, Standstill, InsufficientFunds, MoreThanOutstanding, ContractEnded, NothingToCancel, LimitReached, Unavailable}
 use Rattle.office_requests.specs.declared.route.Allow.{Allow}
 use Rattle.office_requests.specs.declared.route.Allow.TheVariants as allow
-use Rattle.office_http.specs.Response.{IsShortNumber, allow_field, challenge_field, head_start, json, phrase_of, refusal_body, response_of, response_with, what_member}
+use Rattle.office_http.specs.Response.{IsShortNumber, allow_field, challenge_field, head_start, json, phrase_of, refusal_body, response_of, what_member}
 use Rattle.office_http.specs.declared.reply.Reply.TheVariants.{Refused}
 
 -- ---- the parts of a row

@@ -1,5 +1,5 @@
 -- Refusals that are certain: they are told, or the store's count of faults rose.
-use Rattle.std.specs.Prelude.{◌≡◌, ℕ, ◌⊎◌, Bool, true, false, not, List, Option, Some, None, Result, Ok, Err, option_map}
+use Rattle.std.specs.Prelude.{◌≡◌, ℕ, ◌⊎◌, Bool, true, not, List, Option, Some, None, Result, Ok, Err, option_map}
 use Rattle.office_values.specs.declared.refusal.Refusal.{Refusal}
 use Rattle.office_base.specs.Faults.{HasRisen}
 use Rattle.office_base.specs.Shelves.{Meaning}

@@ -1,7 +1,6 @@
 use Rattle.std.proofs.Common.{◌∙◌, ap, ℕ, List, inl, inr}
 use Rattle.office_http.specs.Response.{response_of}
 use Rattle.office_http.specs.declared.reply.Reply.TheVariants.{Json}
-use Rattle.office_values.specs.declared.refusal.Refusal.{Refusal}
 use Rattle.office_http.proofs.CertainSteps.{certain_command, nothing_certain}
 use Rattle.office_http.proofs.AlwaysTold.{tells_done_command, tells_refused_command, tells_unavailable}
 use Rattle.office_http.specs.Meaning.{Gives}
