@@ -92,6 +92,11 @@ module _ (s : Tables) (moment : ℕ) (caller : Caller) (query : Query) where
 
 -- ---- what a request means
 
+-- the path alone says what is asked by the route that is taken
+pub by_path : (request : RequestView) (route : Route) → routed request.head.method request.head.target ≡ Ok route
+    → is_path_told (routed request.head.method request.head.target) ≡ true → is_told_by_path route.endpoint ≡ true
+by_path request route at alone = sym (ap (λ (r : Result Route Reason). is_path_told r) at) ∙ alone
+
 module _ (settings : Settings) (s : Tables) (moment : ℕ) (text : List ℕ) (Rises : Type 0) (request : RequestView) where
   -- what is certain of what is meant
   abbrev pub Certain : Meant → Type 0
@@ -125,7 +130,3 @@ module _ (settings : Settings) (s : Tables) (moment : ℕ) (text : List ℕ) (Ri
   certain_asked route caller read at (inr never) is certain = absurd (cc never)
   certain_asked route caller read at (inl by) is certain =
       subst (λ (m : Meant). Certain m) (ap (λ (r : Result Asked Refusal). meant_asked caller r) is ∙ sym (means route (Ok caller) at (sym by))) certain
-
-  -- the path alone says what is asked by this route
-  pub by_path : (route : Route) → takes ≡ Ok route → is_path_told takes ≡ true → is_told_by_path route.endpoint ≡ true
-  by_path route at told = sym (ap (λ (r : Result Route Reason). is_path_told r) at) ∙ told

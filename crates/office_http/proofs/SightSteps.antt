@@ -19,11 +19,11 @@ use Rattle.office_http.specs.declared.reply.Reply.TheVariants.{Refused}
 
 -- ---- what a test chooses
 
-taken_if : {A : Type 0} (b : Bool) (o : Option A) (a : A) → (if b then o else None) ≡ Some a → (b ≡ true) × (o ≡ Some a)
+taken_if : {A : Type 0} (b : Bool) (o : Option A) (a : A) → ◌≡◌ {A = Option A} (if b then o else None) (Some a) → (b ≡ true) × (o ≡ Some a)
 taken_if true o a is = (refl, is)
 taken_if false o a is = absurd (cc is)
 
-taken_else : {A : Type 0} (b : Bool) (o : Option A) (a : A) → (if b then None else o) ≡ Some a → (b ≡ false) × (o ≡ Some a)
+taken_else : {A : Type 0} (b : Bool) (o : Option A) (a : A) → ◌≡◌ {A = Option A} (if b then None else o) (Some a) → (b ≡ false) × (o ≡ Some a)
 taken_else true o a is = absurd (cc is)
 taken_else false o a is = (refl, is)
 
@@ -49,7 +49,7 @@ module _ (settings : Settings) (request : RequestView) (text : List ℕ) (why : 
   known : (route : Route) → taken ≡ Ok route
       → (is_known_at_sight (credentials_of request.head.fields) ≡ true) × (refused_to route (who settings no_tables (credentials_of request.head.fields)) ≡ Some why)
   known route at =
-      taken_if (is_known_at_sight (credentials_of request.head.fields)) (refused_to route (who settings no_tables (credentials_of request.head.fields))) why
+      taken_if {A = Reason} (is_known_at_sight (credentials_of request.head.fields)) (refused_to route (who settings no_tables (credentials_of request.head.fields))) why
       (sym (ap (λ (r : Result Route Reason). refused_by_route settings request r) at) ∙ at_sight)
 
   -- whoever asks is nobody
@@ -67,5 +67,5 @@ module _ (settings : Settings) (request : RequestView) (text : List ℕ) (why : 
       → text ≡ response_of (Refused why.0 why.1)
   sight_of_asker route caller read at asks forbids tells =
       let it = known route at in
-      let right = taken_else (may_ask caller route.endpoint) (Some (Forbidden, None)) why (ap (λ (c : Result Caller Refusal). refused_to route c) (asks it.0 no_tables) ∙ it.1) in
+      let right = taken_else {A = Reason} (may_ask caller route.endpoint) (Some (Forbidden, None)) why (ap (λ (c : Result Caller Refusal). refused_to route c) (asks it.0 no_tables) ∙ it.1) in
       told_so Forbidden None right.1 (tells Forbidden (forbids right.0))

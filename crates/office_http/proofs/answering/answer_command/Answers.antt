@@ -66,3 +66,7 @@ pub returns-in-Err-commit-clause-certain : goal.returns-in-Err-commit-clause-cer
 returns-in-Err-commit-clause-certain g c honest s held none =
     let before = c.in-Err-commit.ensures.alters.before honest in
     nothing_certain s c.args.moment c.args.caller.now c.args.command c.constant-in-Err-commit.result _ (c.in-Ok.ensures.looks.1 before s held).allowed
+
+pub returns-in_default-clause-certain : goal.returns-in_default-clause-certain
+returns-in_default-clause-certain g c honest s held none =
+    nothing_certain s c.args.moment c.args.caller.now c.args.command c.constant.result _ (c.in-Ok.ensures.looks.1 honest s held).allowed

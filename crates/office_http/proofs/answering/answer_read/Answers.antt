@@ -124,4 +124,4 @@ returns-clause-certain g c path honest s held =
     let certain = subst family c.in-Ok-caller_of.ensures.counted (c.answer_asked.ensures.certain honest s (c.caller_of.ensures.looks.0.same before s held)) in
     certain_asked c.args.desk.now.settings s c.args.moment c.answer_asked.result _ c.args.request.now c.in-Ok.route c.in-Ok-caller_of.caller c.command_of-asked.result (sym c.in-Ok.ensures)
     (c.in-Ok-caller_of.ensures.looks.1 before s held)
-    (c.command_of-asked.ensures.path (by_path c.args.desk.now.settings s c.args.moment c.answer_asked.result _ c.args.request.now c.in-Ok.route (sym c.in-Ok.ensures) path)) certain
+    (c.command_of-asked.ensures.path (by_path c.args.request.now c.in-Ok.route (sym c.in-Ok.ensures) path)) certain
