@@ -39,6 +39,15 @@ certain_refusal text Rises s moment m refusal method means is why refused =
 
 -- ---- a command
 
+-- the refusal that is told is this one
+same_told : {T : Type 0} (text : List ℕ) (refusal why : Refusal) → ◌≡◌ {A = Result T Refusal} (Err refusal) (Err why) → text ≡ response_of (Refused refusal None)
+    → text ≡ response_of (Refused why None)
+same_told text refusal why same is = let e : refusal ≡ why = cc same in is ∙ ap (λ (w : Refusal). response_of (Refused w None)) e
+
+-- it is told with the method of the path, which isn't there
+with_none : (text : List ℕ) (why : Reason) → why.1 ≡ None → text ≡ response_of (Refused why.0 None) → text ≡ response_of (Refused why.0 why.1)
+with_none text why none is = is ∙ ap (λ (m : Option Allow). response_of (Refused why.0 m)) (sym none)
+
 module _ (s : Tables) (moment : ℕ) (caller : Caller) (command : Command) where
   not_gathers : takes_none (Gives caller command) ≡ true → gathers_lines command ≡ false
   not_gathers none = by (gathers_lines command) none
@@ -52,14 +61,15 @@ module _ (s : Tables) (moment : ℕ) (caller : Caller) (command : Command) where
   own None why is = absurd (cc is)
   own (Some w) why is = let same : (w, None) ≡ why = cc is in (ap (λ (r : Reason). Some r.0) same, ap (λ (r : Reason). r.1) (sym same))
 
-  pub certain_command : (text : List ℕ) (Rises : Type 0) (refusal : Refusal) → text ≡ response_of (Refused refusal None)
-      → (gathers_lines command ≡ false → (why : Refusal) → refusal_of (given s moment caller command) ≡ Some why → (refusal ≡ why) ⊎ Rises)
-      → takes_none (Gives caller command) ≡ true → (why : Reason) → refusal_meant s moment (Gives caller command) ≡ Some why
+  -- one that was refused, and is told its refusal or another for a fault
+  pub certain_command : {T : Type 0} (text : List ℕ) (Rises : Type 0) (refusal : Refusal)
+      → (gathers_lines command ≡ false → (why : Refusal) → refusal_of (given s moment caller command) ≡ Some why → ◌≡◌ {A = Result T Refusal} (Err refusal) (Err why) ⊎ Rises)
+      → text ≡ response_of (Refused refusal None) → takes_none (Gives caller command) ≡ true → (why : Reason) → refusal_meant s moment (Gives caller command) ≡ Some why
       → (text ≡ response_of (Refused why.0 why.1)) ⊎ Rises
-  certain_command text Rises refusal is tells none why refused =
+  certain_command text Rises refusal tells is none why refused =
       let it = own (refusal_of (given s moment caller command)) why refused in
       elim (tells (not_gathers none) why.0 it.0) [
-        | inl same ↦ inl (is ∙ ap (λ (w : Refusal). response_of (Refused w None)) same ∙ ap (λ (m : Option Allow). response_of (Refused why.0 m)) (sym it.1))
+        | inl same ↦ inl (with_none text why it.1 (same_told text refusal why.0 same is))
         | inr rises ↦ inr rises
       ]
 
@@ -68,7 +78,8 @@ module _ (s : Tables) (moment : ℕ) (caller : Caller) (command : Command) where
       → refusal_meant s moment (Gives caller command) ≡ Some why → (text ≡ response_of (Refused why.0 why.1)) ⊎ Rises
   nothing_certain text Rises allowed why refused =
       let it = own (refusal_of (given s moment caller command)) why refused in
-      absurd (cc (sym allowed ∙ it.0))
+      let never : ◌≡◌ {A = Option Refusal} None (Some why.0) = sym allowed ∙ it.0 in
+      absurd (cc never)
 
 -- ---- a query
 
@@ -79,14 +90,26 @@ module _ (s : Tables) (moment : ℕ) (caller : Caller) (query : Query) where
   is_refusal (Ok text) why is = absurd (cc is)
   is_refusal (Err w) why is = let same : (w, None) ≡ why = cc is in (ap (λ (r : Reason). Err r.0) same, ap (λ (r : Reason). r.1) (sym same))
 
-  pub certain_query : {T : Type 0} (text : List ℕ) (Rises : Type 0) (result : Result T Refusal)
-      → ((why : Refusal) → text_of (told no_packages s caller query) ≡ Err why → (result ≡ Err why) ⊎ Rises)
-      → ((why : Refusal) → result ≡ Err why → text ≡ response_of (Refused why None))
-      → (why : Reason) → refusal_meant s moment (Sees caller query) ≡ Some why → (text ≡ response_of (Refused why.0 why.1)) ⊎ Rises
-  certain_query text Rises result tells says why refused =
+  -- one that was refused
+  pub refused_query : {T : Type 0} (text : List ℕ) (Rises : Type 0) (refusal : Refusal)
+      → ((why : Refusal) → text_of (told no_packages s caller query) ≡ Err why → ◌≡◌ {A = Result T Refusal} (Err refusal) (Err why) ⊎ Rises)
+      → text ≡ response_of (Refused refusal None) → (why : Reason) → refusal_meant s moment (Sees caller query) ≡ Some why
+      → (text ≡ response_of (Refused why.0 why.1)) ⊎ Rises
+  refused_query text Rises refusal tells is why refused =
       let it = is_refusal (text_of (told no_packages s caller query)) why refused in
       elim (tells why.0 it.0) [
-        | inl same ↦ inl (says why.0 same ∙ ap (λ (m : Option Allow). response_of (Refused why.0 m)) (sym it.1))
+        | inl same ↦ inl (with_none text why it.1 (same_told text refusal why.0 same is))
+        | inr rises ↦ inr rises
+      ]
+
+  -- one that was answered
+  pub shown_query : {T : Type 0} (text : List ℕ) (Rises : Type 0) (value : T)
+      → ((why : Refusal) → text_of (told no_packages s caller query) ≡ Err why → ◌≡◌ {A = Result T Refusal} (Ok value) (Err why) ⊎ Rises)
+      → (why : Reason) → refusal_meant s moment (Sees caller query) ≡ Some why → (text ≡ response_of (Refused why.0 why.1)) ⊎ Rises
+  shown_query text Rises value tells why refused =
+      let it = is_refusal (text_of (told no_packages s caller query)) why refused in
+      elim (tells why.0 it.0) [
+        | inl never ↦ absurd (cc never)
         | inr rises ↦ inr rises
       ]
 

@@ -54,8 +54,7 @@ returns-in-Err-commit-clause-told g c honest s held needs =
 
 pub returns-in-Err-clause-certain : goal.returns-in-Err-clause-certain
 returns-in-Err-clause-certain g c honest s held =
-    certain_command s c.args.moment c.args.caller.now c.args.command c.refuse.result _ c.in-Err.refusal c.refuse.ensures
-    (λ none why refused. elim (c.in-Err.ensures.tells none honest s held why refused) [ inl same ↦ inl (cc same) | inr rises ↦ inr rises ])
+    certain_command s c.args.moment c.args.caller.now c.args.command c.refuse.result _ c.in-Err.refusal (λ small. c.in-Err.ensures.tells small honest s held) c.refuse.ensures
 
 pub returns-in-Ok-commit-clause-certain : goal.returns-in-Ok-commit-clause-certain
 returns-in-Ok-commit-clause-certain g c honest s held none =
