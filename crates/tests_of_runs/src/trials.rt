@@ -190,8 +190,8 @@ fn tried<H: Shelf + Drop>(
     }
 }
 
-// The last of these blocks, and what the office holds before it and behind it. It is sent to an office whose rows weren't read before, as at each trial, so that
-// it takes as much memory.
+// The last of these blocks, and what the office holds before it and behind it. It is sent to an office whose rows weren't read before, as at each trial, so
+// that it takes as much memory.
 fn asked_last<'a, M: Maker>(
     rt: &HostRuntime,
     maker: &M,
