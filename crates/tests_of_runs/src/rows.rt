@@ -23,7 +23,7 @@ struct Lines {
 impl Lines {
     fn put(&mut self, field: &[u8]) -> Result<(), AllocError> {
         self.bytes.extend_from_slice(field)?;
-        self.bytes.push(b'\t')
+        self.bytes.extend_from_slice(b"\t")
     }
 
     fn put_id(&mut self, id: &Id) -> Result<(), AllocError> {
@@ -67,7 +67,7 @@ impl Lines {
     }
 
     fn end(&mut self) -> Result<(), AllocError> {
-        self.bytes.push(b'\n')
+        self.bytes.extend_from_slice(b"\n")
     }
 }
 
@@ -410,6 +410,5 @@ pub(crate) fn rows_of<H: Lookups>(
     for row in shelf.list_notices_after(None, u32::MAX)? {
         put_of_notice(&mut lines, shelf, &row)?;
     }
-    let Lines { alloc: _, bytes } = lines;
-    Ok(bytes)
+    Ok(lines.bytes)
 }
