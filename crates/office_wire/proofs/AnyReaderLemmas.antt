@@ -1,18 +1,17 @@
 -- What a loop over blocks carries from step to step, whatever its reader tells of its bytes.
-use Rattle.std.proofs.Common.{◌≡◌, ◌≢◌, ℕ, ◌+◌, ◌≤◌, ◌⊎◌, inl, inr, List, [], ◌∷◌, ◌++◌, length, Option, Result, Ok, Err, refl, sym, subst}
+use Rattle.std.proofs.Common.{◌≡◌, ◌≢◌, ℕ, ◌+◌, ◌⊎◌, inl, inr, List, [], ◌∷◌, ◌++◌, length, Option, Result, Ok, Err, refl, sym, subst}
 use Rattle.std.proofs.lemmas.List.{append-nil}
-use Rattle.std.specs.Io.KnownBytes.{Appends, Keeps}
-use Rattle.httparse.specs.Grammar.{IsRequestHead, RequestHead, print_request}
+use Rattle.std.specs.Io.KnownBytes.{Keeps}
+use Rattle.httparse.specs.Grammar.{print_request}
 use Rattle.office_wire.specs.AnyReader.{AreWellFormed, HasTold, IsWellFormed, IsWellFormedHead, WentThrough}
 use Rattle.office_wire.specs.Fields.{framing_of}
 use Rattle.office_wire.specs.Request.{RequestView}
 use Rattle.office_wire.specs.Runs.{Answers, Step, office_left, written}
-use Rattle.office_wire.specs.Sending.{AppendsPart}
 use Rattle.office_wire.specs.declared.fault.ReadFault.{ReadFault}
 use Rattle.office_wire.specs.declared.fault.ReadFault.TheVariants as fault
 use Rattle.office_wire.specs.declared.fault.RunFault.{RunFault}
 use Rattle.office_wire.specs.declared.fault.RunFault.TheVariants as ends
-use Rattle.office_wire.proofs.SendLemmas.{appends_keep, appends_more}
+use Rattle.office_wire.proofs.SendLemmas.{appends_keep}
 
 -- a head and the body that it announces
 pub well_formed : (r : RequestView) → IsWellFormedHead r.head → framing_of r.head ≡ Ok (length r.body) → IsWellFormed r

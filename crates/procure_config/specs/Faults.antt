@@ -23,8 +23,8 @@ line_of Output = Some (codes "procure: output")
 line_of (Refused refusal) = Some (codes "procure: " ++ name_of_refusal refusal)
 
 -- as it is told: with the end of its line
-abbrev pub line_told : ProgramFault → Option (List ℕ)
-line_told fault = with_newline (line_of fault)
+abbrev pub ended_line : ProgramFault → Option (List ℕ)
+ended_line fault = with_newline (line_of fault)
 
 -- the exit status
 abbrev pub exit_of : ProgramFault → ℕ

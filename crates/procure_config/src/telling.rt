@@ -10,7 +10,7 @@ use std::io::Write;
 /// wasn't, the status alone tells.
 pub fn tell<W: Write>(output: &mut W, fault: &ProgramFault) -> (u8, bool)
     ensures status { result.0 ≡ spec.exit_of fault.now }
-    ensures line { IsTrue result.1 → IfSome (spec.line_told fault.now) (Appends (W.contents output.old) (W.contents output.new)) }
+    ensures line { IsTrue result.1 → IfSome (spec.ended_line fault.now) (Appends (W.contents output.old) (W.contents output.new)) }
 {
     let told = match fault {
         ProgramFault::Arguments(_) => write!(output, "{fault}"),

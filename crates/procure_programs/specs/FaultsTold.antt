@@ -1,5 +1,5 @@
 -- Which fault of a program the fault of what it stands on is.
-use Rattle.std.specs.Prelude.{◌≡◌, ℕ, Option, None, Result, Ok, Err}
+use Rattle.std.specs.Prelude.{◌≡◌, ℕ, Result, Ok, Err}
 use Rattle.office_base.specs.declared.shelf.ShelfFault.{ShelfFault}
 use Rattle.office_base.specs.declared.shelf.ShelfFault.TheVariants as shelf
 use Rattle.office_store.specs.declared.found.OpenFault.{OpenFault}

@@ -3,13 +3,19 @@ use office_base::shelf::Shelf;
 use office_base::stored::StoredShelf;
 use office_http::office::Office;
 use office_memory::memory::MemoryShelf;
+use office_store::shelf::SqlShelf;
+use office_values::moment::Moment;
 use office_wire::counted::CountedReader;
+use office_wire::fault::RunFault;
 use office_wire::watched::WatchedWriter;
 use procure_config::fault::ProgramFault;
+use procure_programs::connection::serve_connection;
 use procure_programs::desk::answer_streams;
 use procure_programs::host::{Host, Network};
 use procure_programs::serving::{serve_at, take_one};
+use sqlite::Alter;
 use std::alloc::{AllocError, Global};
+use std::io::Cursor;
 use std::net::SocketAddrV4;
 use std::time::Duration;
 use tests_sql_office::office::{SqlOffice, in_sql};
@@ -132,7 +138,27 @@ fn a_clock_is_needed(rt: HostRuntime) {
     );
 }
 
-static BLOCKS: &[u8] = b"at 2026-01-05T09:00:00Z\nGET /lines/1000 HTTP/1.1\r\n\r\n";
+// Whether a writer that takes no more ends its connection and nothing else: its command is done, and the next connection is answered.
+fn ends_alone<H: Shelf + Drop>(alloc: Global, shelf: H) -> bool {
+    let Ok(mut office) = office(alloc, shelf) else {
+        return false;
+    };
+    let mut full = WatchedWriter::new(Cursor::new([0u8; 20]));
+    let ended = serve_connection(alloc, &mut office, Moment::EPOCH, IMPORT, &mut full);
+    let mut host = host(alloc, &LATER, Some(BEGIN));
+    let is_seen = matches!(take_one(alloc, &mut host, &mut office), Ok(true));
+    matches!(ended, Err(RunFault::Write)) && is_seen && host.told.as_slice() == LOOKED
+}
+
+#[test]
+fn a_connection_ends_alone(rt: HostRuntime) {
+    let alloc = rt.alloc();
+    assert!(rt;
+        ends_alone(alloc, MemoryShelf::new(alloc)) || ends_alone(alloc, MemoryShelf::new(alloc))
+    );
+}
+
+const BLOCKS: &[u8] = b"at 2026-01-05T09:00:00Z\nGET /lines/1000 HTTP/1.1\r\n\r\n";
 
 static NO_LINE: &[u8] =
     b"HTTP/1.1 404 Not Found\r\nContent-Type: application/json\r\nContent-Length: 43\r\nConnection: close\r\n\r\n{\"name\":\"NoSuch\",\"refusal\":9,\"what\":\"line\"}";
@@ -203,15 +229,20 @@ fn serves_at_a_port<H: StoredShelf + Drop>(alloc: Global, shelf: H) -> bool {
         Err(ProgramFault::Input)
     );
     let is_served = serve_at(alloc, &ports, &mut office, 8083, 2).is_ok();
-    // The import came by the second of them.
+    // The import came at that port.
     let mut host = host(alloc, &LATER, Some(BEGIN));
     let is_seen = matches!(take_one(alloc, &mut host, &mut office), Ok(true));
     is_refused && is_served && is_seen && host.told.as_slice() == LOOKED
 }
 
+// Generic in the store, so that what stands over any shelf is not compared again at this one.
+fn serves_over<A: Alter + Drop>(alloc: Global, shelf: SqlShelf<A>) -> bool {
+    serves_at_a_port(alloc, shelf)
+}
+
 fn serves_in_sql(alloc: Global) -> bool {
     match in_sql(alloc) {
-        Some(SqlOffice { shelf }) => serves_at_a_port(alloc, shelf),
+        Some(SqlOffice { shelf }) => serves_over(alloc, shelf),
         None => false,
     }
 }

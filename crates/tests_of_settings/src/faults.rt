@@ -19,7 +19,10 @@ const SETTINGS_FAULTS: &[(SettingsFault, &str)] = &[
 pub(crate) fn is_told(alloc: Global, fault: &ProgramFault, line: &str) -> bool {
     let mut text = Vec::new(alloc);
     let (status, is_whole) = tell(&mut text, fault);
-    is_whole && status == 1 && text.starts_with(line.as_bytes()) && &text[line.len()..] == b"\n"
+    match text.as_slice().strip_prefix(line.as_bytes()) {
+        Some(end) => is_whole && status == 1 && end == b"\n".as_slice(),
+        None => false,
+    }
 }
 
 #[test]
