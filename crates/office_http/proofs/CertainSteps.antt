@@ -1,11 +1,11 @@
 -- What is certain.
-use Rattle.std.proofs.Common.{◌≡◌, ℕ, ◌⊎◌, inl, inr, Bool, true, false, not, List, Option, Some, None, Result, Ok, Err, refl, sym, ap, ◌∙◌, subst}
+use Rattle.std.proofs.Common.{◌≡◌, ℕ, ◌⊎◌, inl, inr, Bool, true, false, not, ◌||◌, if◌then◌else◌, List, Option, Some, None, Result, Ok, Err, refl, sym, ap, ◌∙◌, subst}
 use Rattle.std.specs.Prelude.{option_map}
 use Rattle.office_commands.specs.declared.command.Caller.{Caller}
 use Rattle.office_commands.specs.declared.commands.Command.{Command}
 use Rattle.office_commands.specs.declared.queries.Query.{Query}
 use Rattle.office_values.specs.declared.refusal.Refusal.{Refusal}
-use Rattle.office_values.specs.declared.refusal.Refusal.TheVariants.{Unavailable}
+use Rattle.office_values.specs.declared.refusal.Refusal.TheVariants.{Forbidden, Unavailable}
 use Rattle.office_values.specs.declared.settings.Settings.{Settings}
 use Rattle.office_base.specs.Tables.{Tables}
 use Rattle.office_machine.specs.Machine.{refusal_of}
@@ -15,12 +15,13 @@ use Rattle.office_plans.specs.Published.{gathers_lines}
 use Rattle.office_plans.specs.Replies.{text_of}
 use Rattle.office_desk.specs.Steps.{no_packages}
 use Rattle.office_wire.specs.Request.{RequestView}
-use Rattle.office_requests.specs.Asking.{asked_by_route, is_told_by_path}
+use Rattle.office_requests.specs.Asking.{asked_by, asked_by_route, is_told_by_path, may_ask}
+use Rattle.office_requests.specs.Parameters.{query_of}
 use Rattle.office_requests.specs.Routing.{routed}
 use Rattle.office_requests.specs.declared.asked.Asked.{Asked}
 use Rattle.office_requests.specs.declared.route.Allow.{Allow}
 use Rattle.office_requests.specs.declared.route.Route.{Route}
-use Rattle.office_http.specs.Certain.{is_path_told, refusal_in, refusal_meant, takes_none}
+use Rattle.office_http.specs.Certain.{is_found, refusal_in, refusal_meant, takes_none}
 use Rattle.office_http.specs.Credentials.{credentials_of}
 use Rattle.office_http.specs.Meaning.{Meant, Refuses, Gives, Sees, meant, meant_asked, meant_at, meant_by, who}
 use Rattle.office_http.specs.Response.{response_of}
@@ -115,10 +116,17 @@ module _ (s : Tables) (moment : ℕ) (caller : Caller) (query : Query) where
 
 -- ---- what a request means
 
--- the path alone says what is asked by the route that is taken
-pub by_path : (request : RequestView) (route : Route) → routed request.head.method request.head.target ≡ Ok route
-    → is_path_told (routed request.head.method request.head.target) ≡ true → is_told_by_path route.endpoint ≡ true
-by_path request route at alone = sym (ap (λ (r : Result Route Reason). is_path_told r) at) ∙ alone
+-- what is asked by a route is read without memory: its path alone says it, or the caller may not ask by it
+found_read : (request : RequestView) (route : Route) (caller : Caller) (read : Result Asked Refusal)
+    → (is_told_by_path route.endpoint ≡ true → read ≡ asked_by_route caller route request) → (may_ask caller route.endpoint ≡ false → read ≡ Err Forbidden)
+    → (is_told_by_path route.endpoint || not (may_ask caller route.endpoint)) ≡ true → read ≡ asked_by_route caller route request
+found_read request route caller read path forbidden = by (is_told_by_path route.endpoint) (may_ask caller route.endpoint) refl refl
+  where
+    by : (alone may : Bool) → is_told_by_path route.endpoint ≡ alone → may_ask caller route.endpoint ≡ may → (alone || not may) ≡ true → read ≡ asked_by_route caller route request
+    by true may is right found = path is
+    by false true is right found = absurd (cc found)
+    by false false is right found =
+        forbidden right ∙ sym (ap (λ (b : Bool). if b then asked_by route.endpoint route.place (query_of request.head.target) request.body else Err Forbidden) right)
 
 module _ (settings : Settings) (s : Tables) (moment : ℕ) (text : List ℕ) (Rises : Type 0) (request : RequestView) where
   -- what is certain of what is meant
@@ -149,7 +157,11 @@ module _ (settings : Settings) (s : Tables) (moment : ℕ) (text : List ℕ) (Ri
   certain_nobody route refusal at (inr wanting) risen is none why refused = inr (risen wanting)
 
   pub certain_asked : (route : Route) (caller : Caller) (read : Result Asked Refusal) → takes ≡ Ok route → (Ok caller ≡ asker) ⊎ (Ok caller ≡ no_caller)
-      → read ≡ asked_by_route caller route request → Certain (meant_asked caller read) → Certain (meant settings request s)
-  certain_asked route caller read at (inr never) is certain = absurd (cc never)
-  certain_asked route caller read at (inl by) is certain =
+      → (is_told_by_path route.endpoint ≡ true → read ≡ asked_by_route caller route request) → (may_ask caller route.endpoint ≡ false → read ≡ Err Forbidden)
+      → is_found takes asker ≡ true → Certain (meant_asked caller read) → Certain (meant settings request s)
+  certain_asked route caller read at (inr never) path forbidden found certain = absurd (cc never)
+  certain_asked route caller read at (inl by) path forbidden found certain =
+      let here : is_found takes asker ≡ is_found (Ok route) (Ok caller) =
+          ap (λ (r : Result Route Reason). is_found r asker) at ∙ ap (λ (c : Result Caller Refusal). is_found (Ok route) c) (sym by) in
+      let is : read ≡ asked_by_route caller route request = found_read request route caller read path forbidden (sym here ∙ found) in
       subst (λ (m : Meant). Certain m) (ap (λ (r : Result Asked Refusal). meant_asked caller r) is ∙ sym (means route (Ok caller) at (sym by))) certain
