@@ -396,7 +396,8 @@ fn put_of_notice<H: Lookups>(
     put_releases(lines, shelf, &row.notice)
 }
 
-/// All rows of an office to which nothing but these blocks was sent.
+/// All rows of an office to which nothing but these blocks was sent. Batches are asked for by the names that the blocks give them, since no list has them. What
+/// belongs to a notice, a tender or a contract is found by it: a row whose notice, tender or contract isn't there isn't seen.
 pub(crate) fn rows_of<H: Lookups>(
     alloc: Global,
     shelf: &mut H,
