@@ -1,5 +1,5 @@
 -- One connection, and what is printed.
-use Rattle.std.proofs.Common.{◌≡◌, ℕ, ◌==◌, inr, List, [], Option, Some, None, Result, Ok, Err, if◌then◌else◌, refl, sym, ap, subst, ◌∙◌}
+use Rattle.std.proofs.Common.{◌≡◌, ℕ, ◌==◌, inr, Bool, true, List, [], Option, Some, None, Result, Ok, Err, if◌then◌else◌, refl, sym, ap, subst, ◌∙◌}
 use Rattle.std.specs.Prelude.{⊤, IfErr, OnErr, OnOk}
 use Rattle.std.specs.Io.Buffered.{reader_buffer, reader_capacity, reader_inner, reader_remaining}
 use Rattle.std.specs.Io.KnownBytes.{Appends, prepend_known}
@@ -19,7 +19,7 @@ use Rattle.office_wire.specs.declared.fault.RunFault.TheVariants as ends
 use Rattle.office_http.specs.Answering.{fault_text, held_by, office_answers}
 use Rattle.procure_config.specs.declared.fault.ProgramFault.{ProgramFault}
 use Rattle.procure_config.specs.declared.fault.ProgramFault.TheVariants.{Arguments, Settings, Store, Input, Output, Refused}
-use Rattle.procure_programs.specs.Showing.{IsPrinted, IsShown}
+use Rattle.procure_programs.specs.Showing.{IsOfPrinting, IsPrinted, IsRefusal, IsShown}
 use Rattle.procure_programs.specs.Turns.{AnswersConnection}
 
 -- ---- a buffer over a reader
@@ -71,6 +71,19 @@ module _ {S : Type 0} (M : Meaning S) (moment : ℕ) (came before after : Option
   )
 
 -- ---- what is printed
+
+pub of_printing : (failed : Bool) (result : Result (Unit {0}) ProgramFault) → IfErr result (λ (why : ProgramFault). why ≡ Output) → OnErr result (failed ≡ true)
+    → IfErr result (IsOfPrinting failed)
+of_printing failed (Ok done) is cause = tt
+of_printing failed (Err why) is cause = subst (λ (f : ProgramFault). IsOfPrinting failed f) (sym is) cause
+
+pub of_refusal : (failed : Bool) (why : ProgramFault) → IsRefusal why → IsOfPrinting failed why
+of_refusal failed (Refused why) is = tt
+of_refusal failed (Arguments e) is = absurd is
+of_refusal failed (Settings name) is = absurd is
+of_refusal failed Store is = absurd is
+of_refusal failed Input is = absurd is
+of_refusal failed Output is = absurd is
 
 module _ (settings : OfficeSettings) (query : Query) (s : Tables) (before after : Option (List ℕ)) where
   pub printed : (text : List ℕ) (result : Result (Unit {0}) ProgramFault) → IsSeen settings Public query s (Ok text) → OnOk result (Appends before after text)

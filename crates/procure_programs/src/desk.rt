@@ -1,5 +1,5 @@
 //! `procure desk CONFIG`: an empty office in memory, over the standard streams.
-ghost use Rattle.std.specs.Prelude.{◌≡◌, ℕ, true, OnOk, Result};
+ghost use Rattle.std.specs.Prelude.{◌≡◌, ℕ, true, IsErrOf, OnOk, Result};
 ghost use Rattle.office_wire.specs.declared.fault.RunFault.{RunFault};
 ghost use Rattle.office_http.specs.AnyReader.{HasRun};
 ghost use Rattle.procure_programs.specs.FaultsTold.{IsToldOfRun};
@@ -26,6 +26,7 @@ pub fn answer_streams<H: Shelf + Drop, R: BufRead, W: Write>(
     ensures before { H.meaning.honest office.new.shelf → H.meaning.honest office.old.shelf }
     ensures ran { (ended : Result ℕ RunFault) × IsToldOfRun ended result
         × HasRun H.meaning ended input.old.left input.new.left office.old office.new output.old.contents output.new.contents }
+    ensures cause { IsErrOf result ProgramFault.Output → output.new.has_failed ≡ true }
     ensures flushed { OnOk result (output.new.is_flushed ≡ true) }
 {
     match run(alloc, office, input, output) {
