@@ -19,7 +19,7 @@ use Rattle.office_wire.specs.declared.fault.RunFault.TheVariants as ends
 use Rattle.office_http.specs.Answering.{fault_text, held_by, office_answers}
 use Rattle.procure_config.specs.declared.fault.ProgramFault.{ProgramFault}
 use Rattle.procure_config.specs.declared.fault.ProgramFault.TheVariants.{Arguments, Settings, Store, Input, Output, Refused}
-use Rattle.procure_programs.specs.Showing.{IsOfPrinting, IsPrinted, IsRefusal, IsShown}
+use Rattle.procure_programs.specs.Showing.{IsOfPrinting, IsPrinted, IsOfOffice, IsShown}
 use Rattle.procure_programs.specs.Turns.{AnswersConnection}
 
 -- ---- a buffer over a reader
@@ -77,7 +77,7 @@ pub of_printing : (failed : Bool) (result : Result (Unit {0}) ProgramFault) → 
 of_printing failed (Ok done) is cause = tt
 of_printing failed (Err why) is cause = subst (λ (f : ProgramFault). IsOfPrinting failed f) (sym is) cause
 
-pub of_refusal : (failed : Bool) (why : ProgramFault) → IsRefusal why → IsOfPrinting failed why
+pub of_refusal : (failed : Bool) (why : ProgramFault) → IsOfOffice why → IsOfPrinting failed why
 of_refusal failed (Refused why) is = tt
 of_refusal failed (Arguments e) is = absurd is
 of_refusal failed (Settings name) is = absurd is

@@ -26,10 +26,10 @@ IsShown settings query s (Ok text) = IsSeen settings Public query s (Ok text.ite
 IsShown settings query s (Err (Refused why)) = IsSeen settings Public query s (Err why)
 IsShown settings query s (Err _) = ⊥
 
--- a refusal, and no other fault
-abbrev pub IsRefusal : ProgramFault → Type 0
-IsRefusal (Refused why) = Unit {0}
-IsRefusal _ = ⊥
+-- a fault of the office, which refuses: no other one
+abbrev pub IsOfOffice : ProgramFault → Type 0
+IsOfOffice (Refused why) = Unit {0}
+IsOfOffice _ = ⊥
 
 -- a fault of printing: a refusal, or that of an output, which has failed then
 abbrev pub IsOfPrinting : Bool → ProgramFault → Type 0
