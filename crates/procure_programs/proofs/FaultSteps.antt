@@ -2,22 +2,15 @@
 use Rattle.std.proofs.Common.{◌≡◌, refl, subst, sym}
 use Rattle.office_store.specs.declared.found.OpenFault.{OpenFault}
 use Rattle.office_store.specs.declared.found.OpenFault.TheVariants as opening
-use Rattle.office_wire.specs.declared.fault.RunFault.{RunFault}
-use Rattle.office_wire.specs.declared.fault.RunFault.TheVariants as ends
-use Rattle.procure_config.specs.Faults.{of_settings}
+use Rattle.procure_config.specs.Faults.{no_memory, of_settings}
 use Rattle.procure_config.specs.declared.fault.ProgramFault.{ProgramFault}
-use Rattle.procure_config.specs.declared.fault.ProgramFault.TheVariants.{Output}
 use Rattle.procure_config.specs.declared.settings.SettingsFault.{SettingsFault}
 use Rattle.procure_config.specs.declared.settings.SettingsFault.TheVariants.{NoMemory, NotToml, Member}
-use Rattle.procure_programs.specs.FaultsTold.{IsOfStore, of_opening, of_run}
+use Rattle.procure_programs.specs.FaultsTold.{IsOfStore, of_opening}
 use Rattle.procure_programs.specs.Showing.{IsOfSettings}
 
--- the output is at fault where writing was
-pub output_is : (f : RunFault) → of_run f ≡ Output → f ≡ ends.Write
-output_is ends.Write is = refl
-output_is ends.Read is = absurd (cc is)
-output_is ends.BadBlock is = absurd (cc is)
-output_is ends.LostPlace is = absurd (cc is)
+pub memory_is : (told : ProgramFault) → told ≡ no_memory → IsOfStore told
+memory_is told is = subst (λ (t : ProgramFault). IsOfStore t) (sym is) refl
 
 openings : (f : OpenFault) → IsOfStore (of_opening f)
 openings opening.NoMemory = refl

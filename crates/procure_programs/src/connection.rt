@@ -1,5 +1,5 @@
 //! One connection, whatever its bytes come from and go to.
-ghost use Rattle.std.specs.Prelude.{◌≡◌, true, IfErr, OnErr, OnOk};
+ghost use Rattle.std.specs.Prelude.{◌≡◌, true, IfErr, IsErrOf, OnErr, OnOk};
 ghost use Rattle.std.specs.Io.KnownBytes.{Appends};
 ghost use Rattle.office_wire.specs.Sending.{AppendsPart};
 ghost use Rattle.office_wire.specs.declared.fault.ReadFault.TheVariants.{Unavailable};
@@ -23,6 +23,7 @@ fn refuse<W: Write>(writer: &mut WatchedWriter<W>) -> Result<(), RunFault>
     ensures told { OnOk result (Appends writer.old.contents writer.new.contents (fault_text Unavailable)) }
     ensures part { OnErr result (AppendsPart writer.old.contents writer.new.contents (fault_text Unavailable)) }
     ensures fault { IfErr result (λ fault. fault ≡ RunFault.Write) }
+    ensures cause { OnErr result (writer.new.has_failed ≡ true) }
     ensures flushed { OnOk result (writer.new.is_flushed ≡ true) }
 {
     send_flushed(writer, fault_response(ReadFault::Unavailable))?;
@@ -42,6 +43,7 @@ pub fn serve_connection<H: Shelf + Drop, R: Read + Drop, W: Write>(
     ensures before { H.meaning.honest office.new.shelf → H.meaning.honest office.old.shelf }
     ensures served { AnswersConnection H.meaning moment (R.remaining reader) writer.old.contents writer.new.contents office.old office.new result }
     ensures stepped { StopsOnce H.meaning moment office.old office.new }
+    ensures writes { IsErrOf result RunFault.Write → writer.new.has_failed ≡ true }
     ensures flushed { OnOk result (writer.new.is_flushed ≡ true) }
 {
     match BufReader::new(alloc, reader) {

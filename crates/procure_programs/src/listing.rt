@@ -26,7 +26,7 @@ fn write_page<H: Lookups, W: Write>(
     after: Option<Id>,
 ) -> Result<Option<Id>, ProgramFault>
     ensures page { Looks H.meaning shelf.old shelf.new (λ s. IfOk result (WritesPage after s writer.old.contents writer.new.contents)) }
-    ensures fault { IfErr result (IsOfPrinting writer.new.has_failed) }
+    ensures cause { IfErr result (IsOfPrinting writer.new.has_failed) }
 {
     let rows = match shelf.list_notices_after(after, ASKED_ROWS) {
         Ok(rows) => rows,
@@ -48,7 +48,7 @@ pub fn list_notices<H: Lookups, W: Write>(
     writer: &mut WatchedWriter<W>,
 ) -> Result<(), ProgramFault>
     ensures listed { Looks H.meaning shelf.old shelf.new (λ s. IfOk result (λ _. Appends writer.old.contents writer.new.contents (listing_text s.notices))) }
-    ensures fault { IfErr result (IsOfPrinting writer.new.has_failed) }
+    ensures cause { IfErr result (IsOfPrinting writer.new.has_failed) }
 {
     laws::pages();
     laws::looks_follow::<H>();

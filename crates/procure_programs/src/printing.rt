@@ -40,7 +40,7 @@ pub fn print<H: Shelf + Drop, W: Write>(
 ) -> Result<(), ProgramFault>
     ensures looks { Looks H.meaning desk.old.shelf desk.new.shelf (λ s. IsPrinted desk.old.settings query s output.old.contents output.new.contents result) }
     ensures settings { desk.new.settings ≡ desk.old.settings }
-    ensures fault { IfErr result (IsOfPrinting output.new.has_failed) }
+    ensures cause { IfErr result (IsOfPrinting output.new.has_failed) }
     ensures flushed { OnOk result (output.new.is_flushed ≡ true) }
 {
     match show(desk, query) {
@@ -57,7 +57,7 @@ pub fn print_notices<H: Lookups, W: Write>(
     output: &mut WatchedWriter<W>,
 ) -> Result<(), ProgramFault>
     ensures listed { Looks H.meaning shelf.old shelf.new (λ s. IfOk result (λ _. Appends output.old.contents output.new.contents (listing_text s.notices))) }
-    ensures fault { IfErr result (IsOfPrinting output.new.has_failed) }
+    ensures cause { IfErr result (IsOfPrinting output.new.has_failed) }
     ensures flushed { OnOk result (output.new.is_flushed ≡ true) }
 {
     list_notices(alloc, shelf, output)?;

@@ -27,7 +27,7 @@ pub enum Printout {
 pub fn show<H: Shelf + Drop>(desk: &mut Desk<H>, query: Query) -> Result<Vec<u8>, ProgramFault>
     ensures looks { Looks H.meaning desk.old.shelf desk.new.shelf (λ s. IsShown desk.old.settings query s result) }
     ensures settings { desk.new.settings ≡ desk.old.settings }
-    ensures fault { IfErr result IsOfOffice }
+    ensures refuses { IfErr result IsOfOffice }
     ensures forbidden { may_look Public (queries.query_kind_of query) ≡ false → result ≡ Err (Refused Forbidden) }
 {
     match desk.look(&Caller::Public, query) {

@@ -13,3 +13,6 @@ pub returns-in-Err-clause-served : goal.returns-in-Err-clause-served
 returns-in-Err-clause-served g c =
     refused_connection g.H.Lookups.meaning c.args.moment (g.R.Read.remaining c.args.reader) c.args.writer.now.contents c.refuse.new.writer.contents c.args.office.now c.refuse.result
     c.refuse.ensures.told c.refuse.ensures.part c.refuse.ensures.fault
+
+pub returns-in-Err-clause-writes : goal.returns-in-Err-clause-writes
+returns-in-Err-clause-writes g c is = rw is at c.refuse.ensures.cause

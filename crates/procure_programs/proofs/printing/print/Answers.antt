@@ -15,8 +15,8 @@ returns-in-Err-clause-looks g c = (
   λ honest s held. printed_nothing c.args.desk.now.settings c.args.query s c.args.output.now.contents c.args.output.now.contents c.in-Err.fault (c.in-Err.ensures.looks.1 honest s held) refl,
 )
 
-pub returns-in-Ok-clause-fault : goal.returns-in-Ok-clause-fault
-returns-in-Ok-clause-fault g c = of_printing c.print_text.new.output.has_failed c.print_text.result c.print_text.ensures.fault c.print_text.ensures.cause
+pub returns-in-Ok-clause-cause : goal.returns-in-Ok-clause-cause
+returns-in-Ok-clause-cause g c = of_printing c.print_text.new.output.has_failed c.print_text.result c.print_text.ensures.fault c.print_text.ensures.cause
 
-pub returns-in-Err-clause-fault : goal.returns-in-Err-clause-fault
-returns-in-Err-clause-fault g c = of_refusal c.args.output.now.has_failed c.in-Err.fault c.in-Err.ensures.fault
+pub returns-in-Err-clause-cause : goal.returns-in-Err-clause-cause
+returns-in-Err-clause-cause g c = of_refusal c.args.output.now.has_failed c.in-Err.fault c.in-Err.ensures.refuses
