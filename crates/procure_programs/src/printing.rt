@@ -31,8 +31,8 @@ pub fn print_text<W: Write>(output: &mut WatchedWriter<W>, text: &[u8]) -> Resul
     }
 }
 
-/// Prints what the public sees at a desk by a query: what the programs `ledger`, `minutes`, `record` and `evaluation` do. A refusal is `Refused`, and then nothing is
-/// printed; `Output` as of `print_text`. Nothing changes.
+/// Prints what the public sees at a desk by a query: what the programs `ledger`, `minutes`, `record` and `evaluation` do. A refusal is `Refused`, and then
+/// nothing is printed; `Output` as of `print_text`. Nothing changes.
 pub fn print<H: Shelf + Drop, W: Write>(
     desk: &mut Desk<H>,
     query: Query,

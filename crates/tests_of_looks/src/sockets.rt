@@ -1,5 +1,5 @@
-//! Sockets and a clock that a test makes up, below the computer that serves an office: which address is asked for, how long a read and a write may wait, at which
-//! second a connection is answered, and what is written.
+//! Sockets and a clock that a test makes up, below the computer that serves an office: which address is asked for, how long a read and a write may wait, at
+//! which second a connection is answered, and what is written.
 use crate::served::{BEGIN, CAME, TOLD, office};
 use office_base::stored::StoredShelf;
 use office_store::shelf::SqlShelf;
