@@ -130,7 +130,7 @@ impl<'a, N: Net + Clock> Host for ListeningHost<'a, N> {
         }
     }
 
-    // Both of its handles are let go by then.
+    // Its two handles are let go here.
     fn close(
         &mut self,
         _reader: Option<CountedReader<BufReader<N::Stream>>>,
