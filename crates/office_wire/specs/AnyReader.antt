@@ -41,8 +41,8 @@ HasTold A (Err ends.LostPlace) s steps told = (why : ReadFault) × (why ≢ faul
 HasTold A (Err ends.Read) s steps told = told ≡ written A s steps
 HasTold A (Err ends.Write) s steps told = CutsReply A s steps told ⊎ CutsAnyRefusal A s steps told ⊎ (told ≡ written A s steps)
 
--- A run from office s went through these steps, each of a request for which a read was made at least, out of so many that were left before and
--- after it; and it told this behind what the writer held.
+-- A run from office s went through these steps, each of a request of the grammar, for which a read was made at least, out of so many that were left before
+-- and after it; and it told this behind what the writer held.
 pub record WentThrough {S : Type 0} (A : Answers S) (result : Result ℕ RunFault) (reads left : ℕ) (s : S) (steps : List Step) (before after : Option (List ℕ)) : Type 0 where
   pub formed : AreWellFormed steps
   pub few : length steps + left ≤ reads

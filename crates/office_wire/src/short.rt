@@ -32,7 +32,7 @@ impl ShortText {
         }
     }
 
-    /// Puts a text behind it. One for which there is no room is left out.
+    /// Puts a text behind it, where there is room for both.
     pub fn put(&mut self, text: &[u8])
         ensures { FitsBehind self.old text.now self.new }
     {

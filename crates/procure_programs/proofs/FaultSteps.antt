@@ -2,12 +2,15 @@
 use Rattle.std.proofs.Common.{◌≡◌, refl, subst, sym}
 use Rattle.office_store.specs.declared.found.OpenFault.{OpenFault}
 use Rattle.office_store.specs.declared.found.OpenFault.TheVariants as opening
-use Rattle.procure_config.specs.Faults.{of_settings}
+use Rattle.procure_config.specs.Faults.{no_memory, of_settings}
 use Rattle.procure_config.specs.declared.fault.ProgramFault.{ProgramFault}
 use Rattle.procure_config.specs.declared.settings.SettingsFault.{SettingsFault}
 use Rattle.procure_config.specs.declared.settings.SettingsFault.TheVariants.{NoMemory, NotToml, Member}
 use Rattle.procure_programs.specs.FaultsTold.{IsOfStore, of_opening}
 use Rattle.procure_programs.specs.Showing.{IsOfSettings}
+
+pub memory_is : (told : ProgramFault) → told ≡ no_memory → IsOfStore told
+memory_is told is = subst (λ (t : ProgramFault). IsOfStore t) (sym is) refl
 
 openings : (f : OpenFault) → IsOfStore (of_opening f)
 openings opening.NoMemory = refl

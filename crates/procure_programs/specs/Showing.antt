@@ -1,5 +1,5 @@
 -- What a program shows of an office, and prints.
-use Rattle.std.specs.Prelude.{◌≡◌, ℕ, List, Option, Some, None, Result, Ok, Err, Vec}
+use Rattle.std.specs.Prelude.{◌≡◌, ℕ, Bool, true, List, Option, Some, None, Result, Ok, Err, Vec}
 use Rattle.std.specs.Io.KnownBytes.{Appends}
 use Rattle.std.specs.declared.alloc.Global.{Global}
 use Rattle.office_commands.specs.declared.command.Caller.TheVariants.{Public}
@@ -25,6 +25,17 @@ abbrev pub IsShown : Settings → Query → Tables → Result (Vec ℕ Global) P
 IsShown settings query s (Ok text) = IsSeen settings Public query s (Ok text.items)
 IsShown settings query s (Err (Refused why)) = IsSeen settings Public query s (Err why)
 IsShown settings query s (Err _) = ⊥
+
+-- a fault of the office, which refuses: no other one
+abbrev pub IsOfOffice : ProgramFault → Type 0
+IsOfOffice (Refused why) = Unit {0}
+IsOfOffice _ = ⊥
+
+-- a fault of printing: a refusal, or that of an output, which has failed then
+abbrev pub IsOfPrinting : Bool → ProgramFault → Type 0
+IsOfPrinting has_failed (Refused why) = Unit {0}
+IsOfPrinting has_failed fault.Output = has_failed ≡ true
+IsOfPrinting has_failed _ = ⊥
 
 -- what the public sees by a query is printed, all of it, behind what the output held before; a front of it where the output failed; and nothing where it is
 -- refused. There is no other fault.

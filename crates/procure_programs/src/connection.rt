@@ -5,7 +5,7 @@ ghost use Rattle.office_wire.specs.Sending.{AppendsPart};
 ghost use Rattle.office_wire.specs.declared.fault.ReadFault.TheVariants.{Unavailable};
 ghost use Rattle.office_http.specs.Answering.{fault_text};
 ghost use Rattle.office_http.specs.Stops.{StopsOnce};
-ghost use Rattle.procure_programs.specs.Turns.{AnswersConnection};
+ghost use Rattle.procure_programs.specs.Turns.{AnswersConnection, EndsConnection, unread};
 
 use office_base::shelf::{Lookups, Shelf};
 use office_http::answering::fault_response;
@@ -23,6 +23,7 @@ fn refuse<W: Write>(writer: &mut WatchedWriter<W>) -> Result<(), RunFault>
     ensures told { OnOk result (Appends writer.old.contents writer.new.contents (fault_text Unavailable)) }
     ensures part { OnErr result (AppendsPart writer.old.contents writer.new.contents (fault_text Unavailable)) }
     ensures fault { IfErr result (λ fault. fault ≡ RunFault.Write) }
+    ensures cause { OnErr result (writer.new.has_failed ≡ true) }
     ensures flushed { OnOk result (writer.new.is_flushed ≡ true) }
 {
     send_flushed(writer, fault_response(ReadFault::Unavailable))?;
@@ -30,7 +31,8 @@ fn refuse<W: Write>(writer: &mut WatchedWriter<W>) -> Result<(), RunFault>
 }
 
 /// Serves one connection: reads a request, and sends and flushes the response to it, at this moment. A fault of the reader or the writer ends the
-/// connection and nothing else. Where there is no memory for the reader's buffer, the response is `Unavailable`, and nothing is read.
+/// connection and nothing else. Where there is no memory for the reader's buffer, the response is `Unavailable`, and nothing is read. Gives the reader back,
+/// none where there was no memory for its buffer, and what serving came to.
 #[tactic(auto, using(crate::proofs::ServingSteps::once_none))]
 pub fn serve_connection<H: Shelf + Drop, R: Read + Drop, W: Write>(
     alloc: Global,
@@ -38,17 +40,18 @@ pub fn serve_connection<H: Shelf + Drop, R: Read + Drop, W: Write>(
     moment: Moment,
     reader: R,
     writer: &mut WatchedWriter<W>,
-) -> Result<(), RunFault>
+) -> (Option<CountedReader<BufReader<R>>>, Result<(), RunFault>)
     ensures before { H.meaning.honest office.new.shelf → H.meaning.honest office.old.shelf }
-    ensures served { AnswersConnection H.meaning moment (R.remaining reader) writer.old.contents writer.new.contents office.old office.new result }
+    ensures served { AnswersConnection H.meaning moment (R.remaining reader) (unread result.0) writer.old.contents writer.new.contents office.old office.new result.1 }
+    ensures ended { EndsConnection result.1 result.0 writer.new }
     ensures stepped { StopsOnce H.meaning moment office.old office.new }
-    ensures flushed { OnOk result (writer.new.is_flushed ≡ true) }
 {
     match BufReader::new(alloc, reader) {
         Ok(buffered) => {
-            let mut reader = CountedReader::new(buffered);
-            serve_one(alloc, office, moment, &mut reader, writer)
+            let mut counted = CountedReader::new(buffered);
+            let served = serve_one(alloc, office, moment, &mut counted, writer);
+            (Some(counted), served)
         }
-        Err(_) => refuse(writer),
+        Err(_) => (None, refuse(writer)),
     }
 }

@@ -1,8 +1,6 @@
 //! `procure desk CONFIG`: an empty office in memory, over the standard streams.
-ghost use Rattle.std.specs.Prelude.{◌≡◌, ℕ, true, OnOk, Result};
-ghost use Rattle.office_wire.specs.declared.fault.RunFault.{RunFault};
-ghost use Rattle.office_http.specs.AnyReader.{HasRun};
-ghost use Rattle.procure_programs.specs.FaultsTold.{IsToldOfRun};
+ghost use Rattle.std.specs.Prelude.{◌≡◌, true, OnOk};
+ghost use Rattle.procure_programs.specs.Streams.{AnswersBlocks};
 
 use crate::config::settings_at;
 use crate::faults::{no_memory, of_run};
@@ -24,8 +22,7 @@ pub fn answer_streams<H: Shelf + Drop, R: BufRead, W: Write>(
     output: &mut WatchedWriter<W>,
 ) -> Result<(), ProgramFault>
     ensures before { H.meaning.honest office.new.shelf → H.meaning.honest office.old.shelf }
-    ensures ran { (ended : Result ℕ RunFault) × IsToldOfRun ended result
-        × HasRun H.meaning ended input.old.left input.new.left office.old office.new output.old.contents output.new.contents }
+    ensures ran { AnswersBlocks H.meaning input.old input.new output.old output.new office.old office.new result }
     ensures flushed { OnOk result (output.new.is_flushed ≡ true) }
 {
     match run(alloc, office, input, output) {

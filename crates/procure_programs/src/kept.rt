@@ -1,6 +1,7 @@
 //! What the programs do with an office that is kept, whatever keeps it.
-ghost use Rattle.std.specs.Prelude.{IfOk};
+ghost use Rattle.std.specs.Prelude.{IfErr, IfOk};
 ghost use Rattle.office_base.specs.Shelves.{Keeps};
+ghost use Rattle.procure_programs.specs.FaultsTold.{IsOfStore};
 ghost use Rattle.procure_programs.specs.Serving.{WasServed};
 
 use crate::faults::no_memory;
@@ -18,6 +19,7 @@ use procure_config::fault::ProgramFault;
 
 /// Serves so many connections on 127.0.0.1 and this port, from an office on this shelf. Gives the shelf back, and what serving came to.
 /// Only for want of memory it doesn't begin; the shelf is let go then, and its store isn't closed, which loses nothing.
+#[tactic(auto, using(crate::proofs::FaultSteps::memory_is))]
 pub(crate) fn serve_office<H: StoredShelf + Drop>(
     rt: &HostRuntime,
     settings: Settings,
@@ -26,6 +28,7 @@ pub(crate) fn serve_office<H: StoredShelf + Drop>(
     count: u32,
 ) -> Result<(H, Result<(), ProgramFault>), ProgramFault>
     ensures serves { IfOk result (λ left. WasServed H.meaning count settings shelf left.0) }
+    ensures fault { IfErr result IsOfStore }
 {
     let alloc = rt.alloc();
     let Ok(mut office) = Office::new(alloc, Desk::new(alloc, settings, shelf)) else {

@@ -1,9 +1,10 @@
 //! The list of an office's notices, page by page.
-ghost use Rattle.std.specs.Prelude.{IfOk};
+ghost use Rattle.std.specs.Prelude.{IfErr, IfOk};
 ghost use Rattle.std.specs.Io.KnownBytes.{Appends};
 ghost use Rattle.office_base.specs.Shelves.{Looks};
 ghost use Rattle.tender_papers.specs.Listing.{listing_text};
 ghost use Rattle.procure_programs.specs.Listing.{WritesPage};
+ghost use Rattle.procure_programs.specs.Showing.{IsOfPrinting};
 
 use office_base::laws;
 use office_base::pages::{ASKED_ROWS, next_after, page_of};
@@ -24,7 +25,8 @@ fn write_page<H: Lookups, W: Write>(
     writer: &mut WatchedWriter<W>,
     after: Option<Id>,
 ) -> Result<Option<Id>, ProgramFault>
-    ensures { Looks H.meaning shelf.old shelf.new (λ s. IfOk result (WritesPage after s writer.old.contents writer.new.contents)) }
+    ensures page { Looks H.meaning shelf.old shelf.new (λ s. IfOk result (WritesPage after s writer.old.contents writer.new.contents)) }
+    ensures cause { IfErr result (IsOfPrinting writer.new.has_failed) }
 {
     let rows = match shelf.list_notices_after(after, ASKED_ROWS) {
         Ok(rows) => rows,
@@ -45,7 +47,8 @@ pub fn list_notices<H: Lookups, W: Write>(
     shelf: &mut H,
     writer: &mut WatchedWriter<W>,
 ) -> Result<(), ProgramFault>
-    ensures { Looks H.meaning shelf.old shelf.new (λ s. IfOk result (λ _. Appends writer.old.contents writer.new.contents (listing_text s.notices))) }
+    ensures listed { Looks H.meaning shelf.old shelf.new (λ s. IfOk result (λ _. Appends writer.old.contents writer.new.contents (listing_text s.notices))) }
+    ensures cause { IfErr result (IsOfPrinting writer.new.has_failed) }
 {
     laws::pages();
     laws::looks_follow::<H>();

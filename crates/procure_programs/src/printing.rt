@@ -4,7 +4,7 @@ ghost use Rattle.std.specs.Io.KnownBytes.{Appends};
 ghost use Rattle.office_base.specs.Shelves.{Looks};
 ghost use Rattle.tender_papers.specs.Listing.{listing_text};
 ghost use Rattle.office_wire.specs.Sending.{AppendsPart};
-ghost use Rattle.procure_programs.specs.Showing.{IsPrinted};
+ghost use Rattle.procure_programs.specs.Showing.{IsOfPrinting, IsPrinted};
 
 use crate::listing::list_notices;
 use crate::showing::show;
@@ -31,8 +31,8 @@ pub fn print_text<W: Write>(output: &mut WatchedWriter<W>, text: &[u8]) -> Resul
     }
 }
 
-/// Prints what the public sees at a desk by a query: what the programs `ledger`, `minutes`, `record` and `evaluation` do. A refusal is `Refused`, and then nothing is
-/// printed; `Output` as of `print_text`. Nothing changes.
+/// Prints what the public sees at a desk by a query: what the programs `ledger`, `minutes`, `record` and `evaluation` do. A refusal is `Refused`, and then
+/// nothing is printed; `Output` as of `print_text`. Nothing changes.
 pub fn print<H: Shelf + Drop, W: Write>(
     desk: &mut Desk<H>,
     query: Query,
@@ -40,6 +40,7 @@ pub fn print<H: Shelf + Drop, W: Write>(
 ) -> Result<(), ProgramFault>
     ensures looks { Looks H.meaning desk.old.shelf desk.new.shelf (λ s. IsPrinted desk.old.settings query s output.old.contents output.new.contents result) }
     ensures settings { desk.new.settings ≡ desk.old.settings }
+    ensures cause { IfErr result (IsOfPrinting output.new.has_failed) }
     ensures flushed { OnOk result (output.new.is_flushed ≡ true) }
 {
     match show(desk, query) {
@@ -56,6 +57,7 @@ pub fn print_notices<H: Lookups, W: Write>(
     output: &mut WatchedWriter<W>,
 ) -> Result<(), ProgramFault>
     ensures listed { Looks H.meaning shelf.old shelf.new (λ s. IfOk result (λ _. Appends output.old.contents output.new.contents (listing_text s.notices))) }
+    ensures cause { IfErr result (IsOfPrinting output.new.has_failed) }
     ensures flushed { OnOk result (output.new.is_flushed ≡ true) }
 {
     list_notices(alloc, shelf, output)?;

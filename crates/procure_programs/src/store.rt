@@ -70,7 +70,8 @@ fn serve_shelf<A: Alter + Drop>(
     port: u16,
     count: u32,
 ) -> Result<(SqlShelf<A>, Result<(), ProgramFault>), ProgramFault>
-    ensures { IfOk result (λ left. WasServed (sql_meaning A.Store) count settings shelf left.0) }
+    ensures serves { IfOk result (λ left. WasServed (sql_meaning A.Store) count settings shelf left.0) }
+    ensures fault { IfErr result IsOfStore }
 {
     serve_office(rt, settings, shelf, port, count)
 }
@@ -96,7 +97,8 @@ fn serve_open<S: Start>(
     port: u16,
     count: u32,
 ) -> Result<(SqlShelf<FileStore<FileFrom<S>>>, Result<(), ProgramFault>), ProgramFault>
-    ensures { IfOk result (λ left. ServesOpened (image_at S.Start) settings count left.0) }
+    ensures serves { IfOk result (λ left. ServesOpened (image_at S.Start) settings count left.0) }
+    ensures fault { IfErr result IsOfStore }
 {
     let opened = open_office(rt, path, start)?;
     serve_shelf(rt, settings, opened.shelf, port, count)

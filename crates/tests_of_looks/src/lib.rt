@@ -22,6 +22,8 @@ mod served;
 #[cfg(test)]
 mod showing;
 #[cfg(test)]
+mod sockets;
+#[cfg(test)]
 mod unreadable_texts;
 #[cfg(test)]
 mod wrong_merges;

@@ -15,7 +15,8 @@ use procure_programs::host::{Host, Network};
 use procure_programs::serving::{serve_at, take_one};
 use sqlite::Alter;
 use std::alloc::{AllocError, Global};
-use std::io::Cursor;
+use std::io;
+use std::io::{BufReader, Cursor, ErrorKind, Read};
 use std::net::SocketAddrV4;
 use std::time::Duration;
 use tests_sql_office::office::{SqlOffice, in_sql};
@@ -37,7 +38,7 @@ impl Host for Scripted {
 
     type Writer = Vec<u8>;
 
-    ghost events = { record { takes = λ _ _ _. Unit {0}; tells = λ _ _ _. Unit {0}; closes = λ _ _ _. Unit {0} } };
+    ghost events = { record { takes = λ _ _ _. Unit {0}; tells = λ _ _ _. Unit {0}; closes = λ _ _ _ _. Unit {0} } };
 
     fn accept(&mut self) -> Option<(&'static [u8], Vec<u8>)> {
         let came = *self.came.get(self.taken)?;
@@ -52,13 +53,18 @@ impl Host for Scripted {
         Some(Duration::from_secs(second))
     }
 
-    fn close(&mut self, writer: Vec<u8>) {
-        let _ = self.told.extend_from_slice(&writer);
+    fn close(
+        &mut self,
+        _reader: Option<CountedReader<BufReader<&'static [u8]>>>,
+        writer: WatchedWriter<Vec<u8>>,
+    ) {
+        let written = writer.into_inner();
+        let _ = self.told.extend_from_slice(&written);
     }
 }
 
 // 2026-01-05T09:00:00Z.
-const BEGIN: u64 = 1_767_603_600;
+pub(crate) const BEGIN: u64 = 1_767_603_600;
 
 fn host(alloc: Global, came: &'static [Option<&'static [u8]>], second: Option<u64>) -> Scripted {
     Scripted {
@@ -77,19 +83,19 @@ const LOOK: &[u8] = b"GET /lines/1000 HTTP/1.1\r\n\r\n";
 
 const CUT: &[u8] = b"GET /li";
 
-static CAME: [Option<&[u8]>; 4] = [Some(IMPORT), None, Some(LOOK), Some(CUT)];
+pub(crate) static CAME: [Option<&[u8]>; 4] = [Some(IMPORT), None, Some(LOOK), Some(CUT)];
 
 static LATER: [Option<&[u8]>; 1] = [Some(LOOK)];
 
 // What is told over the three that can be taken.
-static TOLD: &[u8] =
+pub(crate) static TOLD: &[u8] =
     b"HTTP/1.1 200 OK\r\nContent-Type: application/json\r\nContent-Length: 55\r\nConnection: close\r\n\r\n{\"batch\":\"B1\",\"moment\":\"2026-01-05T09:00:00Z\",\"rows\":1}HTTP/1.1 200 OK\r\nContent-Type: application/json\r\nContent-Length: 99\r\nConnection: close\r\n\r\n{\"appropriation\":700,\"contracted\":0,\"free\":700,\"line\":\"1000\",\"paid\":0,\"reserved\":0,\"title\":\"Roads\"}HTTP/1.1 400 Bad Request\r\nContent-Type: application/json\r\nContent-Length: 30\r\nConnection: close\r\n\r\n{\"name\":\"BadHead\",\"refusal\":1}";
 
 // What is told over the third.
 static LOOKED: &[u8] =
     b"HTTP/1.1 200 OK\r\nContent-Type: application/json\r\nContent-Length: 99\r\nConnection: close\r\n\r\n{\"appropriation\":700,\"contracted\":0,\"free\":700,\"line\":\"1000\",\"paid\":0,\"reserved\":0,\"title\":\"Roads\"}";
 
-fn office<H: Shelf + Drop>(alloc: Global, shelf: H) -> Result<Office<H>, AllocError> {
+pub(crate) fn office<H: Shelf + Drop>(alloc: Global, shelf: H) -> Result<Office<H>, AllocError> {
     Ok(Office::new(alloc, desk_over(alloc, shelf)?)?)
 }
 
@@ -144,10 +150,51 @@ fn ends_alone<H: Shelf + Drop>(alloc: Global, shelf: H) -> bool {
         return false;
     };
     let mut full = WatchedWriter::new(Cursor::new([0u8; 20]));
-    let ended = serve_connection(alloc, &mut office, Moment::EPOCH, IMPORT, &mut full);
+    let (_reader, ended) = serve_connection(alloc, &mut office, Moment::EPOCH, IMPORT, &mut full);
     let mut host = host(alloc, &LATER, Some(BEGIN));
     let is_seen = matches!(take_one(alloc, &mut host, &mut office), Ok(true));
     matches!(ended, Err(RunFault::Write)) && is_seen && host.told.as_slice() == LOOKED
+}
+
+/// Gives these bytes, and then fails.
+#[derive(Drop)]
+struct Broken {
+    rest: &'static [u8],
+}
+
+impl Read for Broken {
+    fn read(&mut self, buf: &mut [u8]) -> io::Result<usize> {
+        if self.rest.is_empty() {
+            return Err(io::Error::from(ErrorKind::ConnectionReset));
+        }
+        self.rest.read(buf)
+    }
+}
+
+// Whether nothing is told where the reader fails inside a request.
+fn tells_nothing<H: Shelf + Drop>(alloc: Global, shelf: H) -> bool {
+    let Ok(mut office) = office(alloc, shelf) else {
+        return false;
+    };
+    let mut written = WatchedWriter::new(Vec::new(alloc));
+    let reader = Broken { rest: CUT };
+    let (_reader, ended) = serve_connection(
+        alloc,
+        &mut office,
+        Moment::EPOCH,
+        reader,
+        &mut written,
+    );
+    matches!(ended, Err(RunFault::Read)) && written.into_inner().is_empty()
+}
+
+#[test]
+fn a_broken_connection_is_told_nothing(rt: HostRuntime) {
+    let alloc = rt.alloc();
+    assert!(rt;
+        tells_nothing(alloc, MemoryShelf::new(alloc))
+            || tells_nothing(alloc, MemoryShelf::new(alloc))
+    );
 }
 
 #[test]

@@ -4,6 +4,7 @@ use procure_config::fault::ProgramFault;
 use procure_config::settings::{SettingName, SettingsFault};
 use procure_config::telling::tell;
 use std::alloc::Global;
+use std::io::Cursor;
 
 // Faults of settings, and their lines.
 const SETTINGS_FAULTS: &[(SettingsFault, &str)] = &[
@@ -50,4 +51,11 @@ fn settings_faults_are_told(alloc: Global) -> bool {
 #[test]
 fn tells_the_settings_faults(rt: HostRuntime) {
     assert!(rt; settings_faults_are_told(rt.alloc()));
+}
+
+#[test]
+fn says_where_not_all_was_told(rt: HostRuntime) {
+    let mut full = Cursor::new([0u8; 8]);
+    let (status, is_whole) = tell(&mut full, &ProgramFault::Store);
+    assert!(rt; status == 1 && !is_whole);
 }

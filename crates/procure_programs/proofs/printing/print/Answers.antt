@@ -1,4 +1,4 @@
-use Rattle.procure_programs.proofs.ConnectionSteps.{printed, printed_nothing}
+use Rattle.procure_programs.proofs.ConnectionSteps.{of_printing, of_refusal, printed, printed_nothing}
 use Rattle.std.proofs.Common.{refl}
 use Rattle.procure_programs.proofs.printing.print.Goals as goal
 
@@ -14,3 +14,9 @@ returns-in-Err-clause-looks g c = (
   c.in-Err.ensures.looks.0,
   λ honest s held. printed_nothing c.args.desk.now.settings c.args.query s c.args.output.now.contents c.args.output.now.contents c.in-Err.fault (c.in-Err.ensures.looks.1 honest s held) refl,
 )
+
+pub returns-in-Ok-clause-cause : goal.returns-in-Ok-clause-cause
+returns-in-Ok-clause-cause g c = of_printing c.print_text.new.output.has_failed c.print_text.result c.print_text.ensures.fault c.print_text.ensures.cause
+
+pub returns-in-Err-clause-cause : goal.returns-in-Err-clause-cause
+returns-in-Err-clause-cause g c = of_refusal c.args.output.now.has_failed c.in-Err.fault c.in-Err.ensures.refuses
