@@ -56,7 +56,7 @@ def budgets(root):
 
 
 def above_budget(crates, allowed):
-    """How much slower the machine is than where budgets were set, at least 1; and of each crate that took a tenth more than its budget times that, what it took.
+    """How much slower the machine is than where budgets were set, at least 1; and what each crate took that took a tenth more than its budget times that.
 
     A budget is a tenth more than its crate took when it was set, so what was taken then is a tenth less; the median is that of single crates.
     """
