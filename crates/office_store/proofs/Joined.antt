@@ -30,12 +30,12 @@ use Rattle.office_sql.specs.Schema.OfficeTable.{Lines, Lots, Contracts, Entries}
 use Rattle.office_sql.specs.Standing.{Stand, Holds}
 use Rattle.office_sql.specs.Steps.{IsAsked, ShowsTables}
 use Rattle.office_ledger.specs.Joins.{joined, joined_lots}
-use Rattle.office_joins.specs.Cells.{joined_cells}
-use Rattle.office_joins.specs.Known.{Holds as HasTable}
-use Rattle.office_joins.specs.Select.{list_joined}
-use Rattle.office_joins.specs.SelectLots.{list_joined_of_line}
-use Rattle.office_joins.specs.Shows.{HoldsJoined, JoinIsShown, LotsAreShown, joined_lot_cells}
-use Rattle.office_joins.specs.Standing.{records_of, StandFor, StoredRowsShow}
+use Rattle.office_ledger.specs.Cells.{joined_cells}
+use Rattle.office_ledger.specs.Known.{Holds as HasTable}
+use Rattle.office_ledger.specs.Select.{list_joined}
+use Rattle.office_ledger.specs.SelectLots.{list_joined_of_line}
+use Rattle.office_ledger.specs.Shows.{HoldsJoined, JoinIsShown, LotsAreShown, joined_lot_cells}
+use Rattle.office_ledger.specs.Standing.{records_of, StandFor, StoredRowsShow}
 
 find_only : (n : ℕ) (x : Table) (xs : List Table) → Has xs x → x.tree ≡ n → ((y : Table) → Has xs y → y.tree ≡ n → y ≡ x) → find (λ t. t.tree == n) xs ≡ Some x
 find_only n x [] there is alone = absurd there

@@ -11,8 +11,8 @@ ghost use Rattle.office_store.specs.SqlMeaning.{sql_meaning};
 use crate::joined_rows::take_row;
 use crate::shelf::SqlShelf;
 use office_base::shelf::ShelfFault;
-use office_joins::select::{join_is_no_write, join_is_plain, list_joined, stored_rows_show};
 use office_ledger::joined::JoinedRow;
+use office_ledger::select::{join_is_no_write, join_is_plain, list_joined, stored_rows_show};
 use office_sql::faults::fault;
 use sqlite::{Alter, Connection, Rows};
 

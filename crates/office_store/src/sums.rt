@@ -11,12 +11,12 @@ use crate::joined_rows::take_row;
 use crate::ledger_rows::ready;
 use office_base::ledger::{LedgerRow, LineAmounts};
 use office_base::shelf::ShelfFault;
-use office_joins::adding::amounts_of_rows;
-use office_joins::select::{
+use office_ledger::adding::amounts_of_rows;
+use office_ledger::ledger_sums::LedgerSums;
+use office_ledger::select::{
     join_is_no_write, join_is_plain, list_joined, list_joined_of_line, lots_are_shown,
     stored_rows_show,
 };
-use office_ledger::ledger_sums::LedgerSums;
 use office_sql::ask::ask;
 use office_sql::faults::fault;
 use office_values::id::Id;
