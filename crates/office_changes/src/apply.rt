@@ -2,11 +2,11 @@
 ghost use Rattle.std.specs.Prelude.{◌≡◌, false, [], ◌∷◌, IsTrue, OnOk, OnErr};
 ghost use Rattle.sqlite.specs.Held.{state};
 ghost use Rattle.sqlite.specs.State.{HasCleanDisk, Survives};
-ghost use Rattle.office_sql.specs.Failing.{ErrorHasCause, ChangeHasCause};
-ghost use Rattle.office_sql.specs.Steps.{Puts, Applied, Refused, LeavesPuts};
+ghost use Rattle.office_tables.specs.Failing.{ErrorHasCause, ChangeHasCause};
+ghost use Rattle.office_tables.specs.Steps.{Puts, Applied, Refused, LeavesPuts};
 
 use office_base::puts::Put;
-use office_sql::puts;
+use office_tables::puts;
 use sqlite::{Alter, Connection, Error, Transaction};
 use std::alloc::Global;
 

@@ -7,7 +7,7 @@ use Rattle.office_ledger.specs.declared.joined.JoinedRow.{JoinedRow}
 use Rattle.office_ledger.specs.declared.joined.JoinedLot.{JoinedLot}
 use Rattle.office_ledger.specs.declared.joined.JoinedContract.{JoinedContract}
 use Rattle.office_ledger.specs.declared.joined.JoinedEntry.{JoinedEntry}
-use Rattle.office_rows.specs.Words.{entry_kind_text, entry_kind_in}
+use Rattle.office_tables.specs.Words.{entry_kind_text, entry_kind_in}
 use Rattle.office_ledger.specs.Cells.{joined_cells}
 use Rattle.office_ledger.specs.Reading.{joined_read, joined_lot_read}
 use Rattle.office_ledger.specs.Shows.{joined_lot_cells}

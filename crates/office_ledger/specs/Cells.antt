@@ -8,7 +8,7 @@ use Rattle.office_base.specs.declared.records.LineRow.{LineRow}
 use Rattle.office_base.specs.declared.records.LotRow.{LotRow}
 use Rattle.office_base.specs.declared.records.ContractRow.{ContractRow}
 use Rattle.office_base.specs.declared.records.EntryRow.{EntryRow}
-use Rattle.office_rows.specs.Words.{entry_kind_text}
+use Rattle.office_tables.specs.Words.{entry_kind_text}
 use Rattle.office_ledger.specs.declared.joined.JoinedRow.{JoinedRow}
 use Rattle.office_ledger.specs.declared.joined.JoinedLot.{JoinedLot}
 use Rattle.office_ledger.specs.declared.joined.JoinedContract.{JoinedContract}

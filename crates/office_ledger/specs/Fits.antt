@@ -2,7 +2,7 @@
 use Rattle.std.specs.Prelude.{◌≤◌, IfSome}
 use Rattle.office_values.specs.Ids.{IsId}
 use Rattle.office_values.specs.Money.{amount_limit, total_limit}
-use Rattle.office_rows.specs.Ranges.{IsOfficeNumber, IsSum}
+use Rattle.office_tables.specs.Ranges.{IsOfficeNumber, IsSum}
 use Rattle.office_ledger.specs.declared.joined.JoinedRow.{JoinedRow}
 use Rattle.office_ledger.specs.declared.joined.JoinedLot.{JoinedLot}
 use Rattle.office_ledger.specs.declared.joined.JoinedContract.{JoinedContract}

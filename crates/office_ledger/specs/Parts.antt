@@ -1,7 +1,7 @@
 -- The columns of a row in which an entry, a contract with its entry, or a lot with its contract stands, from one on.
 use Rattle.std.specs.Prelude.{ℕ, ◌+◌, ◌++◌}
 use Rattle.sqlite_value.specs.Order.{Row}
-use Rattle.office_rows.specs.Values.{three_from}
+use Rattle.office_tables.specs.Values.{three_from}
 
 abbrev pub columns_of_entry : Row → ℕ → Row
 columns_of_entry r at = three_from r at

@@ -1,7 +1,7 @@
 //! Rows of the selects as joined rows. What no office writes there is a fault of the store.
 ghost use Rattle.std.specs.Prelude.{◌≡◌, ◌≤◌, ◌↔◌, IsTrue, IfOk, IfErr, IfSome, None, Some};
 ghost use Rattle.office_base.specs.Faults.{IsFaultOf};
-ghost use Rattle.office_rows.specs.Unwritten.{IsUnwritten};
+ghost use Rattle.office_tables.specs.Unwritten.{IsUnwritten};
 ghost use Rattle.office_ledger.specs.Cells.{entry_cells, contract_cells, lot_cells, joined_cells};
 ghost use Rattle.office_ledger.specs.Parts.{columns_of_entry, columns_of_contract, columns_of_lot};
 ghost use Rattle.office_ledger.specs.Fits.{EntryFits, ContractFits, LotFits, JoinedFits};
@@ -11,8 +11,8 @@ ghost use Rattle.office_ledger.specs.Shows.{joined_lot_cells};
 
 use crate::joined::{JoinedContract, JoinedEntry, JoinedLot, JoinedRow};
 use office_base::shelf::ShelfFault;
-use office_rows::columns::{amount_at, are_null, bounded_at, has_columns, id_at, total_at};
-use office_rows::words::entry_kind_at;
+use office_tables::columns::{amount_at, are_null, bounded_at, has_columns, id_at, total_at};
+use office_tables::words::entry_kind_at;
 use sqlite::Row;
 
 // Whether no entry stands from this column on.

@@ -12,10 +12,10 @@ use Rattle.sqlite_catalog.specs.Listing.{IsGuarded, IsTableRow, automatic}
 use Rattle.sqlite_catalog.proofs.AlterLemmas.{place_has}
 use Rattle.sqlite_catalog.proofs.LayoutLemmas.{zipped_left}
 use Rattle.sqlite.specs.Effect.{Database, IsDatabase}
-use Rattle.office_sql.specs.First.{has_table}
-use Rattle.office_sql.specs.Known.{IsIn, at_tree, key_indexes}
-use Rattle.office_sql.specs.Schema.{OfficeTable, table_of}
-use Rattle.office_sql.specs.Schema.OfficeTable.{Lines, Batches, Tenderers, Notices, Lots, Envelopes, Seals, Securities, Awards, Contracts, Entries, Releases, Compiled, Office, LateRules, FormerNotices, Performances}
+use Rattle.office_tables.specs.First.{has_table}
+use Rattle.office_tables.specs.Known.{IsIn, at_tree, key_indexes}
+use Rattle.office_tables.specs.Schema.{OfficeTable, table_of}
+use Rattle.office_tables.specs.Schema.OfficeTable.{Lines, Batches, Tenderers, Notices, Lots, Envelopes, Seals, Securities, Awards, Contracts, Entries, Releases, Compiled, Office, LateRules, FormerNotices, Performances}
 use Rattle.office_store.specs.Forms.{HasForms, ListsForms, StandsAlike, StandsOrLacks, came_later, index_count}
 
 -- ---- a list of one

@@ -12,10 +12,10 @@ use Rattle.office_base.specs.Tables.{Tables, IsSorted, after_puts, ChangesKeepOr
 use Rattle.office_base.specs.declared.puts.Put.{Put}
 use Rattle.office_base.specs.declared.shelf.ShelfFault.{ShelfFault}
 use Rattle.office_base.specs.declared.shelf.ShelfFault.TheVariants.{NoMemory, Store}
-use Rattle.office_sql.specs.Failing.{fault_of, IsExcused, ChangeFails}
-use Rattle.office_sql.specs.Laws.{TreesTellOneOffice}
-use Rattle.office_sql.specs.Standing.{Holds}
-use Rattle.office_sql.specs.Steps.{Refused, Applied, Leaves, LeavesPuts, ShowsTables, MayLeave}
+use Rattle.office_tables.specs.Failing.{fault_of, IsExcused, ChangeFails}
+use Rattle.office_tables.specs.Laws.{TreesTellOneOffice}
+use Rattle.office_tables.specs.Standing.{Holds}
+use Rattle.office_tables.specs.Steps.{Refused, Applied, Leaves, LeavesPuts, ShowsTables, MayLeave}
 use Rattle.office_store.specs.SqlMeaning.{sql_meaning, LeavesOffices}
 use Rattle.office_store.specs.LedgerRows.{KeepsOffice}
 use Rattle.office_store.proofs.Once.{schema_once}

@@ -16,9 +16,9 @@ use office_base::records::{
 };
 use office_base::shelf::{Lookups, Shelf, ShelfFault};
 use office_changes::apply::apply_all;
-use office_sql::faults::fault;
-use office_sql::laws::trees_tell_one_office;
-use office_sql::{lists, lookups, pages};
+use office_tables::faults::fault;
+use office_tables::laws::trees_tell_one_office;
+use office_tables::{lists, lookups, pages};
 use office_values::given::AskedNumber;
 use office_values::id::Id;
 use sqlite::{Alter, Connection};

@@ -7,9 +7,9 @@ use office_base::records::{
     AwardRow, BatchRow, ClockRow, CompiledRow, ContractRow, EntryRow, EnvelopeRow, LineRow, LotRow,
     NoticeRow, PerformanceRow, ReleaseRow, SealRow, SecurityRow, TendererRow,
 };
-use office_rows::items::items_text;
-use office_rows::stored::{FormerClock, FormerNotice, Stored, all};
-use office_rows::values::{
+use office_tables::items::items_text;
+use office_tables::stored::{FormerClock, FormerNotice, Stored, all};
+use office_tables::values::{
     award_values, batch_values, clock_values, compiled_values, contract_values, entry_values,
     envelope_values, line_values, lot_values, notice_values, performance_values, release_values,
     seal_values, security_values, tenderer_values,

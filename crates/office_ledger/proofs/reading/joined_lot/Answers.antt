@@ -2,13 +2,13 @@ use Rattle.std.proofs.Common.{◌≡◌, refl, ap, sym, subst, ◌∙◌, IfOk, 
 use Rattle.std.proofs.lemmas.Result.{IfOk-weaker}
 use Rattle.sqlite_value.specs.Order.{Row}
 use Rattle.office_base.specs.Faults.{IsFaultOf}
-use Rattle.office_rows.specs.Unwritten.{IsUnwritten}
+use Rattle.office_tables.specs.Unwritten.{IsUnwritten}
 use Rattle.office_ledger.specs.declared.joined.JoinedLot.{JoinedLot}
 use Rattle.office_ledger.specs.Reading.{joined_lot_read}
 use Rattle.office_ledger.specs.Shows.{joined_lot_cells}
 use Rattle.office_ledger.specs.Fits.{LotFits}
 use Rattle.office_ledger.proofs.BackAgain.{lot_back}
-use Rattle.office_rows.proofs.Exactly.{columns_are, other_width}
+use Rattle.office_tables.proofs.Exactly.{columns_are, other_width}
 use Rattle.office_ledger.proofs.reading.joined_lot.Goals as goal
 
 pub returns-in_err-has_columns-clause-cause : goal.returns-in_err-has_columns-clause-cause

@@ -3,7 +3,7 @@ use Rattle.office_ledger.specs.Cells.{joined_cells}
 use Rattle.office_ledger.specs.Reading.{joined_read}
 use Rattle.office_ledger.specs.Fits.{JoinedFits}
 use Rattle.office_ledger.proofs.BackAgain.{row_back}
-use Rattle.office_rows.proofs.Exactly.{columns_are, other_width}
+use Rattle.office_tables.proofs.Exactly.{columns_are, other_width}
 use Rattle.office_ledger.proofs.reading.joined_row.Goals as goal
 
 pub returns-in_err-has_columns-clause-cause : goal.returns-in_err-has_columns-clause-cause

@@ -1,0 +1,51 @@
+pub mod Exactly
+pub mod ItemLemmas
+pub mod ItemReading
+pub mod RowsBack
+mod Sorted
+mod KeptRows
+pub mod Childless
+mod Upserted
+mod RowsPut
+mod Selected
+mod RowsDropped
+mod Meanings
+mod Made
+mod LoweredColumns
+mod Whole
+mod Simple
+mod Selecting
+mod SelectTexts
+mod LotTexts
+mod Asking
+mod Deletes
+mod Drops
+mod Selects
+mod PageTexts
+mod PageSelects
+mod Asked
+mod Reading
+mod Cells
+mod Keyed
+mod Upserts
+mod Renewed
+mod Writes
+mod Keys
+mod StoredRows
+mod Held
+mod PutTexts
+pub mod PutsApart
+mod PutStatements
+mod DropStatements
+mod Stepping
+mod CreateTexts
+mod Grown
+mod CreateFacts
+mod Makes
+mod Founds
+mod MakingSteps
+mod Emptied
+pub mod FirstVersion
+mod Told
+mod Versions
+mod Failing

@@ -1,0 +1,12 @@
+use Rattle.std.proofs.Common.{◌∙◌}
+use Rattle.office_tables.specs.Releases.{clock_read}
+use Rattle.office_tables.proofs.SelectTexts.{get_clock as text}
+use Rattle.office_tables.proofs.Selects.{select_get_clock}
+use Rattle.office_tables.proofs.Asked.{asked, only_one, same_found}
+use Rattle.office_tables.proofs.lookups.get_clock.Goals as goal
+
+pub returns-in-Ok-clause-got : goal.returns-in-Ok-clause-got
+returns-in-Ok-clause-got g c clean t shows =
+    let it = c.in-Ok.ensures.asked clean in
+    same_found c.clock_of.result _ t.clock c.clock_of.ensures
+    (asked g.S.Store text _ c.args.conn.now it.0 t _ it.1 shows (λ before after holds shown. it.2 ∙ only_one clock_read it.0 t.clock (select_get_clock before after it.0 t holds shown)))

@@ -1,0 +1,12 @@
+use Rattle.std.specs.Prelude.{option_map, slice_get}
+use Rattle.std.proofs.Common.{◌≡◌, ◌∙◌}
+use Rattle.office_tables.specs.Tenders.{envelope_read}
+use Rattle.office_tables.proofs.SelectTexts.{get_envelope as text}
+use Rattle.office_tables.proofs.Selects.{select_get_envelope}
+use Rattle.office_tables.proofs.Asked.{told}
+use Rattle.office_tables.proofs.lookups.get_envelope.Goals as goal
+
+pub returns-clause-got : goal.returns-clause-got
+returns-clause-got g c clean t shows =
+    told g.S.Store text _ c.args.conn.now c.ask_first.result (λ found rows. found ≡ option_map envelope_read (slice_get rows 0)) t _ (rw c.number_value.ensures at (c.ask_first.ensures.asked clean)) shows
+    (λ before after rows found holds shown from. from ∙ select_get_envelope before after rows t holds c.args.receipt shown)

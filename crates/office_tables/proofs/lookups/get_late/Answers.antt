@@ -1,0 +1,12 @@
+use Rattle.std.specs.Prelude.{option_map, slice_get}
+use Rattle.std.proofs.Common.{◌≡◌, ◌∙◌}
+use Rattle.office_tables.specs.Notices.{late_read}
+use Rattle.office_tables.proofs.SelectTexts.{get_late as text}
+use Rattle.office_tables.proofs.Selects.{select_get_late}
+use Rattle.office_tables.proofs.Asked.{told}
+use Rattle.office_tables.proofs.lookups.get_late.Goals as goal
+
+pub returns-clause-got : goal.returns-clause-got
+returns-clause-got g c clean t shows =
+    told g.S.Store text _ c.args.conn.now c.ask_first.result (λ found rows. found ≡ option_map late_read (slice_get rows 0)) t _ (rw c.id_value.ensures at (c.ask_first.ensures.asked clean)) shows
+    (λ before after rows found holds shown from. from ∙ select_get_late before after rows t holds c.args.notice.now shown)

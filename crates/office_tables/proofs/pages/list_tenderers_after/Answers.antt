@@ -1,0 +1,18 @@
+use Rattle.std.specs.Prelude.{map}
+use Rattle.std.proofs.Common.{◌≡◌, ◌∙◌, ap, sym}
+use Rattle.office_base.specs.Pages.{tenderers_after}
+use Rattle.office_tables.specs.Notices.{tenderer_read}
+use Rattle.office_tables.proofs.PageTexts.{list_tenderers_above as above, list_first_tenderers as first}
+use Rattle.office_tables.proofs.PageSelects.{select_list_tenderers_above, select_list_first_tenderers}
+use Rattle.office_tables.proofs.Asked.{told}
+use Rattle.office_tables.proofs.pages.list_tenderers_after.Goals as goal
+
+pub returns-in-Some-clause-got : goal.returns-in-Some-clause-got
+returns-in-Some-clause-got g c clean t shows =
+    told g.S.Store above _ c.args.conn.now c.ask_all.result (λ found rows. found.items ≡ map tenderer_read rows) t _ (rw (c.id_value.ensures, c.count_value.ensures) at (c.ask_all.ensures.asked clean)) shows
+    (λ before after rows found holds shown from. from ∙ select_list_tenderers_above before after rows t holds c.in-Some.tenderer c.args.most shown ∙ ap (λ key. tenderers_after key c.args.most t) (sym c.in-Some.is))
+
+pub returns-in-None-clause-got : goal.returns-in-None-clause-got
+returns-in-None-clause-got g c clean t shows =
+    told g.S.Store first _ c.args.conn.now c.ask_all-in-None.result (λ found rows. found.items ≡ map tenderer_read rows) t _ (rw c.count_value-in-None.ensures at (c.ask_all-in-None.ensures.asked clean)) shows
+    (λ before after rows found holds shown from. from ∙ select_list_first_tenderers before after rows t holds c.args.most shown ∙ ap (λ key. tenderers_after key c.args.most t) (sym c.in-None.is))

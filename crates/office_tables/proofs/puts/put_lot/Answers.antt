@@ -1,0 +1,18 @@
+use Rattle.std.proofs.Common.{ap, sym, ◌∙◌}
+use Rattle.office_tables.specs.ItemTexts.{items_in_text}
+use Rattle.sqlite.specs.Held.{state}
+use Rattle.office_base.specs.declared.puts.Put.TheVariants.{Lot}
+use Rattle.office_tables.proofs.Failing.{if_err_with, put_fails}
+use Rattle.office_tables.proofs.PutStatements.{puts_lot}
+use Rattle.office_tables.proofs.Stepping.{on_ok_with}
+use Rattle.office_tables.proofs.puts.put_lot.Goals as goal
+
+pub returns-clause-puts : goal.returns-clause-puts
+returns-clause-puts g c clean inside =
+    on_ok_with c.execute_one.result _ _ (rw c.lot_values.ensures.row at (c.execute_one.ensures.ran clean inside)) (λ h.
+    puts_lot (state g.S.Store c.args.tx.now.conn.now) (state g.S.Store c.execute_one.new.tx.conn.now) c.args.row.now h.0 c.lots_come_back.ensures (ap items_in_text (sym c.in_ok-items.ensures.text) ∙ c.in_ok-items.ensures.back) h.1)
+
+pub returns-clause-failed : goal.returns-clause-failed
+returns-clause-failed g c clean inside t was =
+    if_err_with c.execute_one.result _ _ (rw c.lot_values.ensures.row at (c.execute_one.ensures.failed clean inside)) (λ e h.
+    put_fails (state g.S.Store c.args.tx.now.conn.now) (state g.S.Store c.execute_one.new.tx.conn.now) (Lot c.args.row.now) t was e h)
