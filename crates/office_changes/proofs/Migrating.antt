@@ -20,10 +20,10 @@ use Rattle.office_tables.specs.declared.stored.FormerNotice.{FormerNotice}
 use Rattle.office_tables.specs.Apart.{AddsNoReference, LeadsInside}
 use Rattle.office_tables.specs.First.{AreApart, IsMigrated, Begins}
 use Rattle.office_tables.specs.Known.{IsIn}
-use Rattle.office_tables.specs.Schema.{notices as version_two}
-use Rattle.office_tables.specs.Schema.OfficeTable.{Notices}
+use Rattle.office_tables.specs.Tables.Notices.{notices as version_two}
 use Rattle.office_tables.specs.Standing.{Holds}
 use Rattle.office_tables.specs.Steps.{MakeAll, Puts}
+use Rattle.office_tables.specs.Schema.OfficeTable.{Notices}
 use Rattle.office_tables.proofs.Childless.{SparesMarked}
 use Rattle.office_tables.proofs.FirstVersion.{first_sorted}
 use Rattle.office_tables.proofs.PutsApart.{notice_apart}

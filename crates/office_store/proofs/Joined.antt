@@ -20,15 +20,16 @@ use Rattle.sqlite.specs.Held.{Held, state}
 use Rattle.office_values.specs.Ids.{id_cmp}
 use Rattle.office_base.specs.Rows.{row_put}
 use Rattle.office_base.specs.Tables.{Tables, IsSorted, line_key, lot_key, lot_cmp, contract_key, entry_key, entry_cmp}
-use Rattle.office_tables.specs.Budget.{line_values, line_by_rowid}
-use Rattle.office_tables.specs.Notices.{lot_values, lot_by_rowid}
-use Rattle.office_tables.specs.Awards.{contract_values, contract_read, entry_values, entry_by_rowid}
-use Rattle.office_tables.specs.Kept.{rows_kept as kept_of, row_behind_rowid, by_rowid, read_by_rowid}
+use Rattle.office_tables.specs.Tables.Lines.{line_values, line_by_rowid}
+use Rattle.office_tables.specs.Tables.Lots.{lot_values, lot_by_rowid}
+use Rattle.office_tables.specs.Tables.Contracts.{contract_values, contract_read}
+use Rattle.office_tables.specs.Tables.Entries.{entry_values, entry_by_rowid}
+use Rattle.office_tables.specs.Kept.{rows_kept as kept_of, row_behind_rowid, by_rowid, read_by_rowid, Stand}
 use Rattle.office_tables.specs.Known.{IsIn, at_tree}
 use Rattle.office_tables.specs.Schema.{table_of}
-use Rattle.office_tables.specs.Schema.OfficeTable.{Lines, Lots, Contracts, Entries}
-use Rattle.office_tables.specs.Standing.{Stand, Holds}
+use Rattle.office_tables.specs.Standing.{Holds}
 use Rattle.office_tables.specs.Steps.{IsAsked, ShowsTables}
+use Rattle.office_tables.specs.Schema.OfficeTable.{Lines, Lots, Contracts, Entries}
 use Rattle.office_ledger.specs.Joins.{joined, joined_lots}
 use Rattle.office_ledger.specs.Cells.{joined_cells}
 use Rattle.office_ledger.specs.Known.{Holds as HasTable}

@@ -22,7 +22,7 @@ use Rattle.office_base.specs.Rows.{by_order, row_at, IsInOrder}
 use Rattle.office_base.proofs.ExactKeys.{equal_keys}
 use Rattle.office_base.proofs.RowLaws.Starts.{all_above}
 use Rattle.office_base.proofs.RowLaws.Filters.{all_filter}
-use Rattle.office_tables.specs.Standing.{Stand}
+use Rattle.office_tables.specs.Kept.{Stand}
 use Rattle.office_tables.proofs.KeptRows.{in_order-rows_kept}
 use Rattle.office_tables.proofs.Selected.{selects, comes_back, picked, passes_query, lists as all_in_order}
 use Rattle.office_tables.proofs.Meanings.{StatementMeans}

@@ -3,7 +3,22 @@ use Rattle.std.proofs.Common.{refl}
 use Rattle.sqlite_resolve.specs.Compile.{first}
 use Rattle.sqlite_tied.specs.Compute.{everything}
 use Rattle.sqlite.specs.Listing.{listing_schema}
-use Rattle.office_tables.specs.Schema.{lines, create_lines, batches, create_batches, tenderers, create_tenderers, notices, create_notices, lots, create_lots, envelopes, create_envelopes, seals, create_seals, securities, create_securities, awards, create_awards, contracts, create_contracts, entries, create_entries, releases, create_releases, compiled, create_compiled, office, create_office, late_rules, create_late_rules, former_notices, create_former_notices, performance, create_performance, lots_of_line, create_lots_of_line, envelopes_of_notice, create_envelopes_of_notice, securities_of_notice, create_securities_of_notice, awards_of_notice, create_awards_of_notice, contracts_of_notice, create_contracts_of_notice}
+use Rattle.office_tables.specs.Tables.Lines.{lines, create_lines}
+use Rattle.office_tables.specs.Tables.Batches.{batches, create_batches}
+use Rattle.office_tables.specs.Tables.Tenderers.{tenderers, create_tenderers}
+use Rattle.office_tables.specs.Tables.Notices.{notices, create_notices, former_notices, create_former_notices}
+use Rattle.office_tables.specs.Tables.Lots.{lots, create_lots, lots_of_line, create_lots_of_line}
+use Rattle.office_tables.specs.Tables.Envelopes.{envelopes, create_envelopes, envelopes_of_notice, create_envelopes_of_notice}
+use Rattle.office_tables.specs.Tables.Seals.{seals, create_seals}
+use Rattle.office_tables.specs.Tables.Securities.{securities, create_securities, securities_of_notice, create_securities_of_notice}
+use Rattle.office_tables.specs.Tables.Awards.{awards, create_awards, awards_of_notice, create_awards_of_notice}
+use Rattle.office_tables.specs.Tables.Contracts.{contracts, create_contracts, contracts_of_notice, create_contracts_of_notice}
+use Rattle.office_tables.specs.Tables.Entries.{entries, create_entries}
+use Rattle.office_tables.specs.Tables.Releases.{releases, create_releases}
+use Rattle.office_tables.specs.Tables.Compiled.{compiled, create_compiled}
+use Rattle.office_tables.specs.Tables.Office.{office, create_office}
+use Rattle.office_tables.specs.Tables.LateRules.{late_rules, create_late_rules}
+use Rattle.office_tables.specs.Tables.Performances.{performance, create_performance}
 use Rattle.office_tables.specs.Making.{IsCreate, IsIndexing}
 use Rattle.office_tables.proofs.Meanings.{parsed_in}
 use Rattle.office_tables.proofs.CreateTexts.{ReadsTable, ReadsIndex, creates_it, indexes_it}

@@ -13,14 +13,14 @@ use Rattle.sqlite_tied.specs.Compute.{everything}
 use Rattle.sqlite.specs.State.{State, ExecutesInside}
 use Rattle.office_base.specs.Tables.{Tables, after_put, seal_key}
 use Rattle.office_base.specs.declared.puts.Put.TheVariants.{DropSeal}
-use Rattle.office_tables.specs.Tenders.{seal_values, seal_read}
-use Rattle.office_tables.specs.Schema.{OfficeTable, column_of, seals}
-use Rattle.office_tables.specs.Schema.OfficeTable.{Seals}
+use Rattle.office_tables.specs.Tables.Seals.{seal_values, seal_read, delete_seal, seals}
+use Rattle.office_tables.specs.Schema.{OfficeTable, StandFor}
+use Rattle.office_tables.specs.Forms.{column_of}
 use Rattle.office_tables.specs.Known.{IsIn, at_tree}
 use Rattle.office_tables.specs.Kept.{by_rowid, read_by_rowid}
-use Rattle.office_tables.specs.Standing.{StandFor, Stands}
-use Rattle.office_tables.specs.Statements.{delete_seal}
+use Rattle.office_tables.specs.Standing.{Stands}
 use Rattle.office_tables.specs.Steps.{Puts}
+use Rattle.office_tables.specs.Schema.OfficeTable.{Seals}
 use Rattle.office_tables.proofs.Meanings.{StatementMeans, IsOne, parsed_in}
 use Rattle.office_tables.proofs.Simple.{equals_e, one_test}
 use Rattle.office_tables.proofs.Selecting.{select, found_by_tree}

@@ -23,10 +23,9 @@ use Rattle.sqlite.specs.Does.{Tally, AtPlace, OnRows}
 use Rattle.sqlite.specs.State.{State, mode_of, Executes}
 use Rattle.sqlite.proofs.Callers.{runs_as}
 use Rattle.office_base.specs.Rows.{row_drop}
-use Rattle.office_tables.specs.Kept.{key_of}
+use Rattle.office_tables.specs.Kept.{key_of, Stand}
 use Rattle.office_tables.specs.Schema.{OfficeTable, table_of}
 use Rattle.office_tables.specs.Known.{at_tree, Places, HasTables}
-use Rattle.office_tables.specs.Standing.{Stand}
 use Rattle.office_tables.proofs.Childless.{IsOwn, writes, spared_own}
 use Rattle.office_tables.proofs.Upserted.{went, same_value}
 use Rattle.office_tables.proofs.RowsDropped as drop

@@ -17,10 +17,10 @@ use Rattle.office_base.specs.declared.puts.Put.{Put}
 use Rattle.office_base.specs.declared.puts.Put.TheVariants.{Line, Batch, Tenderer, Notice, Lot, Envelope, Seal, DropSeal, Security, Award, Contract, Entry, Release, Compiled as CompiledOne, Late, Performance, Clock}
 use Rattle.office_tables.specs.Failing.{IsExcused, DiskFails, Declines, StoreFails}
 use Rattle.office_tables.specs.Known.{Places, HasTables}
-use Rattle.office_tables.specs.Schema.OfficeTable.{Lines, Batches, Tenderers, Notices, Lots, Envelopes, Seals, Securities, Awards, Contracts, Entries, Releases, Compiled as CompiledTable, Office, LateRules, Performances}
 use Rattle.office_tables.specs.Standing.{Holds}
-use Rattle.office_tables.specs.Statements.{statement_of, values_of_put}
+use Rattle.office_tables.specs.Schema.{statement_of, values_of_put}
 use Rattle.office_tables.specs.Version.{get_version}
+use Rattle.office_tables.specs.Schema.OfficeTable.{Lines, Batches, Tenderers, Notices, Lots, Envelopes, Seals, Securities, Awards, Contracts, Entries, Releases, Compiled as CompiledTable, Office, LateRules, Performances}
 use Rattle.office_tables.proofs.Made.{is_change, shows, quiet}
 use Rattle.office_tables.proofs.Meanings.{StatementMeans, IsOne, from_text}
 use Rattle.office_tables.proofs.DropStatements.{drop_seal_means, drop_seal_one}

@@ -28,21 +28,21 @@ use Rattle.office_base.proofs.RowLaws.{all-put}
 use Rattle.office_base.specs.declared.records.ClockRow.{ClockRow}
 use Rattle.office_base.specs.declared.records.NoticeRow.{NoticeRow}
 use Rattle.office_tables.specs.ComesBack.{ComesBack}
-use Rattle.office_tables.specs.Notices.{former_values, former_read, former_by_rowid}
-use Rattle.office_tables.specs.Releases.{clock_values, clock_values_of, clock_read, clock_by_rowid}
-use Rattle.office_tables.specs.declared.stored.FormerClock.{FormerClock}
-use Rattle.office_tables.specs.declared.stored.FormerNotice.{FormerNotice}
-use Rattle.office_tables.specs.Clock.{clock_key, clock_cmp}
+use Rattle.office_tables.specs.Tables.Office.{office, clock_values, clock_values_of, clock_read, clock_key, clock_cmp}
+use Rattle.office_tables.specs.Tables.Notices.{former_values, former_read, former_by_rowid, former_notices}
+use Rattle.office_tables.specs.Releases.{clock_by_rowid}
 use Rattle.office_tables.specs.Apart.{AddsNoReference, LeadsInside}
 use Rattle.office_tables.specs.First.{tables_since_version_1, has_table, has_late, drop_notices, drop_version, StandForFirst, IsNothing, StandsFirst, HoldsFirst, IsMigrated, Renews, Begins}
-use Rattle.office_tables.specs.Kept.{rows_kept as records_of, row_behind_rowid, by_rowid, read_by_rowid}
+use Rattle.office_tables.specs.Kept.{rows_kept as records_of, row_behind_rowid, by_rowid, read_by_rowid, Stand}
 use Rattle.office_tables.specs.Known.{IsIn, Places, HasTables, at_tree}
 use Rattle.office_tables.specs.Laws.{KnowsNoPerformances}
 use Rattle.office_tables.specs.Making.{AreMade, KeepsOffice, Makes}
-use Rattle.office_tables.specs.Schema.{OfficeTable, table_of, former_notices, office}
-use Rattle.office_tables.specs.Schema.OfficeTable.{Notices, LateRules, FormerNotices, Performances, Office}
-use Rattle.office_tables.specs.Standing.{Stand, StandFor, Stands, Holds}
+use Rattle.office_tables.specs.Schema.{OfficeTable, table_of, StandFor}
+use Rattle.office_tables.specs.Standing.{Stands, Holds}
 use Rattle.office_tables.specs.Version.{HasVersion}
+use Rattle.office_tables.specs.declared.stored.FormerClock.{FormerClock}
+use Rattle.office_tables.specs.declared.stored.FormerNotice.{FormerNotice}
+use Rattle.office_tables.specs.Schema.OfficeTable.{Notices, LateRules, FormerNotices, Performances, Office}
 use Rattle.office_tables.proofs.Deletes.{IsDelete, delete_means}
 use Rattle.office_tables.proofs.Emptied.{empties}
 use Rattle.office_tables.proofs.Founds.{nothing as no_rows}

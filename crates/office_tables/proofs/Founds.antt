@@ -9,15 +9,15 @@ use Rattle.sqlite.specs.State.{State, Executes}
 use Rattle.office_base.specs.Rows.{row_put}
 use Rattle.office_base.specs.Tables.{no_tables}
 use Rattle.office_base.specs.declared.records.ClockRow.{ClockRow}
-use Rattle.office_tables.specs.Releases.{clock_values, clock_read, clock_by_rowid}
+use Rattle.office_tables.specs.Tables.Office.{clock_values, clock_read, clock_key, clock_cmp}
+use Rattle.office_tables.specs.Releases.{clock_by_rowid}
 use Rattle.office_tables.specs.ComesBack.{ComesBack}
-use Rattle.office_tables.specs.Clock.{clock_key, clock_cmp}
-use Rattle.office_tables.specs.Schema.{OfficeTable, table_of}
-use Rattle.office_tables.specs.Schema.OfficeTable.{Lines, Batches, Tenderers, Notices, Lots, Envelopes, Seals, Securities, Awards, Contracts, Entries, Releases, Compiled, Office, LateRules, FormerNotices, Performances}
+use Rattle.office_tables.specs.Schema.{OfficeTable, table_of, StandFor, all_tables}
 use Rattle.office_tables.specs.Known.{IsIn, Places, HasTables}
-use Rattle.office_tables.specs.Kept.{by_rowid, read_by_rowid}
-use Rattle.office_tables.specs.Standing.{Stand, StandFor, Stands, Holds}
-use Rattle.office_tables.specs.Making.{AreMade, KeepsOthers, AreNew, all_tables}
+use Rattle.office_tables.specs.Kept.{by_rowid, read_by_rowid, Stand}
+use Rattle.office_tables.specs.Standing.{Stands, Holds}
+use Rattle.office_tables.specs.Making.{AreMade, KeepsOthers, AreNew}
+use Rattle.office_tables.specs.Schema.OfficeTable.{Lines, Batches, Tenderers, Notices, Lots, Envelopes, Seals, Securities, Awards, Contracts, Entries, Releases, Compiled, Office, LateRules, FormerNotices, Performances}
 use Rattle.sqlite_schema.specs.declared.schema.Schema.{Schema}
 use Rattle.sqlite_schema.specs.declared.schema.Table.{Table}
 use Rattle.sqlite_rules.specs.Lists.{Has}

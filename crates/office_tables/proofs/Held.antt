@@ -9,7 +9,8 @@ use Rattle.office_base.specs.Tables.{Tables, after_put}
 use Rattle.office_base.specs.declared.puts.Put.{Put}
 use Rattle.office_tables.specs.Schema.{OfficeTable}
 use Rattle.office_tables.specs.Known.{HasTables}
-use Rattle.office_tables.specs.Standing.{Stand, Stands, Holds}
+use Rattle.office_tables.specs.Kept.{Stand}
+use Rattle.office_tables.specs.Standing.{Stands, Holds}
 use Rattle.office_tables.specs.Steps.{Goes, MakesOne, Puts}
 use Rattle.office_tables.proofs.Writes.{IsPut, with_rows}
 

@@ -12,13 +12,13 @@ use Rattle.std.proofs.lemmas.List.Quantifiers.{position-Some}
 use Rattle.std.proofs.lemmas.List.{take_rest}
 use Rattle.office_commands.specs.declared.item.Item.{Item}
 use Rattle.office_tables.specs.ItemTexts.{item_then, items_text, items_in_text, text_before, text_behind, item_rest, Avoids, ItemFits, IsItem, AreItems}
+use Rattle.office_tables.specs.Ranges.{IsWithin}
+use Rattle.office_tables.specs.Unwritten.{IsUnwritten}
 use Rattle.office_commands.specs.Identified.{repeats_id}
 use Rattle.office_commands.specs.Items.{item_id}
 use Rattle.office_base.specs.declared.shelf.ShelfFault.{ShelfFault}
 use Rattle.office_base.specs.declared.shelf.ShelfFault.TheVariants.{Store}
 use Rattle.office_base.specs.Faults.{IsFaultOf}
-use Rattle.office_tables.specs.Ranges.{IsWithin}
-use Rattle.office_tables.specs.Unwritten.{IsUnwritten}
 use Rattle.office_tables.proofs.ItemLemmas.{before_is, behind_is, item_len, item_fits, behind_item, digits_avoid, rest_is, items_back, items_text-push}
 
 -- ---- a cut

@@ -2,7 +2,7 @@
 use Rattle.std.proofs.Common.{refl}
 use Rattle.std.specs.Cmp.{IsTotalOrder}
 use Rattle.std.specs.FinMap.{IsAntisymmetric}
-use Rattle.office_tables.specs.Clock.{clock_cmp}
+use Rattle.office_tables.specs.Tables.Office.{clock_cmp}
 
 pub clock_total : IsTotalOrder clock_cmp
 clock_total = record { antisymm = λ a b. refl; trans = λ a b c h k. h; congr = λ a b c h. refl }

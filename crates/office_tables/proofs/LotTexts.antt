@@ -7,7 +7,9 @@ use Rattle.sqlite_schema.specs.declared.schema.Kind.TheVariants.{Integer, Text}
 use Rattle.sqlite_schema.specs.declared.command.Command.TheVariants.{Select}
 use Rattle.sqlite_resolve.specs.Lowering.{alone, chosen, first_found}
 use Rattle.sqlite_tied.specs.Compute.{everything}
-use Rattle.office_tables.specs.Schema.{column_of, envelopes, securities}
+use Rattle.office_tables.specs.Forms.{column_of}
+use Rattle.office_tables.specs.Tables.Envelopes.{envelopes}
+use Rattle.office_tables.specs.Tables.Securities.{securities}
 use Rattle.office_tables.specs.Known.{IsIn, at_tree}
 use Rattle.office_tables.proofs.Meanings.{StatementMeans, parsed_in}
 use Rattle.office_tables.proofs.Simple.{equals_e, both_e, names_of, outputs_of, two_tests}

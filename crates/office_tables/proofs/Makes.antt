@@ -24,10 +24,10 @@ use Rattle.sqlite.specs.State.{State, Writes, Executes, ExecutesIn, mode_of}
 use Rattle.sqlite.specs.Listing.{understood}
 use Rattle.sqlite.proofs.Callers.{runs_as, command_of, statement_of, IsPlain}
 use Rattle.office_tables.specs.Schema.{OfficeTable, table_of}
-use Rattle.office_tables.specs.Schema.OfficeTable.{Lines, Batches, Tenderers, Notices, Lots, Envelopes, Seals, Securities, Awards, Contracts, Entries, Releases, Compiled as Merges, Office, LateRules, FormerNotices, Performances}
 use Rattle.office_tables.specs.Apart.{AddsNoReference}
 use Rattle.office_tables.specs.Known.{IsIn, at_tree}
 use Rattle.office_tables.specs.Making.{Says, IsCreate, IsIndexing, AreMade, KeepsOthers, KeepsOffice, AreNew}
+use Rattle.office_tables.specs.Schema.OfficeTable.{Lines, Batches, Tenderers, Notices, Lots, Envelopes, Seals, Securities, Awards, Contracts, Entries, Releases, Compiled as Merges, Office, LateRules, FormerNotices, Performances}
 use Rattle.sqlite_catalog.proofs.ListFacts.{none_placed}
 use Rattle.office_tables.proofs.Keyed.{keyed}
 use Rattle.office_tables.proofs.Upserted.{went, same_value}

@@ -5,10 +5,11 @@ use Rattle.sqlite.specs.Effect.{IsDatabase}
 use Rattle.sqlite.specs.State.{State, ExecutesInside}
 use Rattle.office_base.specs.Tables.{first_clock}
 use Rattle.office_tables.specs.ComesBack.{ComesBack}
-use Rattle.office_tables.specs.Releases.{clock_values, clock_read, clock_by_rowid}
-use Rattle.office_tables.specs.Schema.{OfficeTable, table_of}
+use Rattle.office_tables.specs.Tables.Office.{clock_values, clock_read}
+use Rattle.office_tables.specs.Releases.{clock_by_rowid}
+use Rattle.office_tables.specs.Schema.{OfficeTable, table_of, all_tables}
 use Rattle.office_tables.specs.Steps.{Goes, Refused}
-use Rattle.office_tables.specs.Making.{IsCreate, IsIndexing, AreMade, Makes, Indexes, Founds, all_tables}
+use Rattle.office_tables.specs.Making.{IsCreate, IsIndexing, AreMade, Makes, Indexes, Founds}
 use Rattle.office_tables.proofs.Held.{goes_on}
 use Rattle.office_tables.proofs.Childless.{all-append}
 use Rattle.office_tables.proofs.Makes.{makes_table, makes_index, table_others, index_others, others_then, stays_then, added_then, all_so}

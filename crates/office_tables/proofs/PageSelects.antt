@@ -17,10 +17,11 @@ use Rattle.office_base.specs.Pages.{is_after, notices_after, tenderers_after}
 use Rattle.office_base.specs.declared.records.NoticeRow.{NoticeRow}
 use Rattle.office_base.specs.declared.records.TendererRow.{TendererRow}
 use Rattle.office_base.proofs.ExactKeys.{ids_exact}
-use Rattle.office_tables.specs.Notices.{tenderer_values, tenderer_read, tenderer_by_rowid, notice_values, notice_read, notice_by_rowid}
-use Rattle.office_tables.specs.Schema.OfficeTable.{Tenderers, Notices}
+use Rattle.office_tables.specs.Tables.Tenderers.{tenderer_values, tenderer_read, tenderer_by_rowid}
+use Rattle.office_tables.specs.Tables.Notices.{notice_values, notice_read, notice_by_rowid}
 use Rattle.office_tables.specs.Kept.{row_behind_rowid}
 use Rattle.office_tables.specs.Standing.{Holds}
+use Rattle.office_tables.specs.Schema.OfficeTable.{Tenderers, Notices}
 use Rattle.office_tables.proofs.Cells.{text_above, and_true, then_equal}
 use Rattle.office_tables.proofs.PageTexts.{list_first_notices, list_first_notices_means, list_notices_above, list_notices_above_means, list_first_tenderers, list_first_tenderers_means, list_tenderers_above, list_tenderers_above_means}
 use Rattle.office_tables.proofs.Asking.{pages}

@@ -13,7 +13,9 @@ use Rattle.sqlite_ast.specs.declared.Expr.{Expr, roll-Expr}
 use Rattle.sqlite_ast.specs.declared.Expr.TheOpen.{Expr-F}
 use Rattle.sqlite_resolve.specs.Lowering.{alone, chosen, first_found}
 use Rattle.sqlite_tied.specs.Compute.{everything}
-use Rattle.office_tables.specs.Schema.{column_of, notices, tenderers}
+use Rattle.office_tables.specs.Forms.{column_of}
+use Rattle.office_tables.specs.Tables.Notices.{notices}
+use Rattle.office_tables.specs.Tables.Tenderers.{tenderers}
 use Rattle.office_tables.specs.Known.{IsIn, at_tree}
 use Rattle.office_tables.proofs.Meanings.{StatementMeans, parsed_in}
 use Rattle.office_tables.proofs.LoweredColumns.{parameter_counts}

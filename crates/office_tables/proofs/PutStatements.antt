@@ -22,19 +22,32 @@ use Rattle.office_base.specs.declared.records.LateRow.{LateRow}
 use Rattle.office_base.specs.declared.records.PerformanceRow.{PerformanceRow}
 use Rattle.office_base.specs.declared.records.ClockRow.{ClockRow}
 use Rattle.office_base.specs.declared.puts.Put.TheVariants.{Line, Batch, Tenderer, Notice, Lot, Envelope, Seal, Security, Award, Contract, Entry, Release, Compiled, Late, Performance, Clock}
-use Rattle.office_tables.specs.Budget.{line_values, line_read, line_by_rowid, batch_values, batch_read, batch_by_rowid}
-use Rattle.office_tables.specs.Notices.{tenderer_values, tenderer_read, tenderer_by_rowid, notice_values, notice_read, notice_by_rowid, late_values, late_read, late_by_rowid, lot_values, lot_by_rowid}
-use Rattle.office_tables.specs.Tenders.{envelope_values, envelope_read, envelope_by_rowid, seal_values, seal_read, seal_by_rowid, security_values, security_read, security_by_rowid}
-use Rattle.office_tables.specs.Awards.{award_values, award_read, award_by_rowid, contract_values, contract_read, contract_by_rowid, entry_values, entry_read, entry_by_rowid, performance_values, performance_read, performance_by_rowid}
-use Rattle.office_tables.specs.Releases.{release_values, release_read, release_by_rowid, compiled_values, compiled_read, compiled_by_rowid, clock_values, clock_read, clock_by_rowid}
-use Rattle.office_tables.specs.Clock.{clock_key, clock_cmp}
+use Rattle.office_tables.specs.Tables.Lines.{line_values, line_read, line_by_rowid}
+use Rattle.office_tables.specs.Tables.Batches.{batch_values, batch_read, batch_by_rowid}
+use Rattle.office_tables.specs.Tables.Tenderers.{tenderer_values, tenderer_read, tenderer_by_rowid}
+use Rattle.office_tables.specs.Tables.Notices.{notice_values, notice_read, notice_by_rowid}
+use Rattle.office_tables.specs.Tables.LateRules.{late_values, late_read, late_by_rowid}
+use Rattle.office_tables.specs.Tables.Lots.{lot_values, lot_by_rowid}
+use Rattle.office_tables.specs.Tables.Envelopes.{envelope_values, envelope_read}
+use Rattle.office_tables.specs.Tenders.{envelope_by_rowid, seal_by_rowid, security_by_rowid}
+use Rattle.office_tables.specs.Tables.Seals.{seal_values, seal_read}
+use Rattle.office_tables.specs.Tables.Securities.{security_values, security_read}
+use Rattle.office_tables.specs.Tables.Awards.{award_values, award_read}
+use Rattle.office_tables.specs.Awards.{award_by_rowid, contract_by_rowid, performance_by_rowid}
+use Rattle.office_tables.specs.Tables.Contracts.{contract_values, contract_read}
+use Rattle.office_tables.specs.Tables.Entries.{entry_values, entry_read, entry_by_rowid}
+use Rattle.office_tables.specs.Tables.Performances.{performance_values, performance_read}
+use Rattle.office_tables.specs.Tables.Releases.{release_values, release_read, release_by_rowid}
+use Rattle.office_tables.specs.Tables.Compiled.{compiled_values, compiled_read, compiled_by_rowid}
+use Rattle.office_tables.specs.Tables.Office.{clock_values, clock_read, clock_key, clock_cmp}
+use Rattle.office_tables.specs.Releases.{clock_by_rowid}
 use Rattle.office_tables.specs.ItemTexts.{items_text, items_in_text}
 use Rattle.office_tables.specs.ComesBack.{ComesBack, LotComesBack}
-use Rattle.office_tables.specs.Schema.{OfficeTable}
-use Rattle.office_tables.specs.Schema.OfficeTable.{Lines, Batches, Tenderers, Notices, Lots, Envelopes, Seals, Securities, Awards, Contracts, Entries, Releases, Compiled, Office, LateRules, Performances}
+use Rattle.office_tables.specs.Schema.{OfficeTable, StandFor}
 use Rattle.office_tables.specs.Kept.{row_behind_rowid, by_rowid, read_by_rowid}
-use Rattle.office_tables.specs.Standing.{StandFor, Stands}
+use Rattle.office_tables.specs.Standing.{Stands}
 use Rattle.office_tables.specs.Steps.{Puts}
+use Rattle.office_tables.specs.Schema.OfficeTable.{Lines, Batches, Tenderers, Notices, Lots, Envelopes, Seals, Securities, Awards, Contracts, Entries, Releases, Compiled, Office, LateRules, Performances}
 use Rattle.sqlite_value.specs.Order.{Row}
 use Rattle.office_tables.proofs.Writes.{puts_row, with_rows}
 use Rattle.office_tables.proofs.Held.{holds_put, goes_with}

@@ -5,9 +5,38 @@ use Rattle.sqlite_schema.specs.declared.command.Command.TheVariants.{InsertOr}
 use Rattle.sqlite_schema.specs.declared.command.Conflict.TheVariants.{Abort}
 use Rattle.sqlite_schema.specs.declared.command.Source.TheVariants.{Values}
 use Rattle.sqlite_tied.specs.Compute.{everything}
-pub use Rattle.office_tables.specs.Schema.{upsert_office}
-pub use Rattle.office_tables.specs.Statements.{upsert_lines, upsert_batches, upsert_tenderers, upsert_notices, upsert_lots, upsert_envelopes, upsert_seals, upsert_securities, upsert_awards, upsert_contracts, upsert_entries, upsert_releases, upsert_compiled, upsert_late_rules, upsert_performance}
-use Rattle.office_tables.specs.Schema.{lines, batches, tenderers, notices, lots, envelopes, seals, securities, awards, contracts, entries, releases, compiled, office, late_rules, performance}
+pub use Rattle.office_tables.specs.Tables.Office.{upsert_office}
+pub use Rattle.office_tables.specs.Tables.Lines.{upsert_lines}
+pub use Rattle.office_tables.specs.Tables.Batches.{upsert_batches}
+pub use Rattle.office_tables.specs.Tables.Tenderers.{upsert_tenderers}
+pub use Rattle.office_tables.specs.Tables.Notices.{upsert_notices}
+pub use Rattle.office_tables.specs.Tables.Lots.{upsert_lots}
+pub use Rattle.office_tables.specs.Tables.Envelopes.{upsert_envelopes}
+pub use Rattle.office_tables.specs.Tables.Seals.{upsert_seals}
+pub use Rattle.office_tables.specs.Tables.Securities.{upsert_securities}
+pub use Rattle.office_tables.specs.Tables.Awards.{upsert_awards}
+pub use Rattle.office_tables.specs.Tables.Contracts.{upsert_contracts}
+pub use Rattle.office_tables.specs.Tables.Entries.{upsert_entries}
+pub use Rattle.office_tables.specs.Tables.Releases.{upsert_releases}
+pub use Rattle.office_tables.specs.Tables.Compiled.{upsert_compiled}
+pub use Rattle.office_tables.specs.Tables.LateRules.{upsert_late_rules}
+pub use Rattle.office_tables.specs.Tables.Performances.{upsert_performance}
+use Rattle.office_tables.specs.Tables.Lines.{lines}
+use Rattle.office_tables.specs.Tables.Batches.{batches}
+use Rattle.office_tables.specs.Tables.Tenderers.{tenderers}
+use Rattle.office_tables.specs.Tables.Notices.{notices}
+use Rattle.office_tables.specs.Tables.Lots.{lots}
+use Rattle.office_tables.specs.Tables.Envelopes.{envelopes}
+use Rattle.office_tables.specs.Tables.Seals.{seals}
+use Rattle.office_tables.specs.Tables.Securities.{securities}
+use Rattle.office_tables.specs.Tables.Awards.{awards}
+use Rattle.office_tables.specs.Tables.Contracts.{contracts}
+use Rattle.office_tables.specs.Tables.Entries.{entries}
+use Rattle.office_tables.specs.Tables.Releases.{releases}
+use Rattle.office_tables.specs.Tables.Compiled.{compiled}
+use Rattle.office_tables.specs.Tables.Office.{office}
+use Rattle.office_tables.specs.Tables.LateRules.{late_rules}
+use Rattle.office_tables.specs.Tables.Performances.{performance}
 use Rattle.office_tables.specs.Known.{IsIn, at_tree}
 use Rattle.office_tables.proofs.Meanings.{StatementMeans, IsOne, parsed_in}
 use Rattle.office_tables.proofs.Keyed.{keyed}

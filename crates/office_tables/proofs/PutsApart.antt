@@ -6,14 +6,12 @@ use Rattle.office_base.specs.Tables.{notice_key}
 use Rattle.office_base.specs.declared.puts.Put.TheVariants as puts
 use Rattle.office_base.specs.declared.records.ClockRow.{ClockRow}
 use Rattle.office_base.specs.declared.records.NoticeRow.{NoticeRow}
-use Rattle.office_tables.specs.Notices.{notice_values}
-use Rattle.office_tables.specs.Releases.{clock_values}
-use Rattle.office_tables.specs.Clock.{clock_key, clock_cmp}
+use Rattle.office_tables.specs.Tables.Notices.{notice_values, notices}
+use Rattle.office_tables.specs.Tables.Office.{clock_values, clock_key, clock_cmp, office}
 use Rattle.office_tables.specs.Kept.{row_behind_rowid, by_rowid}
 use Rattle.office_tables.specs.Known.{IsIn}
-use Rattle.office_tables.specs.Schema.{notices, office}
-use Rattle.office_tables.specs.Schema.OfficeTable.{Notices, Office}
 use Rattle.office_tables.specs.Steps.{MakesOne}
+use Rattle.office_tables.specs.Schema.OfficeTable.{Notices, Office}
 use Rattle.office_tables.proofs.Childless.{SparesMarked}
 use Rattle.office_tables.proofs.PutTexts.{upsert_notices, upsert_notices_means, upsert_office, upsert_office_means}
 use Rattle.office_tables.proofs.StoredRows.{bare, notice_terms, notice_cells, notice_stored, clock_terms, clock_cells, clock_stored}

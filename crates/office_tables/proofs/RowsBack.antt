@@ -29,9 +29,14 @@ use Rattle.office_tables.specs.Values.{or_null, perhaps_in, text_or_null, perhap
 use Rattle.office_tables.specs.Words.{notice_state_text, notice_state_in, lot_state_text, lot_state_in, envelope_state_text, envelope_state_in, security_state_text, security_state_in, award_state_text, award_state_in, how_text, how_in, entry_kind_text, entry_kind_in}
 use Rattle.office_tables.specs.Readings.{reading_word, stated_price, corrected_price, count_of_corrections, reading_in}
 use Rattle.office_tables.specs.ItemTexts.{items_text, items_in_text}
-use Rattle.office_tables.specs.Notices.{notice_values, notice_read, former_values, former_read, asks_nothing, lot_values, lot_read}
-use Rattle.office_tables.specs.Tenders.{envelope_values, envelope_read, security_values, security_read}
-use Rattle.office_tables.specs.Awards.{award_values, award_read, contract_values, contract_read, entry_values, entry_read, performance_values, performance_read}
+use Rattle.office_tables.specs.Tables.Notices.{notice_values, notice_read, former_values, former_read, asks_nothing}
+use Rattle.office_tables.specs.Tables.Lots.{lot_values, lot_read}
+use Rattle.office_tables.specs.Tables.Envelopes.{envelope_values, envelope_read}
+use Rattle.office_tables.specs.Tables.Securities.{security_values, security_read}
+use Rattle.office_tables.specs.Tables.Awards.{award_values, award_read}
+use Rattle.office_tables.specs.Tables.Contracts.{contract_values, contract_read}
+use Rattle.office_tables.specs.Tables.Entries.{entry_values, entry_read}
+use Rattle.office_tables.specs.Tables.Performances.{performance_values, performance_read}
 use Rattle.sqlite_value.specs.declared.value.Value.TheVariants.{Int}
 use Rattle.std.specs.Prelude.{pos}
 

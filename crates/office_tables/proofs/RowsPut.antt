@@ -17,8 +17,7 @@ use Rattle.sqlite_rules.specs.Edit.{id_in, without_all, is_taken, are_fresh, row
 use Rattle.sqlite_rules.proofs.ListLemmas.{all_has, has_filtered}
 use Rattle.sqlite_rules.proofs.TableLemmas.{int_is, put_all_has, put_all_keeps, put_all_adds}
 use Rattle.sqlite_rules.proofs.PlaceLemmas.{row_at_is, left_or_taken}
-use Rattle.office_tables.specs.Kept.{key_of, rows_kept, AreKept}
-use Rattle.office_tables.specs.Standing.{Stand}
+use Rattle.office_tables.specs.Kept.{key_of, rows_kept, AreKept, Stand}
 use Rattle.office_tables.proofs.KeptRows.{IsPut, kept_put, put_is}
 
 pub left_from : (ids : List ℤ) (rows : List Row) (x : Row) → Has (without_all rows ids) x → Has rows x × ((id : ℤ) → Has ids id → has_rowid id x ≡ false)

@@ -7,7 +7,23 @@ use Rattle.sqlite_schema.specs.declared.schema.Kind.TheVariants.{Integer, Text}
 use Rattle.sqlite_schema.specs.declared.command.Command.TheVariants.{Select}
 use Rattle.sqlite_resolve.specs.Lowering.{alone, chosen, first_found, max_budget}
 use Rattle.sqlite_tied.specs.Compute.{everything}
-use Rattle.office_tables.specs.Schema.{column_of, lines, batches, tenderers, notices, lots, envelopes, seals, securities, awards, contracts, entries, releases, compiled, office, late_rules, former_notices, performance}
+use Rattle.office_tables.specs.Forms.{column_of}
+use Rattle.office_tables.specs.Tables.Lines.{lines}
+use Rattle.office_tables.specs.Tables.Batches.{batches}
+use Rattle.office_tables.specs.Tables.Tenderers.{tenderers}
+use Rattle.office_tables.specs.Tables.Notices.{notices, former_notices}
+use Rattle.office_tables.specs.Tables.Lots.{lots}
+use Rattle.office_tables.specs.Tables.Envelopes.{envelopes}
+use Rattle.office_tables.specs.Tables.Seals.{seals}
+use Rattle.office_tables.specs.Tables.Securities.{securities}
+use Rattle.office_tables.specs.Tables.Awards.{awards}
+use Rattle.office_tables.specs.Tables.Contracts.{contracts}
+use Rattle.office_tables.specs.Tables.Entries.{entries}
+use Rattle.office_tables.specs.Tables.Releases.{releases}
+use Rattle.office_tables.specs.Tables.Compiled.{compiled}
+use Rattle.office_tables.specs.Tables.Office.{office}
+use Rattle.office_tables.specs.Tables.LateRules.{late_rules}
+use Rattle.office_tables.specs.Tables.Performances.{performance}
 use Rattle.office_tables.specs.Known.{IsIn, at_tree}
 use Rattle.office_tables.proofs.Meanings.{StatementMeans, IsOne, parsed_in}
 use Rattle.office_tables.proofs.Simple.{equals_e, both_e, names_of, outputs_of, Has, no_test, one_test, two_tests, three_tests}

@@ -29,18 +29,27 @@ use Rattle.office_base.specs.declared.records.PerformanceRow.{PerformanceRow}
 use Rattle.office_base.specs.declared.records.ClockRow.{ClockRow}
 use Rattle.office_base.proofs.ExactKeys.{ids_exact, lots_exact, entries_exact, releases_exact, same_id_is}
 use Rattle.office_base.proofs.Orders.{lots_total, entries_total, releases_total}
-use Rattle.office_tables.specs.Budget.{line_values, line_read, line_by_rowid, batch_values, batch_read, batch_by_rowid}
-use Rattle.office_tables.specs.Notices.{tenderer_values, tenderer_read, tenderer_by_rowid, notice_values, notice_read, notice_by_rowid, former_values, former_read, former_by_rowid, late_values, late_read, late_by_rowid, lot_values, lot_read, lot_by_rowid}
-use Rattle.office_tables.specs.Tenders.{envelope_values, envelope_read, seal_values, seal_read, security_values, security_read}
-use Rattle.office_tables.specs.Awards.{award_values, award_read, contract_values, contract_read, entry_values, entry_read, entry_by_rowid, performance_values, performance_read}
-use Rattle.office_tables.specs.Releases.{release_values, release_read, release_by_rowid, compiled_values, compiled_read, compiled_by_rowid, clock_values, clock_values_of, clock_read}
-use Rattle.office_tables.specs.Clock.{clock_key, clock_cmp}
+use Rattle.office_tables.specs.Tables.Lines.{line_values, line_read, line_by_rowid}
+use Rattle.office_tables.specs.Tables.Batches.{batch_values, batch_read, batch_by_rowid}
+use Rattle.office_tables.specs.Tables.Tenderers.{tenderer_values, tenderer_read, tenderer_by_rowid}
+use Rattle.office_tables.specs.Tables.Notices.{notice_values, notice_read, notice_by_rowid, former_values, former_read, former_by_rowid, former_notices}
+use Rattle.office_tables.specs.Tables.LateRules.{late_values, late_read, late_by_rowid}
+use Rattle.office_tables.specs.Tables.Lots.{lot_values, lot_read, lot_by_rowid}
+use Rattle.office_tables.specs.Tables.Envelopes.{envelope_values, envelope_read}
+use Rattle.office_tables.specs.Tables.Seals.{seal_values, seal_read}
+use Rattle.office_tables.specs.Tables.Securities.{security_values, security_read}
+use Rattle.office_tables.specs.Tables.Awards.{award_values, award_read}
+use Rattle.office_tables.specs.Tables.Contracts.{contract_values, contract_read}
+use Rattle.office_tables.specs.Tables.Entries.{entry_values, entry_read, entry_by_rowid}
+use Rattle.office_tables.specs.Tables.Performances.{performance_values, performance_read}
+use Rattle.office_tables.specs.Tables.Releases.{release_values, release_read, release_by_rowid}
+use Rattle.office_tables.specs.Tables.Compiled.{compiled_values, compiled_read, compiled_by_rowid}
+use Rattle.office_tables.specs.Tables.Office.{clock_values, clock_values_of, clock_read, clock_key, clock_cmp}
 use Rattle.office_tables.specs.Version.{HasVersion}
-use Rattle.office_tables.specs.Schema.OfficeTable.{Lines, Batches, Tenderers, Notices, Lots, Envelopes, Seals, Securities, Awards, Contracts, Entries, Releases, Compiled, Office, LateRules, Performances}
-use Rattle.office_tables.specs.Kept.{row_behind_rowid, by_rowid, read_by_rowid}
+use Rattle.office_tables.specs.Kept.{row_behind_rowid, by_rowid, read_by_rowid, Stand}
 use Rattle.office_tables.specs.Known.{IsIn}
-use Rattle.office_tables.specs.Schema.{former_notices}
-use Rattle.office_tables.specs.Standing.{Stand, Holds}
+use Rattle.office_tables.specs.Standing.{Holds}
+use Rattle.office_tables.specs.Schema.OfficeTable.{Lines, Batches, Tenderers, Notices, Lots, Envelopes, Seals, Securities, Awards, Contracts, Entries, Releases, Compiled, Office, LateRules, Performances}
 use Rattle.office_tables.proofs.Cells.{text_tested, number_tested, three_tested, numbers_cmp, and_true, then_equal, pair_then, both_equal, same_number_is}
 use Rattle.office_tables.proofs.Keys.{clock_total, clock_exact}
 use Rattle.office_tables.proofs.SelectTexts.{get_line, get_line_means, get_batch, get_batch_means, get_tenderer, get_tenderer_means, get_notice, get_notice_means, get_lot, get_lot_means, get_envelope, get_envelope_means, get_seal, get_seal_means, get_security, get_security_means, get_award, get_award_means, get_contract, get_contract_means, get_entry, get_entry_means, get_release, get_release_means, get_compiled, get_compiled_means, get_late, get_late_means, get_performance, get_performance_means, get_clock, get_clock_means, get_version, get_version_means, list_lines, list_lines_means, list_former, list_former_means, list_lots_of_notice, list_lots_of_notice_means, list_lots_of_line, list_lots_of_line_means, list_envelopes_of_notice, list_envelopes_of_notice_means, list_envelopes_of_tenderer, list_envelopes_of_tenderer_means, list_securities_of_notice, list_securities_of_notice_means, list_awards_of_notice, list_awards_of_notice_means, list_contracts_of_notice, list_contracts_of_notice_means, list_entries_of_contract, list_entries_of_contract_means, list_releases_of_notice, list_releases_of_notice_means}

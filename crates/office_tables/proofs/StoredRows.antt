@@ -31,16 +31,26 @@ use Rattle.office_base.specs.declared.records.ClockRow.{ClockRow}
 use Rattle.office_tables.specs.Values.{as_number}
 use Rattle.office_tables.specs.Words.{how_text}
 use Rattle.office_tables.specs.Readings.{reading_word, stated_price, corrected_price, count_of_corrections}
+use Rattle.office_tables.specs.Tables.Lines.{line_values, lines}
+use Rattle.office_tables.specs.Tables.Batches.{batch_values, batches}
+use Rattle.office_tables.specs.Tables.Tenderers.{tenderer_values, tenderers}
+use Rattle.office_tables.specs.Tables.Notices.{notice_values, notices}
+use Rattle.office_tables.specs.Tables.LateRules.{late_values, late_rules}
+use Rattle.office_tables.specs.Tables.Lots.{lot_values, lots}
+use Rattle.office_tables.specs.Tables.Envelopes.{envelope_values, envelopes}
+use Rattle.office_tables.specs.Tables.Seals.{seal_values, seals}
+use Rattle.office_tables.specs.Tables.Securities.{security_values, securities}
+use Rattle.office_tables.specs.Tables.Awards.{award_values, awards}
+use Rattle.office_tables.specs.Tables.Contracts.{contract_values, contracts}
+use Rattle.office_tables.specs.Tables.Entries.{entry_values, entries}
+use Rattle.office_tables.specs.Tables.Performances.{performance_values, performance}
+use Rattle.office_tables.specs.Tables.Releases.{release_values, releases}
+use Rattle.office_tables.specs.Tables.Compiled.{compiled_values, compiled}
+use Rattle.office_tables.specs.Tables.Office.{clock_values, clock_key, clock_cmp, office}
+use Rattle.office_tables.specs.Kept.{row_behind_rowid, by_rowid}
+use Rattle.office_tables.specs.Schema.{OfficeTable, table_of}
 use Rattle.office_base.proofs.ExactKeys.{ids_exact, lots_exact, entries_exact, releases_exact}
 use Rattle.office_base.proofs.Orders.{lots_total, entries_total, releases_total}
-use Rattle.office_tables.specs.Budget.{line_values, batch_values}
-use Rattle.office_tables.specs.Notices.{tenderer_values, notice_values, late_values, lot_values}
-use Rattle.office_tables.specs.Tenders.{envelope_values, seal_values, security_values}
-use Rattle.office_tables.specs.Awards.{award_values, contract_values, entry_values, performance_values}
-use Rattle.office_tables.specs.Releases.{release_values, compiled_values, clock_values}
-use Rattle.office_tables.specs.Clock.{clock_key, clock_cmp}
-use Rattle.office_tables.specs.Kept.{row_behind_rowid, by_rowid}
-use Rattle.office_tables.specs.Schema.{OfficeTable, table_of, lines, batches, tenderers, notices, lots, envelopes, seals, securities, awards, contracts, entries, releases, compiled, office, late_rules, performance}
 use Rattle.office_tables.specs.Schema.OfficeTable.{Lines, Batches, Tenderers, Notices, Lots, Envelopes, Seals, Securities, Awards, Contracts, Entries, Releases, Compiled, Office, LateRules, FormerNotices, Performances}
 use Rattle.office_tables.proofs.Cells.{cast_null, cast_int, cast_perhaps, cast_words, texts_equal, equal_texts, numbers_equal, equal_numbers, both_true, one_true, first_true, only_true}
 use Rattle.office_tables.proofs.Keyed.{keyed}

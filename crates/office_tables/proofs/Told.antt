@@ -14,10 +14,11 @@ use Rattle.sqlite_catalog.proofs.ListFacts.{zip_so}
 use Rattle.sqlite_catalog.proofs.ReadLemmas.{tables_once}
 use Rattle.sqlite.specs.Effect.{Database, IsDatabase}
 use Rattle.office_base.specs.Tables.{Tables}
-use Rattle.office_tables.specs.Schema.{OfficeTable, table_of}
-use Rattle.office_tables.specs.Schema.OfficeTable.{Lines, Batches, Tenderers, Notices, Lots, Envelopes, Seals, Securities, Awards, Contracts, Entries, Releases, Compiled, Office, LateRules, Performances}
+use Rattle.office_tables.specs.Schema.{OfficeTable, table_of, StandFor}
 use Rattle.office_tables.specs.Known.{IsIn, at_tree}
-use Rattle.office_tables.specs.Standing.{Stand, StandFor, Holds}
+use Rattle.office_tables.specs.Kept.{Stand}
+use Rattle.office_tables.specs.Standing.{Holds}
+use Rattle.office_tables.specs.Schema.OfficeTable.{Lines, Batches, Tenderers, Notices, Lots, Envelopes, Seals, Securities, Awards, Contracts, Entries, Releases, Compiled, Office, LateRules, Performances}
 
 reads : (row : Row) (t : Table) → IsTableRow row t → ReadsTable row t
 reads row t h = record {

@@ -48,8 +48,7 @@ use Rattle.sqlite.proofs.Callers.{runs_as, command_of, IsPlain}
 use Rattle.office_base.specs.Rows.{row_put}
 use Rattle.office_tables.specs.Schema.{OfficeTable, table_of}
 use Rattle.office_tables.specs.Known.{IsIn, at_tree, Places, HasTables}
-use Rattle.office_tables.specs.Kept.{key_of, rows_kept as table_of_rows, AreKept}
-use Rattle.office_tables.specs.Standing.{Stand}
+use Rattle.office_tables.specs.Kept.{key_of, rows_kept as table_of_rows, AreKept, Stand}
 use Rattle.office_tables.proofs.Childless.{IsOwn, SparesMarked, spared_own}
 use Rattle.office_tables.proofs.Keyed.{HasKey, conflicts_key}
 use Rattle.office_tables.proofs.Cells.{and_true}

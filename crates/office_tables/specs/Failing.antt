@@ -18,7 +18,7 @@ use Rattle.office_base.specs.declared.puts.Put.{Put}
 use Rattle.office_base.specs.declared.shelf.ShelfFault.{ShelfFault}
 use Rattle.office_base.specs.declared.shelf.ShelfFault.TheVariants.{NoMemory, Store}
 use Rattle.office_tables.specs.Standing.{Holds}
-use Rattle.office_tables.specs.Statements.{statement_of, values_of_put}
+use Rattle.office_tables.specs.Schema.{statement_of, values_of_put}
 use Rattle.office_tables.specs.Steps.{IsAsked, IsRefusal, ShowsTables, MakeAll}
 
 -- the fault that an error is told as

@@ -9,19 +9,18 @@ use Rattle.sqlite_trees.specs.declared.store.Store.{Ghosts}
 use Rattle.sqlite.specs.Effect.{Database, IsDatabase}
 use Rattle.sqlite.specs.Held.{Held, state}
 use Rattle.sqlite.specs.State.{State, HasCleanDisk, ExecutesInside}
-use Rattle.office_values.specs.Ids.{id_cmp}
-use Rattle.office_base.specs.Tables.{Tables, notice_key}
+use Rattle.office_base.specs.Tables.{Tables}
 use Rattle.office_base.specs.declared.records.ClockRow.{ClockRow}
-use Rattle.office_tables.specs.Notices.{former_values, former_by_rowid}
-use Rattle.office_tables.specs.Releases.{clock_values, clock_values_of, clock_read}
+use Rattle.office_tables.specs.Kept.{StandsAs}
+use Rattle.office_tables.specs.Tables.Notices.{former_form}
+use Rattle.office_tables.specs.Tables.Office.{clock_values, clock_form_of, upsert_office}
 use Rattle.office_tables.specs.Apart.{AddsNoReference, LeadsInside}
-use Rattle.office_tables.specs.Clock.{clock_key, clock_cmp}
-use Rattle.office_tables.specs.Kept.{row_behind_rowid, by_rowid, read_by_rowid}
-use Rattle.office_tables.specs.Schema.{OfficeTable, table_of, late_rules, upsert_office}
-use Rattle.office_tables.specs.Schema.OfficeTable.{Notices, LateRules, FormerNotices, Performances, Office}
+use Rattle.office_tables.specs.Schema.{OfficeTable, table_of, StandFor}
+use Rattle.office_tables.specs.Tables.LateRules.{late_rules}
 use Rattle.office_tables.specs.Known.{IsIn, Places}
-use Rattle.office_tables.specs.Standing.{Stand, StandFor, Holds}
+use Rattle.office_tables.specs.Standing.{Holds}
 use Rattle.office_tables.specs.Steps.{Goes}
+use Rattle.office_tables.specs.Schema.OfficeTable.{Notices, LateRules, FormerNotices, Performances, Office}
 
 -- the schema has a table of this name
 abbrev pub has_table : Schema → List ℕ → Bool
@@ -38,8 +37,8 @@ tables_since_version_1 false = Performances ∷ Notices ∷ LateRules ∷ []
 
 -- the rows of a table of version 1 stand for its part of the content: `notices` for notices that ask for no performance securities, `office` for the clock behind version 1
 abbrev pub StandForFirst : OfficeTable → List Row → Tables → Type 0
-StandForFirst FormerNotices rows t = Stand id_cmp notice_key (row_behind_rowid former_values) former_by_rowid rows t.notices
-StandForFirst Office rows t = Stand clock_cmp clock_key (by_rowid (clock_values_of 1)) (read_by_rowid clock_read) rows (t.clock ∷ [])
+StandForFirst FormerNotices rows t = StandsAs former_form rows t.notices
+StandForFirst Office rows t = StandsAs (clock_form_of 1) rows (t.clock ∷ [])
 StandForFirst Notices rows t = ⊥
 StandForFirst Performances rows t = ⊥
 StandForFirst k rows t = StandFor k rows t

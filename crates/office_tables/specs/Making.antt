@@ -14,8 +14,7 @@ use Rattle.sqlite.specs.State.{State, text_of}
 use Rattle.sqlite.specs.Effect.{Database, IsDatabase}
 use Rattle.office_base.specs.Tables.{no_tables}
 use Rattle.office_tables.specs.Apart.{AddsNoReference}
-use Rattle.office_tables.specs.Schema.{OfficeTable, table_of}
-use Rattle.office_tables.specs.Schema.OfficeTable.{Lines, Batches, Tenderers, Notices, Lots, Envelopes, Seals, Securities, Awards, Contracts, Entries, Releases, Compiled as Merges, Office, LateRules, FormerNotices, Performances}
+use Rattle.office_tables.specs.Schema.{OfficeTable, table_of, all_tables}
 use Rattle.office_tables.specs.Known.{IsIn, at_tree}
 use Rattle.office_tables.specs.Standing.{Holds}
 use Rattle.office_tables.specs.Steps.{Goes}
@@ -41,10 +40,6 @@ pub record IsIndexing (text : List ℕ) (table : Table) (index : Index) : Type 0
 pub record AreMade (done : List OfficeTable) (db : Database) : Type 0 where
   pub sound : IsDatabase db
   pub each : AllByRecursion (λ k. (n : ℕ) × IsIn db.schema (table_of k) n × (db.trees n ≡ [])) done
-
--- all tables of an office, the last that is made first
-abbrev pub all_tables : List OfficeTable
-all_tables = Performances ∷ Notices ∷ LateRules ∷ Office ∷ Merges ∷ Releases ∷ Entries ∷ Contracts ∷ Awards ∷ Securities ∷ Seals ∷ Envelopes ∷ Lots ∷ FormerNotices ∷ Tenderers ∷ Batches ∷ Lines ∷ []
 
 -- each table that was there is there, with its rows
 abbrev pub KeepsOthers : Database → Database → Type 0

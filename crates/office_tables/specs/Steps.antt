@@ -15,7 +15,7 @@ use Rattle.sqlite.specs.Held.{Held, state}
 use Rattle.office_base.specs.Tables.{Tables, after_puts}
 use Rattle.office_base.specs.declared.puts.Put.{Put}
 use Rattle.office_tables.specs.Standing.{Holds}
-use Rattle.office_tables.specs.Statements.{statement_of, values_of_put}
+use Rattle.office_tables.specs.Schema.{statement_of, values_of_put}
 
 -- the last commit of an open store holds these tables
 abbrev pub ShowsTables : State → Tables → Type 0

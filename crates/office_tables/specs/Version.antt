@@ -9,12 +9,9 @@ use Rattle.sqlite.specs.Held.{Held}
 use Rattle.sqlite.specs.State.{State}
 use Rattle.sqlite.specs.declared.error.Error.TheVariants.{SqlInputError}
 use Rattle.office_base.specs.declared.records.ClockRow.{ClockRow}
-use Rattle.office_tables.specs.Releases.{clock_values_of, clock_read}
-use Rattle.office_tables.specs.Clock.{clock_key, clock_cmp}
-use Rattle.office_tables.specs.Kept.{by_rowid, read_by_rowid}
+use Rattle.office_tables.specs.Kept.{StandsAs}
+use Rattle.office_tables.specs.Tables.Office.{clock_form_of, office}
 use Rattle.office_tables.specs.Known.{IsIn}
-use Rattle.office_tables.specs.Schema.{office}
-use Rattle.office_tables.specs.Standing.{Stand}
 use Rattle.office_tables.specs.Steps.{IsRefusal}
 
 abbrev pub get_version : List ℕ
@@ -28,7 +25,7 @@ one_version n = (Int (pos n) ∷ []) ∷ []
 pub record HasVersion (n : ℕ) (clock : ClockRow) (db : Database) : Type 0 where
   pub place : ℕ
   pub table : IsIn db.schema office place
-  pub stand : Stand clock_cmp clock_key (by_rowid (clock_values_of n)) (read_by_rowid clock_read) (db.trees place) (clock ∷ [])
+  pub stand : StandsAs (clock_form_of n) (db.trees place) (clock ∷ [])
 
 -- in the last commit of an open store
 abbrev pub ShowsVersion : ℕ → ClockRow → State → Type 0

@@ -10,8 +10,8 @@ ghost use Rattle.office_values.specs.Texts.{IsTextLine};
 ghost use Rattle.office_commands.specs.SealedBytes.{IsSealed};
 ghost use Rattle.office_tables.specs.Values.{whole, or_null, text_or_null, as_number, three_from};
 ghost use Rattle.office_tables.specs.Ranges.{IsWithin, Anything};
-ghost use Rattle.office_base.specs.Faults.{IsFaultOf};
 ghost use Rattle.office_tables.specs.Unwritten.{IsUnwritten};
+ghost use Rattle.office_base.specs.Faults.{IsFaultOf};
 
 use office_base::json_text::JsonText;
 use office_base::shelf::ShelfFault;

@@ -2,14 +2,13 @@
 ghost use Rattle.std.specs.Prelude.{◌≡◌, ℕ, [], ◌∷◌, Some, Ok, IfOk, IsTrue, OnOk, OnErr, map, option_map};
 ghost use Rattle.sqlite.specs.Held.{state};
 ghost use Rattle.sqlite.specs.State.{HasCleanDisk, Survives, ExecutesInside};
-ghost use Rattle.office_tables.specs.Releases.{clock_values};
-ghost use Rattle.office_tables.specs.declared.stored.FormerClock.{FormerClock};
-ghost use Rattle.office_tables.specs.declared.stored.FormerNotice.{FormerNotice};
+ghost use Rattle.office_tables.specs.Tables.Office.{clock_values, upsert_office};
 ghost use Rattle.office_tables.specs.First.{TellsFirst, Begins, Renews, drop_notices, drop_version, has_late, tables_since_version_1};
 ghost use Rattle.office_tables.specs.Making.{Makes};
-ghost use Rattle.office_tables.specs.Schema.OfficeTable.{Notices, LateRules, Performances};
-ghost use Rattle.office_tables.specs.Schema.{upsert_office};
 ghost use Rattle.office_tables.specs.Steps.{Refused};
+ghost use Rattle.office_tables.specs.declared.stored.FormerClock.{FormerClock};
+ghost use Rattle.office_tables.specs.declared.stored.FormerNotice.{FormerNotice};
+ghost use Rattle.office_tables.specs.Schema.OfficeTable.{Notices, LateRules, Performances};
 
 use crate::ask::{ask_all, ask_first};
 use crate::laws::clock_comes_back;

@@ -5,9 +5,9 @@ ghost use Rattle.sqlite_value.specs.declared.value.Value.TheVariants.{Text};
 ghost use Rattle.sqlite_value.specs.Order.{column};
 ghost use Rattle.office_commands.specs.declared.item.Item.{Item as SomeItem};
 ghost use Rattle.office_tables.specs.Ranges.{IsWithin};
-ghost use Rattle.office_base.specs.Faults.{IsFaultOf};
 ghost use Rattle.office_tables.specs.Unwritten.{IsUnwritten};
 ghost use Rattle.office_tables.specs.ItemTexts.{item_then, items_text, items_in_text, text_before, text_behind, Avoids, IsItem, AreItems};
+ghost use Rattle.office_base.specs.Faults.{IsFaultOf};
 
 use crate::columns::{is_same, line_of, text_at};
 use itoa::Buffer;

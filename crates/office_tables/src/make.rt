@@ -4,11 +4,11 @@ ghost use Rattle.sqlite_schema.specs.declared.schema.Index.{Index};
 ghost use Rattle.sqlite.specs.Held.{state};
 ghost use Rattle.sqlite.specs.State.{HasCleanDisk, Survives, ExecutesInside};
 ghost use Rattle.office_base.specs.Tables.{first_clock};
-ghost use Rattle.office_tables.specs.Releases.{clock_values};
-ghost use Rattle.office_tables.specs.Schema.{OfficeTable, table_of, upsert_office};
-ghost use Rattle.office_tables.specs.Schema.OfficeTable.{Lines, Batches, Tenderers, Notices, Lots, Envelopes, Seals, Securities, Awards, Contracts, Entries, Releases, Compiled, Office, LateRules, FormerNotices, Performances};
-ghost use Rattle.office_tables.specs.Making.{IsCreate, IsIndexing, Makes, Indexes, Founds, all_tables};
+ghost use Rattle.office_tables.specs.Tables.Office.{clock_values, upsert_office};
+ghost use Rattle.office_tables.specs.Schema.{OfficeTable, table_of, all_tables};
+ghost use Rattle.office_tables.specs.Making.{IsCreate, IsIndexing, Makes, Indexes, Founds};
 ghost use Rattle.office_tables.specs.Steps.{Refused};
+ghost use Rattle.office_tables.specs.Schema.OfficeTable.{Lines, Batches, Tenderers, Notices, Lots, Envelopes, Seals, Securities, Awards, Contracts, Entries, Releases, Compiled, Office, LateRules, FormerNotices, Performances};
 
 use crate::laws::clock_comes_back;
 use crate::statement::execute_one;

@@ -7,8 +7,8 @@ ghost use Rattle.office_values.specs.Money.{amount_limit, total_limit};
 ghost use Rattle.office_tables.specs.Values.{or_null, text_or_null};
 ghost use Rattle.office_tables.specs.Readings.{reading_word, stated_price, corrected_price, count_of_corrections, reading_cells, price_in, reading_part};
 ghost use Rattle.office_tables.specs.Ranges.{ReadingFits};
-ghost use Rattle.office_base.specs.Faults.{IsFaultOf};
 ghost use Rattle.office_tables.specs.Unwritten.{IsUnwritten};
+ghost use Rattle.office_base.specs.Faults.{IsFaultOf};
 
 use crate::columns::{amount_at, are_null, bounded_at, is_same, perhaps_text_at, total_at};
 use crate::values::signed;

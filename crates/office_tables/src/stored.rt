@@ -4,12 +4,22 @@ ghost use Rattle.std.specs.List.{AllByRecursion};
 ghost use Rattle.sqlite_value.specs.Order.{Row as Values};
 ghost use Rattle.office_base.specs.Faults.{IsFaultOf};
 ghost use Rattle.office_tables.specs.Unwritten.{IsUnwritten};
-ghost use Rattle.office_tables.specs.Budget.{line_values, line_read, batch_values, batch_read};
-ghost use Rattle.office_tables.specs.Notices.{tenderer_values, tenderer_read, notice_values, notice_read, former_values, former_read, late_values, late_read, lot_values, lot_read};
-ghost use Rattle.office_tables.specs.Tenders.{envelope_values, envelope_read, seal_values, seal_read, security_values, security_read};
-ghost use Rattle.office_tables.specs.Awards.{award_values, award_read, contract_values, contract_read, entry_values, entry_read, performance_values, performance_read};
-ghost use Rattle.office_tables.specs.Releases.{release_values, release_read, compiled_values, compiled_read, clock_values, clock_values_of, clock_read};
-ghost use Rattle.office_tables.specs.Ranges.{LineFits, BatchFits, TendererFits, NoticeFits, IsLot, EnvelopeFits, SealFits, SecurityFits, AwardFits, ContractFits, EntryFits, ReleaseFits, CompiledFits, LateFits, PerformanceFits, ClockFits};
+ghost use Rattle.office_tables.specs.Tables.Lines.{line_values, line_read, LineFits};
+ghost use Rattle.office_tables.specs.Tables.Batches.{batch_values, batch_read, BatchFits};
+ghost use Rattle.office_tables.specs.Tables.Tenderers.{tenderer_values, tenderer_read, TendererFits};
+ghost use Rattle.office_tables.specs.Tables.Notices.{notice_values, notice_read, former_values, former_read, NoticeFits};
+ghost use Rattle.office_tables.specs.Tables.LateRules.{late_values, late_read, LateFits};
+ghost use Rattle.office_tables.specs.Tables.Lots.{lot_values, lot_read, IsLot};
+ghost use Rattle.office_tables.specs.Tables.Envelopes.{envelope_values, envelope_read, EnvelopeFits};
+ghost use Rattle.office_tables.specs.Tables.Seals.{seal_values, seal_read, SealFits};
+ghost use Rattle.office_tables.specs.Tables.Securities.{security_values, security_read, SecurityFits};
+ghost use Rattle.office_tables.specs.Tables.Awards.{award_values, award_read, AwardFits};
+ghost use Rattle.office_tables.specs.Tables.Contracts.{contract_values, contract_read, ContractFits};
+ghost use Rattle.office_tables.specs.Tables.Entries.{entry_values, entry_read, EntryFits};
+ghost use Rattle.office_tables.specs.Tables.Performances.{performance_values, performance_read, PerformanceFits};
+ghost use Rattle.office_tables.specs.Tables.Releases.{release_values, release_read, ReleaseFits};
+ghost use Rattle.office_tables.specs.Tables.Compiled.{compiled_values, compiled_read, CompiledFits};
+ghost use Rattle.office_tables.specs.Tables.Office.{clock_values, clock_values_of, clock_read, ClockFits};
 
 use crate::columns::{
     amount_at, bounded_at, digest_at, has_columns, id_at, json_at, line_at, moment_at,

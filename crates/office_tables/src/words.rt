@@ -4,9 +4,9 @@ ghost use Rattle.sqlite_value.specs.declared.value.Value.TheVariants.{Text};
 ghost use Rattle.sqlite_value.specs.Order.{column};
 ghost use Rattle.office_tables.specs.Values.{text_or_null};
 ghost use Rattle.office_tables.specs.Ranges.{Anything};
-ghost use Rattle.office_base.specs.Faults.{IsFaultOf};
 ghost use Rattle.office_tables.specs.Unwritten.{IsUnwritten};
 ghost use Rattle.office_tables.specs.Words.{notice_state_text, lot_state_text, envelope_state_text, security_state_text, award_state_text, how_text, entry_kind_text};
+ghost use Rattle.office_base.specs.Faults.{IsFaultOf};
 
 use crate::columns::{is_same, perhaps_text_at, text_at};
 use office_base::records::{

@@ -1,9 +1,9 @@
 use Rattle.std.proofs.Common.{true, ◌∙◌, sym, ap, subst}
 use Rattle.std.specs.Prelude.{option_map, slice_get}
 use Rattle.sqlite.specs.Held.{state}
-use Rattle.office_tables.specs.Releases.{clock_read}
-use Rattle.office_tables.specs.declared.stored.FormerClock.{FormerClock}
+use Rattle.office_tables.specs.Tables.Office.{clock_read}
 use Rattle.office_tables.specs.Version.{HasVersion}
+use Rattle.office_tables.specs.declared.stored.FormerClock.{FormerClock}
 use Rattle.office_tables.proofs.FirstVersion.{first_version, clock_found}
 use Rattle.office_tables.proofs.Selects.{select_clock}
 use Rattle.office_tables.proofs.Asked.{only_one, same_found}

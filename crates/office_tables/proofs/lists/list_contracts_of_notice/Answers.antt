@@ -1,6 +1,6 @@
 use Rattle.std.specs.Prelude.{map}
 use Rattle.std.proofs.Common.{◌≡◌, ◌∙◌}
-use Rattle.office_tables.specs.Awards.{contract_read}
+use Rattle.office_tables.specs.Tables.Contracts.{contract_read}
 use Rattle.office_tables.proofs.SelectTexts.{list_contracts_of_notice as text}
 use Rattle.office_tables.proofs.Selects.{select_list_contracts_of_notice}
 use Rattle.office_tables.proofs.Asked.{told}

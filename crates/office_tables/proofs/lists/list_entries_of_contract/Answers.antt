@@ -1,6 +1,6 @@
 use Rattle.std.specs.Prelude.{map}
 use Rattle.std.proofs.Common.{◌≡◌, ◌∙◌}
-use Rattle.office_tables.specs.Awards.{entry_read}
+use Rattle.office_tables.specs.Tables.Entries.{entry_read}
 use Rattle.office_tables.proofs.SelectTexts.{list_entries_of_contract as text}
 use Rattle.office_tables.proofs.Selects.{select_list_entries_of_contract}
 use Rattle.office_tables.proofs.Asked.{told}

@@ -1,6 +1,6 @@
 use Rattle.std.specs.Prelude.{map}
 use Rattle.std.proofs.Common.{◌≡◌, ◌∙◌}
-use Rattle.office_tables.specs.Notices.{lot_read}
+use Rattle.office_tables.specs.Tables.Lots.{lot_read}
 use Rattle.office_tables.proofs.SelectTexts.{list_lots_of_line as text}
 use Rattle.office_tables.proofs.Selects.{select_list_lots_of_line}
 use Rattle.office_tables.proofs.Asked.{told}

@@ -1,6 +1,6 @@
 use Rattle.std.specs.Prelude.{map}
 use Rattle.std.proofs.Common.{◌≡◌, ◌∙◌}
-use Rattle.office_tables.specs.Tenders.{security_read}
+use Rattle.office_tables.specs.Tables.Securities.{security_read}
 use Rattle.office_tables.proofs.LotTexts.{list_securities_of_lot as text}
 use Rattle.office_tables.proofs.Selects.{select_list_securities_of_lot}
 use Rattle.office_tables.proofs.Asked.{told}

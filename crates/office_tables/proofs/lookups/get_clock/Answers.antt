@@ -1,5 +1,5 @@
 use Rattle.std.proofs.Common.{◌∙◌}
-use Rattle.office_tables.specs.Releases.{clock_read}
+use Rattle.office_tables.specs.Tables.Office.{clock_read}
 use Rattle.office_tables.proofs.SelectTexts.{get_clock as text}
 use Rattle.office_tables.proofs.Selects.{select_get_clock}
 use Rattle.office_tables.proofs.Asked.{asked, only_one, same_found}

@@ -1,6 +1,6 @@
 use Rattle.std.specs.Prelude.{option_map, slice_get}
 use Rattle.std.proofs.Common.{◌≡◌, ◌∙◌}
-use Rattle.office_tables.specs.Awards.{contract_read}
+use Rattle.office_tables.specs.Tables.Contracts.{contract_read}
 use Rattle.office_tables.proofs.SelectTexts.{get_contract as text}
 use Rattle.office_tables.proofs.Selects.{select_get_contract}
 use Rattle.office_tables.proofs.Asked.{told}

@@ -1,6 +1,6 @@
 use Rattle.std.specs.Prelude.{option_map, slice_get}
 use Rattle.std.proofs.Common.{◌≡◌, ◌∙◌}
-use Rattle.office_tables.specs.Awards.{entry_read}
+use Rattle.office_tables.specs.Tables.Entries.{entry_read}
 use Rattle.office_tables.proofs.SelectTexts.{get_entry as text}
 use Rattle.office_tables.proofs.Selects.{select_get_entry}
 use Rattle.office_tables.proofs.Asked.{told}

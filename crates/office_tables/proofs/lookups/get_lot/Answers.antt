@@ -1,6 +1,6 @@
 use Rattle.std.specs.Prelude.{option_map, slice_get}
 use Rattle.std.proofs.Common.{◌≡◌, ◌∙◌}
-use Rattle.office_tables.specs.Notices.{lot_read}
+use Rattle.office_tables.specs.Tables.Lots.{lot_read}
 use Rattle.office_tables.proofs.SelectTexts.{get_lot as text}
 use Rattle.office_tables.proofs.Selects.{select_get_lot}
 use Rattle.office_tables.proofs.Asked.{told}

@@ -1,6 +1,6 @@
 use Rattle.std.specs.Prelude.{option_map, slice_get}
 use Rattle.std.proofs.Common.{◌≡◌, ◌∙◌}
-use Rattle.office_tables.specs.Tenders.{seal_read}
+use Rattle.office_tables.specs.Tables.Seals.{seal_read}
 use Rattle.office_tables.proofs.SelectTexts.{get_seal as text}
 use Rattle.office_tables.proofs.Selects.{select_get_seal}
 use Rattle.office_tables.proofs.Asked.{told}

@@ -1,6 +1,6 @@
 use Rattle.std.specs.Prelude.{option_map, slice_get}
 use Rattle.std.proofs.Common.{◌≡◌, ◌∙◌}
-use Rattle.office_tables.specs.Tenders.{security_read}
+use Rattle.office_tables.specs.Tables.Securities.{security_read}
 use Rattle.office_tables.proofs.SelectTexts.{get_security as text}
 use Rattle.office_tables.proofs.Selects.{select_get_security}
 use Rattle.office_tables.proofs.Asked.{told}

@@ -1,6 +1,6 @@
 use Rattle.std.specs.Prelude.{option_map, slice_get}
 use Rattle.std.proofs.Common.{◌≡◌, ◌∙◌}
-use Rattle.office_tables.specs.Notices.{tenderer_read}
+use Rattle.office_tables.specs.Tables.Tenderers.{tenderer_read}
 use Rattle.office_tables.proofs.SelectTexts.{get_tenderer as text}
 use Rattle.office_tables.proofs.Selects.{select_get_tenderer}
 use Rattle.office_tables.proofs.Asked.{told}

@@ -2,7 +2,9 @@ use Rattle.std.proofs.Common.{arith}
 use Rattle.sqlite.specs.Held.{state}
 use Rattle.sqlite.specs.State.{HasCleanDisk}
 use Rattle.std.proofs.Common.{refl}
-use Rattle.office_tables.specs.Schema.{lots_of_line, envelopes_of_notice, securities_of_notice}
+use Rattle.office_tables.specs.Tables.Lots.{lots_of_line}
+use Rattle.office_tables.specs.Tables.Envelopes.{envelopes_of_notice}
+use Rattle.office_tables.specs.Tables.Securities.{securities_of_notice}
 use Rattle.office_tables.specs.Schema.OfficeTable.{Lots, Envelopes, Securities}
 use Rattle.office_tables.proofs.CreateFacts.{indexes_lots_of_line, indexes_envelopes_of_notice, indexes_securities_of_notice}
 use Rattle.office_tables.proofs.MakingSteps.{indexes_then, goes_then, goes_refused}

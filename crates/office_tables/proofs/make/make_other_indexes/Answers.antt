@@ -2,7 +2,8 @@ use Rattle.std.proofs.Common.{arith}
 use Rattle.sqlite.specs.Held.{state}
 use Rattle.sqlite.specs.State.{HasCleanDisk}
 use Rattle.std.proofs.Common.{refl}
-use Rattle.office_tables.specs.Schema.{awards_of_notice, contracts_of_notice}
+use Rattle.office_tables.specs.Tables.Awards.{awards_of_notice}
+use Rattle.office_tables.specs.Tables.Contracts.{contracts_of_notice}
 use Rattle.office_tables.specs.Schema.OfficeTable.{Awards, Contracts}
 use Rattle.office_tables.proofs.CreateFacts.{indexes_awards_of_notice, indexes_contracts_of_notice}
 use Rattle.office_tables.proofs.MakingSteps.{indexes_then, goes_refused}

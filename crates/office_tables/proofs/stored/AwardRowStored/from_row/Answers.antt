@@ -1,6 +1,5 @@
 use Rattle.std.proofs.Common.{refl, [], ◌∷◌, ◌∙◌}
-use Rattle.office_tables.specs.Awards.{award_values}
-use Rattle.office_tables.specs.Ranges.{AwardFits}
+use Rattle.office_tables.specs.Tables.Awards.{award_values, AwardFits}
 use Rattle.office_tables.proofs.Exactly.{columns_are, other_width}
 use Rattle.office_tables.proofs.stored.AwardRowStored.from_row.Goals as goal
 

@@ -1,6 +1,5 @@
 use Rattle.std.proofs.Common.{refl}
-use Rattle.office_tables.specs.Budget.{batch_values}
-use Rattle.office_tables.specs.Ranges.{BatchFits}
+use Rattle.office_tables.specs.Tables.Batches.{batch_values, BatchFits}
 use Rattle.office_tables.proofs.Exactly.{other_width}
 use Rattle.office_tables.proofs.stored.BatchRowStored.from_row.Goals as goal
 

@@ -1,6 +1,5 @@
 use Rattle.std.proofs.Common.{refl}
-use Rattle.office_tables.specs.Releases.{clock_values}
-use Rattle.office_tables.specs.Ranges.{ClockFits}
+use Rattle.office_tables.specs.Tables.Office.{clock_values, ClockFits}
 use Rattle.office_tables.proofs.Exactly.{other_width}
 use Rattle.office_tables.proofs.stored.ClockRowStored.from_row.Goals as goal
 

@@ -1,6 +1,5 @@
 use Rattle.std.proofs.Common.{refl}
-use Rattle.office_tables.specs.Releases.{compiled_values}
-use Rattle.office_tables.specs.Ranges.{CompiledFits}
+use Rattle.office_tables.specs.Tables.Compiled.{compiled_values, CompiledFits}
 use Rattle.office_tables.proofs.Exactly.{other_width}
 use Rattle.office_tables.proofs.stored.CompiledRowStored.from_row.Goals as goal
 

@@ -1,6 +1,5 @@
 use Rattle.std.proofs.Common.{refl, [], ◌∷◌, ◌∙◌}
-use Rattle.office_tables.specs.Awards.{contract_values}
-use Rattle.office_tables.specs.Ranges.{ContractFits}
+use Rattle.office_tables.specs.Tables.Contracts.{contract_values, ContractFits}
 use Rattle.office_tables.proofs.Exactly.{columns_are, other_width}
 use Rattle.office_tables.proofs.stored.ContractRowStored.from_row.Goals as goal
 

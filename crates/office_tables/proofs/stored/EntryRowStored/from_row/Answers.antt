@@ -1,6 +1,5 @@
 use Rattle.std.proofs.Common.{refl, [], ◌∷◌, ◌∙◌}
-use Rattle.office_tables.specs.Awards.{entry_values}
-use Rattle.office_tables.specs.Ranges.{EntryFits}
+use Rattle.office_tables.specs.Tables.Entries.{entry_values, EntryFits}
 use Rattle.office_tables.proofs.Exactly.{columns_are, other_width}
 use Rattle.office_tables.proofs.stored.EntryRowStored.from_row.Goals as goal
 

@@ -1,6 +1,5 @@
 use Rattle.std.proofs.Common.{refl, [], ◌∷◌, ◌++◌, ◌∙◌}
-use Rattle.office_tables.specs.Tenders.{envelope_values}
-use Rattle.office_tables.specs.Ranges.{EnvelopeFits}
+use Rattle.office_tables.specs.Tables.Envelopes.{envelope_values, EnvelopeFits}
 use Rattle.office_tables.proofs.Exactly.{columns_are, other_width}
 use Rattle.office_tables.proofs.stored.EnvelopeRowStored.from_row.Goals as goal
 

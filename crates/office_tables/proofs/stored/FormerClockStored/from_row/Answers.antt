@@ -1,6 +1,5 @@
 use Rattle.std.proofs.Common.{refl}
-use Rattle.office_tables.specs.Releases.{clock_values_of}
-use Rattle.office_tables.specs.Ranges.{ClockFits}
+use Rattle.office_tables.specs.Tables.Office.{clock_values_of, ClockFits}
 use Rattle.office_tables.specs.declared.stored.FormerClock.{FormerClock}
 use Rattle.office_tables.proofs.Exactly.{other_width}
 use Rattle.office_tables.proofs.stored.FormerClockStored.from_row.Goals as goal

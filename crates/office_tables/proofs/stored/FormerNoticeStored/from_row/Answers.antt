@@ -1,6 +1,5 @@
 use Rattle.std.proofs.Common.{refl, [], ◌∷◌, ◌∙◌}
-use Rattle.office_tables.specs.Notices.{former_values}
-use Rattle.office_tables.specs.Ranges.{NoticeFits}
+use Rattle.office_tables.specs.Tables.Notices.{former_values, NoticeFits}
 use Rattle.office_tables.specs.declared.stored.FormerNotice.{FormerNotice}
 use Rattle.office_tables.proofs.Exactly.{columns_are, other_width}
 use Rattle.office_tables.proofs.stored.FormerNoticeStored.from_row.Goals as goal

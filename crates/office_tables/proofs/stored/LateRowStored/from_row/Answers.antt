@@ -1,6 +1,5 @@
 use Rattle.std.proofs.Common.{refl}
-use Rattle.office_tables.specs.Notices.{late_values}
-use Rattle.office_tables.specs.Ranges.{LateFits}
+use Rattle.office_tables.specs.Tables.LateRules.{late_values, LateFits}
 use Rattle.office_tables.proofs.Exactly.{other_width}
 use Rattle.office_tables.proofs.stored.LateRowStored.from_row.Goals as goal
 

@@ -1,6 +1,5 @@
 use Rattle.std.proofs.Common.{refl, [], ◌∷◌, ◌∙◌}
-use Rattle.office_tables.specs.Budget.{line_values}
-use Rattle.office_tables.specs.Ranges.{LineFits}
+use Rattle.office_tables.specs.Tables.Lines.{line_values, LineFits}
 use Rattle.office_tables.proofs.Exactly.{columns_are, other_width}
 use Rattle.office_tables.proofs.stored.LineRowStored.from_row.Goals as goal
 

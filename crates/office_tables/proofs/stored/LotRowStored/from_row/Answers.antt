@@ -1,6 +1,5 @@
 use Rattle.std.proofs.Common.{refl, [], ◌∷◌, ◌∙◌}
-use Rattle.office_tables.specs.Notices.{lot_values}
-use Rattle.office_tables.specs.Ranges.{IsLot}
+use Rattle.office_tables.specs.Tables.Lots.{lot_values, IsLot}
 use Rattle.office_tables.proofs.Exactly.{columns_are, other_width}
 use Rattle.office_tables.proofs.stored.LotRowStored.from_row.Goals as goal
 

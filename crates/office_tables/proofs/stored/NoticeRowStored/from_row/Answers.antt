@@ -1,6 +1,5 @@
 use Rattle.std.proofs.Common.{refl, [], ◌∷◌, ◌∙◌}
-use Rattle.office_tables.specs.Notices.{notice_values}
-use Rattle.office_tables.specs.Ranges.{NoticeFits}
+use Rattle.office_tables.specs.Tables.Notices.{notice_values, NoticeFits}
 use Rattle.office_tables.proofs.Exactly.{columns_are, other_width}
 use Rattle.office_tables.proofs.stored.NoticeRowStored.from_row.Goals as goal
 

@@ -1,6 +1,5 @@
 use Rattle.std.proofs.Common.{refl, [], ◌∷◌, ◌∙◌}
-use Rattle.office_tables.specs.Awards.{performance_values}
-use Rattle.office_tables.specs.Ranges.{PerformanceFits}
+use Rattle.office_tables.specs.Tables.Performances.{performance_values, PerformanceFits}
 use Rattle.office_tables.proofs.Exactly.{columns_are, other_width}
 use Rattle.office_tables.proofs.stored.PerformanceRowStored.from_row.Goals as goal
 

@@ -1,6 +1,5 @@
 use Rattle.std.proofs.Common.{refl, [], ◌∷◌, ◌∙◌}
-use Rattle.office_tables.specs.Releases.{release_values}
-use Rattle.office_tables.specs.Ranges.{ReleaseFits}
+use Rattle.office_tables.specs.Tables.Releases.{release_values, ReleaseFits}
 use Rattle.office_tables.proofs.Exactly.{columns_are, other_width}
 use Rattle.office_tables.proofs.stored.ReleaseRowStored.from_row.Goals as goal
 

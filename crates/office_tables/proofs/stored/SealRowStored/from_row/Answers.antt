@@ -1,6 +1,5 @@
 use Rattle.std.proofs.Common.{refl}
-use Rattle.office_tables.specs.Tenders.{seal_values}
-use Rattle.office_tables.specs.Ranges.{SealFits}
+use Rattle.office_tables.specs.Tables.Seals.{seal_values, SealFits}
 use Rattle.office_tables.proofs.Exactly.{other_width}
 use Rattle.office_tables.proofs.stored.SealRowStored.from_row.Goals as goal
 

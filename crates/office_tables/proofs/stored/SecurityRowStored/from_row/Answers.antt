@@ -1,6 +1,5 @@
 use Rattle.std.proofs.Common.{refl, [], ◌∷◌, ◌∙◌}
-use Rattle.office_tables.specs.Tenders.{security_values}
-use Rattle.office_tables.specs.Ranges.{SecurityFits}
+use Rattle.office_tables.specs.Tables.Securities.{security_values, SecurityFits}
 use Rattle.office_tables.proofs.Exactly.{columns_are, other_width}
 use Rattle.office_tables.proofs.stored.SecurityRowStored.from_row.Goals as goal
 

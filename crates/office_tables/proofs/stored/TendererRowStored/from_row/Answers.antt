@@ -1,6 +1,5 @@
 use Rattle.std.proofs.Common.{refl, [], ◌∷◌, ◌∙◌}
-use Rattle.office_tables.specs.Notices.{tenderer_values}
-use Rattle.office_tables.specs.Ranges.{TendererFits}
+use Rattle.office_tables.specs.Tables.Tenderers.{tenderer_values, TendererFits}
 use Rattle.office_tables.proofs.Exactly.{columns_are, other_width}
 use Rattle.office_tables.proofs.stored.TendererRowStored.from_row.Goals as goal
 
