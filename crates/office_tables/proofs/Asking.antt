@@ -24,7 +24,8 @@ use Rattle.office_base.proofs.RowLaws.Starts.{all_above}
 use Rattle.office_base.proofs.RowLaws.Filters.{all_filter}
 use Rattle.office_tables.specs.Kept.{Stand}
 use Rattle.office_tables.proofs.KeptRows.{in_order-rows_kept}
-use Rattle.office_tables.proofs.Selected.{selects, comes_back, picked, passes_query, lists as all_in_order}
+use Rattle.office_tables.proofs.Selected.{selects, comes_back, picked, passes_query}
+use Rattle.office_tables.proofs.Selected.{lists as all_in_order}
 use Rattle.office_tables.proofs.Meanings.{StatementMeans}
 use Rattle.office_tables.proofs.Selecting.{select, capped_select, tested}
 

@@ -23,21 +23,35 @@ use Rattle.sqlite.specs.Does.{Tally, AtPlace, OnRows}
 use Rattle.sqlite.specs.State.{State, mode_of, Executes}
 use Rattle.sqlite.proofs.Callers.{runs_as}
 use Rattle.office_base.specs.Rows.{row_drop}
+use Rattle.office_tables.specs.Forms.{Form}
 use Rattle.office_tables.specs.Kept.{key_of, Stand}
 use Rattle.office_tables.specs.Schema.{OfficeTable, table_of}
 use Rattle.office_tables.specs.Known.{at_tree, Places, HasTables}
 use Rattle.office_tables.proofs.Childless.{IsOwn, writes, spared_own}
 use Rattle.office_tables.proofs.Upserted.{went, same_value}
-use Rattle.office_tables.proofs.RowsDropped as drop
 use Rattle.office_tables.proofs.Selected.{picked, passes_query}
 use Rattle.office_tables.proofs.Asking.{overlaid}
 use Rattle.office_tables.proofs.Selecting.{select, tested}
 use Rattle.office_tables.proofs.Meanings.{StatementMeans}
-use Rattle.office_tables.proofs.Writes.{IsStored, IsBare, IsPut, own_table, changed}
-use Rattle.sqlite_sql.specs.Term.{Term}
+use Rattle.office_tables.proofs.Upserts.{Shape}
+use Rattle.office_tables.proofs.Writes.{IsStored, IsBare, own_table, changed}
+use Rattle.office_tables.proofs.Writes.{IsPut}
+use Rattle.office_tables.proofs.RowsDropped as drop
 
-module _ (k : OfficeTable) (bare : (j : OfficeTable) → IsBare (table_of j)) {K X : Type 0} (R : K → K → Ordering) (key : X → K) (encode : X → Row) (form : Value → X → Row) (decode : Row → X) (base : ℕ) (terms cells : List Term)
-    (it : IsStored k R key encode form base terms cells) (old new : State) (p : Places) (tables : HasTables old.now.schema p) (tests : List ℕ) where
+module _ (k : OfficeTable) (bare : (j : OfficeTable) → IsBare (table_of j)) {K X : Type 0} (f : Form K X) (s : Shape) (it : IsStored k f s)
+    (old new : State) (p : Places) (tables : HasTables old.now.schema p) (tests : List ℕ) where
+  abbrev R : K → K → Ordering
+  R = f.cmp
+
+  abbrev key : X → K
+  key = f.key
+
+  abbrev form : Value → X → Row
+  form = f.stored
+
+  abbrev decode : Row → X
+  decode = f.back
+
   abbrev own : Table
   own = at_tree (table_of k) (p k)
 

@@ -14,18 +14,15 @@ use Rattle.sqlite.specs.State.{State, Fails, IsNotRun, IsNoStatement, IsStatemen
 use Rattle.sqlite.proofs.Callers.{IsPlain, command_of}
 use Rattle.office_base.specs.Tables.{Tables}
 use Rattle.office_base.specs.declared.puts.Put.{Put}
-use Rattle.office_base.specs.declared.puts.Put.TheVariants.{Line, Batch, Tenderer, Notice, Lot, Envelope, Seal, DropSeal, Security, Award, Contract, Entry, Release, Compiled as CompiledOne, Late, Performance, Clock}
 use Rattle.office_tables.specs.Failing.{IsExcused, DiskFails, Declines, StoreFails}
-use Rattle.office_tables.specs.Known.{Places, HasTables}
 use Rattle.office_tables.specs.Standing.{Holds}
 use Rattle.office_tables.specs.Schema.{statement_of, values_of_put}
 use Rattle.office_tables.specs.Version.{get_version}
-use Rattle.office_tables.specs.Schema.OfficeTable.{Lines, Batches, Tenderers, Notices, Lots, Envelopes, Seals, Securities, Awards, Contracts, Entries, Releases, Compiled as CompiledTable, Office, LateRules, Performances}
 use Rattle.office_tables.proofs.Made.{is_change, shows, quiet}
 use Rattle.office_tables.proofs.Meanings.{StatementMeans, IsOne, from_text}
-use Rattle.office_tables.proofs.DropStatements.{drop_seal_means, drop_seal_one}
-use Rattle.office_tables.proofs.SelectTexts.{get_version_means, get_version_one}
-use Rattle.office_tables.proofs.PutTexts.{upsert_lines_means, upsert_lines_one, upsert_batches_means, upsert_batches_one, upsert_tenderers_means, upsert_tenderers_one, upsert_notices_means, upsert_notices_one, upsert_lots_means, upsert_lots_one, upsert_envelopes_means, upsert_envelopes_one, upsert_seals_means, upsert_seals_one, upsert_securities_means, upsert_securities_one, upsert_awards_means, upsert_awards_one, upsert_contracts_means, upsert_contracts_one, upsert_entries_means, upsert_entries_one, upsert_releases_means, upsert_releases_one, upsert_compiled_means, upsert_compiled_one, upsert_office_means, upsert_office_one, upsert_late_rules_means, upsert_late_rules_one, upsert_performance_means, upsert_performance_one}
+use Rattle.office_tables.proofs.ByTable.Office.{get_version_means, get_version_one}
+use Rattle.office_tables.proofs.Each.{known}
+use Rattle.office_tables.specs.Schema.OfficeTable.{Office}
 
 pub if_err_with : {A E : Type 0} (r : Result A E) (P Q : E → Type 0) → IfErr r P → ((e : E) → P e → Q e) → IfErr r Q
 if_err_with (Ok a) P Q h f = tt
@@ -102,33 +99,6 @@ module _ (text : List ℕ) (params : Row) (old new : State) (command : Command) 
     statement_fails e (inr barred) = absurd (never_escapes 0 old command change (subst (Escapes 0 old) (sym (ap command_of barred.0.1.is) ∙ means.is) barred.0.2))
 
 -- ---- one put
-
--- what is known of the statement of a put, in a database with the tables of an office
-record IsKnown (old : State) (put : Put) : Type 0 where
-  command : Command
-  means : StatementMeans old.now.schema (statement_of put) command
-  one : IsOne (statement_of put) (length (values_of_put put))
-  change : is_change command ≡ true
-  silent : shows command ≡ false
-
-known : (old : State) (p : Places) → HasTables old.now.schema p → (put : Put) → IsKnown old put
-known old p tables (Line row) = record { command = _; means = upsert_lines_means old.now.schema (p Lines) (tables Lines); one = upsert_lines_one; change = refl; silent = refl }
-known old p tables (Batch row) = record { command = _; means = upsert_batches_means old.now.schema (p Batches) (tables Batches); one = upsert_batches_one; change = refl; silent = refl }
-known old p tables (Tenderer row) = record { command = _; means = upsert_tenderers_means old.now.schema (p Tenderers) (tables Tenderers); one = upsert_tenderers_one; change = refl; silent = refl }
-known old p tables (Notice row) = record { command = _; means = upsert_notices_means old.now.schema (p Notices) (tables Notices); one = upsert_notices_one; change = refl; silent = refl }
-known old p tables (Lot row) = record { command = _; means = upsert_lots_means old.now.schema (p Lots) (tables Lots); one = upsert_lots_one; change = refl; silent = refl }
-known old p tables (Envelope row) = record { command = _; means = upsert_envelopes_means old.now.schema (p Envelopes) (tables Envelopes); one = upsert_envelopes_one; change = refl; silent = refl }
-known old p tables (Seal row) = record { command = _; means = upsert_seals_means old.now.schema (p Seals) (tables Seals); one = upsert_seals_one; change = refl; silent = refl }
-known old p tables (DropSeal receipt) = record { command = _; means = drop_seal_means old.now.schema (p Seals) (tables Seals); one = drop_seal_one; change = refl; silent = refl }
-known old p tables (Security row) = record { command = _; means = upsert_securities_means old.now.schema (p Securities) (tables Securities); one = upsert_securities_one; change = refl; silent = refl }
-known old p tables (Award row) = record { command = _; means = upsert_awards_means old.now.schema (p Awards) (tables Awards); one = upsert_awards_one; change = refl; silent = refl }
-known old p tables (Contract row) = record { command = _; means = upsert_contracts_means old.now.schema (p Contracts) (tables Contracts); one = upsert_contracts_one; change = refl; silent = refl }
-known old p tables (Entry row) = record { command = _; means = upsert_entries_means old.now.schema (p Entries) (tables Entries); one = upsert_entries_one; change = refl; silent = refl }
-known old p tables (Release row) = record { command = _; means = upsert_releases_means old.now.schema (p Releases) (tables Releases); one = upsert_releases_one; change = refl; silent = refl }
-known old p tables (CompiledOne row) = record { command = _; means = upsert_compiled_means old.now.schema (p CompiledTable) (tables CompiledTable); one = upsert_compiled_one; change = refl; silent = refl }
-known old p tables (Late row) = record { command = _; means = upsert_late_rules_means old.now.schema (p LateRules) (tables LateRules); one = upsert_late_rules_one; change = refl; silent = refl }
-known old p tables (Performance row) = record { command = _; means = upsert_performance_means old.now.schema (p Performances) (tables Performances); one = upsert_performance_one; change = refl; silent = refl }
-known old p tables (Clock row) = record { command = _; means = upsert_office_means old.now.schema (p Office) (tables Office); one = upsert_office_one; change = refl; silent = refl }
 
 excused_with : (P Q : Type 0) (e : Error) → IsExcused P e → (P → Q) → IsExcused Q e
 excused_with P Q e (inl memory) f = inl memory

@@ -27,13 +27,11 @@ use Rattle.office_base.proofs.ExactKeys.{ids_exact}
 use Rattle.office_base.proofs.RowLaws.{all-put}
 use Rattle.office_base.specs.declared.records.ClockRow.{ClockRow}
 use Rattle.office_base.specs.declared.records.NoticeRow.{NoticeRow}
-use Rattle.office_tables.specs.ComesBack.{ComesBack}
-use Rattle.office_tables.specs.Tables.Office.{office, clock_values, clock_values_of, clock_read, clock_key, clock_cmp}
+use Rattle.office_tables.specs.Tables.Office.{office, clock_values, clock_read, upsert_office, clock_form}
 use Rattle.office_tables.specs.Tables.Notices.{former_values, former_read, former_by_rowid, former_notices}
-use Rattle.office_tables.specs.Releases.{clock_by_rowid}
 use Rattle.office_tables.specs.Apart.{AddsNoReference, LeadsInside}
 use Rattle.office_tables.specs.First.{tables_since_version_1, has_table, has_late, drop_notices, drop_version, StandForFirst, IsNothing, StandsFirst, HoldsFirst, IsMigrated, Renews, Begins}
-use Rattle.office_tables.specs.Kept.{rows_kept as records_of, row_behind_rowid, by_rowid, read_by_rowid, Stand}
+use Rattle.office_tables.specs.Kept.{rows_kept as records_of, row_behind_rowid, Stand}
 use Rattle.office_tables.specs.Known.{IsIn, Places, HasTables, at_tree}
 use Rattle.office_tables.specs.Laws.{KnowsNoPerformances}
 use Rattle.office_tables.specs.Making.{AreMade, KeepsOffice, Makes}
@@ -45,18 +43,21 @@ use Rattle.office_tables.specs.declared.stored.FormerNotice.{FormerNotice}
 use Rattle.office_tables.specs.Schema.OfficeTable.{Notices, LateRules, FormerNotices, Performances, Office}
 use Rattle.office_tables.proofs.Deletes.{IsDelete, delete_means}
 use Rattle.office_tables.proofs.Emptied.{empties}
-use Rattle.office_tables.proofs.Founds.{nothing as no_rows}
 use Rattle.office_tables.proofs.Held.{goes_on}
 use Rattle.office_tables.proofs.KeptRows.{in_order-rows_kept}
 use Rattle.office_tables.proofs.Made.{made_of}
 use Rattle.office_tables.proofs.MakingSteps.{goes_then}
 use Rattle.office_tables.proofs.Meanings.{StatementMeans, parsed_in}
-use Rattle.office_tables.proofs.PutTexts.{upsert_office, upsert_office_means}
 use Rattle.office_tables.proofs.PutsApart.{clock_apart}
 use Rattle.office_tables.proofs.Selecting.{select, found_by_tree}
 use Rattle.office_tables.proofs.Simple.{no_test}
-use Rattle.office_tables.proofs.StoredRows.{bare, clock_terms, clock_cells, clock_stored}
 use Rattle.office_tables.proofs.Writes.{puts_row, with_rows}
+use Rattle.office_tables.proofs.ByTable.Office.{clock_shape, clock_put}
+use Rattle.office_tables.proofs.Each.{bare, nothing as no_rows}
+use Rattle.office_tables.proofs.TableTools.{put_means}
+use Rattle.office_tables.specs.Kept.{StandsAs}
+use Rattle.office_tables.specs.Tables.Notices.{former_form}
+use Rattle.office_tables.specs.Tables.Office.{clock_form_of}
 
 -- ---- its version, and its notices
 
@@ -70,7 +71,7 @@ pub second_version : (db : Database) (t : Tables) → Holds db t → HasVersion 
 second_version db t was = record { place = was.places Office; table = was.tables Office; stand = was.stands Office }
 
 -- they stand in `notices`
-pub former_there : (db : Database) (t : Tables) (n : ℕ) → StandsFirst db t FormerNotices n → IsIn db.schema former_notices n × Stand id_cmp notice_key (row_behind_rowid former_values) former_by_rowid (db.trees n) t.notices
+pub former_there : (db : Database) (t : Tables) (n : ℕ) → StandsFirst db t FormerNotices n → IsIn db.schema former_notices n × StandsAs former_form (db.trees n) t.notices
 former_there db t n (inl it) = it
 former_there db t n (inr it) = absurd it.1
 
@@ -81,10 +82,10 @@ first_sorted db t was =
     subst (IsInOrder id_cmp notice_key) stand.is (in_order-rows_kept id_cmp nat_list_cmp_total ids_exact notice_key (row_behind_rowid former_values) former_by_rowid (db.trees (was.places FormerNotices)))
 
 -- and ask for no performance securities, of which there are none
-asks_none : (rows : List Row) → AllByRecursion (λ (n : NoticeRow). n.performance ≡ 0) (records_of id_cmp notice_key (row_behind_rowid former_values) former_by_rowid rows)
+asks_none : (rows : List Row) → AllByRecursion (λ (n : NoticeRow). n.performance ≡ 0) (records_of former_form.cmp former_form.key former_form.stored former_form.back rows)
 asks_none [] = tt
 asks_none (r ∷ rows) =
-    all-put nat_list_cmp_total notice_key (λ (n : NoticeRow). n.performance ≡ 0) (records_of id_cmp notice_key (row_behind_rowid former_values) former_by_rowid rows) (former_by_rowid r) refl (asks_none rows)
+    all-put nat_list_cmp_total notice_key (λ (n : NoticeRow). n.performance ≡ 0) (records_of former_form.cmp former_form.key former_form.stored former_form.back rows) (former_by_rowid r) refl (asks_none rows)
 
 has_no_performances : (db : Database) (t : Tables) (n : ℕ) → StandsFirst db t Performances n → t.performances ≡ []
 has_no_performances db t n (inl it) = absurd it.1
@@ -149,11 +150,11 @@ ready late old new t made stays there was =
     record { sound = made.sound; places = λ k. (stands k).0; tables = λ k. (stands k).1; stands = λ k. (stands k).2 }
 
 -- `notices` and `office` were there
-former_stands : (rows : List Row) (t : Tables) → StandsOrMade FormerNotices rows t → Stand id_cmp notice_key (row_behind_rowid former_values) former_by_rowid rows t.notices
+former_stands : (rows : List Row) (t : Tables) → StandsOrMade FormerNotices rows t → StandsAs former_form rows t.notices
 former_stands rows t (inl stand) = stand
 former_stands rows t (inr it) = absurd it.1
 
-clock_stands : (rows : List Row) (t : Tables) → StandsOrMade Office rows t → Stand clock_cmp clock_key (by_rowid (clock_values_of 1)) (read_by_rowid clock_read) rows (t.clock ∷ [])
+clock_stands : (rows : List Row) (t : Tables) → StandsOrMade Office rows t → StandsAs (clock_form_of 1) rows (t.clock ∷ [])
 clock_stands rows t (inl stand) = stand
 clock_stands rows t (inr it) = absurd it.1
 
@@ -211,7 +212,7 @@ renewed_stands rows changed t stood clock k = elim (stood k) [
   | inr it ↦ absurd it.1
 ]
 
-module _ {S : Type 0} (g : Ghosts S) (late : Bool) (clock : ClockRow) (old : State) (from to : Held S) (back : ComesBack clock_values clock_read clock_by_rowid) (made : Makes old (state g from) (tables_since_version_1 late)) (it : Renews g clock from to) where
+module _ {S : Type 0} (g : Ghosts S) (late : Bool) (clock : ClockRow) (old : State) (from to : Held S) (made : Makes old (state g from) (tables_since_version_1 late)) (it : Renews g clock from to) where
   abbrev mid : State
   mid = state g from
 
@@ -237,13 +238,13 @@ module _ {S : Type 0} (g : Ghosts S) (late : Bool) (clock : ClockRow) (old : Sta
       (numbered (clock_stands (first.now.trees (p Office)) t (subst (λ rows. StandsOrMade Office rows t) (sym clock_at) (there.stands Office)))) it.freed.1.0 in
       let tables_2 : HasTables second.now.schema p = subst (λ s. HasTables s p) (sym two.schema) tables_1 in
       let empty : second.now.trees (p Office) ≡ [] = ap (λ (f : OfficeTable → List Row). f Office) two.rows in
-      let none : Stand clock_cmp clock_key (by_rowid clock_values) (read_by_rowid clock_read) (second.now.trees (p Office)) [] = no_rows empty in
-      let done = puts_row Office bare clock_cmp clock_key clock_values (by_rowid clock_values) (read_by_rowid clock_read) 4 clock_terms clock_cells clock_stored second new p tables_2 upsert_office clock it.put.0 []
-      (upsert_office_means second.now.schema (p Office) (tables_2 Office)) (λ v. back.row clock) none it.put.1.0 in
+      let none : StandsAs clock_form (second.now.trees (p Office)) [] = no_rows empty in
+      let done = puts_row Office bare clock_form clock_shape clock_put.stored second new p tables_2 upsert_office clock it.put.0 []
+      (put_means clock_put second.now.schema (p Office) (tables_2 Office)) (λ v. refl) none it.put.1.0 in
       let rows : (λ j. new.now.trees (p j)) ≡ with_rows (with_rows (with_rows (λ j. mid.now.trees (p j)) FormerNotices []) Office []) Office (new.now.trees (p Office)) =
       done.rows ∙ ap (λ r. with_rows r Office (new.now.trees (p Office))) (two.rows ∙ ap (λ r. with_rows r Office []) one.rows) in
       let kept = clock_apart second.step_limit clock second.now new.now (p Office) (tables_2 Office)
-      (made_of upsert_office (clock_values clock) second new _ (upsert_office_means second.now.schema (p Office) (tables_2 Office)) refl refl it.put.0 it.put.1.0) in
+      (made_of upsert_office (clock_values clock) second new _ (put_means clock_put second.now.schema (p Office) (tables_2 Office)) refl refl it.put.0 it.put.1.0) in
       let schema_2 : second.now.schema ≡ mid.now.schema = two.schema ∙ one.schema in
       let tables_3 : HasTables new.now.schema p = subst (λ s. HasTables s p) (sym done.schema) tables_2 in
       record {
@@ -271,11 +272,11 @@ module _ {S : Type 0} (g : Ghosts S) (late : Bool) (clock : ClockRow) (old : Sta
         added = subst (AddsNoReference old.now.schema) (sym (done.schema ∙ schema_2)) made.added;
       }
 
-pub begins : {S : Type 0} (g : Ghosts S) (late : Bool) (clock : ClockRow) (old : State) (from to : Held S) → ComesBack clock_values clock_read clock_by_rowid → Makes old (state g from) (tables_since_version_1 late) → Renews g clock from to
+pub begins : {S : Type 0} (g : Ghosts S) (late : Bool) (clock : ClockRow) (old : State) (from to : Held S) → Makes old (state g from) (tables_since_version_1 late) → Renews g clock from to
     → Begins late clock old (state g to)
-begins g late clock old from to back made it = record {
+begins g late clock old from to made it = record {
   goes = goes_then old (state g from) (state g to) made.goes
       (goes_then (state g from) (state g it.first) (state g to) (goes_on (state g from) (state g it.first) it.dropped.1.1)
       (goes_then (state g it.first) (state g it.second) (state g to) (goes_on (state g it.first) (state g it.second) it.freed.1.1) (goes_on (state g it.second) (state g to) it.put.1.1)));
-  tables = migrated g late clock old from to back made it;
+  tables = migrated g late clock old from to made it;
 }

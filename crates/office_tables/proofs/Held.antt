@@ -12,7 +12,8 @@ use Rattle.office_tables.specs.Known.{HasTables}
 use Rattle.office_tables.specs.Kept.{Stand}
 use Rattle.office_tables.specs.Standing.{Stands, Holds}
 use Rattle.office_tables.specs.Steps.{Goes, MakesOne, Puts}
-use Rattle.office_tables.proofs.Writes.{IsPut, with_rows}
+use Rattle.office_tables.proofs.Writes.{IsPut}
+use Rattle.office_tables.proofs.Writes.{with_rows}
 
 pub holds_put : (k : OfficeTable) {K X : Type 0} (R : K → K → Ordering) (key : X → K) (form : Value → X → Row) (decode : Row → X) (old new : Database) (t after : Tables) (was : Holds old t) (xs : List X)
     → IsPut k R key form decode old new was.places xs → (Stand R key form decode (new.trees (was.places k)) xs → Stands (with_rows (λ j. old.trees (was.places j)) k (new.trees (was.places k))) after)

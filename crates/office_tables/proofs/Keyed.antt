@@ -12,9 +12,7 @@ use Rattle.sqlite_schema.specs.declared.schema.Index.{Index}
 use Rattle.sqlite_schema.specs.Rules.{agree, guards}
 use Rattle.sqlite_rules.specs.Keys.{conflicts, shares}
 use Rattle.sqlite_resolve.specs.Given.{are_among, is_key_at, key_at}
-use Rattle.office_tables.specs.Schema.{OfficeTable, table_of}
 use Rattle.office_tables.specs.Known.{IsIn, at_tree, key_indexes}
-use Rattle.office_tables.specs.Schema.OfficeTable.{Lines, Batches, Tenderers, Notices, Lots, Envelopes, Seals, Securities, Awards, Contracts, Entries, Releases, Compiled, Office, LateRules, FormerNotices, Performances}
 
 -- the key has an index of its own, in the order of bytes
 pub record HasIndex (table : Table) : Type 0 where
@@ -33,30 +31,11 @@ pub record IsRowid (table : Table) : Type 0 where
 abbrev pub HasKey : Table → Type 0
 HasKey table = HasIndex table ⊎ IsRowid table
 
-abbrev indexed : {table : Table} → table.key ≡ None → table.orders ≡ plain ∷ [] → table.uniques ≡ table.primary ∷ [] → bytes_eq table.primary (0 ∷ []) ≡ false → are_among table.primary table.primary ≡ true → HasKey table
+abbrev pub indexed : {table : Table} → table.key ≡ None → table.orders ≡ plain ∷ [] → table.uniques ≡ table.primary ∷ [] → bytes_eq table.primary (0 ∷ []) ≡ false → are_among table.primary table.primary ≡ true → HasKey table
 indexed key plainly uniques apart among = inl (record { key = key; plainly = plainly; uniques = uniques; apart = apart; among = among })
 
-abbrev numbered : {table : Table} → table.key ≡ Some 0 → table.primary ≡ 0 ∷ [] → table.uniques ≡ [] → HasKey table
+abbrev pub numbered : {table : Table} → table.key ≡ Some 0 → table.primary ≡ 0 ∷ [] → table.uniques ≡ [] → HasKey table
 numbered key primary uniques = inr (record { key = key; primary = primary; uniques = uniques })
-
-pub keyed : (k : OfficeTable) → HasKey (table_of k)
-keyed Lines = indexed refl refl refl refl refl
-keyed Batches = indexed refl refl refl refl refl
-keyed Tenderers = indexed refl refl refl refl refl
-keyed Notices = indexed refl refl refl refl refl
-keyed Lots = indexed refl refl refl refl refl
-keyed Envelopes = numbered refl refl refl
-keyed Seals = numbered refl refl refl
-keyed Securities = numbered refl refl refl
-keyed Awards = numbered refl refl refl
-keyed Contracts = numbered refl refl refl
-keyed Entries = indexed refl refl refl refl refl
-keyed Releases = indexed refl refl refl refl refl
-keyed Compiled = indexed refl refl refl refl refl
-keyed Office = numbered refl refl refl
-keyed LateRules = indexed refl refl refl refl refl
-keyed FormerNotices = indexed refl refl refl refl refl
-keyed Performances = numbered refl refl refl
 
 -- ---- conflicts
 

@@ -15,14 +15,9 @@ mod LoweredColumns
 mod Whole
 mod Simple
 mod Selecting
-mod SelectTexts
-mod LotTexts
 mod Asking
 mod Deletes
 mod Drops
-mod Selects
-mod PageTexts
-mod PageSelects
 mod Asked
 mod Reading
 mod Cells
@@ -30,17 +25,14 @@ mod Keyed
 mod Upserts
 mod Renewed
 mod Writes
-mod Keys
-mod StoredRows
 mod Held
-mod PutTexts
+mod TableTools
+mod ByTable
+mod Each
 pub mod PutsApart
-mod PutStatements
-mod DropStatements
 mod Stepping
 mod CreateTexts
 mod Grown
-mod CreateFacts
 mod Makes
 mod Founds
 mod MakingSteps

@@ -1,5 +1,5 @@
 -- What a CREATE leaves of the tables of an office that were made.
-use Rattle.std.proofs.Common.{◌≡◌, ◌⊎◌, inl, inr, ◌<◌, ◌||◌, ◌∷◌, [], List, Ok, Err, None, Some, Option, Result, refl, false, true, ℕ, ap, sym, subst, ◌∙◌, true≢false}
+use Rattle.std.proofs.Common.{◌≡◌, ◌⊎◌, inl, inr, ◌<◌, ◌||◌, ◌∷◌, [], List, Ok, Err, None, Some, Option, Result, refl, false, ℕ, ap, sym, subst, ◌∙◌, true≢false}
 use Rattle.std.specs.Prelude.{is_some}
 use Rattle.std.specs.List.{AllByRecursion}
 use Rattle.std.proofs.lemmas.Bool.{cases_Bool, MatchBool-at_true, MatchBool-at_false}
@@ -27,12 +27,10 @@ use Rattle.office_tables.specs.Schema.{OfficeTable, table_of}
 use Rattle.office_tables.specs.Apart.{AddsNoReference}
 use Rattle.office_tables.specs.Known.{IsIn, at_tree}
 use Rattle.office_tables.specs.Making.{Says, IsCreate, IsIndexing, AreMade, KeepsOthers, KeepsOffice, AreNew}
-use Rattle.office_tables.specs.Schema.OfficeTable.{Lines, Batches, Tenderers, Notices, Lots, Envelopes, Seals, Securities, Awards, Contracts, Entries, Releases, Compiled as Merges, Office, LateRules, FormerNotices, Performances}
 use Rattle.sqlite_catalog.proofs.ListFacts.{none_placed}
-use Rattle.office_tables.proofs.Keyed.{keyed}
 use Rattle.office_tables.proofs.Upserted.{went, same_value}
-use Rattle.office_tables.proofs.StoredRows.{bare}
 use Rattle.office_tables.proofs.Grown.{created_keeps, indexed_keeps, created_is, low_tree, has-append, has_last, has_front}
+use Rattle.office_tables.proofs.Each.{bare, each}
 
 -- ---- the statement
 
@@ -79,30 +77,9 @@ pub all_so : (P Q : OfficeTable → Type 0) (ks : List OfficeTable) → ((k : Of
 all_so P Q [] f h = tt
 all_so P Q (k ∷ ks) f h = (f k h.0, all_so P Q ks f h.1)
 
--- the name of each table of the office is a name
-named : (k : OfficeTable) → same_name (table_of k).name (table_of k).name ≡ true
-unfolding same_name
-named Lines = refl
-named Batches = refl
-named Tenderers = refl
-named Notices = refl
-named Lots = refl
-named Envelopes = refl
-named Seals = refl
-named Securities = refl
-named Awards = refl
-named Contracts = refl
-named Entries = refl
-named Releases = refl
-named Merges = refl
-named Office = refl
-named LateRules = refl
-named FormerNotices = refl
-named Performances = refl
-
 -- each has one key, with an index or without
 one_key : (k : OfficeTable) → ((table_of k).uniques ≡ (table_of k).primary ∷ []) ⊎ ((table_of k).uniques ≡ [])
-one_key k = elim (keyed k) [ inl index ↦ inl index.uniques | inr rowid ↦ inr rowid.uniques ]
+one_key k = elim (each k).bare.key [ inl index ↦ inl index.uniques | inr rowid ↦ inr rowid.uniques ]
 
 first_unused : (a b c : Option ℕ) → ((is_some a || is_some b) || is_some c) ≡ false → a ≡ None
 first_unused None b c h = refl
@@ -153,7 +130,7 @@ made_stands k old after sound sound_after it =
       | inl same ↦ low_tree after (at_tree (table_of k) n) sound_after (subst (λ (d : Database). Has d.schema.tables (at_tree (table_of k) n)) (sym same) last)
       | inr more ↦ low_tree after (at_tree (table_of k) n) sound_after (subst (λ (s : Schema). Has s.tables (at_tree (table_of k) n)) (sym more.schema) (has_front it.mid.schema.tables _ _ last))
     ] in
-    let stands : Stands it.mid k = (n, subst (λ s. IsIn s (table_of k) n) (sym schema) (created_is old (table_of k) (keyed k) sound it.unnamed (named k) below), it.first.empty) in
+    let stands : Stands it.mid k = (n, subst (λ s. IsIn s (table_of k) n) (sym schema) (created_is old (table_of k) (each k).bare.key sound it.unnamed (each k).named below), it.first.empty) in
     elim it.then [ inl same ↦ subst (λ d. Stands d k) (sym same) stands | inr more ↦ grows_keeps it.mid after more k stands ]
 
 one_more_stays : (k : OfficeTable) (old after : Database) → IsOneMore k old after → KeepsOffice old after
@@ -216,7 +193,7 @@ table_others old new text k count it h =
     let one = one_more k text old.now all.0 it.defined first.0 first.1 first.2 in (
       subst (KeepsOthers old.now) (sym now) (one_more_others k old.now all.0 one),
       (
-        λ t there called. true≢false (sym (ap (λ n. same_name n (table_of k).name) called ∙ (named k)) ∙ none_placed (λ (u : Table). same_name u.name (table_of k).name) old.now.schema.tables 0 t one.unnamed there),
+        λ t there called. true≢false (sym (ap (λ n. same_name n (table_of k).name) called ∙ (each k).named) ∙ none_placed (λ (u : Table). same_name u.name (table_of k).name) old.now.schema.tables 0 t one.unnamed there),
         tt,
       ),
       subst (KeepsOffice old.now) (sym now) (one_more_stays k old.now all.0 one),

@@ -4,17 +4,15 @@ use Rattle.sqlite_schema.specs.declared.schema.Index.{Index}
 use Rattle.sqlite.specs.Effect.{IsDatabase}
 use Rattle.sqlite.specs.State.{State, ExecutesInside}
 use Rattle.office_base.specs.Tables.{first_clock}
-use Rattle.office_tables.specs.ComesBack.{ComesBack}
-use Rattle.office_tables.specs.Tables.Office.{clock_values, clock_read}
-use Rattle.office_tables.specs.Releases.{clock_by_rowid}
+use Rattle.office_tables.specs.Tables.Office.{clock_values, upsert_office}
 use Rattle.office_tables.specs.Schema.{OfficeTable, table_of, all_tables}
 use Rattle.office_tables.specs.Steps.{Goes, Refused}
 use Rattle.office_tables.specs.Making.{IsCreate, IsIndexing, AreMade, Makes, Indexes, Founds}
 use Rattle.office_tables.proofs.Held.{goes_on}
 use Rattle.office_tables.proofs.Childless.{all-append}
 use Rattle.office_tables.proofs.Makes.{makes_table, makes_index, table_others, index_others, others_then, stays_then, added_then, all_so}
-use Rattle.office_tables.proofs.Founds.{found, founds, first_others}
-use Rattle.office_tables.proofs.PutTexts.{upsert_office}
+use Rattle.office_tables.proofs.Each.{found}
+use Rattle.office_tables.proofs.Founds.{founds, first_others}
 
 pub goes_then : (a b c : State) → Goes a b → Goes b c → Goes a c
 goes_then a b c p q = record { mode = q.mode; was_open = p.was_open; is_open = q.is_open; committed = q.committed ∙ p.committed }
@@ -46,11 +44,11 @@ pub indexes_then : (a b c : State) → Indexes a b → Indexes b c → Indexes a
 indexes_then a b c p q = record { goes = goes_then a b c p.goes q.goes; others = λ was. others_then a.now b.now c.now (p.others was) (q.others (p.made was)); made = λ was. q.made (p.made was) }
 
 -- a sound database has none of the tables to begin with
-pub founded : (a b c d : State) (count : ℕ) → ComesBack clock_values clock_read clock_by_rowid → Makes a b all_tables → Indexes b c → ExecutesInside 0 upsert_office (clock_values first_clock) c d (Ok count) → Founds a d
-founded a b c d count back p q h =
+pub founded : (a b c d : State) (count : ℕ) → Makes a b all_tables → Indexes b c → ExecutesInside 0 upsert_office (clock_values first_clock) c d (Ok count) → Founds a d
+founded a b c d count p q h =
     let all : IsDatabase a.now → AreMade all_tables b.now = λ sound. subst (λ l. AreMade l b.now) (append-nil all_tables) (p.made [] (record { sound = sound; each = tt })) in
     record {
       goes = goes_then a c d (goes_then a b c p.goes q.goes) (goes_on c d h.1);
-      tables = λ sound. founds c d first_clock count back (q.made (all sound)) h.0;
+      tables = λ sound. founds c d first_clock count (q.made (all sound)) h.0;
       others = λ sound. first_others a.now c d first_clock count (others_then a.now b.now c.now p.others (q.others (all sound))) p.fresh (q.made (all sound)) h.0;
     }

@@ -24,7 +24,8 @@ use Rattle.office_base.proofs.RowLaws.Keyed.{IsKeyed}
 use Rattle.office_base.proofs.RowLaws.Drops.{in_order-drop, row_at-row_drop}
 use Rattle.office_tables.specs.Kept.{key_of, entry, rows_kept, AreKept, Stand}
 use Rattle.office_tables.proofs.Sorted.{same_rows}
-use Rattle.office_tables.proofs.KeptRows.{found, finds, in_order-rows_kept}
+use Rattle.office_tables.proofs.KeptRows.{found}
+use Rattle.office_tables.proofs.KeptRows.{finds, in_order-rows_kept}
 use Rattle.office_tables.proofs.RowsPut.{left_from, unmapped, left_up, at_itself}
 use Rattle.office_tables.proofs.Selected.{picked, permuted_has}
 

@@ -30,7 +30,8 @@ use Rattle.office_base.proofs.RowLaws.Keyed.{IsKeyed}
 use Rattle.office_base.proofs.RowLaws.Found.{each_found}
 use Rattle.office_base.proofs.RowLaws.Filters.{if_passes, in_order-filter, row_at-filter}
 use Rattle.office_tables.proofs.Sorted.{Climbs, climbs, count_at, in_order_from_sorted, same_members}
-use Rattle.office_tables.proofs.KeptRows.{found, finds, in_order-rows_kept}
+use Rattle.office_tables.proofs.KeptRows.{found}
+use Rattle.office_tables.proofs.KeptRows.{finds, in_order-rows_kept}
 
 abbrev pub picked : (Row → Bool) → (Row → Env) → List Row → List Env
 picked p env rows = flat_map (λ r. cond (p r) (env r ∷ []) []) rows

@@ -23,11 +23,11 @@ use Rattle.sqlite_resolve.specs.Select.{constant_or}
 use Rattle.sqlite_typing.specs.Types.{accepts_program}
 use Rattle.office_tables.specs.Known.{IsIn, at_tree}
 use Rattle.office_tables.proofs.Meanings.{StatementMeans, means_by, parsed_in}
+use Rattle.office_tables.proofs.LoweredColumns.{at_budget}
+use Rattle.office_tables.proofs.Simple.{capped, names_of, outputs_of, spent, left_by, Has, AreFree, scope, query_is, simple_compiles}
 use Rattle.sqlite_resolve.specs.declared.scope.Output.{Output}
 use Rattle.sqlite_resolve.specs.Expr.{lower}
 use Rattle.sqlite_resolve.specs.Body as body
-use Rattle.office_tables.proofs.LoweredColumns.{at_budget}
-use Rattle.office_tables.proofs.Simple.{capped, names_of, outputs_of, spent, left_by, Has, AreFree, scope, query_is, simple_compiles}
 
 -- ---- what is asked
 

@@ -61,6 +61,10 @@ equals_e name n = roll-Expr (Expr-F.Binary binary.Eq (column_e name) (roll-Expr 
 abbrev pub above_e : Name → ℕ → Expr
 above_e name n = roll-Expr (Expr-F.Binary binary.Gt (column_e name) (roll-Expr (Expr-F.Parameter n)))
 
+-- a parameter, as after LIMIT
+abbrev pub count_e : ℕ → Expr
+count_e n = roll-Expr (Expr-F.Parameter n)
+
 abbrev pub both_e : Expr → Expr → Expr
 both_e a b = roll-Expr (Expr-F.Binary binary.And a b)
 

@@ -1,8 +1,6 @@
 -- Trees stand for one office alone.
-use Rattle.std.proofs.Common.{◌≡◌, List, [], ◌∷◌, Some, sym, ap, subst, ◌∙◌, slice_get, filter, ℕ}
+use Rattle.std.proofs.Common.{◌≡◌, Some, sym, ap, subst, ◌∙◌, slice_get, filter, ℕ}
 use Rattle.std.specs.List.{position_from, AllZip}
-use Rattle.std.specs.declared.cmp.Ordering.{Ordering}
-use Rattle.sqlite_value.specs.declared.value.Value.{Value}
 use Rattle.sqlite_value.specs.Order.{Row}
 use Rattle.sqlite_trees.specs.Tree.{Trees}
 use Rattle.sqlite_trees.specs.Objects.{catalog_tree}
@@ -16,9 +14,8 @@ use Rattle.sqlite.specs.Effect.{Database, IsDatabase}
 use Rattle.office_base.specs.Tables.{Tables}
 use Rattle.office_tables.specs.Schema.{OfficeTable, table_of, StandFor}
 use Rattle.office_tables.specs.Known.{IsIn, at_tree}
-use Rattle.office_tables.specs.Kept.{Stand}
 use Rattle.office_tables.specs.Standing.{Holds}
-use Rattle.office_tables.specs.Schema.OfficeTable.{Lines, Batches, Tenderers, Notices, Lots, Envelopes, Seals, Securities, Awards, Contracts, Entries, Releases, Compiled, Office, LateRules, Performances}
+use Rattle.office_tables.proofs.Each.{one_content}
 
 reads : (row : Row) (t : Table) → IsTableRow row t → ReadsTable row t
 reads row t h = record {
@@ -47,15 +44,9 @@ same_place d e t m n same a b =
     let one : at_tree t m ≡ at_tree t n = cc in
     ap (λ (u : Table). u.tree) one
 
-same : {K X : Type 0} {R : K → K → Ordering} {key : X → K} {form : Value → X → Row} {decode : Row → X} {rows : List Row} {xs ys : List X} → Stand R key form decode rows xs → Stand R key form decode rows ys → xs ≡ ys
-same a b = sym a.is ∙ b.is
-
-one_of : {X : Type 0} {x y : X} → ◌≡◌ {A = List X} (x ∷ []) (y ∷ []) → x ≡ y
-one_of e = cc
-
 pub told : (d e : Database) (t u : Tables) → Holds d t → Holds e u → d.trees ≡ e.trees → t ≡ u
 told d e t u x y trees =
     let tables = same_tables d e x.sound y.sound trees in
     let stands : (k : OfficeTable) → StandFor k (e.trees (y.places k)) t = λ k.
     subst (λ n. StandFor k (e.trees n) t) (same_place d.schema e.schema (table_of k) (x.places k) (y.places k) tables (x.tables k) (y.tables k)) (subst (λ (r : Trees). StandFor k (r (x.places k)) t) trees (x.stands k)) in
-    λ i. record { lines = same (stands Lines) (y.stands Lines) i; batches = same (stands Batches) (y.stands Batches) i; tenderers = same (stands Tenderers) (y.stands Tenderers) i; notices = same (stands Notices) (y.stands Notices) i; lots = same (stands Lots) (y.stands Lots) i; envelopes = same (stands Envelopes) (y.stands Envelopes) i; seals = same (stands Seals) (y.stands Seals) i; securities = same (stands Securities) (y.stands Securities) i; awards = same (stands Awards) (y.stands Awards) i; contracts = same (stands Contracts) (y.stands Contracts) i; entries = same (stands Entries) (y.stands Entries) i; releases = same (stands Releases) (y.stands Releases) i; compiled = same (stands Compiled) (y.stands Compiled) i; late_rules = same (stands LateRules) (y.stands LateRules) i; performances = same (stands Performances) (y.stands Performances) i; clock = one_of (same (stands Office) (y.stands Office)) i }
+    one_content (λ k. e.trees (y.places k)) t u stands y.stands

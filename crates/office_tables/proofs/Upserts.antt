@@ -1,6 +1,7 @@
 -- INSERT .. ON CONFLICT (key) DO UPDATE of one row under a schema of which only its table is known.
-use Rattle.std.proofs.Common.{◌≡◌, [], ◌∷◌, ◌+◌, ◌==◌, List, Ok, None, Some, pos, negsuc, refl, ℕ, length, false, true, slice_get}
-use Rattle.sqlite_value.specs.declared.value.Value.TheVariants.{Int}
+use Rattle.std.proofs.Common.{◌≡◌, [], ◌∷◌, ◌++◌, ◌+◌, ◌-◌, ◌==◌, List, Ok, None, Some, pos, negsuc, refl, ℕ, length, false, true, slice_get, map}
+use Rattle.std.specs.List.{range_with_len}
+use Rattle.sqlite_value.specs.declared.value.Value.TheVariants.{Int, Null}
 use Rattle.sqlite_value.specs.declared.keys.Collation.TheVariants.{Binary}
 use Rattle.sqlite_sql.specs.Term.{Term, lit, col, op2}
 use Rattle.sqlite_sql.specs.Query.{Query, inner, end}
@@ -69,6 +70,24 @@ draft_of tree base cells = record {
   limit = lit (Int (negsuc 0));
   offset = lit (Int (pos 0));
 }
+
+-- the terms of a put: how many parameters it has, the row that it tries, and the row that it sets
+pub record Shape : Type 0 where
+  pub base : ℕ
+  pub terms : List Term
+  pub cells : List Term
+
+-- so many parameters from one on
+abbrev pub given_from : ℕ → ℕ → List Term
+given_from at n = map (col 0) (range_with_len at n)
+
+-- of a table whose rows stand behind a rowid that is chosen: of so many columns so many are the key, which the row that is there keeps
+abbrev pub behind_rowid : ℕ → ℕ → Shape
+behind_rowid n keys = record { base = n; terms = lit Null ∷ given_from 0 n; cells = map (col 1) (range_with_len 1 keys) ++ given_from keys (n - keys) }
+
+-- of a table whose key is its rowid
+abbrev pub at_rowid : ℕ → Shape
+at_rowid n = record { base = n; terms = col 0 0 ∷ lit Null ∷ given_from 1 (n - 1); cells = lit Null ∷ given_from 1 (n - 1) }
 
 -- ---- the parts of an INSERT
 

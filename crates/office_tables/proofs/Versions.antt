@@ -21,8 +21,7 @@ use Rattle.sqlite.proofs.Callers.{IsPlain, command_of}
 use Rattle.office_base.specs.declared.records.ClockRow.{ClockRow}
 use Rattle.office_tables.specs.Steps.{IsAsked, IsRefusal}
 use Rattle.office_tables.specs.Version.{get_version, one_version, HasVersion, ShowsVersion}
-use Rattle.office_tables.proofs.SelectTexts.{get_version_means}
-use Rattle.office_tables.proofs.Selects.{select_get_version}
+use Rattle.office_tables.proofs.ByTable.Office.{get_version_means, select_get_version}
 
 store_no_input : (cause : StoreError) (why : CompileError) → store_error cause ≡ SqlInputError why → ⊥
 store_no_input stores.OutOfMemory why e = cc

@@ -48,6 +48,7 @@ use Rattle.sqlite.proofs.Callers.{runs_as, command_of, IsPlain}
 use Rattle.office_base.specs.Rows.{row_put}
 use Rattle.office_tables.specs.Schema.{OfficeTable, table_of}
 use Rattle.office_tables.specs.Known.{IsIn, at_tree, Places, HasTables}
+use Rattle.office_tables.specs.Forms.{Form}
 use Rattle.office_tables.specs.Kept.{key_of, rows_kept as table_of_rows, AreKept, Stand}
 use Rattle.office_tables.proofs.Childless.{IsOwn, SparesMarked, spared_own}
 use Rattle.office_tables.proofs.Keyed.{HasKey, conflicts_key}
@@ -56,9 +57,9 @@ use Rattle.office_tables.proofs.Selected.{picked, passes_query}
 use Rattle.office_tables.proofs.Asking.{overlaid}
 use Rattle.office_tables.proofs.Renewed.{rowids_tested, picks_one, in_one_order}
 use Rattle.office_tables.proofs.Upserted.{went, same_value, IsAdded, IsRenewed, IsUpserted, tried, upserted, spared, others}
-use Rattle.office_tables.proofs.Upserts.{updating, update_of, on_conflict}
-use Rattle.office_tables.proofs.RowsPut as put
+use Rattle.office_tables.proofs.Upserts.{Shape, updating, update_of, on_conflict}
 use Rattle.office_tables.proofs.Meanings.{StatementMeans}
+use Rattle.office_tables.proofs.RowsPut as put
 
 -- ---- the tables of an office stand apart
 
@@ -105,23 +106,23 @@ module _ (schema : Schema) (p : Places) (tables : HasTables schema p) where
 -- ---- one put
 
 -- what the columns and the key of a table ask of a put
-pub record IsStored (k : OfficeTable) {K X : Type 0} (R : K → K → Ordering) (key : X → K) (encode : X → Row) (form : Value → X → Row) (base : ℕ) (terms cells : List Term) : Type 0 where
-  pub total : IsTotalOrder R
-  pub exact : IsAntisymmetric R
+pub record IsStored (k : OfficeTable) {K X : Type 0} (f : Form K X) (s : Shape) : Type 0 where
+  pub total : IsTotalOrder f.cmp
+  pub exact : IsAntisymmetric f.cmp
   -- the text's values are the record's, at a rowid that is chosen, or is the key
-  pub given : (n : ℕ) (x : X) → value_rows (stamped (at_tree (table_of k) n) (encode x)) (length terms) (length terms / length terms) terms ≡ form Null x ∷ []
-  pub chosen : (rows : List Row) (x : X) → with_rowid Chosen rows (form Null x) ≡ form (Int (next_rowid rows)) x
+  pub given : (n : ℕ) (x : X) → value_rows (stamped (at_tree (table_of k) n) (f.row x)) (length s.terms) (length s.terms / length s.terms) s.terms ≡ f.stored Null x ∷ []
+  pub chosen : (rows : List Row) (x : X) → with_rowid Chosen rows (f.stored Null x) ≡ f.stored (Int (next_rowid rows)) x
   -- its columns take them as they are
-  pub tries : (n : ℕ) (x : X) → cast_row (at_tree (table_of k) n) (form Null x) ≡ form Null x
-  pub stores : (n : ℕ) (m : ℤ) (x : X) → cast_row (at_tree (table_of k) n) (form (Int m) x) ≡ form (Int m) x
-  pub numbered : (m : ℤ) (x : X) → is_int (rowid (form (Int m) x)) ≡ true
-  pub kept : (m : ℤ) (x : X) → form (rowid (form (Int m) x)) x ≡ form (Int m) x
+  pub tries : (n : ℕ) (x : X) → cast_row (at_tree (table_of k) n) (f.stored Null x) ≡ f.stored Null x
+  pub stores : (n : ℕ) (m : ℤ) (x : X) → cast_row (at_tree (table_of k) n) (f.stored (Int m) x) ≡ f.stored (Int m) x
+  pub numbered : (m : ℤ) (x : X) → is_int (rowid (f.stored (Int m) x)) ≡ true
+  pub kept : (m : ℤ) (x : X) → f.stored (rowid (f.stored (Int m) x)) x ≡ f.stored (Int m) x
   -- rows agree in the columns of the key exactly where their records have one key
-  pub meets : (u v : Value) (x y : X) → key x ≡ key y → agree plain (table_of k).primary (form u x) (table_of k).primary (form v y) ≡ true
-  pub met : (u v : Value) (x y : X) → agree plain (table_of k).primary (form u x) (table_of k).primary (form v y) ≡ true → key x ≡ key y
+  pub meets : (u v : Value) (x y : X) → f.key x ≡ f.key y → agree plain (table_of k).primary (f.stored u x) (table_of k).primary (f.stored v y) ≡ true
+  pub met : (u v : Value) (x y : X) → agree plain (table_of k).primary (f.stored u x) (table_of k).primary (f.stored v y) ≡ true → f.key x ≡ f.key y
   -- the update finds the rowid behind the record's values, and puts these at that rowid
-  pub finds : (x : X) (id : Value) (more : Row) → column (encode x ++ id ∷ more) base ≡ id
-  pub updates : (n : ℕ) (x y : X) (v : Value) (more : Row) → key y ≡ key x → (output (updating n base cells) ((encode x ++ more) ∷ form v y ∷ [])).1 ≡ rowid (form v y) ∷ form (rowid (form v y)) x
+  pub finds : (x : X) (id : Value) (more : Row) → column (f.row x ++ id ∷ more) s.base ≡ id
+  pub updates : (n : ℕ) (x y : X) (v : Value) (more : Row) → f.key y ≡ f.key x → (output (updating n s.base s.cells) ((f.row x ++ more) ∷ f.stored v y ∷ [])).1 ≡ rowid (f.stored v y) ∷ f.stored (rowid (f.stored v y)) x
 
 -- no table of the office has foreign keys, or counts its rowids, and each has a key
 pub record IsBare (table : Table) : Type 0 where
@@ -136,8 +137,26 @@ pub record IsPut (k : OfficeTable) {K X : Type 0} (R : K → K → Ordering) (ke
   pub rows : (λ j. new.trees (p j)) ≡ with_rows (λ j. old.trees (p j)) k (new.trees (p k))
   pub stand : Stand R key form decode (new.trees (p k)) after
 
-module _ (k : OfficeTable) (bare : (j : OfficeTable) → IsBare (table_of j)) {K X : Type 0} (R : K → K → Ordering) (key : X → K) (encode : X → Row) (form : Value → X → Row) (decode : Row → X) (base : ℕ) (terms cells : List Term)
-    (it : IsStored k R key encode form base terms cells) (old new : State) (p : Places) (tables : HasTables old.now.schema p) where
+module _ (k : OfficeTable) (bare : (j : OfficeTable) → IsBare (table_of j)) {K X : Type 0} (f : Form K X) (s : Shape) (it : IsStored k f s)
+    (old new : State) (p : Places) (tables : HasTables old.now.schema p) where
+  abbrev R : K → K → Ordering
+  R = f.cmp
+
+  abbrev key : X → K
+  key = f.key
+
+  abbrev encode : X → Row
+  encode = f.row
+
+  abbrev form : Value → X → Row
+  form = f.stored
+
+  abbrev decode : Row → X
+  decode = f.back
+
+  abbrev terms : List Term
+  terms = s.terms
+
   abbrev own : Table
   own = at_tree (table_of k) (p k)
 
@@ -151,14 +170,14 @@ module _ (k : OfficeTable) (bare : (j : OfficeTable) → IsBare (table_of j)) {K
   target = Some (table_of k).primary
 
   abbrev q : Program
-  q = update_of (p k) base cells
+  q = update_of (p k) s.base s.cells
 
   abbrev puts : Command
-  puts = InsertOr (tables k).place Abort (Values terms (length terms)) (on_conflict own base cells ∷ [])
+  puts = InsertOr (tables k).place Abort (Values terms (length terms)) (on_conflict own s.base s.cells ∷ [])
 
   -- the statement is one write of the rows
   written : (text : List ℕ) (params : Row) (count : ℕ) → StatementMeans old.now.schema text puts → Executes text params old new (Ok count)
-      → (w : Written) × InsertsOr (task params) Abort (on_conflict own base cells ∷ []) (Values terms (length terms)) old.now.trees (Ok w) × (new.now ≡ record { schema = old.now.schema; trees = w.trees }) × IsDatabase new.now
+      → (w : Written) × InsertsOr (task params) Abort (on_conflict own s.base s.cells ∷ []) (Values terms (length terms)) old.now.trees (Ok w) × (new.now ≡ record { schema = old.now.schema; trees = w.trees }) × IsDatabase new.now
   written text params count means h =
       let w = runs_as text params old new old.now.schema refl puts means.is means.plain count h in
       let done = went (subst (λ o. AtPlace (λ table. OnRows (record { limit = old.step_limit; keys = Enforced; schema = old.now.schema; table = table; params = params }) (mode_of old) None puts old.now.trees) o (Ok (w.tally, new.now))) (tables k).found w.changed) in
@@ -209,21 +228,21 @@ module _ (k : OfficeTable) (bare : (j : OfficeTable) → IsBare (table_of j)) {K
     -- the row of the key has another in its place
     renewed : (xs : List X) → table_of_rows R key form decode rows ≡ xs → IsRenewed (task (encode x)) target q db next first → Stand R key form decode (next (p k)) (row_put R key xs x)
     renewed xs is h =
-        let s = h.conflicting.sound h.there (inl refl) in
-        let same_key = conflicted s.0 s.1 s.2 in
-        let int = (all_has _ rows s.0 was.each s.1).0 in
-        let id = rowid s.0 in
+        let met = h.conflicting.sound h.there (inl refl) in
+        let same_key = conflicted met.0 met.1 met.2 in
+        let int = (all_has _ rows met.0 was.each met.1).0 in
+        let id = rowid met.0 in
         let given = encode x ++ rowid h.there ∷ shown own first in
         let here = h.answers.answer Null in
-        let query = updating (p k) base cells in
-        let finds : column given base ≡ id = it.finds x (rowid h.there) (shown own first) ∙ ap rowid s.3 in
+        let query = updating (p k) s.base s.cells in
+        let finds : column given s.base ≡ id = it.finds x (rowid h.there) (shown own first) ∙ ap rowid met.3 in
         let passes : (r : Row) → Has rows r → passes_query query given r ≡ is_eq (value_cmp (rowid r) id) = λ r there.
         ap (λ v. equal Binary (rowid r) v && true) finds ∙ and_true _ ∙ rowids_tested (rowid r) id (all_has _ rows r was.each there).0 int in
-        let staged : here.staged ≡ (given ∷ s.0 ∷ []) ∷ [] =
-        subst (λ tree. here.staged ≡ picked (passes_query query given) (λ r. given ∷ r ∷ []) tree) (overlaid db (p k)) here.grouped ∙ picks_one (passes_query query given) (λ r. given ∷ r ∷ []) rows was.rising s.0 s.1 passes in
-        let ordered = in_one_order (output query (given ∷ s.0 ∷ [])) here.ordered (subst (λ l. IsPermutation l here.ordered) (here.distinct ∙ ap (map (output query)) staged) here.same) in
-        let shows : (output query (given ∷ s.0 ∷ [])).1 ≡ id ∷ form id x =
-        subst (λ r. (output query (given ∷ r ∷ [])).1 ≡ rowid r ∷ form (rowid r) x) (sym (form_of s.0 s.1)) (it.updates (p k) x (decode s.0) id (rowid h.there ∷ shown own first) same_key) in
+        let staged : here.staged ≡ (given ∷ met.0 ∷ []) ∷ [] =
+        subst (λ tree. here.staged ≡ picked (passes_query query given) (λ r. given ∷ r ∷ []) tree) (overlaid db (p k)) here.grouped ∙ picks_one (passes_query query given) (λ r. given ∷ r ∷ []) rows was.rising met.0 met.1 passes in
+        let ordered = in_one_order (output query (given ∷ met.0 ∷ [])) here.ordered (subst (λ l. IsPermutation l here.ordered) (here.distinct ∙ ap (map (output query)) staged) here.same) in
+        let shows : (output query (given ∷ met.0 ∷ [])).1 ≡ id ∷ form id x =
+        subst (λ r. (output query (given ∷ r ∷ [])).1 ≡ rowid r ∷ form (rowid r) x) (sym (form_of met.0 met.1)) (it.updates (p k) x (decode met.0) id (rowid h.there ∷ shown own first) same_key) in
         let answer : h.answer ≡ (id ∷ form id x) ∷ [] = here.shown ∙ ap (map (λ (o : Output). o.1)) ordered ∙ ap (λ r. r ∷ []) shows in
         let shape = at_number id x int in
         let news : numbered_rows Given (without_all rows (ids_of h.answer)) (map (λ r. cast_row own (drop 1 r)) h.answer) ≡ form id x ∷ [] = ap (λ l. numbered_rows Given (without_all rows (ids_of l)) (map (λ r. cast_row own (drop 1 r)) l)) answer ∙ ap (λ r. r ∷ []) shape.0 in
@@ -233,7 +252,7 @@ module _ (k : OfficeTable) (bare : (j : OfficeTable) → IsBare (table_of j)) {K
         let free : is_taken (without_all rows ids) (form id x) ≡ false = not-true _ (and_parts _ _ (sym (ap₂ are_fresh left news) ∙ h.fresh)).0 in
         subst (λ rs. Stand R key form decode rs (row_put R key xs x)) (sym after)
         (put.stands R it.total it.exact key form decode rows was x (form id x) (decodes id) shape.1 shape.2 ids free
-        (λ r there e. inl (ap (λ y. id_in (rowid y)) (was.one r s.0 there s.1 (e ∙ sym same_key)))) (λ i listed. elim listed [ inl e ↦ (s.0, s.1, same_key, e) | inr none ↦ absurd none ]) xs is)
+        (λ r there e. inl (ap (λ y. id_in (rowid y)) (was.one r met.0 there met.1 (e ∙ sym same_key)))) (λ i listed. elim listed [ inl e ↦ (met.0, met.1, same_key, e) | inr none ↦ absurd none ]) xs is)
 
     upserted_stands : (xs : List X) → table_of_rows R key form decode rows ≡ xs → IsUpserted (task (encode x)) target q db next (form Null x) → Stand R key form decode (next (p k)) (row_put R key xs x)
     upserted_stands xs is (inl h) = added xs is (subst (IsAdded (task (encode x)) target q db next) first_is h)
@@ -265,10 +284,9 @@ module _ (k : OfficeTable) (bare : (j : OfficeTable) → IsBare (table_of j)) {K
       (ap (λ (d : Database). d.schema) w.2, subst (λ (d : Database). AllByRecursion (λ t. t.tree ≢ p k → d.trees t.tree ≡ old.now.trees t.tree) old.now.schema.tables) (sym w.2) same)
 
 -- whatever the text makes of the office, tables apart are as before
-module _ (k : OfficeTable) (bare : (j : OfficeTable) → IsBare (table_of j)) {K X : Type 0} (R : K → K → Ordering) (key : X → K) (encode : X → Row) (form : Value → X → Row) (base : ℕ) (terms cells : List Term)
-    (it : IsStored k R key encode form base terms cells) (limit : Option ℕ) (first second : Database) (n : ℕ) (at : IsIn first.schema (table_of k) n) where
+module _ (k : OfficeTable) (bare : (j : OfficeTable) → IsBare (table_of j)) {K X : Type 0} (f : Form K X) (s : Shape) (it : IsStored k f s) (limit : Option ℕ) (first second : Database) (n : ℕ) (at : IsIn first.schema (table_of k) n) where
   abbrev upsert : Command
-  upsert = InsertOr at.place Abort (Values terms (length terms)) (on_conflict (at_tree (table_of k) n) base cells ∷ [])
+  upsert = InsertOr at.place Abort (Values s.terms (length s.terms)) (on_conflict (at_tree (table_of k) n) s.base s.cells ∷ [])
 
   abbrev mode : Mode
   mode = record { keys = Enforced; in_doubt = false; may_wait = false }
@@ -277,19 +295,19 @@ module _ (k : OfficeTable) (bare : (j : OfficeTable) → IsBare (table_of j)) {K
   own_task params = record { limit = limit; keys = Enforced; schema = first.schema; table = at_tree (table_of k) n; params = params }
 
   pub put_apart : (text : List ℕ) (x : X) → StatementMeans first.schema text upsert → (c : Compiled) → understood first.schema text ≡ Ok c
-      → (tally : Tally) → Does limit mode (encode x) first (text_of text c) c.returning c.command (Ok (tally, second))
+      → (tally : Tally) → Does limit mode (f.row x) first (text_of text c) c.returning c.command (Ok (tally, second))
       → (second.schema ≡ first.schema) × SparesMarked first.schema n first.trees second.trees
   put_apart text x means c is tally does =
       let command : c.command ≡ upsert = sym (ap command_of is) ∙ means.is in
       let untold : c.returning ≡ None = (subst IsPlain is means.plain).0 in
-      let named = subst₂ (λ returning command. Does limit mode (encode x) first (text_of text c) returning command (Ok (tally, second))) untold command does in
-      let done = went (subst (λ o. AtPlace (λ table. OnRows (record { limit = limit; keys = Enforced; schema = first.schema; table = table; params = encode x }) mode None upsert first.trees) o (Ok (tally, second))) at.found named) in
+      let named = subst₂ (λ returning command. Does limit mode (f.row x) first (text_of text c) returning command (Ok (tally, second))) untold command does in
+      let done = went (subst (λ o. AtPlace (λ table. OnRows (record { limit = limit; keys = Enforced; schema = first.schema; table = table; params = f.row x }) mode None upsert first.trees) o (Ok (tally, second))) at.found named) in
       let now : second ≡ record { schema = first.schema; trees = done.0.trees } = ap (λ (p : Tally × Database). p.1) (same_value (went (went done.2).2).2) in
-      let task = own_task (encode x) in
+      let task = own_task (f.row x) in
       let target = Some (table_of k).primary in
-      let q = update_of n base cells in
-      let one : IsUpserted task target q first.trees done.0.trees (form Null x) = upserted task target q (bare k).uncounted (own_table first.schema (table_of k) n (bare k).childless at) first.trees terms (length terms) (form Null x) done.0 (it.given n x) done.1 in (
+      let q = update_of n s.base s.cells in
+      let one : IsUpserted task target q first.trees done.0.trees (f.stored Null x) = upserted task target q (bare k).uncounted (own_table first.schema (table_of k) n (bare k).childless at) first.trees s.terms (length s.terms) (f.stored Null x) done.0 (it.given n x) done.1 in (
         ap (λ (d : Database). d.schema) now,
         λ marked inside out t there is_marked.
-            ap (λ (d : Database). d.trees t.tree) now ∙ spared task target q first.trees done.0.trees (form Null x) one marked inside out t there is_marked,
+            ap (λ (d : Database). d.trees t.tree) now ∙ spared task target q first.trees done.0.trees (f.stored Null x) one marked inside out t there is_marked,
       )

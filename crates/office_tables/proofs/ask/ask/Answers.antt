@@ -2,8 +2,7 @@ use Rattle.std.proofs.Common.{rules, arith, ◌≡◌, IsTrue}
 use Rattle.sqlite.specs.Held.{state}
 use Rattle.sqlite.specs.State.{HasCleanDisk}
 use Rattle.sqlite.specs.Values.{bound}
-use Rattle.office_tables.proofs.Asked.{asks}
-use Rattle.office_tables.proofs.Asked.{refusals}
+use Rattle.office_tables.proofs.Asked.{asks, refusals}
 use Rattle.office_tables.proofs.ask.ask.Goals as goal
 
 pub returns-clause-asked : goal.returns-clause-asked

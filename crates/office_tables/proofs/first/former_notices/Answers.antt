@@ -5,8 +5,7 @@ use Rattle.office_tables.specs.declared.stored.FormerNotice.{FormerNotice}
 use Rattle.office_tables.specs.First.{HoldsFirst}
 use Rattle.office_tables.specs.Schema.OfficeTable.{FormerNotices}
 use Rattle.office_tables.proofs.FirstVersion.{former_there, former_notice_in, notices_read}
-use Rattle.office_tables.proofs.SelectTexts.{list_former as text}
-use Rattle.office_tables.proofs.Selects.{select_list_former}
+use Rattle.office_tables.proofs.ByTable.Notices.{list_former as text, select_list_former}
 use Rattle.office_tables.proofs.Asked.{told_of}
 use Rattle.office_tables.proofs.first.former_notices.Goals as goal
 

@@ -1,8 +1,7 @@
 use Rattle.std.specs.Prelude.{map}
 use Rattle.std.proofs.Common.{◌≡◌, ◌∙◌}
 use Rattle.office_tables.specs.Tables.Awards.{award_read}
-use Rattle.office_tables.proofs.SelectTexts.{list_awards_of_notice as text}
-use Rattle.office_tables.proofs.Selects.{select_list_awards_of_notice}
+use Rattle.office_tables.proofs.ByTable.Awards.{list_awards_of_notice as text, select_list_awards_of_notice}
 use Rattle.office_tables.proofs.Asked.{told}
 use Rattle.office_tables.proofs.lists.list_awards_of_notice.Goals as goal
 

@@ -1,8 +1,7 @@
 use Rattle.std.specs.Prelude.{map}
 use Rattle.std.proofs.Common.{◌≡◌, ◌∙◌}
 use Rattle.office_tables.specs.Tables.Entries.{entry_read}
-use Rattle.office_tables.proofs.SelectTexts.{list_entries_of_contract as text}
-use Rattle.office_tables.proofs.Selects.{select_list_entries_of_contract}
+use Rattle.office_tables.proofs.ByTable.Entries.{list_entries_of_contract as text, select_list_entries_of_contract}
 use Rattle.office_tables.proofs.Asked.{told}
 use Rattle.office_tables.proofs.lists.list_entries_of_contract.Goals as goal
 

@@ -1,8 +1,7 @@
 use Rattle.std.specs.Prelude.{map}
 use Rattle.std.proofs.Common.{◌≡◌, ◌∙◌}
 use Rattle.office_tables.specs.Tables.Envelopes.{envelope_read}
-use Rattle.office_tables.proofs.SelectTexts.{list_envelopes_of_tenderer as text}
-use Rattle.office_tables.proofs.Selects.{select_list_envelopes_of_tenderer}
+use Rattle.office_tables.proofs.ByTable.Envelopes.{list_envelopes_of_tenderer as text, select_list_envelopes_of_tenderer}
 use Rattle.office_tables.proofs.Asked.{told}
 use Rattle.office_tables.proofs.lists.list_envelopes_of_tenderer.Goals as goal
 

@@ -1,8 +1,7 @@
 use Rattle.std.specs.Prelude.{map}
 use Rattle.std.proofs.Common.{◌≡◌, ◌∙◌}
 use Rattle.office_tables.specs.Tables.Lines.{line_read}
-use Rattle.office_tables.proofs.SelectTexts.{list_lines as text}
-use Rattle.office_tables.proofs.Selects.{select_list_lines}
+use Rattle.office_tables.proofs.ByTable.Lines.{list_lines as text, select_list_lines}
 use Rattle.office_tables.proofs.Asked.{told}
 use Rattle.office_tables.proofs.lists.list_lines.Goals as goal
 

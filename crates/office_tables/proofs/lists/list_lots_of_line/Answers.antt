@@ -1,8 +1,7 @@
 use Rattle.std.specs.Prelude.{map}
 use Rattle.std.proofs.Common.{◌≡◌, ◌∙◌}
 use Rattle.office_tables.specs.Tables.Lots.{lot_read}
-use Rattle.office_tables.proofs.SelectTexts.{list_lots_of_line as text}
-use Rattle.office_tables.proofs.Selects.{select_list_lots_of_line}
+use Rattle.office_tables.proofs.ByTable.Lots.{list_lots_of_line as text, select_list_lots_of_line}
 use Rattle.office_tables.proofs.Asked.{told}
 use Rattle.office_tables.proofs.lists.list_lots_of_line.Goals as goal
 

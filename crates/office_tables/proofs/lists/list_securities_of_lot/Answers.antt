@@ -1,8 +1,7 @@
 use Rattle.std.specs.Prelude.{map}
 use Rattle.std.proofs.Common.{◌≡◌, ◌∙◌}
 use Rattle.office_tables.specs.Tables.Securities.{security_read}
-use Rattle.office_tables.proofs.LotTexts.{list_securities_of_lot as text}
-use Rattle.office_tables.proofs.Selects.{select_list_securities_of_lot}
+use Rattle.office_tables.proofs.ByTable.Securities.{list_securities_of_lot as text, select_list_securities_of_lot}
 use Rattle.office_tables.proofs.Asked.{told}
 use Rattle.office_tables.proofs.lists.list_securities_of_lot.Goals as goal
 

@@ -1,8 +1,7 @@
 use Rattle.std.specs.Prelude.{option_map, slice_get}
 use Rattle.std.proofs.Common.{◌≡◌, ◌∙◌}
 use Rattle.office_tables.specs.Tables.Awards.{award_read}
-use Rattle.office_tables.proofs.SelectTexts.{get_award as text}
-use Rattle.office_tables.proofs.Selects.{select_get_award}
+use Rattle.office_tables.proofs.ByTable.Awards.{get_award as text, select_get_award}
 use Rattle.office_tables.proofs.Asked.{told}
 use Rattle.office_tables.proofs.lookups.get_award.Goals as goal
 

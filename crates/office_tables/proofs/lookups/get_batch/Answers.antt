@@ -1,8 +1,7 @@
 use Rattle.std.specs.Prelude.{option_map, slice_get}
 use Rattle.std.proofs.Common.{◌≡◌, ◌∙◌}
 use Rattle.office_tables.specs.Tables.Batches.{batch_read}
-use Rattle.office_tables.proofs.SelectTexts.{get_batch as text}
-use Rattle.office_tables.proofs.Selects.{select_get_batch}
+use Rattle.office_tables.proofs.ByTable.Batches.{get_batch as text, select_get_batch}
 use Rattle.office_tables.proofs.Asked.{told}
 use Rattle.office_tables.proofs.lookups.get_batch.Goals as goal
 

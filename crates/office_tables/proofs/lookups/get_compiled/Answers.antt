@@ -1,8 +1,7 @@
 use Rattle.std.specs.Prelude.{option_map, slice_get}
 use Rattle.std.proofs.Common.{◌≡◌, ◌∙◌}
 use Rattle.office_tables.specs.Tables.Compiled.{compiled_read}
-use Rattle.office_tables.proofs.SelectTexts.{get_compiled as text}
-use Rattle.office_tables.proofs.Selects.{select_get_compiled}
+use Rattle.office_tables.proofs.ByTable.Compiled.{get_compiled as text, select_get_compiled}
 use Rattle.office_tables.proofs.Asked.{told}
 use Rattle.office_tables.proofs.lookups.get_compiled.Goals as goal
 

@@ -1,8 +1,7 @@
 use Rattle.std.specs.Prelude.{option_map, slice_get}
 use Rattle.std.proofs.Common.{◌≡◌, ◌∙◌}
 use Rattle.office_tables.specs.Tables.Contracts.{contract_read}
-use Rattle.office_tables.proofs.SelectTexts.{get_contract as text}
-use Rattle.office_tables.proofs.Selects.{select_get_contract}
+use Rattle.office_tables.proofs.ByTable.Contracts.{get_contract as text, select_get_contract}
 use Rattle.office_tables.proofs.Asked.{told}
 use Rattle.office_tables.proofs.lookups.get_contract.Goals as goal
 

@@ -1,8 +1,7 @@
 use Rattle.std.specs.Prelude.{option_map, slice_get}
 use Rattle.std.proofs.Common.{◌≡◌, ◌∙◌}
 use Rattle.office_tables.specs.Tables.Entries.{entry_read}
-use Rattle.office_tables.proofs.SelectTexts.{get_entry as text}
-use Rattle.office_tables.proofs.Selects.{select_get_entry}
+use Rattle.office_tables.proofs.ByTable.Entries.{get_entry as text, select_get_entry}
 use Rattle.office_tables.proofs.Asked.{told}
 use Rattle.office_tables.proofs.lookups.get_entry.Goals as goal
 

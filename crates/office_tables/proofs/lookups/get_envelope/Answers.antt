@@ -1,8 +1,7 @@
 use Rattle.std.specs.Prelude.{option_map, slice_get}
 use Rattle.std.proofs.Common.{◌≡◌, ◌∙◌}
 use Rattle.office_tables.specs.Tables.Envelopes.{envelope_read}
-use Rattle.office_tables.proofs.SelectTexts.{get_envelope as text}
-use Rattle.office_tables.proofs.Selects.{select_get_envelope}
+use Rattle.office_tables.proofs.ByTable.Envelopes.{get_envelope as text, select_get_envelope}
 use Rattle.office_tables.proofs.Asked.{told}
 use Rattle.office_tables.proofs.lookups.get_envelope.Goals as goal
 

@@ -1,8 +1,7 @@
 use Rattle.std.specs.Prelude.{option_map, slice_get}
 use Rattle.std.proofs.Common.{◌≡◌, ◌∙◌}
 use Rattle.office_tables.specs.Tables.LateRules.{late_read}
-use Rattle.office_tables.proofs.SelectTexts.{get_late as text}
-use Rattle.office_tables.proofs.Selects.{select_get_late}
+use Rattle.office_tables.proofs.ByTable.LateRules.{get_late as text, select_get_late}
 use Rattle.office_tables.proofs.Asked.{told}
 use Rattle.office_tables.proofs.lookups.get_late.Goals as goal
 

@@ -1,8 +1,7 @@
 use Rattle.std.specs.Prelude.{option_map, slice_get}
 use Rattle.std.proofs.Common.{◌≡◌, ◌∙◌}
 use Rattle.office_tables.specs.Tables.Lines.{line_read}
-use Rattle.office_tables.proofs.SelectTexts.{get_line as text}
-use Rattle.office_tables.proofs.Selects.{select_get_line}
+use Rattle.office_tables.proofs.ByTable.Lines.{get_line as text, select_get_line}
 use Rattle.office_tables.proofs.Asked.{told}
 use Rattle.office_tables.proofs.lookups.get_line.Goals as goal
 

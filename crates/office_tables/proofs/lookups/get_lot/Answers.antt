@@ -1,8 +1,7 @@
 use Rattle.std.specs.Prelude.{option_map, slice_get}
 use Rattle.std.proofs.Common.{◌≡◌, ◌∙◌}
 use Rattle.office_tables.specs.Tables.Lots.{lot_read}
-use Rattle.office_tables.proofs.SelectTexts.{get_lot as text}
-use Rattle.office_tables.proofs.Selects.{select_get_lot}
+use Rattle.office_tables.proofs.ByTable.Lots.{get_lot as text, select_get_lot}
 use Rattle.office_tables.proofs.Asked.{told}
 use Rattle.office_tables.proofs.lookups.get_lot.Goals as goal
 

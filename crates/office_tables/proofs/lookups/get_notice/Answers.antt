@@ -1,8 +1,7 @@
 use Rattle.std.specs.Prelude.{option_map, slice_get}
 use Rattle.std.proofs.Common.{◌≡◌, ◌∙◌}
 use Rattle.office_tables.specs.Tables.Notices.{notice_read}
-use Rattle.office_tables.proofs.SelectTexts.{get_notice as text}
-use Rattle.office_tables.proofs.Selects.{select_get_notice}
+use Rattle.office_tables.proofs.ByTable.Notices.{get_notice as text, select_get_notice}
 use Rattle.office_tables.proofs.Asked.{told}
 use Rattle.office_tables.proofs.lookups.get_notice.Goals as goal
 

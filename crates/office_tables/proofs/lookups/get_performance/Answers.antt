@@ -1,8 +1,7 @@
 use Rattle.std.specs.Prelude.{option_map, slice_get}
 use Rattle.std.proofs.Common.{◌≡◌, ◌∙◌}
 use Rattle.office_tables.specs.Tables.Performances.{performance_read}
-use Rattle.office_tables.proofs.SelectTexts.{get_performance as text}
-use Rattle.office_tables.proofs.Selects.{select_get_performance}
+use Rattle.office_tables.proofs.ByTable.Performances.{get_performance as text, select_get_performance}
 use Rattle.office_tables.proofs.Asked.{told}
 use Rattle.office_tables.proofs.lookups.get_performance.Goals as goal
 

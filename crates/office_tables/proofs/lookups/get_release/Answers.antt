@@ -1,8 +1,7 @@
 use Rattle.std.specs.Prelude.{option_map, slice_get}
 use Rattle.std.proofs.Common.{◌≡◌, ◌∙◌}
 use Rattle.office_tables.specs.Tables.Releases.{release_read}
-use Rattle.office_tables.proofs.SelectTexts.{get_release as text}
-use Rattle.office_tables.proofs.Selects.{select_get_release}
+use Rattle.office_tables.proofs.ByTable.Releases.{get_release as text, select_get_release}
 use Rattle.office_tables.proofs.Asked.{told}
 use Rattle.office_tables.proofs.lookups.get_release.Goals as goal
 

@@ -1,8 +1,7 @@
 use Rattle.std.specs.Prelude.{option_map, slice_get}
 use Rattle.std.proofs.Common.{◌≡◌, ◌∙◌}
 use Rattle.office_tables.specs.Tables.Seals.{seal_read}
-use Rattle.office_tables.proofs.SelectTexts.{get_seal as text}
-use Rattle.office_tables.proofs.Selects.{select_get_seal}
+use Rattle.office_tables.proofs.ByTable.Seals.{get_seal as text, select_get_seal}
 use Rattle.office_tables.proofs.Asked.{told}
 use Rattle.office_tables.proofs.lookups.get_seal.Goals as goal
 

@@ -1,8 +1,7 @@
 use Rattle.std.specs.Prelude.{option_map, slice_get}
 use Rattle.std.proofs.Common.{◌≡◌, ◌∙◌}
 use Rattle.office_tables.specs.Tables.Securities.{security_read}
-use Rattle.office_tables.proofs.SelectTexts.{get_security as text}
-use Rattle.office_tables.proofs.Selects.{select_get_security}
+use Rattle.office_tables.proofs.ByTable.Securities.{get_security as text, select_get_security}
 use Rattle.office_tables.proofs.Asked.{told}
 use Rattle.office_tables.proofs.lookups.get_security.Goals as goal
 

@@ -1,8 +1,7 @@
 use Rattle.std.specs.Prelude.{option_map, slice_get}
 use Rattle.std.proofs.Common.{◌≡◌, ◌∙◌}
 use Rattle.office_tables.specs.Tables.Tenderers.{tenderer_read}
-use Rattle.office_tables.proofs.SelectTexts.{get_tenderer as text}
-use Rattle.office_tables.proofs.Selects.{select_get_tenderer}
+use Rattle.office_tables.proofs.ByTable.Tenderers.{get_tenderer as text, select_get_tenderer}
 use Rattle.office_tables.proofs.Asked.{told}
 use Rattle.office_tables.proofs.lookups.get_tenderer.Goals as goal
 

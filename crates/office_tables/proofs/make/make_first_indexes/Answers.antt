@@ -6,7 +6,9 @@ use Rattle.office_tables.specs.Tables.Lots.{lots_of_line}
 use Rattle.office_tables.specs.Tables.Envelopes.{envelopes_of_notice}
 use Rattle.office_tables.specs.Tables.Securities.{securities_of_notice}
 use Rattle.office_tables.specs.Schema.OfficeTable.{Lots, Envelopes, Securities}
-use Rattle.office_tables.proofs.CreateFacts.{indexes_lots_of_line, indexes_envelopes_of_notice, indexes_securities_of_notice}
+use Rattle.office_tables.proofs.ByTable.Lots.{indexes_lots_of_line}
+use Rattle.office_tables.proofs.ByTable.Envelopes.{indexes_envelopes_of_notice}
+use Rattle.office_tables.proofs.ByTable.Securities.{indexes_securities_of_notice}
 use Rattle.office_tables.proofs.MakingSteps.{indexes_then, goes_then, goes_refused}
 use Rattle.office_tables.proofs.Stepping.{on_ok_with, on_err, on_err_with}
 use Rattle.office_tables.proofs.make.make_first_indexes.Goals as goal

@@ -5,7 +5,8 @@ use Rattle.std.proofs.Common.{refl}
 use Rattle.office_tables.specs.Tables.Awards.{awards_of_notice}
 use Rattle.office_tables.specs.Tables.Contracts.{contracts_of_notice}
 use Rattle.office_tables.specs.Schema.OfficeTable.{Awards, Contracts}
-use Rattle.office_tables.proofs.CreateFacts.{indexes_awards_of_notice, indexes_contracts_of_notice}
+use Rattle.office_tables.proofs.ByTable.Awards.{indexes_awards_of_notice}
+use Rattle.office_tables.proofs.ByTable.Contracts.{indexes_contracts_of_notice}
 use Rattle.office_tables.proofs.MakingSteps.{indexes_then, goes_refused}
 use Rattle.office_tables.proofs.Stepping.{on_ok_with, on_err_with}
 use Rattle.office_tables.proofs.make.make_other_indexes.Goals as goal

@@ -2,8 +2,7 @@ use Rattle.std.specs.Prelude.{map}
 use Rattle.std.proofs.Common.{◌≡◌, ◌∙◌, ap, sym}
 use Rattle.office_base.specs.Pages.{notices_after}
 use Rattle.office_tables.specs.Tables.Notices.{notice_read}
-use Rattle.office_tables.proofs.PageTexts.{list_notices_above as above, list_first_notices as first}
-use Rattle.office_tables.proofs.PageSelects.{select_list_notices_above, select_list_first_notices}
+use Rattle.office_tables.proofs.ByTable.Notices.{list_notices_above as above, list_first_notices as first, select_list_notices_above, select_list_first_notices}
 use Rattle.office_tables.proofs.Asked.{told}
 use Rattle.office_tables.proofs.pages.list_notices_after.Goals as goal
 

@@ -2,8 +2,7 @@ use Rattle.std.specs.Prelude.{map}
 use Rattle.std.proofs.Common.{◌≡◌, ◌∙◌, ap, sym}
 use Rattle.office_base.specs.Pages.{tenderers_after}
 use Rattle.office_tables.specs.Tables.Tenderers.{tenderer_read}
-use Rattle.office_tables.proofs.PageTexts.{list_tenderers_above as above, list_first_tenderers as first}
-use Rattle.office_tables.proofs.PageSelects.{select_list_tenderers_above, select_list_first_tenderers}
+use Rattle.office_tables.proofs.ByTable.Tenderers.{list_tenderers_above as above, list_first_tenderers as first, select_list_tenderers_above, select_list_first_tenderers}
 use Rattle.office_tables.proofs.Asked.{told}
 use Rattle.office_tables.proofs.pages.list_tenderers_after.Goals as goal
 
