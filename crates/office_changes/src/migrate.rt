@@ -8,9 +8,9 @@ ghost use Rattle.office_changes.specs.Migration.{Becomes, Migrates, LeavesSecond
 
 use office_base::puts::Put;
 use office_base::records::ClockRow;
-use office_tables::stored::FormerNotice;
 use office_tables::first::begin_second;
 use office_tables::puts::{begin, put_notice};
+use office_tables::stored::FormerNotice;
 use sqlite::{Alter, Connection, Error, Transaction};
 
 // Puts its notices, as version 2 keeps them.

@@ -6,13 +6,13 @@ use Rattle.sqlite_trees.specs.declared.store.Store.{Ghosts}
 use Rattle.sqlite.specs.Effect.{Database}
 use Rattle.sqlite.specs.Held.{Held, state}
 use Rattle.sqlite.specs.declared.error.Error.{Error}
-use Rattle.sqlite.specs.State.{State, Shown, FailsToQuery, IsTooLate}
+use Rattle.sqlite.specs.State.{State, HasCleanDisk, Shown, FailsToQuery, IsTooLate}
 use Rattle.office_base.specs.Faults.{IsFaultOf}
 use Rattle.office_base.specs.declared.shelf.ShelfFault.{ShelfFault}
 use Rattle.office_base.specs.Tables.{Tables}
 use Rattle.office_tables.specs.Failing.{IsUnread}
 use Rattle.office_tables.specs.Standing.{Holds}
-use Rattle.office_tables.specs.Steps.{IsAsked, IsRefusal, ShowsTables}
+use Rattle.office_tables.specs.Steps.{IsAsked, IsRefusal, ShowsTables, Tells}
 
 pub asked : {S : Type 0} (g : Ghosts S) (sql : List ℕ) (params : Row) (old : Held S) (rows : List Row) (t : Tables) (Q : Type 0) → IsAsked g sql params old rows → ShowsTables (state g old) t
     → ((before after : State) → Holds before.now t → Shown sql params before after rows → Q) → Q
@@ -48,6 +48,19 @@ pub told : {S A E : Type 0} (g : Ghosts S) (sql : List ℕ) (params : Row) (old 
     → ((before after : State) (rows : List Row) (a : A) → Holds before.now t → Shown sql params before after rows → From a rows → Right a) → IfOk r Right
 told g sql params old (Ok a) From t Right h shows right = asked g sql params old h.0 t (Right a) h.1 shows (λ before after holds shown. right before after h.0 a holds shown h.2)
 told g sql params old (Err e) From t Right h shows right = tt
+
+-- the record that was found is the one that was asked for, and so are all records that were found
+pub tells_one : {S X E : Type 0} (g : Ghosts S) (sql : List ℕ) (params : Row) (old new : Held S) (r : Result (Option X) E) (read : Row → X) (there : Tables → Option X)
+    → (HasCleanDisk (state g new) → IfOk r (λ found. (rows : List Row) × IsAsked g sql params old rows × (found ≡ option_map read (slice_get rows 0))))
+    → ((before after : State) (rows : List Row) (t : Tables) → Holds before.now t → Shown sql params before after rows → option_map read (slice_get rows 0) ≡ there t) → Tells g old new r (λ t found. found ≡ there t)
+tells_one g sql params old new r read there asked shown clean t shows =
+    told g sql params old r (λ found rows. found ≡ option_map read (slice_get rows 0)) t (λ found. found ≡ there t) (asked clean) shows (λ before after rows found holds of from. from ∙ shown before after rows t holds of)
+
+pub tells_all : {S A X E : Type 0} (g : Ghosts S) (sql : List ℕ) (params : Row) (old new : Held S) (r : Result A E) (items : A → List X) (read : Row → X) (there : Tables → List X)
+    → (HasCleanDisk (state g new) → IfOk r (λ found. (rows : List Row) × IsAsked g sql params old rows × (items found ≡ map read rows)))
+    → ((before after : State) (rows : List Row) (t : Tables) → Holds before.now t → Shown sql params before after rows → map read rows ≡ there t) → Tells g old new r (λ t found. items found ≡ there t)
+tells_all g sql params old new r items read there asked shown clean t shows =
+    told g sql params old r (λ found rows. items found ≡ map read rows) t (λ found. items found ≡ there t) (asked clean) shows (λ before after rows found holds of from. from ∙ shown before after rows t holds of)
 
 -- what was found in the rows that were asked for
 pub from_rows : {S A E : Type 0} (g : Ghosts S) (sql : List ℕ) (params : Row) (old : Held S) (rows : List Row) (r : Result A E) (From : A → List Row → Type 0)

@@ -27,19 +27,20 @@ use Rattle.office_base.proofs.ExactKeys.{ids_exact}
 use Rattle.office_base.proofs.RowLaws.{all-put}
 use Rattle.office_base.specs.declared.records.ClockRow.{ClockRow}
 use Rattle.office_base.specs.declared.records.NoticeRow.{NoticeRow}
-use Rattle.office_tables.specs.Tables.Office.{office, clock_values, clock_read, upsert_office, clock_form}
-use Rattle.office_tables.specs.Tables.Notices.{former_values, former_read, former_by_rowid, former_notices}
+use Rattle.office_tables.specs.Tables.Office.{office, clock_values, clock_read, upsert_office, clock_form, clock_form_of}
+use Rattle.office_tables.specs.Tables.Notices.{former_read, former_notices, former_form}
 use Rattle.office_tables.specs.Apart.{AddsNoReference, LeadsInside}
 use Rattle.office_tables.specs.First.{tables_since_version_1, has_table, has_late, drop_notices, drop_version, StandForFirst, IsNothing, StandsFirst, HoldsFirst, IsMigrated, Renews, Begins}
-use Rattle.office_tables.specs.Kept.{rows_kept as records_of, row_behind_rowid, Stand}
+use Rattle.office_tables.specs.Kept.{rows_kept as records_of, Stand}
 use Rattle.office_tables.specs.Known.{IsIn, Places, HasTables, at_tree}
 use Rattle.office_tables.specs.Laws.{KnowsNoPerformances}
 use Rattle.office_tables.specs.Making.{AreMade, KeepsOffice, Makes}
 use Rattle.office_tables.specs.Schema.{OfficeTable, table_of, StandFor}
 use Rattle.office_tables.specs.Standing.{Stands, Holds}
 use Rattle.office_tables.specs.Version.{HasVersion}
-use Rattle.office_tables.specs.declared.stored.FormerClock.{FormerClock}
-use Rattle.office_tables.specs.declared.stored.FormerNotice.{FormerNotice}
+use Rattle.office_tables.specs.Forms.{StandsAs}
+use Rattle.office_tables.specs.declared.tables.office.FormerClock.{FormerClock}
+use Rattle.office_tables.specs.declared.tables.notices.FormerNotice.{FormerNotice}
 use Rattle.office_tables.specs.Schema.OfficeTable.{Notices, LateRules, FormerNotices, Performances, Office}
 use Rattle.office_tables.proofs.Deletes.{IsDelete, delete_means}
 use Rattle.office_tables.proofs.Emptied.{empties}
@@ -55,9 +56,6 @@ use Rattle.office_tables.proofs.Writes.{puts_row, with_rows}
 use Rattle.office_tables.proofs.ByTable.Office.{clock_shape, clock_put}
 use Rattle.office_tables.proofs.Each.{bare, nothing as no_rows}
 use Rattle.office_tables.proofs.TableTools.{put_means}
-use Rattle.office_tables.specs.Kept.{StandsAs}
-use Rattle.office_tables.specs.Tables.Notices.{former_form}
-use Rattle.office_tables.specs.Tables.Office.{clock_form_of}
 
 -- ---- its version, and its notices
 
@@ -79,13 +77,13 @@ former_there db t n (inr it) = absurd it.1
 pub first_sorted : (db : Database) (t : Tables) → HoldsFirst db t → IsInOrder id_cmp notice_key t.notices
 first_sorted db t was =
     let stand = (former_there db t (was.places FormerNotices) (was.each FormerNotices)).1 in
-    subst (IsInOrder id_cmp notice_key) stand.is (in_order-rows_kept id_cmp nat_list_cmp_total ids_exact notice_key (row_behind_rowid former_values) former_by_rowid (db.trees (was.places FormerNotices)))
+    subst (IsInOrder id_cmp notice_key) stand.is (in_order-rows_kept id_cmp nat_list_cmp_total ids_exact notice_key former_form.stored former_form.back (db.trees (was.places FormerNotices)))
 
 -- and ask for no performance securities, of which there are none
 asks_none : (rows : List Row) → AllByRecursion (λ (n : NoticeRow). n.performance ≡ 0) (records_of former_form.cmp former_form.key former_form.stored former_form.back rows)
 asks_none [] = tt
 asks_none (r ∷ rows) =
-    all-put nat_list_cmp_total notice_key (λ (n : NoticeRow). n.performance ≡ 0) (records_of former_form.cmp former_form.key former_form.stored former_form.back rows) (former_by_rowid r) refl (asks_none rows)
+    all-put nat_list_cmp_total notice_key (λ (n : NoticeRow). n.performance ≡ 0) (records_of former_form.cmp former_form.key former_form.stored former_form.back rows) (former_form.back r) refl (asks_none rows)
 
 has_no_performances : (db : Database) (t : Tables) (n : ℕ) → StandsFirst db t Performances n → t.performances ≡ []
 has_no_performances db t n (inl it) = absurd it.1

@@ -10,6 +10,7 @@ use Rattle.office_tables.specs.Schema.{all_tables}
 use Rattle.office_tables.specs.Known.{Places, HasTables}
 use Rattle.office_tables.specs.Standing.{Stands, Holds}
 use Rattle.office_tables.specs.Making.{AreMade, KeepsOthers, AreNew}
+use Rattle.office_tables.specs.Forms.{StandsAs}
 use Rattle.sqlite_schema.specs.declared.schema.Schema.{Schema}
 use Rattle.sqlite_schema.specs.declared.schema.Table.{Table}
 use Rattle.sqlite_rules.specs.Lists.{Has}
@@ -19,7 +20,6 @@ use Rattle.office_tables.proofs.ByTable.Office.{clock_shape, clock_put}
 use Rattle.office_tables.proofs.Each.{bare, found, nothing, stands_empty}
 use Rattle.office_tables.specs.Schema.OfficeTable.{Office}
 use Rattle.office_tables.proofs.TableTools.{put_means}
-use Rattle.office_tables.specs.Kept.{StandsAs}
 
 -- the row is put into a table of the office, so that all others stay
 pub first_others : (start : Database) (old new : State) (x : ClockRow) (count : ℕ) → KeepsOthers start old.now → AreNew start all_tables → AreMade all_tables old.now → Executes upsert_office (clock_values x) old new (Ok count)

@@ -26,11 +26,11 @@ pub use Rattle.office_base.specs.Rows.{row_put}
 pub use Rattle.office_base.specs.Tables.{Tables, same_number, after_put}
 pub use Rattle.office_base.proofs.ExactKeys.{ids_exact, lots_exact, entries_exact, releases_exact, same_id_is}
 pub use Rattle.office_base.proofs.Orders.{lots_total, entries_total, releases_total}
-pub use Rattle.office_tables.specs.Forms.{text_column, number_column}
+pub use Rattle.office_tables.specs.Forms.{text_column, number_column, StandsAs}
 pub use Rattle.office_tables.specs.Known.{IsIn, at_tree}
 pub use Rattle.office_tables.specs.Making.{IsIndexing}
-pub use Rattle.office_tables.specs.Kept.{StandsAs}
 pub use Rattle.office_tables.specs.Standing.{Holds, Stands}
+pub use Rattle.office_tables.specs.Schema.{OfficeTable, StandFor}
 pub use Rattle.office_tables.proofs.Cells.{cast_null, cast_int, cast_perhaps, cast_words, texts_equal, equal_texts, numbers_equal, equal_numbers, both_true, one_true, first_true, only_true, text_tested, number_tested, three_tested, numbers_cmp, and_true, then_equal, pair_then, both_equal, same_number_is, text_above}
 pub use Rattle.office_tables.proofs.Keyed.{indexed, numbered}
 pub use Rattle.office_tables.proofs.Meanings.{StatementMeans, IsOne, parsed_in}
@@ -40,7 +40,6 @@ pub use Rattle.office_tables.proofs.Selecting.{select, capped_select, columns_of
 pub use Rattle.office_tables.proofs.Asking.{gets, lists, pages, shows_rows, filter-all}
 pub use Rattle.office_tables.proofs.Upserts.{Shape, behind_rowid, at_rowid, columns_in, rows_in, clause_in}
 pub use Rattle.office_tables.proofs.Writes.{IsStored, with_rows}
-pub use Rattle.office_tables.specs.Schema.{OfficeTable, StandFor}
 pub use Rattle.office_tables.proofs.CreateTexts.{ReadsTable, ReadsIndex, creates_it, indexes_it}
 pub use Rattle.office_tables.proofs.Deletes.{IsDelete, delete_means}
 use Rattle.std.proofs.Common.{length}

@@ -105,24 +105,30 @@ module _ (schema : Schema) (p : Places) (tables : HasTables schema p) where
 
 -- ---- one put
 
+-- what computes of a put, whatever the record
+pub record IsPlainPut (k : OfficeTable) {K X : Type 0} (f : Form K X) (s : Shape) : Type 0 where
+  -- the text's values are the record's, at a rowid that is chosen, or is the key
+  pub given : (n : ℕ) (x : X) → value_rows (stamped (at_tree (table_of k) n) (f.row x)) (length s.terms) (length s.terms / length s.terms) s.terms ≡ f.stored Null x ∷ []
+  pub chosen : (rows : List Row) (x : X) → with_rowid Chosen rows (f.stored Null x) ≡ f.stored (Int (next_rowid rows)) x
+  pub numbered : (m : ℤ) (x : X) → is_int (rowid (f.stored (Int m) x)) ≡ true
+  pub kept : (m : ℤ) (x : X) → f.stored (rowid (f.stored (Int m) x)) x ≡ f.stored (Int m) x
+  -- the update finds the rowid behind the record's values
+  pub finds : (x : X) (id : Value) (more : Row) → column (f.row x ++ id ∷ more) s.base ≡ id
+
 -- what the columns and the key of a table ask of a put
 pub record IsStored (k : OfficeTable) {K X : Type 0} (f : Form K X) (s : Shape) : Type 0 where
   pub total : IsTotalOrder f.cmp
   pub exact : IsAntisymmetric f.cmp
-  -- the text's values are the record's, at a rowid that is chosen, or is the key
-  pub given : (n : ℕ) (x : X) → value_rows (stamped (at_tree (table_of k) n) (f.row x)) (length s.terms) (length s.terms / length s.terms) s.terms ≡ f.stored Null x ∷ []
-  pub chosen : (rows : List Row) (x : X) → with_rowid Chosen rows (f.stored Null x) ≡ f.stored (Int (next_rowid rows)) x
-  -- its columns take them as they are
+  pub computes : IsPlainPut k f s
+  -- its columns take the values as they are
   pub tries : (n : ℕ) (x : X) → cast_row (at_tree (table_of k) n) (f.stored Null x) ≡ f.stored Null x
   pub stores : (n : ℕ) (m : ℤ) (x : X) → cast_row (at_tree (table_of k) n) (f.stored (Int m) x) ≡ f.stored (Int m) x
-  pub numbered : (m : ℤ) (x : X) → is_int (rowid (f.stored (Int m) x)) ≡ true
-  pub kept : (m : ℤ) (x : X) → f.stored (rowid (f.stored (Int m) x)) x ≡ f.stored (Int m) x
   -- rows agree in the columns of the key exactly where their records have one key
   pub meets : (u v : Value) (x y : X) → f.key x ≡ f.key y → agree plain (table_of k).primary (f.stored u x) (table_of k).primary (f.stored v y) ≡ true
   pub met : (u v : Value) (x y : X) → agree plain (table_of k).primary (f.stored u x) (table_of k).primary (f.stored v y) ≡ true → f.key x ≡ f.key y
-  -- the update finds the rowid behind the record's values, and puts these at that rowid
-  pub finds : (x : X) (id : Value) (more : Row) → column (f.row x ++ id ∷ more) s.base ≡ id
-  pub updates : (n : ℕ) (x y : X) (v : Value) (more : Row) → f.key y ≡ f.key x → (output (updating n s.base s.cells) ((f.row x ++ more) ∷ f.stored v y ∷ [])).1 ≡ rowid (f.stored v y) ∷ f.stored (rowid (f.stored v y)) x
+  -- the update puts the record's values at that rowid
+  pub updates : (n : ℕ) (x y : X) (v : Value) (more : Row) → f.key y ≡ f.key x
+      → (output (updating n s.base s.cells) ((f.row x ++ more) ∷ f.stored v y ∷ [])).1 ≡ rowid (f.stored v y) ∷ f.stored (rowid (f.stored v y)) x
 
 -- no table of the office has foreign keys, or counts its rowids, and each has a key
 pub record IsBare (table : Table) : Type 0 where
@@ -185,7 +191,7 @@ module _ (k : OfficeTable) (bare : (j : OfficeTable) → IsBare (table_of j)) {K
 
   -- the row of a record at a rowid of a number
   at_number : (v : Value) (x : X) → is_int v ≡ true → (cast_row own (form v x) ≡ form v x) × (is_int (rowid (form v x)) ≡ true) × (form v x ≡ form (rowid (form v x)) x)
-  at_number v x int = subst (λ v. (cast_row own (form v x) ≡ form v x) × (is_int (rowid (form v x)) ≡ true) × (form v x ≡ form (rowid (form v x)) x)) (sym (int_is v int)) (it.stores (p k) (id_in v) x, it.numbered (id_in v) x, sym (it.kept (id_in v) x))
+  at_number v x int = subst (λ v. (cast_row own (form v x) ≡ form v x) × (is_int (rowid (form v x)) ≡ true) × (form v x ≡ form (rowid (form v x)) x)) (sym (int_is v int)) (it.stores (p k) (id_in v) x, it.computes.numbered (id_in v) x, sym (it.computes.kept (id_in v) x))
 
   module _ (x : X) (decodes : (v : Value) → decode (form v x) ≡ x) (db next : Trees) (was : AreKept R key form decode (db (p k))) where
     abbrev rows : List Row
@@ -196,7 +202,7 @@ module _ (k : OfficeTable) (bare : (j : OfficeTable) → IsBare (table_of j)) {K
     first = form (Int (next_rowid rows)) x
 
     first_is : tried (task (encode x)) db (form Null x) ≡ first
-    first_is = ap (with_rowid Chosen rows) (it.tries (p k) x) ∙ it.chosen rows x
+    first_is = ap (with_rowid Chosen rows) (it.tries (p k) x) ∙ it.computes.chosen rows x
 
     abbrev Conflicting : Row → List Row → Type 0
     Conflicting = AreConflicts target old.now.schema.indexes own rows
@@ -235,7 +241,7 @@ module _ (k : OfficeTable) (bare : (j : OfficeTable) → IsBare (table_of j)) {K
         let given = encode x ++ rowid h.there ∷ shown own first in
         let here = h.answers.answer Null in
         let query = updating (p k) s.base s.cells in
-        let finds : column given s.base ≡ id = it.finds x (rowid h.there) (shown own first) ∙ ap rowid met.3 in
+        let finds : column given s.base ≡ id = it.computes.finds x (rowid h.there) (shown own first) ∙ ap rowid met.3 in
         let passes : (r : Row) → Has rows r → passes_query query given r ≡ is_eq (value_cmp (rowid r) id) = λ r there.
         ap (λ v. equal Binary (rowid r) v && true) finds ∙ and_true _ ∙ rowids_tested (rowid r) id (all_has _ rows r was.each there).0 int in
         let staged : here.staged ≡ (given ∷ met.0 ∷ []) ∷ [] =
@@ -266,7 +272,7 @@ module _ (k : OfficeTable) (bare : (j : OfficeTable) → IsBare (table_of j)) {K
       let t = task (encode x) in
       let db = old.now.trees in
       let next = w.0.trees in
-      let one : IsUpserted t target q db next (form Null x) = upserted t target q (bare k).uncounted (is_own k) db terms (length terms) (form Null x) w.0 (it.given (p k) x) w.1 in
+      let one : IsUpserted t target q db next (form Null x) = upserted t target q (bare k).uncounted (is_own k) db terms (length terms) (form Null x) w.0 (it.computes.given (p k) x) w.1 in
       record {
         schema = ap (λ (d : Database). d.schema) w.2;
         sound = w.3;
@@ -280,7 +286,7 @@ module _ (k : OfficeTable) (bare : (j : OfficeTable) → IsBare (table_of j)) {K
       → (new.now.schema ≡ old.now.schema) × AllByRecursion (λ t. t.tree ≢ p k → new.now.trees t.tree ≡ old.now.trees t.tree) old.now.schema.tables
   puts_others text x count means empty h =
       let w = written text (encode x) count means h in
-      let same = others (task (encode x)) target q (bare k).uncounted (is_own k) old.now.trees terms (length terms) (form Null x) w.0 empty (it.given (p k) x) w.1 in
+      let same = others (task (encode x)) target q (bare k).uncounted (is_own k) old.now.trees terms (length terms) (form Null x) w.0 empty (it.computes.given (p k) x) w.1 in
       (ap (λ (d : Database). d.schema) w.2, subst (λ (d : Database). AllByRecursion (λ t. t.tree ≢ p k → d.trees t.tree ≡ old.now.trees t.tree) old.now.schema.tables) (sym w.2) same)
 
 -- whatever the text makes of the office, tables apart are as before
@@ -306,7 +312,7 @@ module _ (k : OfficeTable) (bare : (j : OfficeTable) → IsBare (table_of j)) {K
       let task = own_task (f.row x) in
       let target = Some (table_of k).primary in
       let q = update_of n s.base s.cells in
-      let one : IsUpserted task target q first.trees done.0.trees (f.stored Null x) = upserted task target q (bare k).uncounted (own_table first.schema (table_of k) n (bare k).childless at) first.trees s.terms (length s.terms) (f.stored Null x) done.0 (it.given n x) done.1 in (
+      let one : IsUpserted task target q first.trees done.0.trees (f.stored Null x) = upserted task target q (bare k).uncounted (own_table first.schema (table_of k) n (bare k).childless at) first.trees s.terms (length s.terms) (f.stored Null x) done.0 (it.computes.given n x) done.1 in (
         ap (λ (d : Database). d.schema) now,
         λ marked inside out t there is_marked.
             ap (λ (d : Database). d.trees t.tree) now ∙ spared task target q first.trees done.0.trees (f.stored Null x) one marked inside out t there is_marked,

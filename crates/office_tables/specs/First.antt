@@ -11,7 +11,7 @@ use Rattle.sqlite.specs.Held.{Held, state}
 use Rattle.sqlite.specs.State.{State, HasCleanDisk, ExecutesInside}
 use Rattle.office_base.specs.Tables.{Tables}
 use Rattle.office_base.specs.declared.records.ClockRow.{ClockRow}
-use Rattle.office_tables.specs.Kept.{StandsAs}
+use Rattle.office_tables.specs.Forms.{StandsAs}
 use Rattle.office_tables.specs.Tables.Notices.{former_form}
 use Rattle.office_tables.specs.Tables.Office.{clock_values, clock_form_of, upsert_office}
 use Rattle.office_tables.specs.Apart.{AddsNoReference, LeadsInside}

@@ -14,6 +14,7 @@ use Rattle.sqlite_schema.specs.declared.schema.Table.{Table}
 use Rattle.sqlite_schema.specs.declared.schema.Index.{Index}
 use Rattle.sqlite_resolve.specs.declared.error.CompileError.{CompileError}
 use Rattle.sqlite_resolve.specs.Compile.{table_defined_by}
+use Rattle.office_tables.specs.Kept.{Stand, row_behind_rowid, read_behind_rowid, by_rowid, read_by_rowid}
 
 -- a column of a STRICT table, in the order of bytes
 abbrev pub column_of : List ℕ → Kind → Bool → Column
@@ -89,3 +90,14 @@ pub record Form (K X : Type 0) : Type 0 where
   pub read : Row → X
   pub stored : Value → X → Row
   pub back : Row → X
+
+-- one whose key has an index, and one whose key is its rowid
+abbrev pub indexed_form : {K X : Type 0} → Table → (K → K → Ordering) → (X → K) → (X → Row) → (Row → X) → Form K X
+indexed_form table cmp key row read = record { table = table; cmp = cmp; key = key; row = row; read = read; stored = row_behind_rowid row; back = read_behind_rowid read }
+
+abbrev pub rowid_form : {K X : Type 0} → Table → (K → K → Ordering) → (X → K) → (X → Row) → (Row → X) → Form K X
+rowid_form table cmp key row read = record { table = table; cmp = cmp; key = key; row = row; read = read; stored = by_rowid row; back = read_by_rowid read }
+
+-- the rows of a tree stand for these records, as a table of this form keeps them
+abbrev pub StandsAs : {K X : Type 0} → Form K X → List Row → List X → Type 0
+StandsAs f rows xs = Stand f.cmp f.key f.stored f.back rows xs

@@ -4,8 +4,8 @@ pub mod Words
 pub mod Readings
 pub mod ItemTexts
 pub mod Ranges
-pub mod Forms
 pub mod Kept
+pub mod Forms
 pub mod Tables
 pub mod Schema
 pub mod ComesBack

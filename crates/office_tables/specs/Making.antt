@@ -1,5 +1,5 @@
 -- Making the tables of an office, one after another, whatever stands beside them.
-use Rattle.std.specs.Prelude.{◌≡◌, ◌≢◌, ℕ, List, [], ◌∷◌, ◌++◌, None, Ok}
+use Rattle.std.specs.Prelude.{◌≡◌, ◌≢◌, ℕ, false, List, [], ◌∷◌, ◌++◌, None, Ok}
 use Rattle.std.specs.List.{AllByRecursion}
 use Rattle.sqlite_schema.specs.declared.schema.Schema.{Schema}
 use Rattle.sqlite_schema.specs.declared.schema.Table.{Table}
@@ -62,6 +62,15 @@ pub record Makes (old new : State) (more : List OfficeTable) : Type 0 where
   -- what stood of an office stands as it did
   pub stays : KeepsOffice old.now new.now
   pub made : (done : List OfficeTable) → AreMade done old.now → AreMade (more ++ done) new.now
+
+-- more of them, each before those that were made
+abbrev pub onto : List OfficeTable → List OfficeTable → List OfficeTable
+onto done [] = done
+onto done (k ∷ ks) = onto (k ∷ done) ks
+
+-- each of these texts makes an index of a table of the office that isn't unique
+abbrev pub AreIndexings : List (List ℕ) → Type 0
+AreIndexings texts = AllByRecursion (λ text. (k : OfficeTable) × (index : Index) × IsIndexing text (table_of k) index × (index.is_unique ≡ false)) texts
 
 -- the same, and the tables that were made still are
 pub record Indexes (old new : State) : Type 0 where

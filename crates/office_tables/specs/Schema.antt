@@ -7,7 +7,7 @@ use Rattle.office_base.specs.Tables.{Tables}
 use Rattle.office_base.specs.declared.puts.Put.{Put}
 use Rattle.office_base.specs.declared.puts.Put.TheVariants as put
 use Rattle.office_tables.specs.ItemTexts.{items_text, items_in_text}
-use Rattle.office_tables.specs.Kept.{StandsAs}
+use Rattle.office_tables.specs.Forms.{StandsAs}
 use Rattle.office_tables.specs.Tables.Lines.{lines, create_lines, upsert_lines, line_values, line_form}
 use Rattle.office_tables.specs.Tables.Batches.{batches, create_batches, upsert_batches, batch_values, batch_form}
 use Rattle.office_tables.specs.Tables.Tenderers.{tenderers, create_tenderers, upsert_tenderers, tenderer_values, tenderer_form}
@@ -154,3 +154,9 @@ values_of_put (put.Clock row) = clock_values row
 abbrev pub IsReadBack : Put → Type 0
 IsReadBack (put.Lot row) = items_in_text (items_text row.items) ≡ row.items
 IsReadBack p = ⊤
+
+-- its statement has this text and these values
+pub record IsStatementOf (p : Put) (sql : List ℕ) (params : Row) : Type 0 where
+  pub text : statement_of p ≡ sql
+  pub values : values_of_put p ≡ params
+  pub back : IsReadBack p

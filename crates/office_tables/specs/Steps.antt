@@ -7,7 +7,7 @@ use Rattle.sqlite_trees.specs.Tree.{Trees}
 use Rattle.sqlite_trees.specs.declared.store.Store.{Ghosts}
 use Rattle.sqlite.specs.Does.{Tally, Does}
 use Rattle.sqlite.specs.Listing.{understood}
-use Rattle.sqlite.specs.State.{State, HasCleanDisk, Shown, FailsToQuery, IsTooLate, text_of}
+use Rattle.sqlite.specs.State.{State, HasCleanDisk, Survives, Shown, FailsToQuery, IsTooLate, text_of}
 use Rattle.sqlite.specs.declared.error.Error.{Error}
 use Rattle.sqlite.specs.declared.error.Error.TheVariants.{InvalidQuery}
 use Rattle.sqlite.specs.Effect.{Database}
@@ -29,6 +29,10 @@ Tells g old new result right = HasCleanDisk (state g new) → (t : Tables) → S
 pub record Refused (old new : State) : Type 0 where
   pub was_open : IsTrue new.is_open → IsTrue old.is_open
   pub committed : IsTrue new.is_open → new.committed ≡ old.committed
+
+-- it is; the last commit is as before, and a stop leaves nothing that it didn't leave before
+abbrev pub TellsOnly : {S T E : Type 0} → Ghosts S → Held S → Held S → Result T E → (Tables → T → Type 0) → Type 0
+TellsOnly g old new result right = Tells g old new result right × (HasCleanDisk (state g new) → Refused (state g old) (state g new)) × Survives (state g old) (state g new) (λ _. ⊥)
 
 -- the transaction goes on, and nothing is committed
 pub record Goes (old new : State) : Type 0 where

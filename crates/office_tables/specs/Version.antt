@@ -9,7 +9,7 @@ use Rattle.sqlite.specs.Held.{Held}
 use Rattle.sqlite.specs.State.{State}
 use Rattle.sqlite.specs.declared.error.Error.TheVariants.{SqlInputError}
 use Rattle.office_base.specs.declared.records.ClockRow.{ClockRow}
-use Rattle.office_tables.specs.Kept.{StandsAs}
+use Rattle.office_tables.specs.Forms.{StandsAs}
 use Rattle.office_tables.specs.Tables.Office.{clock_form_of, office}
 use Rattle.office_tables.specs.Known.{IsIn}
 use Rattle.office_tables.specs.Steps.{IsRefusal}

@@ -6,16 +6,15 @@ ghost use Rattle.office_tables.specs.Tables.Office.{clock_values, upsert_office}
 ghost use Rattle.office_tables.specs.First.{TellsFirst, Begins, Renews, drop_notices, drop_version, has_late, tables_since_version_1};
 ghost use Rattle.office_tables.specs.Making.{Makes};
 ghost use Rattle.office_tables.specs.Steps.{Refused};
-ghost use Rattle.office_tables.specs.declared.stored.FormerClock.{FormerClock};
-ghost use Rattle.office_tables.specs.declared.stored.FormerNotice.{FormerNotice};
-ghost use Rattle.office_tables.specs.Schema.OfficeTable.{Notices, LateRules, Performances};
+ghost use Rattle.office_tables.specs.declared.tables.office.FormerClock.{FormerClock};
+ghost use Rattle.office_tables.specs.declared.tables.notices.FormerNotice.{FormerNotice};
 
 use crate::ask::{ask_all, ask_first};
-use crate::laws::clock_comes_back;
-use crate::make::{make_late, make_second};
+use crate::make::make_tables;
 use crate::statement::execute_one;
-use crate::stored::{FormerClock, FormerNotice};
-use crate::values::clock_values;
+use crate::tables::notices::{self, FormerNotice};
+use crate::tables::office::{self, FormerClock};
+use crate::tables::{late_rules, performances};
 use office_base::records::ClockRow;
 use office_base::shelf::ShelfFault;
 use sqlite::{Alter, Connection, Error, Transaction};
@@ -76,17 +75,6 @@ pub fn former_clock<S: Alter>(
     }
 }
 
-// The table of late withdrawals and those of version 2.
-fn make_late_and_second<S: Alter>(tx: &mut Transaction<'_, S>) -> Result<(), Error>
-    ensures same_reference { tx.new.conn.ghost_name ≡ tx.old.conn.ghost_name }
-    ensures made { HasCleanDisk (state S.Store tx.new.conn.now) → IsTrue (state S.Store tx.old.conn.now).in_transaction → OnOk result (Makes (state S.Store tx.old.conn.now) (state S.Store tx.new.conn.now) (Performances ∷ Notices ∷ LateRules ∷ [])) }
-    ensures refused { HasCleanDisk (state S.Store tx.new.conn.now) → IsTrue (state S.Store tx.old.conn.now).in_transaction → OnErr result (Refused (state S.Store tx.old.conn.now) (state S.Store tx.new.conn.now)) }
-    ensures survives { Survives (state S.Store tx.old.conn.now) (state S.Store tx.new.conn.now) (λ _. ⊥) }
-{
-    make_late(tx)?;
-    make_second(tx)
-}
-
 // The tables that it lacks.
 fn make_lacking<S: Alter>(tx: &mut Transaction<'_, S>, knows_late: bool) -> Result<(), Error>
     ensures same_reference { tx.new.conn.ghost_name ≡ tx.old.conn.ghost_name }
@@ -95,9 +83,13 @@ fn make_lacking<S: Alter>(tx: &mut Transaction<'_, S>, knows_late: bool) -> Resu
     ensures survives { Survives (state S.Store tx.old.conn.now) (state S.Store tx.new.conn.now) (λ _. ⊥) }
 {
     if knows_late {
-        return make_second(tx);
+        return make_tables(tx, notices::CREATE, &[performances::CREATE]);
     }
-    make_late_and_second(tx)
+    make_tables(
+        tx,
+        late_rules::CREATE,
+        &[notices::CREATE, performances::CREATE],
+    )
 }
 
 // Drops its notices.
@@ -127,11 +119,7 @@ fn put_version<S: Alter>(tx: &mut Transaction<'_, S>, clock: &ClockRow) -> Resul
     ensures refused { HasCleanDisk (state S.Store tx.new.conn.now) → IsTrue (state S.Store tx.old.conn.now).in_transaction → OnErr result (Refused (state S.Store tx.old.conn.now) (state S.Store tx.new.conn.now)) }
     ensures survives { Survives (state S.Store tx.old.conn.now) (state S.Store tx.new.conn.now) (λ _. ⊥) }
 {
-    execute_one(
-        tx,
-        "INSERT INTO office (version, moment, receipts, awards) VALUES (?1, ?2, ?3, ?4) ON CONFLICT (version) DO UPDATE SET moment = ?2, receipts = ?3, awards = ?4",
-        &clock_values(clock),
-    )
+    execute_one(tx, office::PUT, &office::clock_values(clock))
 }
 
 // Its notices and its version are dropped, and version 2 is put with its clock.
@@ -158,7 +146,6 @@ pub fn begin_second<S: Alter>(
     ensures refused { HasCleanDisk (state S.Store tx.new.conn.now) → IsTrue (state S.Store tx.old.conn.now).in_transaction → OnErr result (Refused (state S.Store tx.old.conn.now) (state S.Store tx.new.conn.now)) }
     ensures survives { Survives (state S.Store tx.old.conn.now) (state S.Store tx.new.conn.now) (λ _. ⊥) }
 {
-    clock_comes_back();
     make_lacking(tx, knows_late)?;
     renew(tx, clock)
 }

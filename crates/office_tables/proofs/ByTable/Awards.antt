@@ -22,7 +22,8 @@ create_read = record { def = _; is = refl; statement = refl; formats = refl; pla
 pub awards_made : IsOfficeTable Awards
 unfolding same_name
 awards_made = record {
-  bare = record { childless = refl; key = numbered refl refl refl; uncounted = refl }; named = refl;
+  bare = record { childless = refl; key = numbered refl refl refl; uncounted = refl };
+  named = refl;
   created = creates_it create_awards awards (parsed_in (first create_awards)) create_read;
 }
 
@@ -46,8 +47,9 @@ award_shape = at_rowid 7
 award_stored : IsStored Awards award_form award_shape
 unfolding first_key
 award_stored = record {
-  total = nat_cmp_total; exact = numbers_exact;
-  given = λ n x. refl; chosen = λ rows x. refl; numbered = λ m x. refl; kept = λ m x. refl; finds = λ x id more. refl;
+  total = nat_cmp_total;
+  exact = numbers_exact;
+  computes = record { given = λ n x. refl; chosen = λ rows x. refl; numbered = λ m x. refl; kept = λ m x. refl; finds = λ x id more. refl };
   tries = λ n x. rw (cast_null, cast_int (pos x.award), cast_int (pos x.receipt), cast_int (pos x.price), cast_int (pos x.moment));
   stores = λ n m x. rw (cast_null, cast_int (pos x.award), cast_int (pos x.receipt), cast_int (pos x.price), cast_int (pos x.moment));
   meets = λ u v x y e. one_true _ (numbers_equal x.award y.award e);
@@ -58,8 +60,12 @@ award_stored = record {
 put_read : IsPutText Awards award_shape upsert_awards
 unfolding everything parsed_in columns_in rows_in clause_in
 put_read = record {
-  read = record { is = refl; statement = refl; formats = refl; targeted = refl; changes = refl }; unstamped = refl; one = record { whole = refl; given = refl };
-  rows = λ schema n. refl; names = λ n. refl; update = λ schema at n. refl;
+  read = record { is = refl; statement = refl; formats = refl; targeted = refl; changes = refl };
+  unstamped = refl;
+  one = record { whole = refl; given = refl };
+  rows = λ schema n. refl;
+  names = λ n. refl;
+  update = λ schema at n. refl;
 }
 
 pub award_put : IsPutOf Awards award_form award_shape upsert_awards

@@ -21,7 +21,8 @@ create_read = record { def = _; is = refl; statement = refl; formats = refl; pla
 pub batches_made : IsOfficeTable Batches
 unfolding same_name
 batches_made = record {
-  bare = record { childless = refl; key = indexed refl refl refl refl refl; uncounted = refl }; named = refl;
+  bare = record { childless = refl; key = indexed refl refl refl refl refl; uncounted = refl };
+  named = refl;
   created = creates_it create_batches batches (parsed_in (first create_batches)) create_read;
 }
 
@@ -38,8 +39,9 @@ batch_shape = behind_rowid 3 1
 batch_stored : IsStored Batches batch_form batch_shape
 unfolding first_key
 batch_stored = record {
-  total = nat_list_cmp_total; exact = ids_exact;
-  given = λ n x. refl; chosen = λ rows x. refl; numbered = λ m x. refl; kept = λ m x. refl; finds = λ x id more. refl;
+  total = nat_list_cmp_total;
+  exact = ids_exact;
+  computes = record { given = λ n x. refl; chosen = λ rows x. refl; numbered = λ m x. refl; kept = λ m x. refl; finds = λ x id more. refl };
   tries = λ n x. rw (cast_null, cast_int (pos x.moment), cast_int (pos x.rows));
   stores = λ n m x. rw (cast_int m, cast_int (pos x.moment), cast_int (pos x.rows));
   meets = λ u v x y e. one_true _ (texts_equal x.batch y.batch e);
@@ -50,8 +52,12 @@ batch_stored = record {
 put_read : IsPutText Batches batch_shape upsert_batches
 unfolding everything parsed_in columns_in rows_in clause_in
 put_read = record {
-  read = record { is = refl; statement = refl; formats = refl; targeted = refl; changes = refl }; unstamped = refl; one = record { whole = refl; given = refl };
-  rows = λ schema n. refl; names = λ n. refl; update = λ schema at n. refl;
+  read = record { is = refl; statement = refl; formats = refl; targeted = refl; changes = refl };
+  unstamped = refl;
+  one = record { whole = refl; given = refl };
+  rows = λ schema n. refl;
+  names = λ n. refl;
+  update = λ schema at n. refl;
 }
 
 pub batch_put : IsPutOf Batches batch_form batch_shape upsert_batches

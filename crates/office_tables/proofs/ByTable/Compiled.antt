@@ -21,7 +21,8 @@ create_read = record { def = _; is = refl; statement = refl; formats = refl; pla
 pub compiled_made : IsOfficeTable Compiled
 unfolding same_name
 compiled_made = record {
-  bare = record { childless = refl; key = indexed refl refl refl refl refl; uncounted = refl }; named = refl;
+  bare = record { childless = refl; key = indexed refl refl refl refl refl; uncounted = refl };
+  named = refl;
   created = creates_it create_compiled compiled (parsed_in (first create_compiled)) create_read;
 }
 
@@ -38,8 +39,9 @@ compiled_shape = behind_rowid 2 1
 compiled_stored : IsStored Compiled compiled_form compiled_shape
 unfolding first_key
 compiled_stored = record {
-  total = nat_list_cmp_total; exact = ids_exact;
-  given = λ n x. refl; chosen = λ rows x. refl; numbered = λ m x. refl; kept = λ m x. refl; finds = λ x id more. refl;
+  total = nat_list_cmp_total;
+  exact = ids_exact;
+  computes = record { given = λ n x. refl; chosen = λ rows x. refl; numbered = λ m x. refl; kept = λ m x. refl; finds = λ x id more. refl };
   tries = λ n x. rw (cast_null);
   stores = λ n m x. rw (cast_int m);
   meets = λ u v x y e. one_true _ (texts_equal x.notice y.notice e);
@@ -50,8 +52,12 @@ compiled_stored = record {
 put_read : IsPutText Compiled compiled_shape upsert_compiled
 unfolding everything parsed_in columns_in rows_in clause_in
 put_read = record {
-  read = record { is = refl; statement = refl; formats = refl; targeted = refl; changes = refl }; unstamped = refl; one = record { whole = refl; given = refl };
-  rows = λ schema n. refl; names = λ n. refl; update = λ schema at n. refl;
+  read = record { is = refl; statement = refl; formats = refl; targeted = refl; changes = refl };
+  unstamped = refl;
+  one = record { whole = refl; given = refl };
+  rows = λ schema n. refl;
+  names = λ n. refl;
+  update = λ schema at n. refl;
 }
 
 pub compiled_put : IsPutOf Compiled compiled_form compiled_shape upsert_compiled

@@ -24,7 +24,8 @@ create_read = record { def = _; is = refl; statement = refl; formats = refl; pla
 pub contracts_made : IsOfficeTable Contracts
 unfolding same_name
 contracts_made = record {
-  bare = record { childless = refl; key = numbered refl refl refl; uncounted = refl }; named = refl;
+  bare = record { childless = refl; key = numbered refl refl refl; uncounted = refl };
+  named = refl;
   created = creates_it create_contracts contracts (parsed_in (first create_contracts)) create_read;
 }
 
@@ -48,8 +49,9 @@ contract_shape = at_rowid 9
 contract_stored : IsStored Contracts contract_form contract_shape
 unfolding first_key
 contract_stored = record {
-  total = nat_cmp_total; exact = numbers_exact;
-  given = λ n x. refl; chosen = λ rows x. refl; numbered = λ m x. refl; kept = λ m x. refl; finds = λ x id more. refl;
+  total = nat_cmp_total;
+  exact = numbers_exact;
+  computes = record { given = λ n x. refl; chosen = λ rows x. refl; numbered = λ m x. refl; kept = λ m x. refl; finds = λ x id more. refl };
   tries = λ n x. rw (cast_null, cast_int (pos x.contract), cast_int (pos x.signed), cast_int (pos x.moment), cast_perhaps x.ended, cast_words (option_map how_text x.how), cast_int (pos x.released));
   stores = λ n m x. rw (cast_null, cast_int (pos x.contract), cast_int (pos x.signed), cast_int (pos x.moment), cast_perhaps x.ended, cast_words (option_map how_text x.how), cast_int (pos x.released));
   meets = λ u v x y e. one_true _ (numbers_equal x.contract y.contract e);
@@ -60,8 +62,12 @@ contract_stored = record {
 put_read : IsPutText Contracts contract_shape upsert_contracts
 unfolding everything parsed_in columns_in rows_in clause_in
 put_read = record {
-  read = record { is = refl; statement = refl; formats = refl; targeted = refl; changes = refl }; unstamped = refl; one = record { whole = refl; given = refl };
-  rows = λ schema n. refl; names = λ n. refl; update = λ schema at n. refl;
+  read = record { is = refl; statement = refl; formats = refl; targeted = refl; changes = refl };
+  unstamped = refl;
+  one = record { whole = refl; given = refl };
+  rows = λ schema n. refl;
+  names = λ n. refl;
+  update = λ schema at n. refl;
 }
 
 pub contract_put : IsPutOf Contracts contract_form contract_shape upsert_contracts

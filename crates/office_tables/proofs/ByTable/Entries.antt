@@ -23,7 +23,8 @@ create_read = record { def = _; is = refl; statement = refl; formats = refl; pla
 pub entries_made : IsOfficeTable Entries
 unfolding same_name
 entries_made = record {
-  bare = record { childless = refl; key = indexed refl refl refl refl refl; uncounted = refl }; named = refl;
+  bare = record { childless = refl; key = indexed refl refl refl refl refl; uncounted = refl };
+  named = refl;
   created = creates_it create_entries entries (parsed_in (first create_entries)) create_read;
 }
 
@@ -40,8 +41,9 @@ entry_shape = behind_rowid 6 2
 entry_stored : IsStored Entries entry_form entry_shape
 unfolding first_key
 entry_stored = record {
-  total = entries_total; exact = entries_exact;
-  given = λ n x. refl; chosen = λ rows x. refl; numbered = λ m x. refl; kept = λ m x. refl; finds = λ x id more. refl;
+  total = entries_total;
+  exact = entries_exact;
+  computes = record { given = λ n x. refl; chosen = λ rows x. refl; numbered = λ m x. refl; kept = λ m x. refl; finds = λ x id more. refl };
   tries = λ n x. rw (cast_null, cast_int (pos x.contract), cast_int (pos x.amount), cast_int (pos x.moment), cast_words x.rationale);
   stores = λ n m x. rw (cast_int m, cast_int (pos x.contract), cast_int (pos x.amount), cast_int (pos x.moment), cast_words x.rationale);
   meets = λ u v x y e. both_true _ _ (numbers_equal x.contract y.contract (ap (λ (q : ℕ × List ℕ). q.0) e)) (texts_equal x.entry y.entry (ap (λ (q : ℕ × List ℕ). q.1) e));
@@ -52,8 +54,12 @@ entry_stored = record {
 put_read : IsPutText Entries entry_shape upsert_entries
 unfolding everything parsed_in columns_in rows_in clause_in
 put_read = record {
-  read = record { is = refl; statement = refl; formats = refl; targeted = refl; changes = refl }; unstamped = refl; one = record { whole = refl; given = refl };
-  rows = λ schema n. refl; names = λ n. refl; update = λ schema at n. refl;
+  read = record { is = refl; statement = refl; formats = refl; targeted = refl; changes = refl };
+  unstamped = refl;
+  one = record { whole = refl; given = refl };
+  rows = λ schema n. refl;
+  names = λ n. refl;
+  update = λ schema at n. refl;
 }
 
 pub entry_put : IsPutOf Entries entry_form entry_shape upsert_entries

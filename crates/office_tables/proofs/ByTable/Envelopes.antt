@@ -25,7 +25,8 @@ create_read = record { def = _; is = refl; statement = refl; formats = refl; pla
 pub envelopes_made : IsOfficeTable Envelopes
 unfolding same_name
 envelopes_made = record {
-  bare = record { childless = refl; key = numbered refl refl refl; uncounted = refl }; named = refl;
+  bare = record { childless = refl; key = numbered refl refl refl; uncounted = refl };
+  named = refl;
   created = creates_it create_envelopes envelopes (parsed_in (first create_envelopes)) create_read;
 }
 
@@ -49,8 +50,9 @@ envelope_shape = at_rowid 16
 envelope_stored : IsStored Envelopes envelope_form envelope_shape
 unfolding first_key
 envelope_stored = record {
-  total = nat_cmp_total; exact = numbers_exact;
-  given = λ n x. refl; chosen = λ rows x. refl; numbered = λ m x. refl; kept = λ m x. refl; finds = λ x id more. refl;
+  total = nat_cmp_total;
+  exact = numbers_exact;
+  computes = record { given = λ n x. refl; chosen = λ rows x. refl; numbered = λ m x. refl; kept = λ m x. refl; finds = λ x id more. refl };
   tries = λ n x. rw (cast_null, cast_int (pos x.receipt), cast_int (pos x.moment), cast_int (pos x.length), cast_perhaps x.security, cast_words (option_map reading_word x.reading), cast_perhaps (stated_price x.reading), cast_perhaps (corrected_price x.reading), cast_perhaps (count_of_corrections x.reading), cast_perhaps (option_map as_number x.responsive), cast_perhaps x.quality, cast_int (pos (as_number x.failed)));
   stores = λ n m x. rw (cast_null, cast_int (pos x.receipt), cast_int (pos x.moment), cast_int (pos x.length), cast_perhaps x.security, cast_words (option_map reading_word x.reading), cast_perhaps (stated_price x.reading), cast_perhaps (corrected_price x.reading), cast_perhaps (count_of_corrections x.reading), cast_perhaps (option_map as_number x.responsive), cast_perhaps x.quality, cast_int (pos (as_number x.failed)));
   meets = λ u v x y e. one_true _ (numbers_equal x.receipt y.receipt e);
@@ -61,8 +63,12 @@ envelope_stored = record {
 put_read : IsPutText Envelopes envelope_shape upsert_envelopes
 unfolding everything parsed_in columns_in rows_in clause_in
 put_read = record {
-  read = record { is = refl; statement = refl; formats = refl; targeted = refl; changes = refl }; unstamped = refl; one = record { whole = refl; given = refl };
-  rows = λ schema n. refl; names = λ n. refl; update = λ schema at n. refl;
+  read = record { is = refl; statement = refl; formats = refl; targeted = refl; changes = refl };
+  unstamped = refl;
+  one = record { whole = refl; given = refl };
+  rows = λ schema n. refl;
+  names = λ n. refl;
+  update = λ schema at n. refl;
 }
 
 pub envelope_put : IsPutOf Envelopes envelope_form envelope_shape upsert_envelopes

@@ -21,7 +21,8 @@ create_read = record { def = _; is = refl; statement = refl; formats = refl; pla
 pub late_rules_made : IsOfficeTable LateRules
 unfolding same_name
 late_rules_made = record {
-  bare = record { childless = refl; key = indexed refl refl refl refl refl; uncounted = refl }; named = refl;
+  bare = record { childless = refl; key = indexed refl refl refl refl refl; uncounted = refl };
+  named = refl;
   created = creates_it create_late_rules late_rules (parsed_in (first create_late_rules)) create_read;
 }
 
@@ -38,8 +39,9 @@ late_shape = behind_rowid 1 0
 late_stored : IsStored LateRules late_form late_shape
 unfolding first_key
 late_stored = record {
-  total = nat_list_cmp_total; exact = ids_exact;
-  given = λ n x. refl; chosen = λ rows x. refl; numbered = λ m x. refl; kept = λ m x. refl; finds = λ x id more. refl;
+  total = nat_list_cmp_total;
+  exact = ids_exact;
+  computes = record { given = λ n x. refl; chosen = λ rows x. refl; numbered = λ m x. refl; kept = λ m x. refl; finds = λ x id more. refl };
   tries = λ n x. rw (cast_null);
   stores = λ n m x. rw (cast_int m);
   meets = λ u v x y e. one_true _ (texts_equal x.notice y.notice e);
@@ -50,8 +52,12 @@ late_stored = record {
 put_read : IsPutText LateRules late_shape upsert_late_rules
 unfolding everything parsed_in columns_in rows_in clause_in
 put_read = record {
-  read = record { is = refl; statement = refl; formats = refl; targeted = refl; changes = refl }; unstamped = refl; one = record { whole = refl; given = refl };
-  rows = λ schema n. refl; names = λ n. refl; update = λ schema at n. refl;
+  read = record { is = refl; statement = refl; formats = refl; targeted = refl; changes = refl };
+  unstamped = refl;
+  one = record { whole = refl; given = refl };
+  rows = λ schema n. refl;
+  names = λ n. refl;
+  update = λ schema at n. refl;
 }
 
 pub late_put : IsPutOf LateRules late_form late_shape upsert_late_rules

@@ -22,7 +22,8 @@ create_read = record { def = _; is = refl; statement = refl; formats = refl; pla
 pub lines_made : IsOfficeTable Lines
 unfolding same_name
 lines_made = record {
-  bare = record { childless = refl; key = indexed refl refl refl refl refl; uncounted = refl }; named = refl;
+  bare = record { childless = refl; key = indexed refl refl refl refl refl; uncounted = refl };
+  named = refl;
   created = creates_it create_lines lines (parsed_in (first create_lines)) create_read;
 }
 
@@ -39,8 +40,9 @@ line_shape = behind_rowid 4 1
 line_stored : IsStored Lines line_form line_shape
 unfolding first_key
 line_stored = record {
-  total = nat_list_cmp_total; exact = ids_exact;
-  given = λ n x. refl; chosen = λ rows x. refl; numbered = λ m x. refl; kept = λ m x. refl; finds = λ x id more. refl;
+  total = nat_list_cmp_total;
+  exact = ids_exact;
+  computes = record { given = λ n x. refl; chosen = λ rows x. refl; numbered = λ m x. refl; kept = λ m x. refl; finds = λ x id more. refl };
   tries = λ n x. rw (cast_null, cast_int (pos x.appropriation), cast_int (pos x.free));
   stores = λ n m x. rw (cast_int m, cast_int (pos x.appropriation), cast_int (pos x.free));
   meets = λ u v x y e. one_true _ (texts_equal x.line y.line e);
@@ -51,8 +53,12 @@ line_stored = record {
 put_read : IsPutText Lines line_shape upsert_lines
 unfolding everything parsed_in columns_in rows_in clause_in
 put_read = record {
-  read = record { is = refl; statement = refl; formats = refl; targeted = refl; changes = refl }; unstamped = refl; one = record { whole = refl; given = refl };
-  rows = λ schema n. refl; names = λ n. refl; update = λ schema at n. refl;
+  read = record { is = refl; statement = refl; formats = refl; targeted = refl; changes = refl };
+  unstamped = refl;
+  one = record { whole = refl; given = refl };
+  rows = λ schema n. refl;
+  names = λ n. refl;
+  update = λ schema at n. refl;
 }
 
 pub line_put : IsPutOf Lines line_form line_shape upsert_lines

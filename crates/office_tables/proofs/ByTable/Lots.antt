@@ -22,7 +22,8 @@ create_read = record { def = _; is = refl; statement = refl; formats = refl; pla
 pub lots_made : IsOfficeTable Lots
 unfolding same_name
 lots_made = record {
-  bare = record { childless = refl; key = indexed refl refl refl refl refl; uncounted = refl }; named = refl;
+  bare = record { childless = refl; key = indexed refl refl refl refl refl; uncounted = refl };
+  named = refl;
   created = creates_it create_lots lots (parsed_in (first create_lots)) create_read;
 }
 
@@ -46,8 +47,9 @@ lot_shape = behind_rowid 9 2
 lot_stored : IsStored Lots lot_form lot_shape
 unfolding first_key
 lot_stored = record {
-  total = lots_total; exact = lots_exact;
-  given = λ n x. refl; chosen = λ rows x. refl; numbered = λ m x. refl; kept = λ m x. refl; finds = λ x id more. refl;
+  total = lots_total;
+  exact = lots_exact;
+  computes = record { given = λ n x. refl; chosen = λ rows x. refl; numbered = λ m x. refl; kept = λ m x. refl; finds = λ x id more. refl };
   tries = λ n x. rw (cast_null, cast_int (pos x.estimate), cast_int (pos x.security), cast_int (pos x.reserved));
   stores = λ n m x. rw (cast_int m, cast_int (pos x.estimate), cast_int (pos x.security), cast_int (pos x.reserved));
   meets = λ u v x y e. both_true _ _ (texts_equal x.notice y.notice (ap (λ (q : List ℕ × List ℕ). q.0) e)) (texts_equal x.lot y.lot (ap (λ (q : List ℕ × List ℕ). q.1) e));
@@ -58,8 +60,12 @@ lot_stored = record {
 put_read : IsPutText Lots lot_shape upsert_lots
 unfolding everything parsed_in columns_in rows_in clause_in
 put_read = record {
-  read = record { is = refl; statement = refl; formats = refl; targeted = refl; changes = refl }; unstamped = refl; one = record { whole = refl; given = refl };
-  rows = λ schema n. refl; names = λ n. refl; update = λ schema at n. refl;
+  read = record { is = refl; statement = refl; formats = refl; targeted = refl; changes = refl };
+  unstamped = refl;
+  one = record { whole = refl; given = refl };
+  rows = λ schema n. refl;
+  names = λ n. refl;
+  update = λ schema at n. refl;
 }
 
 pub lot_put : IsPutOf Lots lot_form lot_shape upsert_lots

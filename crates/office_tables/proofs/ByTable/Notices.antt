@@ -24,7 +24,8 @@ create_read = record { def = _; is = refl; statement = refl; formats = refl; pla
 pub notices_made : IsOfficeTable Notices
 unfolding same_name
 notices_made = record {
-  bare = record { childless = refl; key = indexed refl refl refl refl refl; uncounted = refl }; named = refl;
+  bare = record { childless = refl; key = indexed refl refl refl refl refl; uncounted = refl };
+  named = refl;
   created = creates_it create_notices notices (parsed_in (first create_notices)) create_read;
 }
 
@@ -35,7 +36,8 @@ former_create_read = record { def = _; is = refl; statement = refl; formats = re
 pub former_notices_made : IsOfficeTable FormerNotices
 unfolding same_name
 former_notices_made = record {
-  bare = record { childless = refl; key = indexed refl refl refl refl refl; uncounted = refl }; named = refl;
+  bare = record { childless = refl; key = indexed refl refl refl refl refl; uncounted = refl };
+  named = refl;
   created = creates_it create_former_notices former_notices (parsed_in (first create_former_notices)) former_create_read;
 }
 
@@ -52,8 +54,9 @@ notice_shape = behind_rowid 12 1
 notice_stored : IsStored Notices notice_form notice_shape
 unfolding first_key
 notice_stored = record {
-  total = nat_list_cmp_total; exact = ids_exact;
-  given = λ n x. refl; chosen = λ rows x. refl; numbered = λ m x. refl; kept = λ m x. refl; finds = λ x id more. refl;
+  total = nat_list_cmp_total;
+  exact = ids_exact;
+  computes = record { given = λ n x. refl; chosen = λ rows x. refl; numbered = λ m x. refl; kept = λ m x. refl; finds = λ x id more. refl };
   tries = λ n x. rw (cast_null, cast_int (pos x.published), cast_int (pos x.deadline), cast_int (pos x.validity), cast_int (pos x.standstill), cast_int (pos x.weight), cast_perhaps x.opened, cast_int (pos x.amendments), cast_int (pos x.releases), cast_int (pos x.performance));
   stores = λ n m x. rw (cast_int m, cast_int (pos x.published), cast_int (pos x.deadline), cast_int (pos x.validity), cast_int (pos x.standstill), cast_int (pos x.weight), cast_perhaps x.opened, cast_int (pos x.amendments), cast_int (pos x.releases), cast_int (pos x.performance));
   meets = λ u v x y e. one_true _ (texts_equal x.notice y.notice e);
@@ -64,8 +67,12 @@ notice_stored = record {
 put_read : IsPutText Notices notice_shape upsert_notices
 unfolding everything parsed_in columns_in rows_in clause_in
 put_read = record {
-  read = record { is = refl; statement = refl; formats = refl; targeted = refl; changes = refl }; unstamped = refl; one = record { whole = refl; given = refl };
-  rows = λ schema n. refl; names = λ n. refl; update = λ schema at n. refl;
+  read = record { is = refl; statement = refl; formats = refl; targeted = refl; changes = refl };
+  unstamped = refl;
+  one = record { whole = refl; given = refl };
+  rows = λ schema n. refl;
+  names = λ n. refl;
+  update = λ schema at n. refl;
 }
 
 pub notice_put : IsPutOf Notices notice_form notice_shape upsert_notices

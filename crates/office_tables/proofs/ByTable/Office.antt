@@ -20,7 +20,8 @@ create_read = record { def = _; is = refl; statement = refl; formats = refl; pla
 pub office_made : IsOfficeTable Office
 unfolding same_name
 office_made = record {
-  bare = record { childless = refl; key = numbered refl refl refl; uncounted = refl }; named = refl;
+  bare = record { childless = refl; key = numbered refl refl refl; uncounted = refl };
+  named = refl;
   created = creates_it create_office office (parsed_in (first create_office)) create_read;
 }
 
@@ -44,8 +45,9 @@ clock_shape = at_rowid 4
 clock_stored : IsStored Office clock_form clock_shape
 unfolding first_key
 clock_stored = record {
-  total = clock_total; exact = clock_exact;
-  given = λ n x. refl; chosen = λ rows x. refl; numbered = λ m x. refl; kept = λ m x. refl; finds = λ x id more. refl;
+  total = clock_total;
+  exact = clock_exact;
+  computes = record { given = λ n x. refl; chosen = λ rows x. refl; numbered = λ m x. refl; kept = λ m x. refl; finds = λ x id more. refl };
   tries = λ n x. rw (cast_null, cast_int (pos 2), cast_int (pos x.moment), cast_int (pos x.receipts), cast_int (pos x.awards));
   stores = λ n m x. rw (cast_null, cast_int (pos 2), cast_int (pos x.moment), cast_int (pos x.receipts), cast_int (pos x.awards));
   meets = λ u v x y e. one_true _ (numbers_equal 2 2 refl);
@@ -56,8 +58,12 @@ clock_stored = record {
 put_read : IsPutText Office clock_shape upsert_office
 unfolding everything parsed_in columns_in rows_in clause_in
 put_read = record {
-  read = record { is = refl; statement = refl; formats = refl; targeted = refl; changes = refl }; unstamped = refl; one = record { whole = refl; given = refl };
-  rows = λ schema n. refl; names = λ n. refl; update = λ schema at n. refl;
+  read = record { is = refl; statement = refl; formats = refl; targeted = refl; changes = refl };
+  unstamped = refl;
+  one = record { whole = refl; given = refl };
+  rows = λ schema n. refl;
+  names = λ n. refl;
+  update = λ schema at n. refl;
 }
 
 pub clock_put : IsPutOf Office clock_form clock_shape upsert_office

@@ -21,7 +21,8 @@ create_read = record { def = _; is = refl; statement = refl; formats = refl; pla
 pub performances_made : IsOfficeTable Performances
 unfolding same_name
 performances_made = record {
-  bare = record { childless = refl; key = numbered refl refl refl; uncounted = refl }; named = refl;
+  bare = record { childless = refl; key = numbered refl refl refl; uncounted = refl };
+  named = refl;
   created = creates_it create_performance performance (parsed_in (first create_performance)) create_read;
 }
 
@@ -38,8 +39,9 @@ performance_shape = at_rowid 4
 performance_stored : IsStored Performances performance_form performance_shape
 unfolding first_key
 performance_stored = record {
-  total = nat_cmp_total; exact = numbers_exact;
-  given = λ n x. refl; chosen = λ rows x. refl; numbered = λ m x. refl; kept = λ m x. refl; finds = λ x id more. refl;
+  total = nat_cmp_total;
+  exact = numbers_exact;
+  computes = record { given = λ n x. refl; chosen = λ rows x. refl; numbered = λ m x. refl; kept = λ m x. refl; finds = λ x id more. refl };
   tries = λ n x. rw (cast_null, cast_int (pos x.contract), cast_int (pos x.amount));
   stores = λ n m x. rw (cast_null, cast_int (pos x.contract), cast_int (pos x.amount));
   meets = λ u v x y e. one_true _ (numbers_equal x.contract y.contract e);
@@ -50,8 +52,12 @@ performance_stored = record {
 put_read : IsPutText Performances performance_shape upsert_performance
 unfolding everything parsed_in columns_in rows_in clause_in
 put_read = record {
-  read = record { is = refl; statement = refl; formats = refl; targeted = refl; changes = refl }; unstamped = refl; one = record { whole = refl; given = refl };
-  rows = λ schema n. refl; names = λ n. refl; update = λ schema at n. refl;
+  read = record { is = refl; statement = refl; formats = refl; targeted = refl; changes = refl };
+  unstamped = refl;
+  one = record { whole = refl; given = refl };
+  rows = λ schema n. refl;
+  names = λ n. refl;
+  update = λ schema at n. refl;
 }
 
 pub performance_put : IsPutOf Performances performance_form performance_shape upsert_performance

@@ -23,7 +23,8 @@ create_read = record { def = _; is = refl; statement = refl; formats = refl; pla
 pub releases_made : IsOfficeTable Releases
 unfolding same_name
 releases_made = record {
-  bare = record { childless = refl; key = indexed refl refl refl refl refl; uncounted = refl }; named = refl;
+  bare = record { childless = refl; key = indexed refl refl refl refl refl; uncounted = refl };
+  named = refl;
   created = creates_it create_releases releases (parsed_in (first create_releases)) create_read;
 }
 
@@ -40,8 +41,9 @@ release_shape = behind_rowid 4 2
 release_stored : IsStored Releases release_form release_shape
 unfolding first_key
 release_stored = record {
-  total = releases_total; exact = releases_exact;
-  given = λ n x. refl; chosen = λ rows x. refl; numbered = λ m x. refl; kept = λ m x. refl; finds = λ x id more. refl;
+  total = releases_total;
+  exact = releases_exact;
+  computes = record { given = λ n x. refl; chosen = λ rows x. refl; numbered = λ m x. refl; kept = λ m x. refl; finds = λ x id more. refl };
   tries = λ n x. rw (cast_null, cast_int (pos x.seq), cast_int (pos x.moment));
   stores = λ n m x. rw (cast_int m, cast_int (pos x.seq), cast_int (pos x.moment));
   meets = λ u v x y e. both_true _ _ (texts_equal x.notice y.notice (ap (λ (q : List ℕ × ℕ). q.0) e)) (numbers_equal x.seq y.seq (ap (λ (q : List ℕ × ℕ). q.1) e));
@@ -52,8 +54,12 @@ release_stored = record {
 put_read : IsPutText Releases release_shape upsert_releases
 unfolding everything parsed_in columns_in rows_in clause_in
 put_read = record {
-  read = record { is = refl; statement = refl; formats = refl; targeted = refl; changes = refl }; unstamped = refl; one = record { whole = refl; given = refl };
-  rows = λ schema n. refl; names = λ n. refl; update = λ schema at n. refl;
+  read = record { is = refl; statement = refl; formats = refl; targeted = refl; changes = refl };
+  unstamped = refl;
+  one = record { whole = refl; given = refl };
+  rows = λ schema n. refl;
+  names = λ n. refl;
+  update = λ schema at n. refl;
 }
 
 pub release_put : IsPutOf Releases release_form release_shape upsert_releases

@@ -22,7 +22,8 @@ create_read = record { def = _; is = refl; statement = refl; formats = refl; pla
 pub seals_made : IsOfficeTable Seals
 unfolding same_name
 seals_made = record {
-  bare = record { childless = refl; key = numbered refl refl refl; uncounted = refl }; named = refl;
+  bare = record { childless = refl; key = numbered refl refl refl; uncounted = refl };
+  named = refl;
   created = creates_it create_seals seals (parsed_in (first create_seals)) create_read;
 }
 
@@ -39,8 +40,9 @@ seal_shape = at_rowid 2
 seal_stored : IsStored Seals seal_form seal_shape
 unfolding first_key
 seal_stored = record {
-  total = nat_cmp_total; exact = numbers_exact;
-  given = λ n x. refl; chosen = λ rows x. refl; numbered = λ m x. refl; kept = λ m x. refl; finds = λ x id more. refl;
+  total = nat_cmp_total;
+  exact = numbers_exact;
+  computes = record { given = λ n x. refl; chosen = λ rows x. refl; numbered = λ m x. refl; kept = λ m x. refl; finds = λ x id more. refl };
   tries = λ n x. rw (cast_null, cast_int (pos x.receipt));
   stores = λ n m x. rw (cast_null, cast_int (pos x.receipt));
   meets = λ u v x y e. one_true _ (numbers_equal x.receipt y.receipt e);
@@ -51,8 +53,12 @@ seal_stored = record {
 put_read : IsPutText Seals seal_shape upsert_seals
 unfolding everything parsed_in columns_in rows_in clause_in
 put_read = record {
-  read = record { is = refl; statement = refl; formats = refl; targeted = refl; changes = refl }; unstamped = refl; one = record { whole = refl; given = refl };
-  rows = λ schema n. refl; names = λ n. refl; update = λ schema at n. refl;
+  read = record { is = refl; statement = refl; formats = refl; targeted = refl; changes = refl };
+  unstamped = refl;
+  one = record { whole = refl; given = refl };
+  rows = λ schema n. refl;
+  names = λ n. refl;
+  update = λ schema at n. refl;
 }
 
 pub seal_put : IsPutOf Seals seal_form seal_shape upsert_seals

@@ -23,7 +23,8 @@ create_read = record { def = _; is = refl; statement = refl; formats = refl; pla
 pub securities_made : IsOfficeTable Securities
 unfolding same_name
 securities_made = record {
-  bare = record { childless = refl; key = numbered refl refl refl; uncounted = refl }; named = refl;
+  bare = record { childless = refl; key = numbered refl refl refl; uncounted = refl };
+  named = refl;
   created = creates_it create_securities securities (parsed_in (first create_securities)) create_read;
 }
 
@@ -47,8 +48,9 @@ security_shape = at_rowid 7
 security_stored : IsStored Securities security_form security_shape
 unfolding first_key
 security_stored = record {
-  total = nat_cmp_total; exact = numbers_exact;
-  given = λ n x. refl; chosen = λ rows x. refl; numbered = λ m x. refl; kept = λ m x. refl; finds = λ x id more. refl;
+  total = nat_cmp_total;
+  exact = numbers_exact;
+  computes = record { given = λ n x. refl; chosen = λ rows x. refl; numbered = λ m x. refl; kept = λ m x. refl; finds = λ x id more. refl };
   tries = λ n x. rw (cast_null, cast_int (pos x.security), cast_int (pos x.amount));
   stores = λ n m x. rw (cast_null, cast_int (pos x.security), cast_int (pos x.amount));
   meets = λ u v x y e. one_true _ (numbers_equal x.security y.security e);
@@ -59,8 +61,12 @@ security_stored = record {
 put_read : IsPutText Securities security_shape upsert_securities
 unfolding everything parsed_in columns_in rows_in clause_in
 put_read = record {
-  read = record { is = refl; statement = refl; formats = refl; targeted = refl; changes = refl }; unstamped = refl; one = record { whole = refl; given = refl };
-  rows = λ schema n. refl; names = λ n. refl; update = λ schema at n. refl;
+  read = record { is = refl; statement = refl; formats = refl; targeted = refl; changes = refl };
+  unstamped = refl;
+  one = record { whole = refl; given = refl };
+  rows = λ schema n. refl;
+  names = λ n. refl;
+  update = λ schema at n. refl;
 }
 
 pub security_put : IsPutOf Securities security_form security_shape upsert_securities

@@ -24,7 +24,8 @@ create_read = record { def = _; is = refl; statement = refl; formats = refl; pla
 pub tenderers_made : IsOfficeTable Tenderers
 unfolding same_name
 tenderers_made = record {
-  bare = record { childless = refl; key = indexed refl refl refl refl refl; uncounted = refl }; named = refl;
+  bare = record { childless = refl; key = indexed refl refl refl refl refl; uncounted = refl };
+  named = refl;
   created = creates_it create_tenderers tenderers (parsed_in (first create_tenderers)) create_read;
 }
 
@@ -41,8 +42,9 @@ tenderer_shape = behind_rowid 4 1
 tenderer_stored : IsStored Tenderers tenderer_form tenderer_shape
 unfolding first_key
 tenderer_stored = record {
-  total = nat_list_cmp_total; exact = ids_exact;
-  given = λ n x. refl; chosen = λ rows x. refl; numbered = λ m x. refl; kept = λ m x. refl; finds = λ x id more. refl;
+  total = nat_list_cmp_total;
+  exact = ids_exact;
+  computes = record { given = λ n x. refl; chosen = λ rows x. refl; numbered = λ m x. refl; kept = λ m x. refl; finds = λ x id more. refl };
   tries = λ n x. rw (cast_null);
   stores = λ n m x. rw (cast_int m);
   meets = λ u v x y e. one_true _ (texts_equal x.tenderer y.tenderer e);
@@ -53,8 +55,12 @@ tenderer_stored = record {
 put_read : IsPutText Tenderers tenderer_shape upsert_tenderers
 unfolding everything parsed_in columns_in rows_in clause_in
 put_read = record {
-  read = record { is = refl; statement = refl; formats = refl; targeted = refl; changes = refl }; unstamped = refl; one = record { whole = refl; given = refl };
-  rows = λ schema n. refl; names = λ n. refl; update = λ schema at n. refl;
+  read = record { is = refl; statement = refl; formats = refl; targeted = refl; changes = refl };
+  unstamped = refl;
+  one = record { whole = refl; given = refl };
+  rows = λ schema n. refl;
+  names = λ n. refl;
+  update = λ schema at n. refl;
 }
 
 pub tenderer_put : IsPutOf Tenderers tenderer_form tenderer_shape upsert_tenderers

@@ -10,8 +10,7 @@ use Rattle.office_values.specs.Moments.{last_moment}
 use Rattle.office_values.specs.Money.{amount_limit}
 use Rattle.office_base.specs.declared.records.AwardRow.{AwardRow}
 use Rattle.office_base.specs.Tables.{award_key}
-use Rattle.office_tables.specs.Forms.{Form, table_by_rowid, index_on, text_column, number_column}
-use Rattle.office_tables.specs.Kept.{by_rowid, read_by_rowid}
+use Rattle.office_tables.specs.Forms.{Form, rowid_form, table_by_rowid, index_on, text_column, number_column}
 use Rattle.office_tables.specs.Values.{number_in_value}
 use Rattle.office_tables.specs.Words.{award_state_text, award_state_in}
 use Rattle.office_tables.specs.Ranges.{IsOfficeNumber}
@@ -56,14 +55,6 @@ award_read r = record {
 abbrev pub AwardFits : AwardRow → Type 0
 AwardFits x = IsOfficeNumber x.award × IsId x.notice × IsId x.lot × IsOfficeNumber x.receipt × (x.price ≤ amount_limit) × (x.moment ≤ last_moment)
 
--- its table, with its rows and the order of their keys
+-- the table, with the order of its keys and its rows
 abbrev pub award_form : Form ℕ AwardRow
-award_form = record {
-  table = awards;
-  cmp = nat_cmp;
-  key = award_key;
-  row = award_values;
-  read = award_read;
-  stored = by_rowid award_values;
-  back = read_by_rowid award_read;
-}
+award_form = rowid_form awards nat_cmp award_key award_values award_read

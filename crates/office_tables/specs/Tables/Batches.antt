@@ -7,9 +7,8 @@ use Rattle.office_values.specs.Ids.{IsId, id_cmp}
 use Rattle.office_values.specs.Moments.{last_moment}
 use Rattle.office_base.specs.declared.records.BatchRow.{BatchRow}
 use Rattle.office_base.specs.Tables.{batch_key}
-use Rattle.office_tables.specs.Forms.{Form, table_with, text_column, number_column}
-use Rattle.office_tables.specs.Kept.{row_behind_rowid}
-use Rattle.office_tables.specs.Values.{number_in_value, tail}
+use Rattle.office_tables.specs.Forms.{Form, indexed_form, table_with, text_column, number_column}
+use Rattle.office_tables.specs.Values.{number_in_value}
 
 abbrev pub create_batches : List ℕ
 create_batches = codes "CREATE TABLE batches (batch TEXT NOT NULL PRIMARY KEY CHECK (length(batch) BETWEEN 1 AND 32), moment INTEGER NOT NULL CHECK (moment BETWEEN 0 AND 4102444799), rows INTEGER NOT NULL CHECK (rows BETWEEN 0 AND 500)) STRICT"
@@ -30,22 +29,10 @@ batch_values x = Text x.batch ∷ Int (pos x.moment) ∷ Int (pos x.rows) ∷ []
 abbrev pub batch_read : Row → BatchRow
 batch_read r = record { batch = bytes (column r 0); moment = number_in_value (column r 1); rows = number_in_value (column r 2) }
 
--- what a row is read as that stands behind a rowid
-abbrev pub batch_by_rowid : Row → BatchRow
-batch_by_rowid r = batch_read (tail r)
-
 -- its fields are in their ranges
 abbrev pub BatchFits : BatchRow → Type 0
 BatchFits x = IsId x.batch × (x.moment ≤ last_moment) × (x.rows ≤ 500)
 
--- its table, with its rows and the order of their keys
+-- the table, with the order of its keys and its rows
 abbrev pub batch_form : Form (List ℕ) BatchRow
-batch_form = record {
-  table = batches;
-  cmp = id_cmp;
-  key = batch_key;
-  row = batch_values;
-  read = batch_read;
-  stored = row_behind_rowid batch_values;
-  back = batch_by_rowid;
-}
+batch_form = indexed_form batches id_cmp batch_key batch_values batch_read

@@ -6,9 +6,7 @@ use Rattle.sqlite_schema.specs.declared.schema.Table.{Table}
 use Rattle.office_values.specs.Ids.{IsId, id_cmp}
 use Rattle.office_base.specs.declared.records.CompiledRow.{CompiledRow}
 use Rattle.office_base.specs.Tables.{compiled_key}
-use Rattle.office_tables.specs.Forms.{Form, table_with, text_column}
-use Rattle.office_tables.specs.Kept.{row_behind_rowid}
-use Rattle.office_tables.specs.Values.{tail}
+use Rattle.office_tables.specs.Forms.{Form, indexed_form, table_with, text_column}
 
 abbrev pub create_compiled : List ℕ
 create_compiled = codes "CREATE TABLE compiled (notice TEXT NOT NULL PRIMARY KEY CHECK (length(notice) BETWEEN 1 AND 32), text TEXT NOT NULL) STRICT"
@@ -28,22 +26,10 @@ compiled_values x = Text x.notice ∷ Text x.text ∷ []
 abbrev pub compiled_read : Row → CompiledRow
 compiled_read r = record { notice = bytes (column r 0); text = bytes (column r 1) }
 
--- what a row is read as that stands behind a rowid
-abbrev pub compiled_by_rowid : Row → CompiledRow
-compiled_by_rowid r = compiled_read (tail r)
-
 -- its fields are in their ranges
 abbrev pub CompiledFits : CompiledRow → Type 0
 CompiledFits x = IsId x.notice × IsUtf8 x.text
 
--- its table, with its rows and the order of their keys
+-- the table, with the order of its keys and its rows
 abbrev pub compiled_form : Form (List ℕ) CompiledRow
-compiled_form = record {
-  table = compiled;
-  cmp = id_cmp;
-  key = compiled_key;
-  row = compiled_values;
-  read = compiled_read;
-  stored = row_behind_rowid compiled_values;
-  back = compiled_by_rowid;
-}
+compiled_form = indexed_form compiled id_cmp compiled_key compiled_values compiled_read

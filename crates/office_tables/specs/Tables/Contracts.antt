@@ -10,8 +10,7 @@ use Rattle.office_values.specs.Moments.{last_moment}
 use Rattle.office_values.specs.Money.{total_limit}
 use Rattle.office_base.specs.declared.records.ContractRow.{ContractRow}
 use Rattle.office_base.specs.Tables.{contract_key}
-use Rattle.office_tables.specs.Forms.{Form, table_by_rowid, index_on, text_column, number_column, perhaps_text_column, perhaps_number_column}
-use Rattle.office_tables.specs.Kept.{by_rowid, read_by_rowid}
+use Rattle.office_tables.specs.Forms.{Form, rowid_form, table_by_rowid, index_on, text_column, number_column, perhaps_text_column, perhaps_number_column}
 use Rattle.office_tables.specs.Values.{number_in_value, or_null, perhaps_in, text_or_null, perhaps_text_in}
 use Rattle.office_tables.specs.Words.{how_text, how_in}
 use Rattle.office_tables.specs.Ranges.{IsOfficeNumber}
@@ -62,14 +61,6 @@ ContractFits x =
     IsOfficeNumber x.contract × IsId x.notice × IsId x.lot × IsId x.tenderer × (x.signed ≤ total_limit) × (x.moment ≤ last_moment)
     × IfSome x.ended (λ moment. moment ≤ last_moment) × (x.released ≤ total_limit)
 
--- its table, with its rows and the order of their keys
+-- the table, with the order of its keys and its rows
 abbrev pub contract_form : Form ℕ ContractRow
-contract_form = record {
-  table = contracts;
-  cmp = nat_cmp;
-  key = contract_key;
-  row = contract_values;
-  read = contract_read;
-  stored = by_rowid contract_values;
-  back = read_by_rowid contract_read;
-}
+contract_form = rowid_form contracts nat_cmp contract_key contract_values contract_read

@@ -8,9 +8,8 @@ use Rattle.office_values.specs.Texts.{IsTextLine}
 use Rattle.office_values.specs.Moments.{last_moment}
 use Rattle.office_base.specs.declared.records.EntryRow.{EntryRow}
 use Rattle.office_base.specs.Tables.{entry_key, entry_cmp}
-use Rattle.office_tables.specs.Forms.{Form, table_with, text_column, number_column, perhaps_text_column}
-use Rattle.office_tables.specs.Kept.{row_behind_rowid}
-use Rattle.office_tables.specs.Values.{number_in_value, text_or_null, perhaps_text_in, tail}
+use Rattle.office_tables.specs.Forms.{Form, indexed_form, table_with, text_column, number_column, perhaps_text_column}
+use Rattle.office_tables.specs.Values.{number_in_value, text_or_null, perhaps_text_in}
 use Rattle.office_tables.specs.Words.{entry_kind_text, entry_kind_in}
 use Rattle.office_tables.specs.Ranges.{IsOfficeNumber, IsSum}
 
@@ -42,22 +41,10 @@ entry_read r = record {
   rationale = perhaps_text_in (column r 5);
 }
 
--- what a row is read as that stands behind a rowid
-abbrev pub entry_by_rowid : Row → EntryRow
-entry_by_rowid r = entry_read (tail r)
-
 -- its fields are in their ranges
 abbrev pub EntryFits : EntryRow → Type 0
 EntryFits x = IsOfficeNumber x.contract × IsId x.entry × IsSum x.amount × (x.moment ≤ last_moment) × IfSome x.rationale IsTextLine
 
--- its table, with its rows and the order of their keys
+-- the table, with the order of its keys and its rows
 abbrev pub entry_form : Form (ℕ × List ℕ) EntryRow
-entry_form = record {
-  table = entries;
-  cmp = entry_cmp;
-  key = entry_key;
-  row = entry_values;
-  read = entry_read;
-  stored = row_behind_rowid entry_values;
-  back = entry_by_rowid;
-}
+entry_form = indexed_form entries entry_cmp entry_key entry_values entry_read

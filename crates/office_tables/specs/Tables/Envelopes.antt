@@ -9,8 +9,7 @@ use Rattle.office_values.specs.Ids.{IsId}
 use Rattle.office_values.specs.Moments.{last_moment}
 use Rattle.office_base.specs.declared.records.EnvelopeRow.{EnvelopeRow}
 use Rattle.office_base.specs.Tables.{envelope_key}
-use Rattle.office_tables.specs.Forms.{Form, table_by_rowid, index_on, text_column, number_column, bytes_column, perhaps_text_column, perhaps_number_column}
-use Rattle.office_tables.specs.Kept.{by_rowid, read_by_rowid}
+use Rattle.office_tables.specs.Forms.{Form, rowid_form, table_by_rowid, index_on, text_column, number_column, bytes_column, perhaps_text_column, perhaps_number_column}
 use Rattle.office_tables.specs.Values.{number_in_value, or_null, perhaps_in, text_or_null, as_number, truth_in, perhaps_truth_in}
 use Rattle.office_tables.specs.Words.{envelope_state_text, envelope_state_in}
 use Rattle.office_tables.specs.Readings.{reading_word, stated_price, corrected_price, count_of_corrections, reading_in}
@@ -69,14 +68,6 @@ EnvelopeFits x =
     IsOfficeNumber x.receipt × IsId x.notice × IsId x.lot × IsId x.tenderer × (x.moment ≤ last_moment) × IsWithin 1 32768 x.length × (length x.digest ≡ 32)
     × IfSome x.security IsOfficeNumber × ReadingFits x.reading × IfSome x.quality (λ points. points ≤ 100)
 
--- its table, with its rows and the order of their keys
+-- the table, with the order of its keys and its rows
 abbrev pub envelope_form : Form ℕ EnvelopeRow
-envelope_form = record {
-  table = envelopes;
-  cmp = nat_cmp;
-  key = envelope_key;
-  row = envelope_values;
-  read = envelope_read;
-  stored = by_rowid envelope_values;
-  back = read_by_rowid envelope_read;
-}
+envelope_form = rowid_form envelopes nat_cmp envelope_key envelope_values envelope_read

@@ -6,9 +6,7 @@ use Rattle.sqlite_schema.specs.declared.schema.Table.{Table}
 use Rattle.office_values.specs.Ids.{IsId, id_cmp}
 use Rattle.office_base.specs.declared.records.LateRow.{LateRow}
 use Rattle.office_base.specs.Tables.{late_key}
-use Rattle.office_tables.specs.Forms.{Form, table_with, text_column}
-use Rattle.office_tables.specs.Kept.{row_behind_rowid}
-use Rattle.office_tables.specs.Values.{tail}
+use Rattle.office_tables.specs.Forms.{Form, indexed_form, table_with, text_column}
 
 abbrev pub create_late_rules : List ℕ
 create_late_rules = codes "CREATE TABLE late_rules (notice TEXT NOT NULL PRIMARY KEY CHECK (length(notice) BETWEEN 1 AND 32)) STRICT"
@@ -28,22 +26,10 @@ late_values x = Text x.notice ∷ []
 abbrev pub late_read : Row → LateRow
 late_read r = record { notice = bytes (column r 0) }
 
--- what a row is read as that stands behind a rowid
-abbrev pub late_by_rowid : Row → LateRow
-late_by_rowid r = late_read (tail r)
-
 -- its fields are in their ranges
 abbrev pub LateFits : LateRow → Type 0
 LateFits x = IsId x.notice
 
--- its table, with its rows and the order of their keys
+-- the table, with the order of its keys and its rows
 abbrev pub late_form : Form (List ℕ) LateRow
-late_form = record {
-  table = late_rules;
-  cmp = id_cmp;
-  key = late_key;
-  row = late_values;
-  read = late_read;
-  stored = row_behind_rowid late_values;
-  back = late_by_rowid;
-}
+late_form = indexed_form late_rules id_cmp late_key late_values late_read

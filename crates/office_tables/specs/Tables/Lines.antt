@@ -8,9 +8,8 @@ use Rattle.office_values.specs.Texts.{IsTextLine}
 use Rattle.office_values.specs.Money.{total_limit}
 use Rattle.office_base.specs.declared.records.LineRow.{LineRow}
 use Rattle.office_base.specs.Tables.{line_key}
-use Rattle.office_tables.specs.Forms.{Form, table_with, text_column, number_column}
-use Rattle.office_tables.specs.Kept.{row_behind_rowid}
-use Rattle.office_tables.specs.Values.{number_in_value, tail}
+use Rattle.office_tables.specs.Forms.{Form, indexed_form, table_with, text_column, number_column}
+use Rattle.office_tables.specs.Values.{number_in_value}
 
 abbrev pub create_lines : List ℕ
 create_lines = codes "CREATE TABLE lines (line TEXT NOT NULL PRIMARY KEY CHECK (length(line) BETWEEN 1 AND 32), title TEXT NOT NULL CHECK (length(title) BETWEEN 1 AND 200), appropriation INTEGER NOT NULL CHECK (appropriation BETWEEN 0 AND 1000000000000000), free INTEGER NOT NULL CHECK (free BETWEEN 0 AND 1000000000000000)) STRICT"
@@ -32,22 +31,10 @@ line_values x = Text x.line ∷ Text x.title ∷ Int (pos x.appropriation) ∷ I
 abbrev pub line_read : Row → LineRow
 line_read r = record { line = bytes (column r 0); title = bytes (column r 1); appropriation = number_in_value (column r 2); free = number_in_value (column r 3) }
 
--- what a row is read as that stands behind a rowid
-abbrev pub line_by_rowid : Row → LineRow
-line_by_rowid r = line_read (tail r)
-
 -- its fields are in their ranges
 abbrev pub LineFits : LineRow → Type 0
 LineFits x = IsId x.line × IsTextLine x.title × (x.appropriation ≤ total_limit) × (x.free ≤ total_limit)
 
--- its table, with its rows and the order of their keys
+-- the table, with the order of its keys and its rows
 abbrev pub line_form : Form (List ℕ) LineRow
-line_form = record {
-  table = lines;
-  cmp = id_cmp;
-  key = line_key;
-  row = line_values;
-  read = line_read;
-  stored = row_behind_rowid line_values;
-  back = line_by_rowid;
-}
+line_form = indexed_form lines id_cmp line_key line_values line_read

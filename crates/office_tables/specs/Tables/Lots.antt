@@ -9,9 +9,8 @@ use Rattle.office_values.specs.Texts.{IsTextLine}
 use Rattle.office_values.specs.Money.{amount_limit}
 use Rattle.office_base.specs.declared.records.LotRow.{LotRow}
 use Rattle.office_base.specs.Tables.{lot_key, lot_cmp}
-use Rattle.office_tables.specs.Forms.{Form, table_with, index_on, text_column, number_column}
-use Rattle.office_tables.specs.Kept.{row_behind_rowid}
-use Rattle.office_tables.specs.Values.{number_in_value, tail}
+use Rattle.office_tables.specs.Forms.{Form, indexed_form, table_with, index_on, text_column, number_column}
+use Rattle.office_tables.specs.Values.{number_in_value}
 use Rattle.office_tables.specs.Words.{lot_state_text, lot_state_in}
 use Rattle.office_tables.specs.ItemTexts.{items_text, items_in_text, AreItems}
 use Rattle.office_tables.specs.Ranges.{IsSum}
@@ -56,10 +55,6 @@ lot_read r = record {
   reserved = number_in_value (column r 8);
 }
 
--- what a row is read as that stands behind a rowid
-abbrev pub lot_by_rowid : Row → LotRow
-lot_by_rowid r = lot_read (tail r)
-
 -- its fields are in their ranges
 abbrev pub LotFits : LotRow → Type 0
 LotFits x =
@@ -69,14 +64,6 @@ LotFits x =
 abbrev pub IsLot : LotRow → Type 0
 IsLot x = LotFits x × AreItems x.items
 
--- its table, with its rows and the order of their keys
+-- the table, with the order of its keys and its rows
 abbrev pub lot_form : Form (List ℕ × List ℕ) LotRow
-lot_form = record {
-  table = lots;
-  cmp = lot_cmp;
-  key = lot_key;
-  row = lot_values;
-  read = lot_read;
-  stored = row_behind_rowid lot_values;
-  back = lot_by_rowid;
-}
+lot_form = indexed_form lots lot_cmp lot_key lot_values lot_read

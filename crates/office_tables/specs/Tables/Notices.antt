@@ -9,9 +9,8 @@ use Rattle.office_values.specs.Moments.{last_moment}
 use Rattle.office_values.specs.Money.{amount_limit}
 use Rattle.office_base.specs.declared.records.NoticeRow.{NoticeRow}
 use Rattle.office_base.specs.Tables.{notice_key}
-use Rattle.office_tables.specs.Forms.{Form, table_with, text_column, number_column, perhaps_number_column}
-use Rattle.office_tables.specs.Kept.{row_behind_rowid}
-use Rattle.office_tables.specs.Values.{number_in_value, or_null, perhaps_in, tail}
+use Rattle.office_tables.specs.Forms.{Form, indexed_form, table_with, text_column, number_column, perhaps_number_column}
+use Rattle.office_tables.specs.Values.{number_in_value, or_null, perhaps_in}
 use Rattle.office_tables.specs.Words.{notice_state_text, notice_state_in}
 use Rattle.office_tables.specs.Ranges.{IsWithin}
 
@@ -52,10 +51,6 @@ notice_read r = record {
   performance = number_in_value (column r 11);
 }
 
--- what a row is read as that stands behind a rowid
-abbrev pub notice_by_rowid : Row → NoticeRow
-notice_by_rowid r = notice_read (tail r)
-
 -- its fields are in their ranges
 abbrev pub NoticeFits : NoticeRow → Type 0
 NoticeFits x =
@@ -63,17 +58,9 @@ NoticeFits x =
     × (x.weight ≤ 100) × IfSome x.opened (λ moment. moment ≤ last_moment) × (x.amendments ≤ 50) × (x.releases ≤ 9999)
     × (x.performance ≤ amount_limit)
 
--- its table, with its rows and the order of their keys
+-- the table, with the order of its keys and its rows
 abbrev pub notice_form : Form (List ℕ) NoticeRow
-notice_form = record {
-  table = notices;
-  cmp = id_cmp;
-  key = notice_key;
-  row = notice_values;
-  read = notice_read;
-  stored = row_behind_rowid notice_values;
-  back = notice_by_rowid;
-}
+notice_form = indexed_form notices id_cmp notice_key notice_values notice_read
 
 -- a notice of an earlier program, which knew no performance securities and had a table of its own: none is asked. This program keeps the table with no rows
 abbrev pub create_former_notices : List ℕ
@@ -98,16 +85,5 @@ former_read r = record (notice_read r) { performance = 0 }
 abbrev pub asks_nothing : NoticeRow → NoticeRow
 asks_nothing x = record x { performance = 0 }
 
-abbrev pub former_by_rowid : Row → NoticeRow
-former_by_rowid r = former_read (tail r)
-
 abbrev pub former_form : Form (List ℕ) NoticeRow
-former_form = record {
-  table = former_notices;
-  cmp = id_cmp;
-  key = notice_key;
-  row = former_values;
-  read = former_read;
-  stored = row_behind_rowid former_values;
-  back = former_by_rowid;
-}
+former_form = indexed_form former_notices id_cmp notice_key former_values former_read

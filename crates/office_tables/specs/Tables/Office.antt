@@ -7,8 +7,7 @@ use Rattle.sqlite_value.specs.Order.{Row, column}
 use Rattle.sqlite_schema.specs.declared.schema.Table.{Table}
 use Rattle.office_values.specs.Moments.{last_moment}
 use Rattle.office_base.specs.declared.records.ClockRow.{ClockRow}
-use Rattle.office_tables.specs.Forms.{Form, table_by_rowid, number_column}
-use Rattle.office_tables.specs.Kept.{by_rowid, read_by_rowid}
+use Rattle.office_tables.specs.Forms.{Form, rowid_form, table_by_rowid, number_column}
 use Rattle.office_tables.specs.Values.{number_in_value}
 
 abbrev pub create_office : List ℕ
@@ -45,17 +44,9 @@ clock_read r = record { moment = number_in_value (column r 1); receipts = number
 abbrev pub ClockFits : ClockRow → Type 0
 ClockFits x = (x.moment ≤ last_moment) × (x.receipts ≤ 10 ^ 9) × (x.awards ≤ 10 ^ 9)
 
--- its table, with its rows and the order of their keys
+-- the table, with the order of its keys and its rows
 abbrev pub clock_form_of : ℕ → Form (Unit {0}) ClockRow
-clock_form_of version = record {
-  table = office;
-  cmp = clock_cmp;
-  key = clock_key;
-  row = clock_values_of version;
-  read = clock_read;
-  stored = by_rowid (clock_values_of version);
-  back = read_by_rowid clock_read;
-}
+clock_form_of version = rowid_form office clock_cmp clock_key (clock_values_of version) clock_read
 
 abbrev pub clock_form : Form (Unit {0}) ClockRow
 clock_form = clock_form_of 2

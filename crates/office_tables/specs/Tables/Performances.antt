@@ -7,8 +7,7 @@ use Rattle.sqlite_schema.specs.declared.schema.Table.{Table}
 use Rattle.office_values.specs.Ids.{IsId}
 use Rattle.office_base.specs.declared.records.PerformanceRow.{PerformanceRow}
 use Rattle.office_base.specs.Tables.{performance_key}
-use Rattle.office_tables.specs.Forms.{Form, table_by_rowid, text_column, number_column}
-use Rattle.office_tables.specs.Kept.{by_rowid, read_by_rowid}
+use Rattle.office_tables.specs.Forms.{Form, rowid_form, table_by_rowid, text_column, number_column}
 use Rattle.office_tables.specs.Values.{number_in_value}
 use Rattle.office_tables.specs.Words.{security_state_text, security_state_in}
 use Rattle.office_tables.specs.Ranges.{IsOfficeNumber, IsSum}
@@ -42,14 +41,6 @@ performance_read r = record {
 abbrev pub PerformanceFits : PerformanceRow → Type 0
 PerformanceFits x = IsOfficeNumber x.contract × IsId x.reference × IsSum x.amount
 
--- its table, with its rows and the order of their keys
+-- the table, with the order of its keys and its rows
 abbrev pub performance_form : Form ℕ PerformanceRow
-performance_form = record {
-  table = performance;
-  cmp = nat_cmp;
-  key = performance_key;
-  row = performance_values;
-  read = performance_read;
-  stored = by_rowid performance_values;
-  back = read_by_rowid performance_read;
-}
+performance_form = rowid_form performance nat_cmp performance_key performance_values performance_read

@@ -7,9 +7,8 @@ use Rattle.office_values.specs.Ids.{IsId}
 use Rattle.office_values.specs.Moments.{last_moment}
 use Rattle.office_base.specs.declared.records.ReleaseRow.{ReleaseRow}
 use Rattle.office_base.specs.Tables.{release_key, release_cmp}
-use Rattle.office_tables.specs.Forms.{Form, table_with, text_column, number_column}
-use Rattle.office_tables.specs.Kept.{row_behind_rowid}
-use Rattle.office_tables.specs.Values.{number_in_value, tail}
+use Rattle.office_tables.specs.Forms.{Form, indexed_form, table_with, text_column, number_column}
+use Rattle.office_tables.specs.Values.{number_in_value}
 use Rattle.office_tables.specs.Ranges.{IsWithin}
 
 abbrev pub create_releases : List ℕ
@@ -32,22 +31,10 @@ release_values x = Text x.notice ∷ Int (pos x.seq) ∷ Int (pos x.moment) ∷ 
 abbrev pub release_read : Row → ReleaseRow
 release_read r = record { notice = bytes (column r 0); seq = number_in_value (column r 1); moment = number_in_value (column r 2); text = bytes (column r 3) }
 
--- what a row is read as that stands behind a rowid
-abbrev pub release_by_rowid : Row → ReleaseRow
-release_by_rowid r = release_read (tail r)
-
 -- its fields are in their ranges
 abbrev pub ReleaseFits : ReleaseRow → Type 0
 ReleaseFits x = IsId x.notice × IsWithin 1 9999 x.seq × (x.moment ≤ last_moment) × IsUtf8 x.text
 
--- its table, with its rows and the order of their keys
+-- the table, with the order of its keys and its rows
 abbrev pub release_form : Form (List ℕ × ℕ) ReleaseRow
-release_form = record {
-  table = releases;
-  cmp = release_cmp;
-  key = release_key;
-  row = release_values;
-  read = release_read;
-  stored = row_behind_rowid release_values;
-  back = release_by_rowid;
-}
+release_form = indexed_form releases release_cmp release_key release_values release_read

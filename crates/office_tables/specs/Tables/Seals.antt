@@ -7,8 +7,7 @@ use Rattle.sqlite_schema.specs.declared.schema.Table.{Table}
 use Rattle.office_commands.specs.SealedBytes.{IsSealed}
 use Rattle.office_base.specs.declared.records.SealRow.{SealRow}
 use Rattle.office_base.specs.Tables.{seal_key}
-use Rattle.office_tables.specs.Forms.{Form, table_by_rowid, number_column, bytes_column}
-use Rattle.office_tables.specs.Kept.{by_rowid, read_by_rowid}
+use Rattle.office_tables.specs.Forms.{Form, rowid_form, table_by_rowid, number_column, bytes_column}
 use Rattle.office_tables.specs.Values.{number_in_value}
 use Rattle.office_tables.specs.Ranges.{IsOfficeNumber}
 
@@ -38,14 +37,6 @@ seal_read r = record { receipt = number_in_value (column r 0); bytes = bytes (co
 abbrev pub SealFits : SealRow → Type 0
 SealFits x = IsOfficeNumber x.receipt × IsSealed x.bytes
 
--- its table, with its rows and the order of their keys
+-- the table, with the order of its keys and its rows
 abbrev pub seal_form : Form ℕ SealRow
-seal_form = record {
-  table = seals;
-  cmp = nat_cmp;
-  key = seal_key;
-  row = seal_values;
-  read = seal_read;
-  stored = by_rowid seal_values;
-  back = read_by_rowid seal_read;
-}
+seal_form = rowid_form seals nat_cmp seal_key seal_values seal_read

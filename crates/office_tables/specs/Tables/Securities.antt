@@ -8,8 +8,7 @@ use Rattle.sqlite_schema.specs.declared.schema.Index.{Index}
 use Rattle.office_values.specs.Ids.{IsId}
 use Rattle.office_base.specs.declared.records.SecurityRow.{SecurityRow}
 use Rattle.office_base.specs.Tables.{security_key}
-use Rattle.office_tables.specs.Forms.{Form, table_by_rowid, index_on, text_column, number_column}
-use Rattle.office_tables.specs.Kept.{by_rowid, read_by_rowid}
+use Rattle.office_tables.specs.Forms.{Form, rowid_form, table_by_rowid, index_on, text_column, number_column}
 use Rattle.office_tables.specs.Values.{number_in_value}
 use Rattle.office_tables.specs.Words.{security_state_text, security_state_in}
 use Rattle.office_tables.specs.Ranges.{IsOfficeNumber, IsSum}
@@ -54,14 +53,6 @@ security_read r = record {
 abbrev pub SecurityFits : SecurityRow → Type 0
 SecurityFits x = IsOfficeNumber x.security × IsId x.tenderer × IsId x.notice × IsId x.lot × IsId x.reference × IsSum x.amount
 
--- its table, with its rows and the order of their keys
+-- the table, with the order of its keys and its rows
 abbrev pub security_form : Form ℕ SecurityRow
-security_form = record {
-  table = securities;
-  cmp = nat_cmp;
-  key = security_key;
-  row = security_values;
-  read = security_read;
-  stored = by_rowid security_values;
-  back = read_by_rowid security_read;
-}
+security_form = rowid_form securities nat_cmp security_key security_values security_read

@@ -7,9 +7,7 @@ use Rattle.office_values.specs.Ids.{IsId, id_cmp}
 use Rattle.office_values.specs.Texts.{IsTextLine}
 use Rattle.office_base.specs.declared.records.TendererRow.{TendererRow}
 use Rattle.office_base.specs.Tables.{tenderer_key}
-use Rattle.office_tables.specs.Forms.{Form, table_with, text_column, bytes_column}
-use Rattle.office_tables.specs.Kept.{row_behind_rowid}
-use Rattle.office_tables.specs.Values.{tail}
+use Rattle.office_tables.specs.Forms.{Form, indexed_form, table_with, text_column, bytes_column}
 
 abbrev pub create_tenderers : List ℕ
 create_tenderers = codes "CREATE TABLE tenderers (tenderer TEXT NOT NULL PRIMARY KEY CHECK (length(tenderer) BETWEEN 1 AND 32), name TEXT NOT NULL CHECK (length(name) BETWEEN 1 AND 200), address TEXT NOT NULL CHECK (length(address) BETWEEN 1 AND 200), key BLOB NOT NULL CHECK (length(key) = 32)) STRICT"
@@ -31,22 +29,10 @@ tenderer_values x = Text x.tenderer ∷ Text x.name ∷ Text x.address ∷ Blob 
 abbrev pub tenderer_read : Row → TendererRow
 tenderer_read r = record { tenderer = bytes (column r 0); name = bytes (column r 1); address = bytes (column r 2); key = bytes (column r 3) }
 
--- what a row is read as that stands behind a rowid
-abbrev pub tenderer_by_rowid : Row → TendererRow
-tenderer_by_rowid r = tenderer_read (tail r)
-
 -- its fields are in their ranges
 abbrev pub TendererFits : TendererRow → Type 0
 TendererFits x = IsId x.tenderer × IsTextLine x.name × IsTextLine x.address × (length x.key ≡ 32)
 
--- its table, with its rows and the order of their keys
+-- the table, with the order of its keys and its rows
 abbrev pub tenderer_form : Form (List ℕ) TendererRow
-tenderer_form = record {
-  table = tenderers;
-  cmp = id_cmp;
-  key = tenderer_key;
-  row = tenderer_values;
-  read = tenderer_read;
-  stored = row_behind_rowid tenderer_values;
-  back = tenderer_by_rowid;
-}
+tenderer_form = indexed_form tenderers id_cmp tenderer_key tenderer_values tenderer_read

@@ -10,7 +10,7 @@ pub returns-clause-begins : goal.returns-clause-begins
 returns-clause-begins g c clean inside =
     let clean_1 : HasCleanDisk (state g.S.Store c.make_lacking.new.tx.conn.now) = omega (arith, clean, c.renew.ensures.survives.clean) in
     let made = c.in_ok-make_lacking.ensures.made clean_1 inside in
-    on_ok_with c.renew.result _ _ (c.renew.ensures.renewed clean made.goes.mode) (λ h. begins g.S.Store c.args.knows_late c.args.clock.now (state g.S.Store c.args.tx.now.conn.now) c.make_lacking.new.tx.conn.now c.renew.new.tx.conn.now c.clock_comes_back.ensures made h)
+    on_ok_with c.renew.result _ _ (c.renew.ensures.renewed clean made.goes.mode) (λ h. begins g.S.Store c.args.knows_late c.args.clock.now (state g.S.Store c.args.tx.now.conn.now) c.make_lacking.new.tx.conn.now c.renew.new.tx.conn.now made h)
 
 pub returns-clause-refused : goal.returns-clause-refused
 returns-clause-refused g c clean inside =

@@ -3,7 +3,7 @@ use Rattle.std.specs.Prelude.{option_map, slice_get}
 use Rattle.sqlite.specs.Held.{state}
 use Rattle.office_tables.specs.Tables.Office.{clock_read}
 use Rattle.office_tables.specs.Version.{HasVersion}
-use Rattle.office_tables.specs.declared.stored.FormerClock.{FormerClock}
+use Rattle.office_tables.specs.declared.tables.office.FormerClock.{FormerClock}
 use Rattle.office_tables.proofs.FirstVersion.{first_version, clock_found}
 use Rattle.office_tables.proofs.ByTable.Office.{select_clock}
 use Rattle.office_tables.proofs.Asked.{only_one, same_found}

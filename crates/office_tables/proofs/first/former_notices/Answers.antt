@@ -1,7 +1,7 @@
 use Rattle.std.specs.Prelude.{map}
 use Rattle.std.proofs.Common.{◌≡◌, ◌∙◌, ap}
 use Rattle.sqlite.specs.Effect.{Database}
-use Rattle.office_tables.specs.declared.stored.FormerNotice.{FormerNotice}
+use Rattle.office_tables.specs.declared.tables.notices.FormerNotice.{FormerNotice}
 use Rattle.office_tables.specs.First.{HoldsFirst}
 use Rattle.office_tables.specs.Schema.OfficeTable.{FormerNotices}
 use Rattle.office_tables.proofs.FirstVersion.{former_there, former_notice_in, notices_read}

@@ -1,91 +1,52 @@
-use Rattle.std.proofs.Common.{arith, [], ◌∷◌}
+use Rattle.std.proofs.Common.{rules, arith, ◌≡◌, [], ◌∷◌, ◌+◌, drop, map, ap, sym, subst, ◌∙◌}
+use Rattle.std.proofs.lemmas.List.{drop_more, drop_all}
 use Rattle.sqlite.specs.Held.{state}
 use Rattle.sqlite.specs.State.{HasCleanDisk}
-use Rattle.office_tables.specs.Schema.OfficeTable.{Lines, Batches, Tenderers, Notices, Lots, Envelopes, Seals, Securities, Awards, Contracts, Entries, Releases, Compiled, Office, LateRules, FormerNotices, Performances}
-use Rattle.office_tables.proofs.MakingSteps.{makes_then, goes_then, goes_refused}
-use Rattle.office_tables.proofs.Stepping.{on_ok_with, on_err, on_err_with}
+use Rattle.sqlite.proofs.StateLemmas.{survives_then}
+use Rattle.office_tables.specs.Making.{onto}
+use Rattle.office_tables.proofs.MakingSteps.{MadeOf, makes_first, makes_more, all_made, goes_refused}
+use Rattle.office_tables.proofs.Stepping.{on_err}
 use Rattle.office_tables.proofs.make.make_tables.Goals as goal
 
+pub texts-init : goal.texts-init
+texts-init g c =
+    let old = state g.S.Store c.args.tx.now.conn.now in
+    let now = state g.S.Store c.make_table.new.tx.conn.now in (
+      search rules,
+      c.make_table.ensures.survives,
+      λ clean inside ks texts. makes_first old now ks c.args.first.now (map (λ text. text.now) c.args.more.now) texts (λ k it. c.in_ok-make_table.ensures.made clean inside k it),
+    )
+
+pub texts-preserved : goal.texts-preserved
+texts-preserved g c =
+    let old = state g.S.Store c.args.tx.now.conn.now in
+    let mid = state g.S.Store c.texts.tx.conn.now in
+    let new = state g.S.Store c.make_table-in-texts.new.tx.conn.now in
+    let item = c.text-item.result in
+    let more = c.args.more.now in
+    let i = c.texts.text-index in
+    let next = drop_more more i item (omega arith) ∙ ap (λ y. y ∷ drop (i + 1) more) (sym c.text-item.is) in (
+      search rules,
+      survives_then old mid new (λ _. ⊥) (λ _. ⊥) (λ _. ⊥) (λ _ db none. none) (λ _ db none. none) c.texts.invariant.1 c.make_table-in-texts.ensures.survives,
+      λ clean inside ks texts.
+          let early : HasCleanDisk mid = omega (arith, clean, c.make_table-in-texts.ensures.survives.clean) in
+          let so_far = subst (λ l. MadeOf old mid (onto [] ks) (map (λ text. text.now) l)) next (c.texts.invariant.2 early inside ks texts) in
+          makes_more old mid new (onto [] ks) item.now (map (λ text. text.now) (drop (i + 1) more)) (λ k it. c.in_ok-make_table-2.ensures.made clean so_far.4.goes.mode k it) so_far,
+    )
+
+pub returns-in_err-make_table-2-clause-refused : goal.returns-in_err-make_table-2-clause-refused
+returns-in_err-make_table-2-clause-refused g c clean inside ks texts =
+    let old = state g.S.Store c.args.tx.now.conn.now in
+    let mid = state g.S.Store c.texts.tx.conn.now in
+    let new = state g.S.Store c.make_table-in-texts.new.tx.conn.now in
+    let late : HasCleanDisk new = search rules in
+    let early : HasCleanDisk mid = omega (arith, late, c.make_table-in-texts.ensures.survives.clean) in
+    let so_far = c.texts.invariant.2 early inside ks texts in
+    on_err _ _ (goes_refused old mid new so_far.4.goes (c.in_err-make_table-2.ensures.refused late so_far.4.goes.mode))
+
 pub returns-clause-made : goal.returns-clause-made
-returns-clause-made g c clean inside =
-    let clean_5 : HasCleanDisk (state g.S.Store c.make_late.new.tx.conn.now) = omega (arith, clean, c.make_second.ensures.survives.clean) in
-    let clean_4 : HasCleanDisk (state g.S.Store c.make_kept.new.tx.conn.now) = omega (arith, clean_5, c.make_late.ensures.survives.clean) in
-    let clean_3 : HasCleanDisk (state g.S.Store c.make_contracts.new.tx.conn.now) = omega (arith, clean_4, c.make_kept.ensures.survives.clean) in
-    let clean_2 : HasCleanDisk (state g.S.Store c.make_tenders.new.tx.conn.now) = omega (arith, clean_3, c.make_contracts.ensures.survives.clean) in
-    let clean_1 : HasCleanDisk (state g.S.Store c.make_budget.new.tx.conn.now) = omega (arith, clean_2, c.make_tenders.ensures.survives.clean) in
-    let one_1 = c.in_ok-make_budget.ensures.made clean_1 inside in
-    let step_1 = one_1 in
-    let one_2 = c.in_ok-make_tenders.ensures.made clean_2 one_1.goes.mode in
-    let step_2 = makes_then (state g.S.Store c.args.tx.now.conn.now) (state g.S.Store c.make_budget.new.tx.conn.now) (state g.S.Store c.make_tenders.new.tx.conn.now) (FormerNotices ∷ Tenderers ∷ Batches ∷ Lines ∷ []) (Securities ∷ Seals ∷ Envelopes ∷ Lots ∷ []) step_1 one_2 in
-    let one_3 = c.in_ok-make_contracts.ensures.made clean_3 one_2.goes.mode in
-    let step_3 = makes_then (state g.S.Store c.args.tx.now.conn.now) (state g.S.Store c.make_tenders.new.tx.conn.now) (state g.S.Store c.make_contracts.new.tx.conn.now) (Securities ∷ Seals ∷ Envelopes ∷ Lots ∷ FormerNotices ∷ Tenderers ∷ Batches ∷ Lines ∷ []) (Releases ∷ Entries ∷ Contracts ∷ Awards ∷ []) step_2 one_3 in
-    let one_4 = c.in_ok-make_kept.ensures.made clean_4 one_3.goes.mode in
-    let step_4 = makes_then (state g.S.Store c.args.tx.now.conn.now) (state g.S.Store c.make_contracts.new.tx.conn.now) (state g.S.Store c.make_kept.new.tx.conn.now) (Releases ∷ Entries ∷ Contracts ∷ Awards ∷ Securities ∷ Seals ∷ Envelopes ∷ Lots ∷ FormerNotices ∷ Tenderers ∷ Batches ∷ Lines ∷ []) (Office ∷ Compiled ∷ []) step_3 one_4 in
-    let one_5 = c.in_ok-make_late.ensures.made clean_5 one_4.goes.mode in
-    let step_5 = makes_then (state g.S.Store c.args.tx.now.conn.now) (state g.S.Store c.make_kept.new.tx.conn.now) (state g.S.Store c.make_late.new.tx.conn.now) (Office ∷ Compiled ∷ Releases ∷ Entries ∷ Contracts ∷ Awards ∷ Securities ∷ Seals ∷ Envelopes ∷ Lots ∷ FormerNotices ∷ Tenderers ∷ Batches ∷ Lines ∷ []) (LateRules ∷ []) step_4 one_5 in
-    on_ok_with c.make_second.result _ _ (c.make_second.ensures.made clean one_5.goes.mode) (λ h. makes_then (state g.S.Store c.args.tx.now.conn.now) (state g.S.Store c.make_late.new.tx.conn.now) (state g.S.Store c.make_second.new.tx.conn.now) (LateRules ∷ Office ∷ Compiled ∷ Releases ∷ Entries ∷ Contracts ∷ Awards ∷ Securities ∷ Seals ∷ Envelopes ∷ Lots ∷ FormerNotices ∷ Tenderers ∷ Batches ∷ Lines ∷ []) (Performances ∷ Notices ∷ []) step_5 h)
-
-pub returns-in_err-make_tenders-clause-refused : goal.returns-in_err-make_tenders-clause-refused
-returns-in_err-make_tenders-clause-refused g c clean inside =
-    let clean_1 : HasCleanDisk (state g.S.Store c.make_budget.new.tx.conn.now) = omega (arith, clean, c.make_tenders.ensures.survives.clean) in
-    let one_1 = c.in_ok-make_budget.ensures.made clean_1 inside in
-    let goes_1 = one_1.goes in
-    on_err _ _ (goes_refused (state g.S.Store c.args.tx.now.conn.now) (state g.S.Store c.make_budget.new.tx.conn.now) (state g.S.Store c.make_tenders.new.tx.conn.now) goes_1 (c.in_err-make_tenders.ensures.refused clean one_1.goes.mode))
-
-pub returns-in_err-make_contracts-clause-refused : goal.returns-in_err-make_contracts-clause-refused
-returns-in_err-make_contracts-clause-refused g c clean inside =
-    let clean_2 : HasCleanDisk (state g.S.Store c.make_tenders.new.tx.conn.now) = omega (arith, clean, c.make_contracts.ensures.survives.clean) in
-    let clean_1 : HasCleanDisk (state g.S.Store c.make_budget.new.tx.conn.now) = omega (arith, clean_2, c.make_tenders.ensures.survives.clean) in
-    let one_1 = c.in_ok-make_budget.ensures.made clean_1 inside in
-    let one_2 = c.in_ok-make_tenders.ensures.made clean_2 one_1.goes.mode in
-    let goes_1 = one_1.goes in
-    let goes_2 = goes_then (state g.S.Store c.args.tx.now.conn.now) (state g.S.Store c.make_budget.new.tx.conn.now) (state g.S.Store c.make_tenders.new.tx.conn.now) goes_1 one_2.goes in
-    on_err _ _ (goes_refused (state g.S.Store c.args.tx.now.conn.now) (state g.S.Store c.make_tenders.new.tx.conn.now) (state g.S.Store c.make_contracts.new.tx.conn.now) goes_2 (c.in_err-make_contracts.ensures.refused clean one_2.goes.mode))
-
-pub returns-in_err-make_kept-clause-refused : goal.returns-in_err-make_kept-clause-refused
-returns-in_err-make_kept-clause-refused g c clean inside =
-    let clean_3 : HasCleanDisk (state g.S.Store c.make_contracts.new.tx.conn.now) = omega (arith, clean, c.make_kept.ensures.survives.clean) in
-    let clean_2 : HasCleanDisk (state g.S.Store c.make_tenders.new.tx.conn.now) = omega (arith, clean_3, c.make_contracts.ensures.survives.clean) in
-    let clean_1 : HasCleanDisk (state g.S.Store c.make_budget.new.tx.conn.now) = omega (arith, clean_2, c.make_tenders.ensures.survives.clean) in
-    let one_1 = c.in_ok-make_budget.ensures.made clean_1 inside in
-    let one_2 = c.in_ok-make_tenders.ensures.made clean_2 one_1.goes.mode in
-    let one_3 = c.in_ok-make_contracts.ensures.made clean_3 one_2.goes.mode in
-    let goes_1 = one_1.goes in
-    let goes_2 = goes_then (state g.S.Store c.args.tx.now.conn.now) (state g.S.Store c.make_budget.new.tx.conn.now) (state g.S.Store c.make_tenders.new.tx.conn.now) goes_1 one_2.goes in
-    let goes_3 = goes_then (state g.S.Store c.args.tx.now.conn.now) (state g.S.Store c.make_tenders.new.tx.conn.now) (state g.S.Store c.make_contracts.new.tx.conn.now) goes_2 one_3.goes in
-    on_err _ _ (goes_refused (state g.S.Store c.args.tx.now.conn.now) (state g.S.Store c.make_contracts.new.tx.conn.now) (state g.S.Store c.make_kept.new.tx.conn.now) goes_3 (c.in_err-make_kept.ensures.refused clean one_3.goes.mode))
-
-pub returns-in_err-make_late-clause-refused : goal.returns-in_err-make_late-clause-refused
-returns-in_err-make_late-clause-refused g c clean inside =
-    let clean_4 : HasCleanDisk (state g.S.Store c.make_kept.new.tx.conn.now) = omega (arith, clean, c.make_late.ensures.survives.clean) in
-    let clean_3 : HasCleanDisk (state g.S.Store c.make_contracts.new.tx.conn.now) = omega (arith, clean_4, c.make_kept.ensures.survives.clean) in
-    let clean_2 : HasCleanDisk (state g.S.Store c.make_tenders.new.tx.conn.now) = omega (arith, clean_3, c.make_contracts.ensures.survives.clean) in
-    let clean_1 : HasCleanDisk (state g.S.Store c.make_budget.new.tx.conn.now) = omega (arith, clean_2, c.make_tenders.ensures.survives.clean) in
-    let one_1 = c.in_ok-make_budget.ensures.made clean_1 inside in
-    let one_2 = c.in_ok-make_tenders.ensures.made clean_2 one_1.goes.mode in
-    let one_3 = c.in_ok-make_contracts.ensures.made clean_3 one_2.goes.mode in
-    let one_4 = c.in_ok-make_kept.ensures.made clean_4 one_3.goes.mode in
-    let goes_1 = one_1.goes in
-    let goes_2 = goes_then (state g.S.Store c.args.tx.now.conn.now) (state g.S.Store c.make_budget.new.tx.conn.now) (state g.S.Store c.make_tenders.new.tx.conn.now) goes_1 one_2.goes in
-    let goes_3 = goes_then (state g.S.Store c.args.tx.now.conn.now) (state g.S.Store c.make_tenders.new.tx.conn.now) (state g.S.Store c.make_contracts.new.tx.conn.now) goes_2 one_3.goes in
-    let goes_4 = goes_then (state g.S.Store c.args.tx.now.conn.now) (state g.S.Store c.make_contracts.new.tx.conn.now) (state g.S.Store c.make_kept.new.tx.conn.now) goes_3 one_4.goes in
-    on_err _ _ (goes_refused (state g.S.Store c.args.tx.now.conn.now) (state g.S.Store c.make_kept.new.tx.conn.now) (state g.S.Store c.make_late.new.tx.conn.now) goes_4 (c.in_err-make_late.ensures.refused clean one_4.goes.mode))
-
-pub returns-clause-refused : goal.returns-clause-refused
-returns-clause-refused g c clean inside =
-    let clean_5 : HasCleanDisk (state g.S.Store c.make_late.new.tx.conn.now) = omega (arith, clean, c.make_second.ensures.survives.clean) in
-    let clean_4 : HasCleanDisk (state g.S.Store c.make_kept.new.tx.conn.now) = omega (arith, clean_5, c.make_late.ensures.survives.clean) in
-    let clean_3 : HasCleanDisk (state g.S.Store c.make_contracts.new.tx.conn.now) = omega (arith, clean_4, c.make_kept.ensures.survives.clean) in
-    let clean_2 : HasCleanDisk (state g.S.Store c.make_tenders.new.tx.conn.now) = omega (arith, clean_3, c.make_contracts.ensures.survives.clean) in
-    let clean_1 : HasCleanDisk (state g.S.Store c.make_budget.new.tx.conn.now) = omega (arith, clean_2, c.make_tenders.ensures.survives.clean) in
-    let one_1 = c.in_ok-make_budget.ensures.made clean_1 inside in
-    let one_2 = c.in_ok-make_tenders.ensures.made clean_2 one_1.goes.mode in
-    let one_3 = c.in_ok-make_contracts.ensures.made clean_3 one_2.goes.mode in
-    let one_4 = c.in_ok-make_kept.ensures.made clean_4 one_3.goes.mode in
-    let one_5 = c.in_ok-make_late.ensures.made clean_5 one_4.goes.mode in
-    let goes_1 = one_1.goes in
-    let goes_2 = goes_then (state g.S.Store c.args.tx.now.conn.now) (state g.S.Store c.make_budget.new.tx.conn.now) (state g.S.Store c.make_tenders.new.tx.conn.now) goes_1 one_2.goes in
-    let goes_3 = goes_then (state g.S.Store c.args.tx.now.conn.now) (state g.S.Store c.make_tenders.new.tx.conn.now) (state g.S.Store c.make_contracts.new.tx.conn.now) goes_2 one_3.goes in
-    let goes_4 = goes_then (state g.S.Store c.args.tx.now.conn.now) (state g.S.Store c.make_contracts.new.tx.conn.now) (state g.S.Store c.make_kept.new.tx.conn.now) goes_3 one_4.goes in
-    let goes_5 = goes_then (state g.S.Store c.args.tx.now.conn.now) (state g.S.Store c.make_kept.new.tx.conn.now) (state g.S.Store c.make_late.new.tx.conn.now) goes_4 one_5.goes in
-    on_err_with c.make_second.result _ _ (c.make_second.ensures.refused clean one_5.goes.mode) (λ h. goes_refused (state g.S.Store c.args.tx.now.conn.now) (state g.S.Store c.make_late.new.tx.conn.now) (state g.S.Store c.make_second.new.tx.conn.now) goes_5 h)
+returns-clause-made g c clean inside ks texts =
+    let old = state g.S.Store c.args.tx.now.conn.now in
+    let now = state g.S.Store c.texts.tx.conn.now in
+    let none = drop_all c.texts.text-index c.args.more.now (omega arith) in
+    all_made old now (onto [] ks) (subst (λ l. MadeOf old now (onto [] ks) (map (λ text. text.now) l)) none (c.texts.invariant.2 clean inside ks texts))
