@@ -16,7 +16,7 @@ use Rattle.office_base.specs.declared.puts.Put.{Put}
 use Rattle.office_base.specs.declared.puts.Put.TheVariants as puts
 use Rattle.office_base.specs.declared.records.ClockRow.{ClockRow}
 use Rattle.office_base.specs.declared.records.NoticeRow.{NoticeRow}
-use Rattle.office_tables.specs.declared.stored.FormerNotice.{FormerNotice}
+use Rattle.office_tables.specs.declared.tables.notices.FormerNotice.{FormerNotice}
 use Rattle.office_tables.specs.Apart.{AddsNoReference, LeadsInside}
 use Rattle.office_tables.specs.First.{AreApart, IsMigrated, Begins}
 use Rattle.office_tables.specs.Known.{IsIn}

@@ -18,7 +18,10 @@ use office_base::shelf::{Lookups, Shelf, ShelfFault};
 use office_changes::apply::apply_all;
 use office_tables::faults::fault;
 use office_tables::laws::trees_tell_one_office;
-use office_tables::{lists, lookups, pages};
+use office_tables::tables::{
+    awards, batches, compiled, contracts, entries, envelopes, late_rules, lines, lots, notices,
+    office, performances, releases, seals, securities, tenderers,
+};
 use office_values::given::AskedNumber;
 use office_values::id::Id;
 use sqlite::{Alter, Connection};
@@ -95,70 +98,70 @@ impl<S: Alter> Lookups for SqlShelf<S> {
     ghost held_sorted = { λ shelf t held. held.0 };
 
     fn get_line(&mut self, line: &Id) -> Result<Option<LineRow>, ShelfFault> {
-        match lookups::get_line(self.alloc, &mut self.conn, line) {
+        match lines::get_line(self.alloc, &mut self.conn, line) {
             Ok(found) => Ok(found),
             Err(fault) => Err(self.count(fault)),
         }
     }
 
     fn get_batch(&mut self, batch: &Id) -> Result<Option<BatchRow>, ShelfFault> {
-        match lookups::get_batch(self.alloc, &mut self.conn, batch) {
+        match batches::get_batch(self.alloc, &mut self.conn, batch) {
             Ok(found) => Ok(found),
             Err(fault) => Err(self.count(fault)),
         }
     }
 
     fn get_tenderer(&mut self, tenderer: &Id) -> Result<Option<TendererRow>, ShelfFault> {
-        match lookups::get_tenderer(self.alloc, &mut self.conn, tenderer) {
+        match tenderers::get_tenderer(self.alloc, &mut self.conn, tenderer) {
             Ok(found) => Ok(found),
             Err(fault) => Err(self.count(fault)),
         }
     }
 
     fn get_notice(&mut self, notice: &Id) -> Result<Option<NoticeRow>, ShelfFault> {
-        match lookups::get_notice(self.alloc, &mut self.conn, notice) {
+        match notices::get_notice(self.alloc, &mut self.conn, notice) {
             Ok(found) => Ok(found),
             Err(fault) => Err(self.count(fault)),
         }
     }
 
     fn get_lot(&mut self, notice: &Id, lot: &Id) -> Result<Option<LotRow>, ShelfFault> {
-        match lookups::get_lot(self.alloc, &mut self.conn, notice, lot) {
+        match lots::get_lot(self.alloc, &mut self.conn, notice, lot) {
             Ok(found) => Ok(found),
             Err(fault) => Err(self.count(fault)),
         }
     }
 
     fn get_envelope(&mut self, receipt: AskedNumber) -> Result<Option<EnvelopeRow>, ShelfFault> {
-        match lookups::get_envelope(self.alloc, &mut self.conn, receipt) {
+        match envelopes::get_envelope(self.alloc, &mut self.conn, receipt) {
             Ok(found) => Ok(found),
             Err(fault) => Err(self.count(fault)),
         }
     }
 
     fn get_seal(&mut self, receipt: AskedNumber) -> Result<Option<SealRow>, ShelfFault> {
-        match lookups::get_seal(self.alloc, &mut self.conn, receipt) {
+        match seals::get_seal(self.alloc, &mut self.conn, receipt) {
             Ok(found) => Ok(found),
             Err(fault) => Err(self.count(fault)),
         }
     }
 
     fn get_security(&mut self, security: AskedNumber) -> Result<Option<SecurityRow>, ShelfFault> {
-        match lookups::get_security(self.alloc, &mut self.conn, security) {
+        match securities::get_security(self.alloc, &mut self.conn, security) {
             Ok(found) => Ok(found),
             Err(fault) => Err(self.count(fault)),
         }
     }
 
     fn get_award(&mut self, award: AskedNumber) -> Result<Option<AwardRow>, ShelfFault> {
-        match lookups::get_award(self.alloc, &mut self.conn, award) {
+        match awards::get_award(self.alloc, &mut self.conn, award) {
             Ok(found) => Ok(found),
             Err(fault) => Err(self.count(fault)),
         }
     }
 
     fn get_contract(&mut self, contract: AskedNumber) -> Result<Option<ContractRow>, ShelfFault> {
-        match lookups::get_contract(self.alloc, &mut self.conn, contract) {
+        match contracts::get_contract(self.alloc, &mut self.conn, contract) {
             Ok(found) => Ok(found),
             Err(fault) => Err(self.count(fault)),
         }
@@ -169,7 +172,7 @@ impl<S: Alter> Lookups for SqlShelf<S> {
         contract: AskedNumber,
         entry: &Id,
     ) -> Result<Option<EntryRow>, ShelfFault> {
-        match lookups::get_entry(self.alloc, &mut self.conn, contract, entry) {
+        match entries::get_entry(self.alloc, &mut self.conn, contract, entry) {
             Ok(found) => Ok(found),
             Err(fault) => Err(self.count(fault)),
         }
@@ -180,21 +183,21 @@ impl<S: Alter> Lookups for SqlShelf<S> {
         notice: &Id,
         seq: Sequence,
     ) -> Result<Option<ReleaseRow>, ShelfFault> {
-        match lookups::get_release(self.alloc, &mut self.conn, notice, seq) {
+        match releases::get_release(self.alloc, &mut self.conn, notice, seq) {
             Ok(found) => Ok(found),
             Err(fault) => Err(self.count(fault)),
         }
     }
 
     fn get_compiled(&mut self, notice: &Id) -> Result<Option<CompiledRow>, ShelfFault> {
-        match lookups::get_compiled(self.alloc, &mut self.conn, notice) {
+        match compiled::get_compiled(self.alloc, &mut self.conn, notice) {
             Ok(found) => Ok(found),
             Err(fault) => Err(self.count(fault)),
         }
     }
 
     fn get_late(&mut self, notice: &Id) -> Result<Option<LateRow>, ShelfFault> {
-        match lookups::get_late(self.alloc, &mut self.conn, notice) {
+        match late_rules::get_late(self.alloc, &mut self.conn, notice) {
             Ok(found) => Ok(found),
             Err(fault) => Err(self.count(fault)),
         }
@@ -204,21 +207,21 @@ impl<S: Alter> Lookups for SqlShelf<S> {
         &mut self,
         contract: AskedNumber,
     ) -> Result<Option<PerformanceRow>, ShelfFault> {
-        match lookups::get_performance(self.alloc, &mut self.conn, contract) {
+        match performances::get_performance(self.alloc, &mut self.conn, contract) {
             Ok(found) => Ok(found),
             Err(fault) => Err(self.count(fault)),
         }
     }
 
     fn get_clock(&mut self) -> Result<ClockRow, ShelfFault> {
-        match lookups::get_clock(self.alloc, &mut self.conn) {
+        match office::get_clock(self.alloc, &mut self.conn) {
             Ok(clock) => Ok(clock),
             Err(fault) => Err(self.count(fault)),
         }
     }
 
     fn list_lines(&mut self) -> Result<Vec<LineRow>, ShelfFault> {
-        match lists::list_lines(self.alloc, &mut self.conn) {
+        match lines::list_lines(self.alloc, &mut self.conn) {
             Ok(rows) => Ok(rows),
             Err(fault) => Err(self.count(fault)),
         }
@@ -229,7 +232,7 @@ impl<S: Alter> Lookups for SqlShelf<S> {
         after: Option<Id>,
         most: u32,
     ) -> Result<Vec<NoticeRow>, ShelfFault> {
-        match pages::list_notices_after(self.alloc, &mut self.conn, after, most) {
+        match notices::list_notices_after(self.alloc, &mut self.conn, after, most) {
             Ok(rows) => Ok(rows),
             Err(fault) => Err(self.count(fault)),
         }
@@ -240,28 +243,28 @@ impl<S: Alter> Lookups for SqlShelf<S> {
         after: Option<Id>,
         most: u32,
     ) -> Result<Vec<TendererRow>, ShelfFault> {
-        match pages::list_tenderers_after(self.alloc, &mut self.conn, after, most) {
+        match tenderers::list_tenderers_after(self.alloc, &mut self.conn, after, most) {
             Ok(rows) => Ok(rows),
             Err(fault) => Err(self.count(fault)),
         }
     }
 
     fn list_lots_of_notice(&mut self, notice: &Id) -> Result<Vec<LotRow>, ShelfFault> {
-        match lists::list_lots_of_notice(self.alloc, &mut self.conn, notice) {
+        match lots::list_lots_of_notice(self.alloc, &mut self.conn, notice) {
             Ok(rows) => Ok(rows),
             Err(fault) => Err(self.count(fault)),
         }
     }
 
     fn list_lots_of_line(&mut self, line: &Id) -> Result<Vec<LotRow>, ShelfFault> {
-        match lists::list_lots_of_line(self.alloc, &mut self.conn, line) {
+        match lots::list_lots_of_line(self.alloc, &mut self.conn, line) {
             Ok(rows) => Ok(rows),
             Err(fault) => Err(self.count(fault)),
         }
     }
 
     fn list_envelopes_of_notice(&mut self, notice: &Id) -> Result<Vec<EnvelopeRow>, ShelfFault> {
-        match lists::list_envelopes_of_notice(self.alloc, &mut self.conn, notice) {
+        match envelopes::list_envelopes_of_notice(self.alloc, &mut self.conn, notice) {
             Ok(rows) => Ok(rows),
             Err(fault) => Err(self.count(fault)),
         }
@@ -272,7 +275,7 @@ impl<S: Alter> Lookups for SqlShelf<S> {
         notice: &Id,
         lot: &Id,
     ) -> Result<Vec<EnvelopeRow>, ShelfFault> {
-        match lists::list_envelopes_of_lot(self.alloc, &mut self.conn, notice, lot) {
+        match envelopes::list_envelopes_of_lot(self.alloc, &mut self.conn, notice, lot) {
             Ok(rows) => Ok(rows),
             Err(fault) => Err(self.count(fault)),
         }
@@ -284,14 +287,20 @@ impl<S: Alter> Lookups for SqlShelf<S> {
         lot: &Id,
         tenderer: &Id,
     ) -> Result<Vec<EnvelopeRow>, ShelfFault> {
-        match lists::list_envelopes_of_tenderer(self.alloc, &mut self.conn, notice, lot, tenderer) {
+        match envelopes::list_envelopes_of_tenderer(
+            self.alloc,
+            &mut self.conn,
+            notice,
+            lot,
+            tenderer,
+        ) {
             Ok(rows) => Ok(rows),
             Err(fault) => Err(self.count(fault)),
         }
     }
 
     fn list_securities_of_notice(&mut self, notice: &Id) -> Result<Vec<SecurityRow>, ShelfFault> {
-        match lists::list_securities_of_notice(self.alloc, &mut self.conn, notice) {
+        match securities::list_securities_of_notice(self.alloc, &mut self.conn, notice) {
             Ok(rows) => Ok(rows),
             Err(fault) => Err(self.count(fault)),
         }
@@ -302,21 +311,21 @@ impl<S: Alter> Lookups for SqlShelf<S> {
         notice: &Id,
         lot: &Id,
     ) -> Result<Vec<SecurityRow>, ShelfFault> {
-        match lists::list_securities_of_lot(self.alloc, &mut self.conn, notice, lot) {
+        match securities::list_securities_of_lot(self.alloc, &mut self.conn, notice, lot) {
             Ok(rows) => Ok(rows),
             Err(fault) => Err(self.count(fault)),
         }
     }
 
     fn list_awards_of_notice(&mut self, notice: &Id) -> Result<Vec<AwardRow>, ShelfFault> {
-        match lists::list_awards_of_notice(self.alloc, &mut self.conn, notice) {
+        match awards::list_awards_of_notice(self.alloc, &mut self.conn, notice) {
             Ok(rows) => Ok(rows),
             Err(fault) => Err(self.count(fault)),
         }
     }
 
     fn list_contracts_of_notice(&mut self, notice: &Id) -> Result<Vec<ContractRow>, ShelfFault> {
-        match lists::list_contracts_of_notice(self.alloc, &mut self.conn, notice) {
+        match contracts::list_contracts_of_notice(self.alloc, &mut self.conn, notice) {
             Ok(rows) => Ok(rows),
             Err(fault) => Err(self.count(fault)),
         }
@@ -326,14 +335,14 @@ impl<S: Alter> Lookups for SqlShelf<S> {
         &mut self,
         contract: AskedNumber,
     ) -> Result<Vec<EntryRow>, ShelfFault> {
-        match lists::list_entries_of_contract(self.alloc, &mut self.conn, contract) {
+        match entries::list_entries_of_contract(self.alloc, &mut self.conn, contract) {
             Ok(rows) => Ok(rows),
             Err(fault) => Err(self.count(fault)),
         }
     }
 
     fn list_releases_of_notice(&mut self, notice: &Id) -> Result<Vec<ReleaseRow>, ShelfFault> {
-        match lists::list_releases_of_notice(self.alloc, &mut self.conn, notice) {
+        match releases::list_releases_of_notice(self.alloc, &mut self.conn, notice) {
             Ok(rows) => Ok(rows),
             Err(fault) => Err(self.count(fault)),
         }

@@ -1,12 +1,5 @@
 -- Awards: what is shown of their table, of the text that puts one, and of each question.
-use Rattle.office_tables.proofs.TableTools.{◌≡◌, inl, inr, ◌∷◌, [], List, ℕ, pos, Some, codes, refl, ap, ◌∙◌, map, slice_get, drop, option_map}
-use Rattle.office_tables.proofs.TableTools.{range_with_len, is_lt, nat_cmp_total, numbers_exact, Null, Int, Text, first_key, Row, same_name, Schema, Select}
-use Rattle.office_tables.proofs.TableTools.{alone, chosen, first_found, max_budget, first, everything, listing_schema, State, Shown, same_id, Tables}
-use Rattle.office_tables.proofs.TableTools.{same_number, text_column, number_column, IsIn, at_tree, IsIndexing, Holds, cast_null, cast_int, numbers_equal}
-use Rattle.office_tables.proofs.TableTools.{equal_numbers, one_true, only_true, text_tested, number_tested, numbers_cmp, and_true, then_equal, same_number_is}
-use Rattle.office_tables.proofs.TableTools.{numbered, StatementMeans, parsed_in, equals_e, names_of, outputs_of, Has, one_test, select, columns_of, left}
-use Rattle.office_tables.proofs.TableTools.{IsSelect, selects_mean, found_by_tree, gets, lists, Shape, at_rowid, columns_in, rows_in, clause_in, IsStored}
-use Rattle.office_tables.proofs.TableTools.{ReadsTable, ReadsIndex, creates_it, indexes_it, IsOfficeTable, IsPutText, IsPutOf, StaysBeside}
+use Rattle.office_tables.proofs.TableTools.{◌≡◌, inl, inr, ◌∷◌, [], List, ℕ, pos, Some, codes, refl, ap, ◌∙◌, map, slice_get, drop, option_map, range_with_len, is_lt, nat_cmp_total, numbers_exact, Null, Int, Text, first_key, Row, same_name, Schema, Select, alone, chosen, first_found, max_budget, first, everything, listing_schema, State, Shown, same_id, Tables, same_number, text_column, number_column, IsIn, at_tree, IsIndexing, Holds, cast_null, cast_int, numbers_equal, equal_numbers, one_true, only_true, text_tested, number_tested, numbers_cmp, and_true, then_equal, same_number_is, numbered, StatementMeans, parsed_in, equals_e, names_of, outputs_of, Has, one_test, select, columns_of, left, IsSelect, selects_mean, found_by_tree, gets, lists, Shape, at_rowid, columns_in, rows_in, clause_in, IsStored, ReadsTable, ReadsIndex, creates_it, indexes_it, IsOfficeTable, IsPutText, IsPutOf, StaysBeside}
 use Rattle.office_base.specs.declared.puts.Put.TheVariants as put
 use Rattle.office_base.specs.declared.records.AwardRow.{AwardRow}
 use Rattle.office_base.specs.Tables.{award_at}
@@ -21,11 +14,7 @@ create_read = record { def = _; is = refl; statement = refl; formats = refl; pla
 
 pub awards_made : IsOfficeTable Awards
 unfolding same_name
-awards_made = record {
-  bare = record { childless = refl; key = numbered refl refl refl; uncounted = refl };
-  named = refl;
-  created = creates_it create_awards awards (parsed_in (first create_awards)) create_read;
-}
+awards_made = record { bare = record { childless = refl; key = numbered refl refl refl; uncounted = refl }; named = refl; created = creates_it create_awards awards (parsed_in (first create_awards)) create_read }
 
 index_read : ReadsIndex create_awards_of_notice awards awards_of_notice (parsed_in (first create_awards_of_notice))
 unfolding everything parsed_in listing_schema
@@ -59,14 +48,7 @@ award_stored = record {
 
 put_read : IsPutText Awards award_shape upsert_awards
 unfolding everything parsed_in columns_in rows_in clause_in
-put_read = record {
-  read = record { is = refl; statement = refl; formats = refl; targeted = refl; changes = refl };
-  unstamped = refl;
-  one = record { whole = refl; given = refl };
-  rows = λ schema n. refl;
-  names = λ n. refl;
-  update = λ schema at n. refl;
-}
+put_read = record { read = record { is = refl; statement = refl; formats = refl; targeted = refl; changes = refl }; unstamped = refl; one = record { whole = refl; given = refl }; rows = λ schema n. refl; names = λ n. refl; update = λ schema at n. refl }
 
 pub award_put : IsPutOf Awards award_form award_shape upsert_awards
 award_put = record { stored = award_stored; reads = put_read; key = awards_made.bare.key; accepted = λ schema n it. rw (it.stored, found_by_tree schema awards n it) }

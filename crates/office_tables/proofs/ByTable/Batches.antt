@@ -1,11 +1,5 @@
 -- Budget files: what is shown of their table, of the text that puts one, and of each question.
-use Rattle.office_tables.proofs.TableTools.{◌≡◌, inl, ◌∷◌, [], List, ℕ, pos, Some, codes, refl, ap, ◌∙◌, slice_get, drop, option_map, range_with_len}
-use Rattle.office_tables.proofs.TableTools.{nat_list_cmp_total, Text, first_key, Row, same_name, Schema, Select, alone, chosen, first_found, max_budget}
-use Rattle.office_tables.proofs.TableTools.{first, everything, State, Shown, same_id, Tables, ids_exact, same_id_is, text_column, IsIn, at_tree, Holds}
-use Rattle.office_tables.proofs.TableTools.{cast_null, cast_int, texts_equal, equal_texts, one_true, only_true, text_tested, and_true, indexed}
-use Rattle.office_tables.proofs.TableTools.{StatementMeans, parsed_in, equals_e, names_of, outputs_of, Has, one_test, select, columns_of, left, IsSelect}
-use Rattle.office_tables.proofs.TableTools.{selects_mean, found_by_tree, gets, Shape, behind_rowid, columns_in, rows_in, clause_in, IsStored, ReadsTable}
-use Rattle.office_tables.proofs.TableTools.{creates_it, IsOfficeTable, IsPutText, IsPutOf, StaysBeside}
+use Rattle.office_tables.proofs.TableTools.{◌≡◌, inl, ◌∷◌, [], List, ℕ, pos, Some, codes, refl, ap, ◌∙◌, slice_get, drop, option_map, range_with_len, nat_list_cmp_total, Text, first_key, Row, same_name, Schema, Select, alone, chosen, first_found, max_budget, first, everything, State, Shown, same_id, Tables, ids_exact, same_id_is, text_column, IsIn, at_tree, Holds, cast_null, cast_int, texts_equal, equal_texts, one_true, only_true, text_tested, and_true, indexed, StatementMeans, parsed_in, equals_e, names_of, outputs_of, Has, one_test, select, columns_of, left, IsSelect, selects_mean, found_by_tree, gets, Shape, behind_rowid, columns_in, rows_in, clause_in, IsStored, ReadsTable, creates_it, IsOfficeTable, IsPutText, IsPutOf, StaysBeside}
 use Rattle.office_base.specs.declared.puts.Put.TheVariants as put
 use Rattle.office_base.specs.declared.records.BatchRow.{BatchRow}
 use Rattle.office_base.specs.Tables.{batch_at}
@@ -20,11 +14,7 @@ create_read = record { def = _; is = refl; statement = refl; formats = refl; pla
 
 pub batches_made : IsOfficeTable Batches
 unfolding same_name
-batches_made = record {
-  bare = record { childless = refl; key = indexed refl refl refl refl refl; uncounted = refl };
-  named = refl;
-  created = creates_it create_batches batches (parsed_in (first create_batches)) create_read;
-}
+batches_made = record { bare = record { childless = refl; key = indexed refl refl refl refl refl; uncounted = refl }; named = refl; created = creates_it create_batches batches (parsed_in (first create_batches)) create_read }
 
 -- its columns have their names
 has : (n : ℕ) → Has (at_tree batches n) max_budget (columns_of batches)
@@ -51,14 +41,7 @@ batch_stored = record {
 
 put_read : IsPutText Batches batch_shape upsert_batches
 unfolding everything parsed_in columns_in rows_in clause_in
-put_read = record {
-  read = record { is = refl; statement = refl; formats = refl; targeted = refl; changes = refl };
-  unstamped = refl;
-  one = record { whole = refl; given = refl };
-  rows = λ schema n. refl;
-  names = λ n. refl;
-  update = λ schema at n. refl;
-}
+put_read = record { read = record { is = refl; statement = refl; formats = refl; targeted = refl; changes = refl }; unstamped = refl; one = record { whole = refl; given = refl }; rows = λ schema n. refl; names = λ n. refl; update = λ schema at n. refl }
 
 pub batch_put : IsPutOf Batches batch_form batch_shape upsert_batches
 batch_put = record { stored = batch_stored; reads = put_read; key = batches_made.bare.key; accepted = λ schema n it. rw (it.stored, found_by_tree schema batches n it) }

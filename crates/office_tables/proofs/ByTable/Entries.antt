@@ -1,13 +1,5 @@
 -- Entries of contracts: what is shown of their table, of the text that puts one, and of each question.
-use Rattle.office_tables.proofs.TableTools.{◌≡◌, inl, inr, ◌&&◌, ◌∷◌, [], List, ℕ, pos, Some, codes, refl, ap, ap₂, ◌∙◌, map, slice_get, drop, option_map}
-use Rattle.office_tables.proofs.TableTools.{range_with_len, nat_cmp, Int, Text, first_key, Row, value_cmp-Text, same_name, Schema, Select, alone, chosen}
-use Rattle.office_tables.proofs.TableTools.{first_found, max_budget, first, everything, State, Shown, id_cmp, same_id, Tables, same_number, entries_exact}
-use Rattle.office_tables.proofs.TableTools.{same_id_is, entries_total, text_column, number_column, IsIn, at_tree, Holds, cast_null, cast_int, cast_words}
-use Rattle.office_tables.proofs.TableTools.{texts_equal, equal_texts, numbers_equal, equal_numbers, both_true, first_true, text_tested, number_tested}
-use Rattle.office_tables.proofs.TableTools.{numbers_cmp, and_true, pair_then, both_equal, same_number_is, indexed, StatementMeans, parsed_in, equals_e}
-use Rattle.office_tables.proofs.TableTools.{both_e, names_of, outputs_of, Has, one_test, two_tests, select, columns_of, left, IsSelect, selects_mean}
-use Rattle.office_tables.proofs.TableTools.{found_by_tree, gets, lists, Shape, behind_rowid, columns_in, rows_in, clause_in, IsStored, ReadsTable, creates_it}
-use Rattle.office_tables.proofs.TableTools.{IsOfficeTable, IsPutText, IsPutOf, StaysBeside}
+use Rattle.office_tables.proofs.TableTools.{◌≡◌, inl, inr, ◌&&◌, ◌∷◌, [], List, ℕ, pos, Some, codes, refl, ap, ap₂, ◌∙◌, map, slice_get, drop, option_map, range_with_len, nat_cmp, Int, Text, first_key, Row, value_cmp-Text, same_name, Schema, Select, alone, chosen, first_found, max_budget, first, everything, State, Shown, id_cmp, same_id, Tables, same_number, entries_exact, same_id_is, entries_total, text_column, number_column, IsIn, at_tree, Holds, cast_null, cast_int, cast_words, texts_equal, equal_texts, numbers_equal, equal_numbers, both_true, first_true, text_tested, number_tested, numbers_cmp, and_true, pair_then, both_equal, same_number_is, indexed, StatementMeans, parsed_in, equals_e, both_e, names_of, outputs_of, Has, one_test, two_tests, select, columns_of, left, IsSelect, selects_mean, found_by_tree, gets, lists, Shape, behind_rowid, columns_in, rows_in, clause_in, IsStored, ReadsTable, creates_it, IsOfficeTable, IsPutText, IsPutOf, StaysBeside}
 use Rattle.office_base.specs.declared.puts.Put.TheVariants as put
 use Rattle.office_base.specs.declared.records.EntryRow.{EntryRow}
 use Rattle.office_base.specs.Tables.{entry_at, entries_of_contract}
@@ -22,11 +14,7 @@ create_read = record { def = _; is = refl; statement = refl; formats = refl; pla
 
 pub entries_made : IsOfficeTable Entries
 unfolding same_name
-entries_made = record {
-  bare = record { childless = refl; key = indexed refl refl refl refl refl; uncounted = refl };
-  named = refl;
-  created = creates_it create_entries entries (parsed_in (first create_entries)) create_read;
-}
+entries_made = record { bare = record { childless = refl; key = indexed refl refl refl refl refl; uncounted = refl }; named = refl; created = creates_it create_entries entries (parsed_in (first create_entries)) create_read }
 
 -- its columns have their names
 has : (n : ℕ) → Has (at_tree entries n) max_budget (columns_of entries)
@@ -53,14 +41,7 @@ entry_stored = record {
 
 put_read : IsPutText Entries entry_shape upsert_entries
 unfolding everything parsed_in columns_in rows_in clause_in
-put_read = record {
-  read = record { is = refl; statement = refl; formats = refl; targeted = refl; changes = refl };
-  unstamped = refl;
-  one = record { whole = refl; given = refl };
-  rows = λ schema n. refl;
-  names = λ n. refl;
-  update = λ schema at n. refl;
-}
+put_read = record { read = record { is = refl; statement = refl; formats = refl; targeted = refl; changes = refl }; unstamped = refl; one = record { whole = refl; given = refl }; rows = λ schema n. refl; names = λ n. refl; update = λ schema at n. refl }
 
 pub entry_put : IsPutOf Entries entry_form entry_shape upsert_entries
 entry_put = record { stored = entry_stored; reads = put_read; key = entries_made.bare.key; accepted = λ schema n it. rw (it.stored, found_by_tree schema entries n it) }

@@ -1,13 +1,5 @@
 -- Tenders: what is shown of their table, of the text that puts one, and of each question.
-use Rattle.office_tables.proofs.TableTools.{◌≡◌, inl, inr, ◌&&◌, ◌∷◌, [], List, ℕ, pos, Some, codes, refl, ap, ap₂, ◌∙◌, map, slice_get, drop, option_map}
-use Rattle.office_tables.proofs.TableTools.{range_with_len, is_lt, nat_cmp_total, numbers_exact, Null, Int, Text, first_key, Row, same_name, Schema, Select}
-use Rattle.office_tables.proofs.TableTools.{alone, chosen, first_found, max_budget, first, everything, listing_schema, State, Shown, same_id, Tables}
-use Rattle.office_tables.proofs.TableTools.{same_number, text_column, number_column, IsIn, at_tree, IsIndexing, Holds, cast_null, cast_int, cast_perhaps}
-use Rattle.office_tables.proofs.TableTools.{cast_words, numbers_equal, equal_numbers, one_true, only_true, text_tested, number_tested, three_tested}
-use Rattle.office_tables.proofs.TableTools.{numbers_cmp, and_true, then_equal, same_number_is, numbered, StatementMeans, parsed_in, equals_e, both_e}
-use Rattle.office_tables.proofs.TableTools.{names_of, outputs_of, Has, one_test, two_tests, three_tests, select, columns_of, left, IsSelect, selects_mean}
-use Rattle.office_tables.proofs.TableTools.{found_by_tree, gets, lists, Shape, at_rowid, columns_in, rows_in, clause_in, IsStored, ReadsTable, ReadsIndex}
-use Rattle.office_tables.proofs.TableTools.{creates_it, indexes_it, IsOfficeTable, IsPutText, IsPutOf, StaysBeside}
+use Rattle.office_tables.proofs.TableTools.{◌≡◌, inl, inr, ◌&&◌, ◌∷◌, [], List, ℕ, pos, Some, codes, refl, ap, ap₂, ◌∙◌, map, slice_get, drop, option_map, range_with_len, is_lt, nat_cmp_total, numbers_exact, Null, Int, Text, first_key, Row, same_name, Schema, Select, alone, chosen, first_found, max_budget, first, everything, listing_schema, State, Shown, same_id, Tables, same_number, text_column, number_column, IsIn, at_tree, IsIndexing, Holds, cast_null, cast_int, cast_perhaps, cast_words, numbers_equal, equal_numbers, one_true, only_true, text_tested, number_tested, three_tested, numbers_cmp, and_true, then_equal, same_number_is, numbered, StatementMeans, parsed_in, equals_e, both_e, names_of, outputs_of, Has, one_test, two_tests, three_tests, select, columns_of, left, IsSelect, selects_mean, found_by_tree, gets, lists, Shape, at_rowid, columns_in, rows_in, clause_in, IsStored, ReadsTable, ReadsIndex, creates_it, indexes_it, IsOfficeTable, IsPutText, IsPutOf, StaysBeside}
 use Rattle.office_base.specs.declared.puts.Put.TheVariants as put
 use Rattle.office_base.specs.declared.records.EnvelopeRow.{EnvelopeRow}
 use Rattle.office_base.specs.Tables.{envelope_at, envelopes_of_lot, of_tenderer, envelopes_of_tenderer}
@@ -24,11 +16,7 @@ create_read = record { def = _; is = refl; statement = refl; formats = refl; pla
 
 pub envelopes_made : IsOfficeTable Envelopes
 unfolding same_name
-envelopes_made = record {
-  bare = record { childless = refl; key = numbered refl refl refl; uncounted = refl };
-  named = refl;
-  created = creates_it create_envelopes envelopes (parsed_in (first create_envelopes)) create_read;
-}
+envelopes_made = record { bare = record { childless = refl; key = numbered refl refl refl; uncounted = refl }; named = refl; created = creates_it create_envelopes envelopes (parsed_in (first create_envelopes)) create_read }
 
 index_read : ReadsIndex create_envelopes_of_notice envelopes envelopes_of_notice (parsed_in (first create_envelopes_of_notice))
 unfolding everything parsed_in listing_schema
@@ -62,14 +50,7 @@ envelope_stored = record {
 
 put_read : IsPutText Envelopes envelope_shape upsert_envelopes
 unfolding everything parsed_in columns_in rows_in clause_in
-put_read = record {
-  read = record { is = refl; statement = refl; formats = refl; targeted = refl; changes = refl };
-  unstamped = refl;
-  one = record { whole = refl; given = refl };
-  rows = λ schema n. refl;
-  names = λ n. refl;
-  update = λ schema at n. refl;
-}
+put_read = record { read = record { is = refl; statement = refl; formats = refl; targeted = refl; changes = refl }; unstamped = refl; one = record { whole = refl; given = refl }; rows = λ schema n. refl; names = λ n. refl; update = λ schema at n. refl }
 
 pub envelope_put : IsPutOf Envelopes envelope_form envelope_shape upsert_envelopes
 envelope_put = record { stored = envelope_stored; reads = put_read; key = envelopes_made.bare.key; accepted = λ schema n it. rw (it.stored, found_by_tree schema envelopes n it) }

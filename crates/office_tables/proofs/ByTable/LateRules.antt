@@ -1,11 +1,5 @@
 -- What lets tenders be withdrawn late: what is shown of their table, of the text that puts one, and of each question.
-use Rattle.office_tables.proofs.TableTools.{◌≡◌, inl, ◌∷◌, [], List, ℕ, Some, codes, refl, ◌∙◌, slice_get, option_map, range_with_len, nat_list_cmp_total}
-use Rattle.office_tables.proofs.TableTools.{Text, first_key, Row, same_name, Schema, Select, alone, chosen, first_found, max_budget, first, everything, State}
-use Rattle.office_tables.proofs.TableTools.{Shown, same_id, Tables, ids_exact, same_id_is, text_column, IsIn, at_tree, Holds, cast_null, cast_int}
-use Rattle.office_tables.proofs.TableTools.{texts_equal, equal_texts, one_true, only_true, text_tested, and_true, indexed, StatementMeans, parsed_in}
-use Rattle.office_tables.proofs.TableTools.{equals_e, names_of, outputs_of, Has, one_test, select, columns_of, left, IsSelect, selects_mean, found_by_tree}
-use Rattle.office_tables.proofs.TableTools.{gets, Shape, behind_rowid, columns_in, rows_in, clause_in, IsStored, ReadsTable, creates_it, IsOfficeTable}
-use Rattle.office_tables.proofs.TableTools.{IsPutText, IsPutOf, StaysBeside}
+use Rattle.office_tables.proofs.TableTools.{◌≡◌, inl, ◌∷◌, [], List, ℕ, Some, codes, refl, ◌∙◌, slice_get, option_map, range_with_len, nat_list_cmp_total, Text, first_key, Row, same_name, Schema, Select, alone, chosen, first_found, max_budget, first, everything, State, Shown, same_id, Tables, ids_exact, same_id_is, text_column, IsIn, at_tree, Holds, cast_null, cast_int, texts_equal, equal_texts, one_true, only_true, text_tested, and_true, indexed, StatementMeans, parsed_in, equals_e, names_of, outputs_of, Has, one_test, select, columns_of, left, IsSelect, selects_mean, found_by_tree, gets, Shape, behind_rowid, columns_in, rows_in, clause_in, IsStored, ReadsTable, creates_it, IsOfficeTable, IsPutText, IsPutOf, StaysBeside}
 use Rattle.office_base.specs.declared.puts.Put.TheVariants as put
 use Rattle.office_base.specs.declared.records.LateRow.{LateRow}
 use Rattle.office_base.specs.Tables.{late_at}
@@ -20,11 +14,7 @@ create_read = record { def = _; is = refl; statement = refl; formats = refl; pla
 
 pub late_rules_made : IsOfficeTable LateRules
 unfolding same_name
-late_rules_made = record {
-  bare = record { childless = refl; key = indexed refl refl refl refl refl; uncounted = refl };
-  named = refl;
-  created = creates_it create_late_rules late_rules (parsed_in (first create_late_rules)) create_read;
-}
+late_rules_made = record { bare = record { childless = refl; key = indexed refl refl refl refl refl; uncounted = refl }; named = refl; created = creates_it create_late_rules late_rules (parsed_in (first create_late_rules)) create_read }
 
 -- its columns have their names
 has : (n : ℕ) → Has (at_tree late_rules n) max_budget (columns_of late_rules)
@@ -51,14 +41,7 @@ late_stored = record {
 
 put_read : IsPutText LateRules late_shape upsert_late_rules
 unfolding everything parsed_in columns_in rows_in clause_in
-put_read = record {
-  read = record { is = refl; statement = refl; formats = refl; targeted = refl; changes = refl };
-  unstamped = refl;
-  one = record { whole = refl; given = refl };
-  rows = λ schema n. refl;
-  names = λ n. refl;
-  update = λ schema at n. refl;
-}
+put_read = record { read = record { is = refl; statement = refl; formats = refl; targeted = refl; changes = refl }; unstamped = refl; one = record { whole = refl; given = refl }; rows = λ schema n. refl; names = λ n. refl; update = λ schema at n. refl }
 
 pub late_put : IsPutOf LateRules late_form late_shape upsert_late_rules
 late_put = record { stored = late_stored; reads = put_read; key = late_rules_made.bare.key; accepted = λ schema n it. rw (it.stored, found_by_tree schema late_rules n it) }

@@ -1,12 +1,5 @@
 -- Budget lines: what is shown of their table, of the text that puts one, and of each question.
-use Rattle.office_tables.proofs.TableTools.{◌≡◌, inl, ◌∷◌, [], List, ℕ, pos, None, Some, codes, refl, ap, ◌∙◌, true, map, slice_get, drop, option_map}
-use Rattle.office_tables.proofs.TableTools.{range_with_len, is_lt, nat_list_cmp_total, Text, first_key, Row, value_cmp-Text, same_name, Schema, Select, alone}
-use Rattle.office_tables.proofs.TableTools.{chosen, first_found, max_budget, first, everything, State, Shown, same_id, Tables, ids_exact, same_id_is}
-use Rattle.office_tables.proofs.TableTools.{text_column, IsIn, at_tree, Holds, cast_null, cast_int, texts_equal, equal_texts, one_true, only_true}
-use Rattle.office_tables.proofs.TableTools.{text_tested, and_true, then_equal, indexed, StatementMeans, parsed_in, equals_e, names_of, outputs_of, Has}
-use Rattle.office_tables.proofs.TableTools.{no_test, one_test, select, columns_of, left, IsSelect, selects_mean, found_by_tree, gets, lists, filter-all}
-use Rattle.office_tables.proofs.TableTools.{Shape, behind_rowid, columns_in, rows_in, clause_in, IsStored, ReadsTable, creates_it, IsOfficeTable, IsPutText}
-use Rattle.office_tables.proofs.TableTools.{IsPutOf, StaysBeside}
+use Rattle.office_tables.proofs.TableTools.{◌≡◌, inl, ◌∷◌, [], List, ℕ, pos, None, Some, codes, refl, ap, ◌∙◌, true, map, slice_get, drop, option_map, range_with_len, is_lt, nat_list_cmp_total, Text, first_key, Row, value_cmp-Text, same_name, Schema, Select, alone, chosen, first_found, max_budget, first, everything, State, Shown, same_id, Tables, ids_exact, same_id_is, text_column, IsIn, at_tree, Holds, cast_null, cast_int, texts_equal, equal_texts, one_true, only_true, text_tested, and_true, then_equal, indexed, StatementMeans, parsed_in, equals_e, names_of, outputs_of, Has, no_test, one_test, select, columns_of, left, IsSelect, selects_mean, found_by_tree, gets, lists, filter-all, Shape, behind_rowid, columns_in, rows_in, clause_in, IsStored, ReadsTable, creates_it, IsOfficeTable, IsPutText, IsPutOf, StaysBeside}
 use Rattle.office_base.specs.declared.puts.Put.TheVariants as put
 use Rattle.office_base.specs.declared.records.LineRow.{LineRow}
 use Rattle.office_base.specs.Tables.{line_at}
@@ -21,11 +14,7 @@ create_read = record { def = _; is = refl; statement = refl; formats = refl; pla
 
 pub lines_made : IsOfficeTable Lines
 unfolding same_name
-lines_made = record {
-  bare = record { childless = refl; key = indexed refl refl refl refl refl; uncounted = refl };
-  named = refl;
-  created = creates_it create_lines lines (parsed_in (first create_lines)) create_read;
-}
+lines_made = record { bare = record { childless = refl; key = indexed refl refl refl refl refl; uncounted = refl }; named = refl; created = creates_it create_lines lines (parsed_in (first create_lines)) create_read }
 
 -- its columns have their names
 has : (n : ℕ) → Has (at_tree lines n) max_budget (columns_of lines)
@@ -52,14 +41,7 @@ line_stored = record {
 
 put_read : IsPutText Lines line_shape upsert_lines
 unfolding everything parsed_in columns_in rows_in clause_in
-put_read = record {
-  read = record { is = refl; statement = refl; formats = refl; targeted = refl; changes = refl };
-  unstamped = refl;
-  one = record { whole = refl; given = refl };
-  rows = λ schema n. refl;
-  names = λ n. refl;
-  update = λ schema at n. refl;
-}
+put_read = record { read = record { is = refl; statement = refl; formats = refl; targeted = refl; changes = refl }; unstamped = refl; one = record { whole = refl; given = refl }; rows = λ schema n. refl; names = λ n. refl; update = λ schema at n. refl }
 
 pub line_put : IsPutOf Lines line_form line_shape upsert_lines
 line_put = record { stored = line_stored; reads = put_read; key = lines_made.bare.key; accepted = λ schema n it. rw (it.stored, found_by_tree schema lines n it) }

@@ -1,12 +1,5 @@
 -- Lots: what is shown of their table, of the text that puts one, and of each question.
-use Rattle.office_tables.proofs.TableTools.{◌≡◌, inl, ◌&&◌, ◌∷◌, [], List, ℕ, pos, Some, codes, refl, ap, ap₂, ◌∙◌, map, slice_get, drop, option_map}
-use Rattle.office_tables.proofs.TableTools.{range_with_len, Text, first_key, Row, value_cmp-Text, same_name, Schema, Select, alone, chosen, first_found}
-use Rattle.office_tables.proofs.TableTools.{max_budget, first, everything, listing_schema, State, Shown, id_cmp, same_id, Tables, lots_exact, same_id_is}
-use Rattle.office_tables.proofs.TableTools.{lots_total, text_column, IsIn, at_tree, IsIndexing, Holds, cast_null, cast_int, texts_equal, equal_texts}
-use Rattle.office_tables.proofs.TableTools.{both_true, first_true, text_tested, and_true, pair_then, both_equal, indexed, StatementMeans, parsed_in, equals_e}
-use Rattle.office_tables.proofs.TableTools.{both_e, names_of, outputs_of, Has, one_test, two_tests, select, columns_of, left, IsSelect, selects_mean}
-use Rattle.office_tables.proofs.TableTools.{found_by_tree, gets, lists, Shape, behind_rowid, columns_in, rows_in, clause_in, IsStored, ReadsTable, ReadsIndex}
-use Rattle.office_tables.proofs.TableTools.{creates_it, indexes_it, IsOfficeTable, IsPutText, IsPutOf, StaysBeside}
+use Rattle.office_tables.proofs.TableTools.{◌≡◌, inl, ◌&&◌, ◌∷◌, [], List, ℕ, pos, Some, codes, refl, ap, ap₂, ◌∙◌, map, slice_get, drop, option_map, range_with_len, Text, first_key, Row, value_cmp-Text, same_name, Schema, Select, alone, chosen, first_found, max_budget, first, everything, listing_schema, State, Shown, id_cmp, same_id, Tables, lots_exact, same_id_is, lots_total, text_column, IsIn, at_tree, IsIndexing, Holds, cast_null, cast_int, texts_equal, equal_texts, both_true, first_true, text_tested, and_true, pair_then, both_equal, indexed, StatementMeans, parsed_in, equals_e, both_e, names_of, outputs_of, Has, one_test, two_tests, select, columns_of, left, IsSelect, selects_mean, found_by_tree, gets, lists, Shape, behind_rowid, columns_in, rows_in, clause_in, IsStored, ReadsTable, ReadsIndex, creates_it, indexes_it, IsOfficeTable, IsPutText, IsPutOf, StaysBeside}
 use Rattle.office_base.specs.declared.puts.Put.TheVariants as put
 use Rattle.office_base.specs.declared.records.LotRow.{LotRow}
 use Rattle.office_base.specs.Tables.{lot_at, lots_of_notice}
@@ -21,11 +14,7 @@ create_read = record { def = _; is = refl; statement = refl; formats = refl; pla
 
 pub lots_made : IsOfficeTable Lots
 unfolding same_name
-lots_made = record {
-  bare = record { childless = refl; key = indexed refl refl refl refl refl; uncounted = refl };
-  named = refl;
-  created = creates_it create_lots lots (parsed_in (first create_lots)) create_read;
-}
+lots_made = record { bare = record { childless = refl; key = indexed refl refl refl refl refl; uncounted = refl }; named = refl; created = creates_it create_lots lots (parsed_in (first create_lots)) create_read }
 
 index_read : ReadsIndex create_lots_of_line lots lots_of_line (parsed_in (first create_lots_of_line))
 unfolding everything parsed_in listing_schema
@@ -59,14 +48,7 @@ lot_stored = record {
 
 put_read : IsPutText Lots lot_shape upsert_lots
 unfolding everything parsed_in columns_in rows_in clause_in
-put_read = record {
-  read = record { is = refl; statement = refl; formats = refl; targeted = refl; changes = refl };
-  unstamped = refl;
-  one = record { whole = refl; given = refl };
-  rows = λ schema n. refl;
-  names = λ n. refl;
-  update = λ schema at n. refl;
-}
+put_read = record { read = record { is = refl; statement = refl; formats = refl; targeted = refl; changes = refl }; unstamped = refl; one = record { whole = refl; given = refl }; rows = λ schema n. refl; names = λ n. refl; update = λ schema at n. refl }
 
 pub lot_put : IsPutOf Lots lot_form lot_shape upsert_lots
 lot_put = record { stored = lot_stored; reads = put_read; key = lots_made.bare.key; accepted = λ schema n it. rw (it.stored, found_by_tree schema lots n it) }

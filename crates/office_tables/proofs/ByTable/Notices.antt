@@ -1,13 +1,5 @@
 -- Notices: what is shown of their table, of the text that puts one, and of each question.
-use Rattle.office_tables.proofs.TableTools.{◌≡◌, inl, ◌∷◌, [], List, ℕ, pos, None, Some, codes, refl, ap, ◌∙◌, true, map, slice_get, drop, option_map}
-use Rattle.office_tables.proofs.TableTools.{range_with_len, is_lt, nat_list_cmp_total, Int, Text, Binary, first_key, Row, value_cmp-Text, col, op2, Compare}
-use Rattle.office_tables.proofs.TableTools.{Gt, same_name, Schema, Select, alone, chosen, first_found, max_budget, first, everything, State, Shown, id_cmp}
-use Rattle.office_tables.proofs.TableTools.{same_id, Tables, ids_exact, same_id_is, text_column, IsIn, at_tree, StandsAs, Holds, cast_null, cast_int}
-use Rattle.office_tables.proofs.TableTools.{cast_perhaps, texts_equal, equal_texts, one_true, only_true, text_tested, and_true, then_equal, text_above}
-use Rattle.office_tables.proofs.TableTools.{indexed, StatementMeans, parsed_in, parameter_counts, equals_e, above_e, count_e, names_of, outputs_of, Has}
-use Rattle.office_tables.proofs.TableTools.{no_test, one_test, above_test, out_parameter, select, capped_select, columns_of, left, IsSelect, IsCapped}
-use Rattle.office_tables.proofs.TableTools.{selects_mean, capped_selects_mean, found_by_tree, gets, lists, pages, filter-all, Shape, behind_rowid, columns_in}
-use Rattle.office_tables.proofs.TableTools.{rows_in, clause_in, IsStored, ReadsTable, creates_it, IsOfficeTable, IsPutText, IsPutOf, StaysBeside}
+use Rattle.office_tables.proofs.TableTools.{◌≡◌, inl, ◌∷◌, [], List, ℕ, pos, None, Some, codes, refl, ap, ◌∙◌, true, map, slice_get, drop, option_map, range_with_len, is_lt, nat_list_cmp_total, Int, Text, Binary, first_key, Row, value_cmp-Text, col, op2, Compare, Gt, same_name, Schema, Select, alone, chosen, first_found, max_budget, first, everything, State, Shown, id_cmp, same_id, Tables, ids_exact, same_id_is, text_column, IsIn, at_tree, StandsAs, Holds, cast_null, cast_int, cast_perhaps, texts_equal, equal_texts, one_true, only_true, text_tested, and_true, then_equal, text_above, indexed, StatementMeans, parsed_in, parameter_counts, equals_e, above_e, count_e, names_of, outputs_of, Has, no_test, one_test, above_test, out_parameter, select, capped_select, columns_of, left, IsSelect, IsCapped, selects_mean, capped_selects_mean, found_by_tree, gets, lists, pages, filter-all, Shape, behind_rowid, columns_in, rows_in, clause_in, IsStored, ReadsTable, creates_it, IsOfficeTable, IsPutText, IsPutOf, StaysBeside}
 use Rattle.office_base.specs.declared.puts.Put.TheVariants as put
 use Rattle.office_base.specs.declared.records.NoticeRow.{NoticeRow}
 use Rattle.office_base.specs.Tables.{notice_at}
@@ -23,11 +15,7 @@ create_read = record { def = _; is = refl; statement = refl; formats = refl; pla
 
 pub notices_made : IsOfficeTable Notices
 unfolding same_name
-notices_made = record {
-  bare = record { childless = refl; key = indexed refl refl refl refl refl; uncounted = refl };
-  named = refl;
-  created = creates_it create_notices notices (parsed_in (first create_notices)) create_read;
-}
+notices_made = record { bare = record { childless = refl; key = indexed refl refl refl refl refl; uncounted = refl }; named = refl; created = creates_it create_notices notices (parsed_in (first create_notices)) create_read }
 
 former_create_read : ReadsTable create_former_notices former_notices (parsed_in (first create_former_notices))
 unfolding everything parsed_in
@@ -35,11 +23,7 @@ former_create_read = record { def = _; is = refl; statement = refl; formats = re
 
 pub former_notices_made : IsOfficeTable FormerNotices
 unfolding same_name
-former_notices_made = record {
-  bare = record { childless = refl; key = indexed refl refl refl refl refl; uncounted = refl };
-  named = refl;
-  created = creates_it create_former_notices former_notices (parsed_in (first create_former_notices)) former_create_read;
-}
+former_notices_made = record { bare = record { childless = refl; key = indexed refl refl refl refl refl; uncounted = refl }; named = refl; created = creates_it create_former_notices former_notices (parsed_in (first create_former_notices)) former_create_read }
 
 -- its columns have their names
 has : (n : ℕ) → Has (at_tree notices n) max_budget (columns_of notices)
@@ -66,14 +50,7 @@ notice_stored = record {
 
 put_read : IsPutText Notices notice_shape upsert_notices
 unfolding everything parsed_in columns_in rows_in clause_in
-put_read = record {
-  read = record { is = refl; statement = refl; formats = refl; targeted = refl; changes = refl };
-  unstamped = refl;
-  one = record { whole = refl; given = refl };
-  rows = λ schema n. refl;
-  names = λ n. refl;
-  update = λ schema at n. refl;
-}
+put_read = record { read = record { is = refl; statement = refl; formats = refl; targeted = refl; changes = refl }; unstamped = refl; one = record { whole = refl; given = refl }; rows = λ schema n. refl; names = λ n. refl; update = λ schema at n. refl }
 
 pub notice_put : IsPutOf Notices notice_form notice_shape upsert_notices
 notice_put = record { stored = notice_stored; reads = put_read; key = notices_made.bare.key; accepted = λ schema n it. rw (it.stored, found_by_tree schema notices n it) }

@@ -1,10 +1,5 @@
 -- The clock: what is shown of their table, of the text that puts one, and of each question.
-use Rattle.office_tables.proofs.TableTools.{◌≡◌, ◌∷◌, [], List, ℕ, pos, None, codes, refl, true, map, range_with_len, IsTotalOrder, IsAntisymmetric, Int}
-use Rattle.office_tables.proofs.TableTools.{first_key, Row, same_name, Schema, Select, alone, chosen, first_found, max_budget, first, everything, State}
-use Rattle.office_tables.proofs.TableTools.{Shown, row_put, Tables, number_column, IsIn, at_tree, Holds, cast_null, cast_int, numbers_equal, one_true}
-use Rattle.office_tables.proofs.TableTools.{numbered, StatementMeans, IsOne, parsed_in, names_of, outputs_of, Has, no_test, select, columns_of, left}
-use Rattle.office_tables.proofs.TableTools.{IsSelect, selects_mean, found_by_tree, lists, shows_rows, Shape, at_rowid, columns_in, rows_in, clause_in}
-use Rattle.office_tables.proofs.TableTools.{IsStored, ReadsTable, creates_it, IsOfficeTable, IsPutText, IsPutOf, StaysBeside}
+use Rattle.office_tables.proofs.TableTools.{◌≡◌, ◌∷◌, [], List, ℕ, pos, None, codes, refl, true, map, range_with_len, IsTotalOrder, IsAntisymmetric, Int, first_key, Row, same_name, Schema, Select, alone, chosen, first_found, max_budget, first, everything, State, Shown, row_put, Tables, number_column, IsIn, at_tree, Holds, cast_null, cast_int, numbers_equal, one_true, numbered, StatementMeans, IsOne, parsed_in, names_of, outputs_of, Has, no_test, select, columns_of, left, IsSelect, selects_mean, found_by_tree, lists, shows_rows, Shape, at_rowid, columns_in, rows_in, clause_in, IsStored, ReadsTable, creates_it, IsOfficeTable, IsPutText, IsPutOf, StaysBeside}
 use Rattle.office_base.specs.declared.puts.Put.TheVariants as put
 use Rattle.office_base.specs.declared.records.ClockRow.{ClockRow}
 use Rattle.office_tables.specs.Tables.Office.{create_office, office, upsert_office, clock_cmp, clock_read, clock_form_of, clock_form}
@@ -19,11 +14,7 @@ create_read = record { def = _; is = refl; statement = refl; formats = refl; pla
 
 pub office_made : IsOfficeTable Office
 unfolding same_name
-office_made = record {
-  bare = record { childless = refl; key = numbered refl refl refl; uncounted = refl };
-  named = refl;
-  created = creates_it create_office office (parsed_in (first create_office)) create_read;
-}
+office_made = record { bare = record { childless = refl; key = numbered refl refl refl; uncounted = refl }; named = refl; created = creates_it create_office office (parsed_in (first create_office)) create_read }
 
 -- its columns have their names
 has : (n : ℕ) → Has (at_tree office n) max_budget (columns_of office)
@@ -57,14 +48,7 @@ clock_stored = record {
 
 put_read : IsPutText Office clock_shape upsert_office
 unfolding everything parsed_in columns_in rows_in clause_in
-put_read = record {
-  read = record { is = refl; statement = refl; formats = refl; targeted = refl; changes = refl };
-  unstamped = refl;
-  one = record { whole = refl; given = refl };
-  rows = λ schema n. refl;
-  names = λ n. refl;
-  update = λ schema at n. refl;
-}
+put_read = record { read = record { is = refl; statement = refl; formats = refl; targeted = refl; changes = refl }; unstamped = refl; one = record { whole = refl; given = refl }; rows = λ schema n. refl; names = λ n. refl; update = λ schema at n. refl }
 
 pub clock_put : IsPutOf Office clock_form clock_shape upsert_office
 clock_put = record { stored = clock_stored; reads = put_read; key = office_made.bare.key; accepted = λ schema n it. rw (it.stored, found_by_tree schema office n it) }

@@ -1,11 +1,5 @@
 -- Performance securities: what is shown of their table, of the text that puts one, and of each question.
-use Rattle.office_tables.proofs.TableTools.{◌≡◌, inr, ◌∷◌, [], List, ℕ, pos, Some, codes, refl, ap, ◌∙◌, slice_get, drop, option_map, range_with_len}
-use Rattle.office_tables.proofs.TableTools.{nat_cmp_total, numbers_exact, Null, Int, first_key, Row, same_name, Schema, Select, alone, chosen, first_found}
-use Rattle.office_tables.proofs.TableTools.{max_budget, first, everything, State, Shown, Tables, same_number, number_column, IsIn, at_tree, Holds, cast_null}
-use Rattle.office_tables.proofs.TableTools.{cast_int, numbers_equal, equal_numbers, one_true, only_true, number_tested, and_true, same_number_is, numbered}
-use Rattle.office_tables.proofs.TableTools.{StatementMeans, parsed_in, equals_e, names_of, outputs_of, Has, one_test, select, columns_of, left, IsSelect}
-use Rattle.office_tables.proofs.TableTools.{selects_mean, found_by_tree, gets, Shape, at_rowid, columns_in, rows_in, clause_in, IsStored, ReadsTable}
-use Rattle.office_tables.proofs.TableTools.{creates_it, IsOfficeTable, IsPutText, IsPutOf, StaysBeside}
+use Rattle.office_tables.proofs.TableTools.{◌≡◌, inr, ◌∷◌, [], List, ℕ, pos, Some, codes, refl, ap, ◌∙◌, slice_get, drop, option_map, range_with_len, nat_cmp_total, numbers_exact, Null, Int, first_key, Row, same_name, Schema, Select, alone, chosen, first_found, max_budget, first, everything, State, Shown, Tables, same_number, number_column, IsIn, at_tree, Holds, cast_null, cast_int, numbers_equal, equal_numbers, one_true, only_true, number_tested, and_true, same_number_is, numbered, StatementMeans, parsed_in, equals_e, names_of, outputs_of, Has, one_test, select, columns_of, left, IsSelect, selects_mean, found_by_tree, gets, Shape, at_rowid, columns_in, rows_in, clause_in, IsStored, ReadsTable, creates_it, IsOfficeTable, IsPutText, IsPutOf, StaysBeside}
 use Rattle.office_base.specs.declared.puts.Put.TheVariants as put
 use Rattle.office_base.specs.declared.records.PerformanceRow.{PerformanceRow}
 use Rattle.office_base.specs.Tables.{performance_at}
@@ -20,11 +14,7 @@ create_read = record { def = _; is = refl; statement = refl; formats = refl; pla
 
 pub performances_made : IsOfficeTable Performances
 unfolding same_name
-performances_made = record {
-  bare = record { childless = refl; key = numbered refl refl refl; uncounted = refl };
-  named = refl;
-  created = creates_it create_performance performance (parsed_in (first create_performance)) create_read;
-}
+performances_made = record { bare = record { childless = refl; key = numbered refl refl refl; uncounted = refl }; named = refl; created = creates_it create_performance performance (parsed_in (first create_performance)) create_read }
 
 -- its columns have their names
 has : (n : ℕ) → Has (at_tree performance n) max_budget (columns_of performance)
@@ -51,14 +41,7 @@ performance_stored = record {
 
 put_read : IsPutText Performances performance_shape upsert_performance
 unfolding everything parsed_in columns_in rows_in clause_in
-put_read = record {
-  read = record { is = refl; statement = refl; formats = refl; targeted = refl; changes = refl };
-  unstamped = refl;
-  one = record { whole = refl; given = refl };
-  rows = λ schema n. refl;
-  names = λ n. refl;
-  update = λ schema at n. refl;
-}
+put_read = record { read = record { is = refl; statement = refl; formats = refl; targeted = refl; changes = refl }; unstamped = refl; one = record { whole = refl; given = refl }; rows = λ schema n. refl; names = λ n. refl; update = λ schema at n. refl }
 
 pub performance_put : IsPutOf Performances performance_form performance_shape upsert_performance
 performance_put = record { stored = performance_stored; reads = put_read; key = performances_made.bare.key; accepted = λ schema n it. rw (it.stored, found_by_tree schema performance n it) }

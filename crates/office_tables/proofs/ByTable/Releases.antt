@@ -1,13 +1,5 @@
 -- Releases: what is shown of their table, of the text that puts one, and of each question.
-use Rattle.office_tables.proofs.TableTools.{◌≡◌, inl, inr, ◌&&◌, ◌∷◌, [], List, ℕ, pos, Some, codes, refl, ap, ap₂, ◌∙◌, map, slice_get, drop, option_map}
-use Rattle.office_tables.proofs.TableTools.{range_with_len, nat_cmp, Int, Text, first_key, Row, value_cmp-Text, same_name, Schema, Select, alone, chosen}
-use Rattle.office_tables.proofs.TableTools.{first_found, max_budget, first, everything, State, Shown, id_cmp, same_id, Tables, same_number, releases_exact}
-use Rattle.office_tables.proofs.TableTools.{same_id_is, releases_total, text_column, number_column, IsIn, at_tree, Holds, cast_null, cast_int, texts_equal}
-use Rattle.office_tables.proofs.TableTools.{equal_texts, numbers_equal, equal_numbers, both_true, first_true, text_tested, number_tested, numbers_cmp}
-use Rattle.office_tables.proofs.TableTools.{and_true, pair_then, both_equal, same_number_is, indexed, StatementMeans, parsed_in, equals_e, both_e, names_of}
-use Rattle.office_tables.proofs.TableTools.{outputs_of, Has, one_test, two_tests, select, columns_of, left, IsSelect, selects_mean, found_by_tree, gets}
-use Rattle.office_tables.proofs.TableTools.{lists, Shape, behind_rowid, columns_in, rows_in, clause_in, IsStored, ReadsTable, creates_it, IsOfficeTable}
-use Rattle.office_tables.proofs.TableTools.{IsPutText, IsPutOf, StaysBeside}
+use Rattle.office_tables.proofs.TableTools.{◌≡◌, inl, inr, ◌&&◌, ◌∷◌, [], List, ℕ, pos, Some, codes, refl, ap, ap₂, ◌∙◌, map, slice_get, drop, option_map, range_with_len, nat_cmp, Int, Text, first_key, Row, value_cmp-Text, same_name, Schema, Select, alone, chosen, first_found, max_budget, first, everything, State, Shown, id_cmp, same_id, Tables, same_number, releases_exact, same_id_is, releases_total, text_column, number_column, IsIn, at_tree, Holds, cast_null, cast_int, texts_equal, equal_texts, numbers_equal, equal_numbers, both_true, first_true, text_tested, number_tested, numbers_cmp, and_true, pair_then, both_equal, same_number_is, indexed, StatementMeans, parsed_in, equals_e, both_e, names_of, outputs_of, Has, one_test, two_tests, select, columns_of, left, IsSelect, selects_mean, found_by_tree, gets, lists, Shape, behind_rowid, columns_in, rows_in, clause_in, IsStored, ReadsTable, creates_it, IsOfficeTable, IsPutText, IsPutOf, StaysBeside}
 use Rattle.office_base.specs.declared.puts.Put.TheVariants as put
 use Rattle.office_base.specs.declared.records.ReleaseRow.{ReleaseRow}
 use Rattle.office_base.specs.Tables.{release_at, releases_of_notice}
@@ -22,11 +14,7 @@ create_read = record { def = _; is = refl; statement = refl; formats = refl; pla
 
 pub releases_made : IsOfficeTable Releases
 unfolding same_name
-releases_made = record {
-  bare = record { childless = refl; key = indexed refl refl refl refl refl; uncounted = refl };
-  named = refl;
-  created = creates_it create_releases releases (parsed_in (first create_releases)) create_read;
-}
+releases_made = record { bare = record { childless = refl; key = indexed refl refl refl refl refl; uncounted = refl }; named = refl; created = creates_it create_releases releases (parsed_in (first create_releases)) create_read }
 
 -- its columns have their names
 has : (n : ℕ) → Has (at_tree releases n) max_budget (columns_of releases)
@@ -53,14 +41,7 @@ release_stored = record {
 
 put_read : IsPutText Releases release_shape upsert_releases
 unfolding everything parsed_in columns_in rows_in clause_in
-put_read = record {
-  read = record { is = refl; statement = refl; formats = refl; targeted = refl; changes = refl };
-  unstamped = refl;
-  one = record { whole = refl; given = refl };
-  rows = λ schema n. refl;
-  names = λ n. refl;
-  update = λ schema at n. refl;
-}
+put_read = record { read = record { is = refl; statement = refl; formats = refl; targeted = refl; changes = refl }; unstamped = refl; one = record { whole = refl; given = refl }; rows = λ schema n. refl; names = λ n. refl; update = λ schema at n. refl }
 
 pub release_put : IsPutOf Releases release_form release_shape upsert_releases
 release_put = record { stored = release_stored; reads = put_read; key = releases_made.bare.key; accepted = λ schema n it. rw (it.stored, found_by_tree schema releases n it) }

@@ -1,12 +1,5 @@
 -- The bytes of tenders: what is shown of their table, of the text that puts one, and of each question.
-use Rattle.office_tables.proofs.TableTools.{◌≡◌, inr, ◌∷◌, [], List, ℕ, pos, Some, codes, refl, ap, ◌∙◌, slice_get, drop, option_map, range_with_len}
-use Rattle.office_tables.proofs.TableTools.{nat_cmp_total, numbers_exact, Null, Int, first_key, Row, same_name, Schema, Select, Delete, alone, chosen}
-use Rattle.office_tables.proofs.TableTools.{first_found, max_budget, nothing, first, everything, State, Shown, Tables, same_number, after_put, number_column}
-use Rattle.office_tables.proofs.TableTools.{IsIn, at_tree, Holds, cast_null, cast_int, numbers_equal, equal_numbers, one_true, only_true, number_tested}
-use Rattle.office_tables.proofs.TableTools.{and_true, same_number_is, numbered, StatementMeans, IsOne, parsed_in, equals_e, names_of, outputs_of, Has}
-use Rattle.office_tables.proofs.TableTools.{one_test, select, columns_of, left, IsSelect, selects_mean, found_by_tree, gets, Shape, at_rowid, columns_in}
-use Rattle.office_tables.proofs.TableTools.{rows_in, clause_in, IsStored, with_rows, OfficeTable, StandFor, Stands, ReadsTable, creates_it, IsDelete}
-use Rattle.office_tables.proofs.TableTools.{delete_means, IsOfficeTable, IsPutText, IsPutOf, StaysBeside}
+use Rattle.office_tables.proofs.TableTools.{◌≡◌, inr, ◌∷◌, [], List, ℕ, pos, Some, codes, refl, ap, ◌∙◌, slice_get, drop, option_map, range_with_len, nat_cmp_total, numbers_exact, Null, Int, first_key, Row, same_name, Schema, Select, Delete, alone, chosen, first_found, max_budget, nothing, first, everything, State, Shown, Tables, same_number, after_put, number_column, IsIn, at_tree, Holds, cast_null, cast_int, numbers_equal, equal_numbers, one_true, only_true, number_tested, and_true, same_number_is, numbered, StatementMeans, IsOne, parsed_in, equals_e, names_of, outputs_of, Has, one_test, select, columns_of, left, IsSelect, selects_mean, found_by_tree, gets, Shape, at_rowid, columns_in, rows_in, clause_in, IsStored, with_rows, OfficeTable, StandFor, Stands, ReadsTable, creates_it, IsDelete, delete_means, IsOfficeTable, IsPutText, IsPutOf, StaysBeside}
 use Rattle.office_base.specs.declared.puts.Put.TheVariants as put
 use Rattle.office_base.specs.declared.records.SealRow.{SealRow}
 use Rattle.office_base.specs.Tables.{seal_at}
@@ -21,11 +14,7 @@ create_read = record { def = _; is = refl; statement = refl; formats = refl; pla
 
 pub seals_made : IsOfficeTable Seals
 unfolding same_name
-seals_made = record {
-  bare = record { childless = refl; key = numbered refl refl refl; uncounted = refl };
-  named = refl;
-  created = creates_it create_seals seals (parsed_in (first create_seals)) create_read;
-}
+seals_made = record { bare = record { childless = refl; key = numbered refl refl refl; uncounted = refl }; named = refl; created = creates_it create_seals seals (parsed_in (first create_seals)) create_read }
 
 -- its columns have their names
 has : (n : ℕ) → Has (at_tree seals n) max_budget (columns_of seals)
@@ -52,14 +41,7 @@ seal_stored = record {
 
 put_read : IsPutText Seals seal_shape upsert_seals
 unfolding everything parsed_in columns_in rows_in clause_in
-put_read = record {
-  read = record { is = refl; statement = refl; formats = refl; targeted = refl; changes = refl };
-  unstamped = refl;
-  one = record { whole = refl; given = refl };
-  rows = λ schema n. refl;
-  names = λ n. refl;
-  update = λ schema at n. refl;
-}
+put_read = record { read = record { is = refl; statement = refl; formats = refl; targeted = refl; changes = refl }; unstamped = refl; one = record { whole = refl; given = refl }; rows = λ schema n. refl; names = λ n. refl; update = λ schema at n. refl }
 
 pub seal_put : IsPutOf Seals seal_form seal_shape upsert_seals
 seal_put = record { stored = seal_stored; reads = put_read; key = seals_made.bare.key; accepted = λ schema n it. rw (it.stored, found_by_tree schema seals n it) }

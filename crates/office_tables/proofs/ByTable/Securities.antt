@@ -1,13 +1,5 @@
 -- Tender securities: what is shown of their table, of the text that puts one, and of each question.
-use Rattle.office_tables.proofs.TableTools.{◌≡◌, inl, inr, ◌&&◌, ◌∷◌, [], List, ℕ, pos, Some, codes, refl, ap, ap₂, ◌∙◌, map, slice_get, drop, option_map}
-use Rattle.office_tables.proofs.TableTools.{range_with_len, is_lt, nat_cmp_total, numbers_exact, Null, Int, Text, first_key, Row, same_name, Schema, Select}
-use Rattle.office_tables.proofs.TableTools.{alone, chosen, first_found, max_budget, first, everything, listing_schema, State, Shown, same_id, Tables}
-use Rattle.office_tables.proofs.TableTools.{same_number, text_column, number_column, IsIn, at_tree, IsIndexing, Holds, cast_null, cast_int, numbers_equal}
-use Rattle.office_tables.proofs.TableTools.{equal_numbers, one_true, only_true, text_tested, number_tested, numbers_cmp, and_true, then_equal, same_number_is}
-use Rattle.office_tables.proofs.TableTools.{numbered, StatementMeans, parsed_in, equals_e, both_e, names_of, outputs_of, Has, one_test, two_tests, select}
-use Rattle.office_tables.proofs.TableTools.{columns_of, left, IsSelect, selects_mean, found_by_tree, gets, lists, Shape, at_rowid, columns_in, rows_in}
-use Rattle.office_tables.proofs.TableTools.{clause_in, IsStored, ReadsTable, ReadsIndex, creates_it, indexes_it, IsOfficeTable, IsPutText, IsPutOf}
-use Rattle.office_tables.proofs.TableTools.{StaysBeside}
+use Rattle.office_tables.proofs.TableTools.{◌≡◌, inl, inr, ◌&&◌, ◌∷◌, [], List, ℕ, pos, Some, codes, refl, ap, ap₂, ◌∙◌, map, slice_get, drop, option_map, range_with_len, is_lt, nat_cmp_total, numbers_exact, Null, Int, Text, first_key, Row, same_name, Schema, Select, alone, chosen, first_found, max_budget, first, everything, listing_schema, State, Shown, same_id, Tables, same_number, text_column, number_column, IsIn, at_tree, IsIndexing, Holds, cast_null, cast_int, numbers_equal, equal_numbers, one_true, only_true, text_tested, number_tested, numbers_cmp, and_true, then_equal, same_number_is, numbered, StatementMeans, parsed_in, equals_e, both_e, names_of, outputs_of, Has, one_test, two_tests, select, columns_of, left, IsSelect, selects_mean, found_by_tree, gets, lists, Shape, at_rowid, columns_in, rows_in, clause_in, IsStored, ReadsTable, ReadsIndex, creates_it, indexes_it, IsOfficeTable, IsPutText, IsPutOf, StaysBeside}
 use Rattle.office_base.specs.declared.puts.Put.TheVariants as put
 use Rattle.office_base.specs.declared.records.SecurityRow.{SecurityRow}
 use Rattle.office_base.specs.Tables.{security_at, securities_of_lot}
@@ -22,11 +14,7 @@ create_read = record { def = _; is = refl; statement = refl; formats = refl; pla
 
 pub securities_made : IsOfficeTable Securities
 unfolding same_name
-securities_made = record {
-  bare = record { childless = refl; key = numbered refl refl refl; uncounted = refl };
-  named = refl;
-  created = creates_it create_securities securities (parsed_in (first create_securities)) create_read;
-}
+securities_made = record { bare = record { childless = refl; key = numbered refl refl refl; uncounted = refl }; named = refl; created = creates_it create_securities securities (parsed_in (first create_securities)) create_read }
 
 index_read : ReadsIndex create_securities_of_notice securities securities_of_notice (parsed_in (first create_securities_of_notice))
 unfolding everything parsed_in listing_schema
@@ -60,14 +48,7 @@ security_stored = record {
 
 put_read : IsPutText Securities security_shape upsert_securities
 unfolding everything parsed_in columns_in rows_in clause_in
-put_read = record {
-  read = record { is = refl; statement = refl; formats = refl; targeted = refl; changes = refl };
-  unstamped = refl;
-  one = record { whole = refl; given = refl };
-  rows = λ schema n. refl;
-  names = λ n. refl;
-  update = λ schema at n. refl;
-}
+put_read = record { read = record { is = refl; statement = refl; formats = refl; targeted = refl; changes = refl }; unstamped = refl; one = record { whole = refl; given = refl }; rows = λ schema n. refl; names = λ n. refl; update = λ schema at n. refl }
 
 pub security_put : IsPutOf Securities security_form security_shape upsert_securities
 security_put = record { stored = security_stored; reads = put_read; key = securities_made.bare.key; accepted = λ schema n it. rw (it.stored, found_by_tree schema securities n it) }

@@ -1,13 +1,5 @@
 -- Tenderers: what is shown of their table, of the text that puts one, and of each question.
-use Rattle.office_tables.proofs.TableTools.{◌≡◌, inl, ◌∷◌, [], List, ℕ, pos, None, Some, codes, refl, ap, ◌∙◌, map, slice_get, drop, option_map}
-use Rattle.office_tables.proofs.TableTools.{range_with_len, is_lt, nat_list_cmp_total, Int, Text, Binary, first_key, Row, value_cmp-Text, col, op2, Compare}
-use Rattle.office_tables.proofs.TableTools.{Gt, same_name, Schema, Select, alone, chosen, first_found, max_budget, first, everything, State, Shown, id_cmp}
-use Rattle.office_tables.proofs.TableTools.{same_id, Tables, ids_exact, same_id_is, text_column, IsIn, at_tree, Holds, cast_null, cast_int, texts_equal}
-use Rattle.office_tables.proofs.TableTools.{equal_texts, one_true, only_true, text_tested, and_true, then_equal, text_above, indexed, StatementMeans}
-use Rattle.office_tables.proofs.TableTools.{parsed_in, parameter_counts, equals_e, above_e, count_e, names_of, outputs_of, Has, no_test, one_test, above_test}
-use Rattle.office_tables.proofs.TableTools.{out_parameter, select, capped_select, columns_of, left, IsSelect, IsCapped, selects_mean, capped_selects_mean}
-use Rattle.office_tables.proofs.TableTools.{found_by_tree, gets, pages, Shape, behind_rowid, columns_in, rows_in, clause_in, IsStored, ReadsTable, creates_it}
-use Rattle.office_tables.proofs.TableTools.{IsOfficeTable, IsPutText, IsPutOf, StaysBeside}
+use Rattle.office_tables.proofs.TableTools.{◌≡◌, inl, ◌∷◌, [], List, ℕ, pos, None, Some, codes, refl, ap, ◌∙◌, map, slice_get, drop, option_map, range_with_len, is_lt, nat_list_cmp_total, Int, Text, Binary, first_key, Row, value_cmp-Text, col, op2, Compare, Gt, same_name, Schema, Select, alone, chosen, first_found, max_budget, first, everything, State, Shown, id_cmp, same_id, Tables, ids_exact, same_id_is, text_column, IsIn, at_tree, Holds, cast_null, cast_int, texts_equal, equal_texts, one_true, only_true, text_tested, and_true, then_equal, text_above, indexed, StatementMeans, parsed_in, parameter_counts, equals_e, above_e, count_e, names_of, outputs_of, Has, no_test, one_test, above_test, out_parameter, select, capped_select, columns_of, left, IsSelect, IsCapped, selects_mean, capped_selects_mean, found_by_tree, gets, pages, Shape, behind_rowid, columns_in, rows_in, clause_in, IsStored, ReadsTable, creates_it, IsOfficeTable, IsPutText, IsPutOf, StaysBeside}
 use Rattle.office_base.specs.declared.puts.Put.TheVariants as put
 use Rattle.office_base.specs.declared.records.TendererRow.{TendererRow}
 use Rattle.office_base.specs.Tables.{tenderer_at}
@@ -23,11 +15,7 @@ create_read = record { def = _; is = refl; statement = refl; formats = refl; pla
 
 pub tenderers_made : IsOfficeTable Tenderers
 unfolding same_name
-tenderers_made = record {
-  bare = record { childless = refl; key = indexed refl refl refl refl refl; uncounted = refl };
-  named = refl;
-  created = creates_it create_tenderers tenderers (parsed_in (first create_tenderers)) create_read;
-}
+tenderers_made = record { bare = record { childless = refl; key = indexed refl refl refl refl refl; uncounted = refl }; named = refl; created = creates_it create_tenderers tenderers (parsed_in (first create_tenderers)) create_read }
 
 -- its columns have their names
 has : (n : ℕ) → Has (at_tree tenderers n) max_budget (columns_of tenderers)
@@ -54,14 +42,7 @@ tenderer_stored = record {
 
 put_read : IsPutText Tenderers tenderer_shape upsert_tenderers
 unfolding everything parsed_in columns_in rows_in clause_in
-put_read = record {
-  read = record { is = refl; statement = refl; formats = refl; targeted = refl; changes = refl };
-  unstamped = refl;
-  one = record { whole = refl; given = refl };
-  rows = λ schema n. refl;
-  names = λ n. refl;
-  update = λ schema at n. refl;
-}
+put_read = record { read = record { is = refl; statement = refl; formats = refl; targeted = refl; changes = refl }; unstamped = refl; one = record { whole = refl; given = refl }; rows = λ schema n. refl; names = λ n. refl; update = λ schema at n. refl }
 
 pub tenderer_put : IsPutOf Tenderers tenderer_form tenderer_shape upsert_tenderers
 tenderer_put = record { stored = tenderer_stored; reads = put_read; key = tenderers_made.bare.key; accepted = λ schema n it. rw (it.stored, found_by_tree schema tenderers n it) }

@@ -5,9 +5,9 @@ use Rattle.office_store.proofs.shelf.SqlShelfLookups.list_securities_of_lot.Goal
 
 pub returns-in-Ok : goal.returns-in-Ok
 returns-in-Ok g c =
-    looked g.S.Store c.self.inside.conn c.list_securities_of_lot.new.conn c.args.self.now c.self.inside.faults c.in-Ok.rows (λ t rows. rows.items ≡ securities_of_lot c.args.notice.now c.args.lot.now t) c.self.view_is c.in-Ok.ensures.kept c.in-Ok.ensures.survives c.in-Ok.ensures.got
+    looked g.S.Store c.self.inside.conn c.list_securities_of_lot.new.conn c.args.self.now c.self.inside.faults c.in-Ok.rows (λ t rows. rows.items ≡ securities_of_lot c.args.notice.now c.args.lot.now t) c.self.view_is c.in-Ok.ensures.1 c.in-Ok.ensures.2 c.in-Ok.ensures.0
 
 pub returns-in-Err : goal.returns-in-Err
 returns-in-Err g c =
     unanswered g.S.Store c.self.inside.conn c.list_securities_of_lot.new.conn c.args.self.now c.count.new.self c.self.inside.faults c.count.result (λ t rows. rows.items ≡ securities_of_lot c.args.notice.now c.args.lot.now t) c.self.view_is c.count.ensures.kept c.count.ensures.counted c.count.ensures.cause
-    c.in-Err.ensures.kept c.in-Err.ensures.survives
+    c.in-Err.ensures.1 c.in-Err.ensures.2
