@@ -12,9 +12,9 @@ ghost use Rattle.office_tables.specs.declared.tables.notices.FormerNotice.{Forme
 use crate::ask::{ask_all, ask_first};
 use crate::make::make_tables;
 use crate::statement::execute_one;
-use crate::tables::notices::{self, FormerNotice};
-use crate::tables::office::{self, FormerClock};
-use crate::tables::{late_rules, performances};
+use crate::tables::notices::FormerNotice;
+use crate::tables::office::FormerClock;
+use crate::tables::{late_rules, notices, office, performances};
 use office_base::records::ClockRow;
 use office_base::shelf::ShelfFault;
 use sqlite::{Alter, Connection, Error, Transaction};

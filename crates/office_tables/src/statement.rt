@@ -3,11 +3,11 @@ ghost use Rattle.std.specs.Prelude.{◌≡◌, ℕ, [], ◌∷◌, Ok, Err, IsTr
 ghost use Rattle.sqlite.specs.Held.{state};
 ghost use Rattle.sqlite.specs.State.{HasCleanDisk, Survives, ExecutesInside};
 ghost use Rattle.sqlite.specs.Values.{bound};
+ghost use Rattle.office_base.specs.declared.puts.Put.{Put};
 ghost use Rattle.office_tables.specs.Failing.{ErrorHasCause};
 ghost use Rattle.office_tables.specs.Schema.{IsStatementOf};
 ghost use Rattle.office_tables.specs.Steps.{Puts, Refused};
 
-use office_base::puts::Put;
 use sqlite::{Alter, Error, Transaction};
 use sqlite_value::value::ValueRef;
 
