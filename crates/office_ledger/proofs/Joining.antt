@@ -35,7 +35,8 @@ use Rattle.sqlite_typing.specs.Types.{accepts_program}
 use Rattle.sqlite_tied.specs.Compute.{everything}
 use Rattle.office_ledger.specs.Select.{Trees4, equals, list_joined, of_the_line, of_the_lot, of_the_contract, joined_query}
 use Rattle.office_ledger.specs.StatementMeans.{StatementMeans}
-use Rattle.office_ledger.specs.Known.{HoldsFour, column_of}
+use Rattle.office_tables.specs.Forms.{column_of}
+use Rattle.office_ledger.specs.Known.{HoldsFour}
 use Rattle.office_ledger.proofs.Qualified.{Pick, Finds, AllFound, at_budget, plainly, shown_of, sort_of, equals_e, both_e, outputs_are, sorts_are, equal_is, and_is, outputs_of, keys_of}
 use Rattle.office_ledger.proofs.Scoped.{four_bounds, line_of_four, lot_of_four, contract_of_four, contract_key_of_four, entry_of_four}
 use Rattle.office_ledger.proofs.Sources.{source_of, out_source, parsed_in, bound_is, source_is, left_joined, first_joined, joined_by, means_by}

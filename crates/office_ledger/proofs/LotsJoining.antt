@@ -36,7 +36,8 @@ use Rattle.sqlite_tied.specs.Compute.{everything}
 use Rattle.office_ledger.specs.Select.{Trees4, equals}
 use Rattle.office_ledger.specs.SelectLots.{list_joined_of_line, is_of_line, of_its_lot, of_its_contract, lots_query}
 use Rattle.office_ledger.specs.StatementMeans.{StatementMeans}
-use Rattle.office_ledger.specs.Known.{HoldsFour, column_of}
+use Rattle.office_tables.specs.Forms.{column_of}
+use Rattle.office_ledger.specs.Known.{HoldsFour}
 use Rattle.office_ledger.proofs.Qualified.{Pick, Finds, AllFound, at_budget, plainly, shown_of, sort_of, equals_e, both_e, outputs_are, sorts_are, equal_is, and_is, given_e, given_is, outputs_of, keys_of}
 use Rattle.office_ledger.proofs.Scoped.{three_bounds, lot_of_three, contract_of_three, contract_key_of_three, entry_of_three}
 use Rattle.office_ledger.proofs.Sources.{source_of, out_source, parsed_in, bound_is, source_is, left_joined, first_joined, joined_by, means_by}

@@ -28,7 +28,7 @@ mod Writes
 mod Held
 mod TableTools
 mod ByTable
-mod Each
+pub mod Each
 pub mod PutsApart
 mod Stepping
 mod CreateTexts
