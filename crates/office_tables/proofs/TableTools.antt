@@ -7,22 +7,23 @@ pub use Rattle.std.specs.Cmp.Lexicographic.{nat_list_cmp_total}
 pub use Rattle.std.specs.FinMap.{nat_cmp-IsAntisymmetric as numbers_exact, IsAntisymmetric}
 pub use Rattle.sqlite_value.specs.declared.value.Value.TheVariants.{Null, Int, Text}
 pub use Rattle.sqlite_value.specs.declared.keys.Collation.TheVariants.{Binary}
-pub use Rattle.sqlite_value.specs.Keys.{first_key}
+unfoldable pub use Rattle.sqlite_value.specs.Keys.{first_key}
 pub use Rattle.sqlite_value.specs.Order.{Row}
 pub use Rattle.sqlite_value.proofs.OrderLemmas.{value_cmp-Text}
 pub use Rattle.sqlite_sql.specs.Term.{col, op2}
 pub use Rattle.sqlite_sql.specs.declared.ops.BinaryOp.TheVariants.{Compare}
 pub use Rattle.sqlite_sql.specs.declared.ops.CompareOp.TheVariants.{Gt}
-pub use Rattle.sqlite_schema.specs.Names.{same_name}
+unfoldable pub use Rattle.sqlite_schema.specs.Names.{same_name}
 pub use Rattle.sqlite_schema.specs.declared.schema.Schema.{Schema}
 pub use Rattle.sqlite_schema.specs.declared.command.Command.TheVariants.{Select, Delete}
-pub use Rattle.sqlite_resolve.specs.Lowering.{alone, chosen, first_found, max_budget, nothing}
+unfoldable pub use Rattle.sqlite_resolve.specs.Lowering.{alone, chosen, first_found}
+pub use Rattle.sqlite_resolve.specs.Lowering.{max_budget, nothing}
 pub use Rattle.sqlite_resolve.specs.Compile.{first}
-pub use Rattle.sqlite_tied.specs.Compute.{everything}
-pub use Rattle.sqlite.specs.Listing.{listing_schema}
+unfoldable pub use Rattle.sqlite_tied.specs.Compute.{everything}
+unfoldable pub use Rattle.sqlite.specs.Listing.{listing_schema}
 pub use Rattle.sqlite.specs.State.{State, Shown}
 pub use Rattle.office_values.specs.Ids.{id_cmp, same_id}
-pub use Rattle.office_base.specs.Rows.{row_put}
+unfoldable pub use Rattle.office_base.specs.Rows.{row_put}
 pub use Rattle.office_base.specs.Tables.{Tables, same_number, after_put}
 pub use Rattle.office_base.proofs.ExactKeys.{ids_exact, lots_exact, entries_exact, releases_exact, same_id_is}
 pub use Rattle.office_base.proofs.Orders.{lots_total, entries_total, releases_total}
@@ -33,12 +34,14 @@ pub use Rattle.office_tables.specs.Standing.{Holds, Stands}
 pub use Rattle.office_tables.specs.Schema.{OfficeTable, StandFor}
 pub use Rattle.office_tables.proofs.Cells.{cast_null, cast_int, cast_perhaps, cast_words, texts_equal, equal_texts, numbers_equal, equal_numbers, both_true, one_true, first_true, only_true, text_tested, number_tested, three_tested, numbers_cmp, and_true, then_equal, pair_then, both_equal, same_number_is, text_above}
 pub use Rattle.office_tables.proofs.Keyed.{indexed, numbered}
-pub use Rattle.office_tables.proofs.Meanings.{StatementMeans, IsOne, parsed_in}
+unfoldable pub use Rattle.office_tables.proofs.Meanings.{parsed_in}
+pub use Rattle.office_tables.proofs.Meanings.{StatementMeans, IsOne}
 pub use Rattle.office_tables.proofs.LoweredColumns.{parameter_counts}
 pub use Rattle.office_tables.proofs.Simple.{equals_e, above_e, both_e, count_e, names_of, outputs_of, Has, no_test, one_test, two_tests, three_tests, above_test, out_parameter}
 pub use Rattle.office_tables.proofs.Selecting.{select, capped_select, columns_of, left, IsSelect, IsCapped, selects_mean, capped_selects_mean, found_by_tree}
 pub use Rattle.office_tables.proofs.Asking.{gets, lists, pages, shows_rows, filter-all}
-pub use Rattle.office_tables.proofs.Upserts.{Shape, behind_rowid, at_rowid, columns_in, rows_in, clause_in}
+unfoldable pub use Rattle.office_tables.proofs.Upserts.{columns_in, rows_in, clause_in}
+pub use Rattle.office_tables.proofs.Upserts.{Shape, behind_rowid, at_rowid}
 pub use Rattle.office_tables.proofs.Writes.{IsStored, with_rows}
 pub use Rattle.office_tables.proofs.CreateTexts.{ReadsTable, ReadsIndex, creates_it, indexes_it}
 pub use Rattle.office_tables.proofs.Deletes.{IsDelete, delete_means}
