@@ -2,8 +2,8 @@
 use Rattle.office_tables.proofs.TableTools.{◌≡◌, inl, inr, ◌∷◌, [], List, ℕ, pos, Some, codes, refl, ap, ◌∙◌, map, slice_get, drop, option_map, range_with_len, is_lt, nat_cmp_total, numbers_exact, Null, Int, Text, first_key, Row, same_name, Schema, Select, alone, chosen, first_found, max_budget, first, everything, listing_schema, State, Shown, same_id, Tables, same_number, text_column, number_column, IsIn, at_tree, IsIndexing, Holds, cast_null, cast_int, numbers_equal, equal_numbers, one_true, only_true, text_tested, number_tested, numbers_cmp, and_true, then_equal, same_number_is, numbered, StatementMeans, parsed_in, equals_e, names_of, outputs_of, Has, one_test, select, columns_of, left, IsSelect, selects_mean, found_by_tree, gets, lists, Shape, at_rowid, columns_in, rows_in, clause_in, IsStored, ReadsTable, ReadsIndex, creates_it, indexes_it, IsOfficeTable, IsPutText, IsPutOf, StaysBeside}
 use Rattle.office_base.specs.declared.puts.Put.TheVariants as put
 use Rattle.office_base.specs.declared.records.AwardRow.{AwardRow}
-use Rattle.office_base.specs.Tables.{award_at}
-use Rattle.office_tables.specs.Tables.Awards.{awards_of_notice, create_awards, awards, create_awards_of_notice, upsert_awards, award_values, award_read, award_form}
+use Rattle.office_base.specs.Tables.{awards_of_notice, award_at}
+use Rattle.office_tables.specs.Tables.Awards.{awards_of_notice as awards_of_notice_index, create_awards, awards, create_awards_of_notice, upsert_awards, award_values, award_read, award_form}
 use Rattle.office_tables.specs.Schema.OfficeTable.{Awards}
 
 -- ---- the table
@@ -16,12 +16,12 @@ pub awards_made : IsOfficeTable Awards
 unfolding same_name
 awards_made = record { bare = record { childless = refl; key = numbered refl refl refl; uncounted = refl }; named = refl; created = creates_it create_awards awards (parsed_in (first create_awards)) create_read }
 
-index_read : ReadsIndex create_awards_of_notice awards awards_of_notice (parsed_in (first create_awards_of_notice))
+index_read : ReadsIndex create_awards_of_notice awards awards_of_notice_index (parsed_in (first create_awards_of_notice))
 unfolding everything parsed_in listing_schema
 index_read = record { def = _; is = refl; statement = refl; formats = refl; plainly = refl; table_is = refl; defined = λ n. refl; covers = refl; unlisted = refl }
 
-pub indexes_awards_of_notice : IsIndexing create_awards_of_notice awards awards_of_notice
-indexes_awards_of_notice = indexes_it create_awards_of_notice awards awards_of_notice (parsed_in (first create_awards_of_notice)) index_read
+pub indexes_awards_of_notice : IsIndexing create_awards_of_notice awards awards_of_notice_index
+indexes_awards_of_notice = indexes_it create_awards_of_notice awards awards_of_notice_index (parsed_in (first create_awards_of_notice)) index_read
 
 -- its columns have their names
 has : (n : ℕ) → Has (at_tree awards n) max_budget (columns_of awards)
