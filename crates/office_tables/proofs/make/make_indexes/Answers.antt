@@ -1,4 +1,4 @@
-use Rattle.std.proofs.Common.{rules, arith, ◌≡◌, [], ◌∷◌, ◌+◌, drop, map, ap, sym, subst, ◌∙◌}
+use Rattle.std.proofs.Common.{rules, arith, ◌≡◌, [], ◌∷◌, ◌+◌, get_or, drop, map, subst}
 use Rattle.std.proofs.lemmas.List.{drop_more, drop_all}
 use Rattle.sqlite.specs.Held.{state}
 use Rattle.sqlite.specs.State.{HasCleanDisk}
@@ -20,10 +20,10 @@ texts-preserved g c =
     let old = state g.S.Store c.args.tx.now.conn.now in
     let mid = state g.S.Store c.texts.tx.conn.now in
     let new = state g.S.Store c.make_index-in-texts.new.tx.conn.now in
-    let item = c.text-item.result in
     let more = c.args.more.now in
     let i = c.texts.text-index in
-    let next = drop_more more i item (omega arith) ∙ ap (λ y. y ∷ drop (i + 1) more) (sym c.text-item.is) in (
+    let item = get_or more i (record { ref_ptr = (0, 0); now = [] }) in
+    let next : drop i more ≡ item ∷ drop (i + 1) more = drop_more more i _ (omega arith) in (
       search rules,
       survives_then old mid new (λ _. ⊥) (λ _. ⊥) (λ _. ⊥) (λ _ db none. none) (λ _ db none. none) c.texts.invariant.1 c.make_index-in-texts.ensures.survives,
       λ clean inside texts.
