@@ -1,13 +1,4 @@
-use Rattle.std.proofs.Common.{◌≡◌}
-use Rattle.office_base.specs.Pages.{notices_after}
-use Rattle.office_store.proofs.Shelves.{looked, unanswered}
 use Rattle.office_store.proofs.shelf.SqlShelfLookups.list_notices_after.Goals as goal
 
-pub returns-in-Ok : goal.returns-in-Ok
-returns-in-Ok g c =
-    looked g.S.Store c.self.inside.conn c.list_notices_after.new.conn c.args.self.now c.self.inside.faults c.in-Ok.rows (λ t rows. rows.items ≡ notices_after c.args.after c.args.most t) c.self.view_is c.in-Ok.ensures.1 c.in-Ok.ensures.2 c.in-Ok.ensures.0
-
-pub returns-in-Err : goal.returns-in-Err
-returns-in-Err g c =
-    unanswered g.S.Store c.self.inside.conn c.list_notices_after.new.conn c.args.self.now c.count.new.self c.self.inside.faults c.count.result (λ t rows. rows.items ≡ notices_after c.args.after c.args.most t) c.self.view_is c.count.ensures.kept c.count.ensures.counted c.count.ensures.cause
-    c.in-Err.ensures.1 c.in-Err.ensures.2
+pub returns : goal.returns
+returns g c = c.told.ensures c.self.inside.conn _ _ c.self.view_is c.list_notices_after.ensures
