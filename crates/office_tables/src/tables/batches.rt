@@ -17,10 +17,12 @@ use sqlite_value::value::ValueRef;
 use std::alloc::Global;
 
 /// The text that makes the table.
-pub(crate) const CREATE: &str = "CREATE TABLE batches (batch TEXT NOT NULL PRIMARY KEY CHECK (length(batch) BETWEEN 1 AND 32), moment INTEGER NOT NULL CHECK (moment BETWEEN 0 AND 4102444799), rows INTEGER NOT NULL CHECK (rows BETWEEN 0 AND 500)) STRICT";
+pub(crate) const CREATE: &str =
+    "CREATE TABLE batches (batch TEXT NOT NULL PRIMARY KEY CHECK (length(batch) BETWEEN 1 AND 32), moment INTEGER NOT NULL CHECK (moment BETWEEN 0 AND 4102444799), rows INTEGER NOT NULL CHECK (rows BETWEEN 0 AND 500)) STRICT";
 
 /// The text that puts one.
-pub(crate) const PUT: &str = "INSERT INTO batches (batch, moment, rows) VALUES (?1, ?2, ?3) ON CONFLICT (batch) DO UPDATE SET moment = ?2, rows = ?3";
+pub(crate) const PUT: &str =
+    "INSERT INTO batches (batch, moment, rows) VALUES (?1, ?2, ?3) ON CONFLICT (batch) DO UPDATE SET moment = ?2, rows = ?3";
 
 /// The values of a budget file.
 pub fn batch_values(row: &BatchRow) -> [ValueRef<'_>; 3]

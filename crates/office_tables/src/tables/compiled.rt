@@ -17,10 +17,12 @@ use sqlite_value::value::ValueRef;
 use std::alloc::Global;
 
 /// The text that makes the table.
-pub(crate) const CREATE: &str = "CREATE TABLE compiled (notice TEXT NOT NULL PRIMARY KEY CHECK (length(notice) BETWEEN 1 AND 32), text TEXT NOT NULL) STRICT";
+pub(crate) const CREATE: &str =
+    "CREATE TABLE compiled (notice TEXT NOT NULL PRIMARY KEY CHECK (length(notice) BETWEEN 1 AND 32), text TEXT NOT NULL) STRICT";
 
 /// The text that puts one.
-pub(crate) const PUT: &str = "INSERT INTO compiled (notice, text) VALUES (?1, ?2) ON CONFLICT (notice) DO UPDATE SET text = ?2";
+pub(crate) const PUT: &str =
+    "INSERT INTO compiled (notice, text) VALUES (?1, ?2) ON CONFLICT (notice) DO UPDATE SET text = ?2";
 
 /// The values of the merge of a notice's releases.
 pub fn compiled_values(row: &CompiledRow) -> [ValueRef<'_>; 2]

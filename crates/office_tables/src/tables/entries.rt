@@ -19,10 +19,12 @@ use sqlite_value::value::ValueRef;
 use std::alloc::Global;
 
 /// The text that makes the table.
-pub(crate) const CREATE: &str = "CREATE TABLE entries (contract INTEGER NOT NULL CHECK (contract BETWEEN 1 AND 1000000000), entry TEXT NOT NULL CHECK (length(entry) BETWEEN 1 AND 32), kind TEXT NOT NULL CHECK (kind IN ('raise', 'cut', 'payment')), amount INTEGER NOT NULL CHECK (amount BETWEEN 1 AND 1000000000000), moment INTEGER NOT NULL CHECK (moment BETWEEN 0 AND 4102444799), rationale TEXT CHECK (length(rationale) BETWEEN 1 AND 200), PRIMARY KEY (contract, entry)) STRICT";
+pub(crate) const CREATE: &str =
+    "CREATE TABLE entries (contract INTEGER NOT NULL CHECK (contract BETWEEN 1 AND 1000000000), entry TEXT NOT NULL CHECK (length(entry) BETWEEN 1 AND 32), kind TEXT NOT NULL CHECK (kind IN ('raise', 'cut', 'payment')), amount INTEGER NOT NULL CHECK (amount BETWEEN 1 AND 1000000000000), moment INTEGER NOT NULL CHECK (moment BETWEEN 0 AND 4102444799), rationale TEXT CHECK (length(rationale) BETWEEN 1 AND 200), PRIMARY KEY (contract, entry)) STRICT";
 
 /// The text that puts one.
-pub(crate) const PUT: &str = "INSERT INTO entries (contract, entry, kind, amount, moment, rationale) VALUES (?1, ?2, ?3, ?4, ?5, ?6) ON CONFLICT (contract, entry) DO UPDATE SET kind = ?3, amount = ?4, moment = ?5, rationale = ?6";
+pub(crate) const PUT: &str =
+    "INSERT INTO entries (contract, entry, kind, amount, moment, rationale) VALUES (?1, ?2, ?3, ?4, ?5, ?6) ON CONFLICT (contract, entry) DO UPDATE SET kind = ?3, amount = ?4, moment = ?5, rationale = ?6";
 
 /// The values of an entry of a contract.
 pub fn entry_values(row: &EntryRow) -> [ValueRef<'_>; 6]

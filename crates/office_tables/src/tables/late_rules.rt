@@ -17,10 +17,12 @@ use sqlite_value::value::ValueRef;
 use std::alloc::Global;
 
 /// The text that makes the table.
-pub(crate) const CREATE: &str = "CREATE TABLE late_rules (notice TEXT NOT NULL PRIMARY KEY CHECK (length(notice) BETWEEN 1 AND 32)) STRICT";
+pub(crate) const CREATE: &str =
+    "CREATE TABLE late_rules (notice TEXT NOT NULL PRIMARY KEY CHECK (length(notice) BETWEEN 1 AND 32)) STRICT";
 
 /// The text that puts one.
-pub(crate) const PUT: &str = "INSERT INTO late_rules (notice) VALUES (?1) ON CONFLICT (notice) DO UPDATE SET notice = ?1";
+pub(crate) const PUT: &str =
+    "INSERT INTO late_rules (notice) VALUES (?1) ON CONFLICT (notice) DO UPDATE SET notice = ?1";
 
 /// The values of the row that lets tenders for a notice be withdrawn late.
 pub fn late_values(row: &LateRow) -> [ValueRef<'_>; 1]

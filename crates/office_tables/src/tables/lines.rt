@@ -17,10 +17,12 @@ use sqlite_value::value::ValueRef;
 use std::alloc::Global;
 
 /// The text that makes the table.
-pub(crate) const CREATE: &str = "CREATE TABLE lines (line TEXT NOT NULL PRIMARY KEY CHECK (length(line) BETWEEN 1 AND 32), title TEXT NOT NULL CHECK (length(title) BETWEEN 1 AND 200), appropriation INTEGER NOT NULL CHECK (appropriation BETWEEN 0 AND 1000000000000000), free INTEGER NOT NULL CHECK (free BETWEEN 0 AND 1000000000000000)) STRICT";
+pub(crate) const CREATE: &str =
+    "CREATE TABLE lines (line TEXT NOT NULL PRIMARY KEY CHECK (length(line) BETWEEN 1 AND 32), title TEXT NOT NULL CHECK (length(title) BETWEEN 1 AND 200), appropriation INTEGER NOT NULL CHECK (appropriation BETWEEN 0 AND 1000000000000000), free INTEGER NOT NULL CHECK (free BETWEEN 0 AND 1000000000000000)) STRICT";
 
 /// The text that puts one.
-pub(crate) const PUT: &str = "INSERT INTO lines (line, title, appropriation, free) VALUES (?1, ?2, ?3, ?4) ON CONFLICT (line) DO UPDATE SET title = ?2, appropriation = ?3, free = ?4";
+pub(crate) const PUT: &str =
+    "INSERT INTO lines (line, title, appropriation, free) VALUES (?1, ?2, ?3, ?4) ON CONFLICT (line) DO UPDATE SET title = ?2, appropriation = ?3, free = ?4";
 
 /// The values of a budget line.
 pub fn line_values(row: &LineRow) -> [ValueRef<'_>; 4]

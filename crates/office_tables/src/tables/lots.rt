@@ -25,13 +25,15 @@ use sqlite_value::value::ValueRef;
 use std::alloc::Global;
 
 /// The text that makes the table.
-pub(crate) const CREATE: &str = "CREATE TABLE lots (notice TEXT NOT NULL CHECK (length(notice) BETWEEN 1 AND 32), lot TEXT NOT NULL CHECK (length(lot) BETWEEN 1 AND 32), title TEXT NOT NULL CHECK (length(title) BETWEEN 1 AND 200), line TEXT NOT NULL CHECK (length(line) BETWEEN 1 AND 32), estimate INTEGER NOT NULL CHECK (estimate BETWEEN 1 AND 1000000000000), security INTEGER NOT NULL CHECK (security BETWEEN 0 AND 1000000000000), items TEXT NOT NULL, state TEXT NOT NULL CHECK (state IN ('undecided', 'awarded', 'contracted', 'unsuccessful', 'cancelled')), reserved INTEGER NOT NULL CHECK (reserved BETWEEN 0 AND 1000000000000), PRIMARY KEY (notice, lot)) STRICT";
+pub(crate) const CREATE: &str =
+    "CREATE TABLE lots (notice TEXT NOT NULL CHECK (length(notice) BETWEEN 1 AND 32), lot TEXT NOT NULL CHECK (length(lot) BETWEEN 1 AND 32), title TEXT NOT NULL CHECK (length(title) BETWEEN 1 AND 200), line TEXT NOT NULL CHECK (length(line) BETWEEN 1 AND 32), estimate INTEGER NOT NULL CHECK (estimate BETWEEN 1 AND 1000000000000), security INTEGER NOT NULL CHECK (security BETWEEN 0 AND 1000000000000), items TEXT NOT NULL, state TEXT NOT NULL CHECK (state IN ('undecided', 'awarded', 'contracted', 'unsuccessful', 'cancelled')), reserved INTEGER NOT NULL CHECK (reserved BETWEEN 0 AND 1000000000000), PRIMARY KEY (notice, lot)) STRICT";
 
 /// The text that makes its index.
 pub(crate) const CREATE_INDEX: &str = "CREATE INDEX lots_of_line ON lots (line)";
 
 /// The text that puts one.
-pub(crate) const PUT: &str = "INSERT INTO lots (notice, lot, title, line, estimate, security, items, state, reserved) VALUES (?1, ?2, ?3, ?4, ?5, ?6, ?7, ?8, ?9) ON CONFLICT (notice, lot) DO UPDATE SET title = ?3, line = ?4, estimate = ?5, security = ?6, items = ?7, state = ?8, reserved = ?9";
+pub(crate) const PUT: &str =
+    "INSERT INTO lots (notice, lot, title, line, estimate, security, items, state, reserved) VALUES (?1, ?2, ?3, ?4, ?5, ?6, ?7, ?8, ?9) ON CONFLICT (notice, lot) DO UPDATE SET title = ?3, line = ?4, estimate = ?5, security = ?6, items = ?7, state = ?8, reserved = ?9";
 
 /// The values of a lot, whose items' text is handed in.
 pub fn lot_values<'a>(row: &'a LotRow, items: &'a [u8]) -> [ValueRef<'a>; 9]
@@ -137,9 +139,5 @@ pub fn put_lot<S: Alter>(
     ensures survives { Survives (state S.Store tx.old.conn.now) (state S.Store tx.new.conn.now) (λ _. ⊥) }
 {
     let items = items_text(alloc, &row.items)?;
-    put_row(
-        tx,
-        PUT,
-        &lot_values(row, items.as_slice()),
-    )
+    put_row(tx, PUT, &lot_values(row, items.as_slice()))
 }

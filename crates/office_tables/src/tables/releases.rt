@@ -18,10 +18,12 @@ use sqlite_value::value::ValueRef;
 use std::alloc::Global;
 
 /// The text that makes the table.
-pub(crate) const CREATE: &str = "CREATE TABLE releases (notice TEXT NOT NULL CHECK (length(notice) BETWEEN 1 AND 32), seq INTEGER NOT NULL CHECK (seq BETWEEN 1 AND 9999), moment INTEGER NOT NULL CHECK (moment BETWEEN 0 AND 4102444799), text TEXT NOT NULL, PRIMARY KEY (notice, seq)) STRICT";
+pub(crate) const CREATE: &str =
+    "CREATE TABLE releases (notice TEXT NOT NULL CHECK (length(notice) BETWEEN 1 AND 32), seq INTEGER NOT NULL CHECK (seq BETWEEN 1 AND 9999), moment INTEGER NOT NULL CHECK (moment BETWEEN 0 AND 4102444799), text TEXT NOT NULL, PRIMARY KEY (notice, seq)) STRICT";
 
 /// The text that puts one.
-pub(crate) const PUT: &str = "INSERT INTO releases (notice, seq, moment, text) VALUES (?1, ?2, ?3, ?4) ON CONFLICT (notice, seq) DO UPDATE SET moment = ?3, text = ?4";
+pub(crate) const PUT: &str =
+    "INSERT INTO releases (notice, seq, moment, text) VALUES (?1, ?2, ?3, ?4) ON CONFLICT (notice, seq) DO UPDATE SET moment = ?3, text = ?4";
 
 /// The values of a release.
 pub fn release_values(row: &ReleaseRow) -> [ValueRef<'_>; 4]

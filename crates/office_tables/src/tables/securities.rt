@@ -19,13 +19,15 @@ use sqlite_value::value::ValueRef;
 use std::alloc::Global;
 
 /// The text that makes the table.
-pub(crate) const CREATE: &str = "CREATE TABLE securities (security INTEGER NOT NULL PRIMARY KEY CHECK (security BETWEEN 1 AND 1000000000), tenderer TEXT NOT NULL CHECK (length(tenderer) BETWEEN 1 AND 32), notice TEXT NOT NULL CHECK (length(notice) BETWEEN 1 AND 32), lot TEXT NOT NULL CHECK (length(lot) BETWEEN 1 AND 32), reference TEXT NOT NULL CHECK (length(reference) BETWEEN 1 AND 32), amount INTEGER NOT NULL CHECK (amount BETWEEN 1 AND 1000000000000), state TEXT NOT NULL CHECK (state IN ('held', 'returned', 'forfeited'))) STRICT";
+pub(crate) const CREATE: &str =
+    "CREATE TABLE securities (security INTEGER NOT NULL PRIMARY KEY CHECK (security BETWEEN 1 AND 1000000000), tenderer TEXT NOT NULL CHECK (length(tenderer) BETWEEN 1 AND 32), notice TEXT NOT NULL CHECK (length(notice) BETWEEN 1 AND 32), lot TEXT NOT NULL CHECK (length(lot) BETWEEN 1 AND 32), reference TEXT NOT NULL CHECK (length(reference) BETWEEN 1 AND 32), amount INTEGER NOT NULL CHECK (amount BETWEEN 1 AND 1000000000000), state TEXT NOT NULL CHECK (state IN ('held', 'returned', 'forfeited'))) STRICT";
 
 /// The text that makes its index.
 pub(crate) const CREATE_INDEX: &str = "CREATE INDEX securities_of_notice ON securities (notice)";
 
 /// The text that puts one.
-pub(crate) const PUT: &str = "INSERT INTO securities (security, tenderer, notice, lot, reference, amount, state) VALUES (?1, ?2, ?3, ?4, ?5, ?6, ?7) ON CONFLICT (security) DO UPDATE SET tenderer = ?2, notice = ?3, lot = ?4, reference = ?5, amount = ?6, state = ?7";
+pub(crate) const PUT: &str =
+    "INSERT INTO securities (security, tenderer, notice, lot, reference, amount, state) VALUES (?1, ?2, ?3, ?4, ?5, ?6, ?7) ON CONFLICT (security) DO UPDATE SET tenderer = ?2, notice = ?3, lot = ?4, reference = ?5, amount = ?6, state = ?7";
 
 /// The values of a security.
 pub fn security_values(row: &SecurityRow) -> [ValueRef<'_>; 7]

@@ -18,10 +18,12 @@ use sqlite_value::value::ValueRef;
 use std::alloc::Global;
 
 /// The text that makes the table.
-pub(crate) const CREATE: &str = "CREATE TABLE tenderers (tenderer TEXT NOT NULL PRIMARY KEY CHECK (length(tenderer) BETWEEN 1 AND 32), name TEXT NOT NULL CHECK (length(name) BETWEEN 1 AND 200), address TEXT NOT NULL CHECK (length(address) BETWEEN 1 AND 200), key BLOB NOT NULL CHECK (length(key) = 32)) STRICT";
+pub(crate) const CREATE: &str =
+    "CREATE TABLE tenderers (tenderer TEXT NOT NULL PRIMARY KEY CHECK (length(tenderer) BETWEEN 1 AND 32), name TEXT NOT NULL CHECK (length(name) BETWEEN 1 AND 200), address TEXT NOT NULL CHECK (length(address) BETWEEN 1 AND 200), key BLOB NOT NULL CHECK (length(key) = 32)) STRICT";
 
 /// The text that puts one.
-pub(crate) const PUT: &str = "INSERT INTO tenderers (tenderer, name, address, key) VALUES (?1, ?2, ?3, ?4) ON CONFLICT (tenderer) DO UPDATE SET name = ?2, address = ?3, key = ?4";
+pub(crate) const PUT: &str =
+    "INSERT INTO tenderers (tenderer, name, address, key) VALUES (?1, ?2, ?3, ?4) ON CONFLICT (tenderer) DO UPDATE SET name = ?2, address = ?3, key = ?4";
 
 /// The values of a tenderer.
 pub fn tenderer_values(row: &TendererRow) -> [ValueRef<'_>; 4]
