@@ -12,7 +12,7 @@ use Rattle.office_base.specs.Tables.{Tables, no_tables, after_put}
 use Rattle.office_base.specs.declared.puts.Put.{Put}
 use Rattle.office_base.specs.declared.puts.Put.TheVariants as put
 use Rattle.office_base.specs.declared.records.ClockRow.{ClockRow}
-use Rattle.office_tables.specs.Forms.{Form, StandsAs}
+use Rattle.office_tables.specs.Forms.{Form, RowsStand}
 use Rattle.office_tables.specs.Kept.{Stand}
 use Rattle.office_tables.specs.Known.{IsIn, Places, HasTables}
 use Rattle.office_tables.specs.Making.{AreIndexings}
@@ -93,7 +93,7 @@ all_indexings = ((Lots, lots_of_line, indexes_lots_of_line, refl), ((Envelopes, 
 -- ---- what each put makes
 
 puts_by : (k : OfficeTable) {K X : Type 0} (f : Form K X) (s : Shape) (p : Put) (x : X) (part : Tables → List X) → IsPutOf k f s (statement_of p)
-    → ((t : Tables) (rows : OfficeTable → List Row) → Stands rows t → StandsAs f (rows k) (part t)) → StaysBeside k f p x part → ((v : Value) → f.back (f.stored v x) ≡ x) → values_of_put p ≡ f.row x
+    → ((t : Tables) (rows : OfficeTable → List Row) → Stands rows t → RowsStand f (rows k) (part t)) → StaysBeside k f p x part → ((v : Value) → f.back (f.stored v x) ≡ x) → values_of_put p ≡ f.row x
     → (old new : State) (count : ℕ) → ExecutesInside 0 (statement_of p) (values_of_put p) old new (Ok count) → Puts old new (p ∷ [])
 puts_by k f s p x part of stood beside back same old new count h =
     goes_with old new p h.1 (λ t was. made_of (statement_of p) (values_of_put p) old new _ (put_means of old.now.schema (was.places k) (was.tables k)) refl refl count h.0) (λ t was.

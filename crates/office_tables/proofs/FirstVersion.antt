@@ -38,7 +38,7 @@ use Rattle.office_tables.specs.Making.{AreMade, KeepsOffice, Makes}
 use Rattle.office_tables.specs.Schema.{OfficeTable, table_of, StandFor}
 use Rattle.office_tables.specs.Standing.{Stands, Holds}
 use Rattle.office_tables.specs.Version.{HasVersion}
-use Rattle.office_tables.specs.Forms.{StandsAs}
+use Rattle.office_tables.specs.Forms.{RowsStand}
 use Rattle.office_tables.specs.declared.tables.office.FormerClock.{FormerClock}
 use Rattle.office_tables.specs.declared.tables.notices.FormerNotice.{FormerNotice}
 use Rattle.office_tables.specs.Schema.OfficeTable.{Notices, LateRules, FormerNotices, Performances, Office}
@@ -69,7 +69,7 @@ pub second_version : (db : Database) (t : Tables) → Holds db t → HasVersion 
 second_version db t was = record { place = was.places Office; table = was.tables Office; stand = was.stands Office }
 
 -- they stand in `notices`
-pub former_there : (db : Database) (t : Tables) (n : ℕ) → StandsFirst db t FormerNotices n → IsIn db.schema former_notices n × StandsAs former_form (db.trees n) t.notices
+pub former_there : (db : Database) (t : Tables) (n : ℕ) → StandsFirst db t FormerNotices n → IsIn db.schema former_notices n × RowsStand former_form (db.trees n) t.notices
 former_there db t n (inl it) = it
 former_there db t n (inr it) = absurd it.1
 
@@ -148,11 +148,11 @@ ready late old new t made stays there was =
     record { sound = made.sound; places = λ k. (stands k).0; tables = λ k. (stands k).1; stands = λ k. (stands k).2 }
 
 -- `notices` and `office` were there
-former_stands : (rows : List Row) (t : Tables) → StandsOrMade FormerNotices rows t → StandsAs former_form rows t.notices
+former_stands : (rows : List Row) (t : Tables) → StandsOrMade FormerNotices rows t → RowsStand former_form rows t.notices
 former_stands rows t (inl stand) = stand
 former_stands rows t (inr it) = absurd it.1
 
-clock_stands : (rows : List Row) (t : Tables) → StandsOrMade Office rows t → StandsAs (clock_form_of 1) rows (t.clock ∷ [])
+clock_stands : (rows : List Row) (t : Tables) → StandsOrMade Office rows t → RowsStand (clock_form_of 1) rows (t.clock ∷ [])
 clock_stands rows t (inl stand) = stand
 clock_stands rows t (inr it) = absurd it.1
 
@@ -236,7 +236,7 @@ module _ {S : Type 0} (g : Ghosts S) (late : Bool) (clock : ClockRow) (old : Sta
       (numbered (clock_stands (first.now.trees (p Office)) t (subst (λ rows. StandsOrMade Office rows t) (sym clock_at) (there.stands Office)))) it.freed.1.0 in
       let tables_2 : HasTables second.now.schema p = subst (λ s. HasTables s p) (sym two.schema) tables_1 in
       let empty : second.now.trees (p Office) ≡ [] = ap (λ (f : OfficeTable → List Row). f Office) two.rows in
-      let none : StandsAs clock_form (second.now.trees (p Office)) [] = no_rows empty in
+      let none : RowsStand clock_form (second.now.trees (p Office)) [] = no_rows empty in
       let done = puts_row Office bare clock_form clock_shape clock_put.stored second new p tables_2 upsert_office clock it.put.0 []
       (put_means clock_put second.now.schema (p Office) (tables_2 Office)) (λ v. refl) none it.put.1.0 in
       let rows : (λ j. new.now.trees (p j)) ≡ with_rows (with_rows (with_rows (λ j. mid.now.trees (p j)) FormerNotices []) Office []) Office (new.now.trees (p Office)) =

@@ -10,7 +10,7 @@ use Rattle.office_tables.specs.Schema.{all_tables}
 use Rattle.office_tables.specs.Known.{Places, HasTables}
 use Rattle.office_tables.specs.Standing.{Stands, Holds}
 use Rattle.office_tables.specs.Making.{AreMade, KeepsOthers, AreNew}
-use Rattle.office_tables.specs.Forms.{StandsAs}
+use Rattle.office_tables.specs.Forms.{RowsStand}
 use Rattle.sqlite_schema.specs.declared.schema.Schema.{Schema}
 use Rattle.sqlite_schema.specs.declared.schema.Table.{Table}
 use Rattle.sqlite_rules.specs.Lists.{Has}
@@ -37,7 +37,7 @@ unfolding row_put
 founds old new x count was h =
     let places : Places = λ k. (found k was.each).0 in
     let tables : HasTables old.now.schema places = λ k. (found k was.each).1 in
-    let empty : StandsAs clock_form (old.now.trees (places Office)) [] = nothing (found Office was.each).2 in
+    let empty : RowsStand clock_form (old.now.trees (places Office)) [] = nothing (found Office was.each).2 in
     let done = puts_row Office bare clock_form clock_shape clock_put.stored old new places tables upsert_office x count [] (put_means clock_put old.now.schema (places Office) (tables Office)) (λ v. refl) empty h in
     record {
       sound = done.sound;

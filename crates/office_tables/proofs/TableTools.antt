@@ -27,7 +27,7 @@ unfoldable pub use Rattle.office_base.specs.Rows.{row_put}
 pub use Rattle.office_base.specs.Tables.{Tables, same_number, after_put}
 pub use Rattle.office_base.proofs.ExactKeys.{ids_exact, lots_exact, entries_exact, releases_exact, same_id_is}
 pub use Rattle.office_base.proofs.Orders.{lots_total, entries_total, releases_total}
-pub use Rattle.office_tables.specs.Forms.{text_column, number_column, StandsAs}
+pub use Rattle.office_tables.specs.Forms.{text_column, number_column, RowsStand}
 pub use Rattle.office_tables.specs.Known.{IsIn, at_tree}
 pub use Rattle.office_tables.specs.Making.{IsIndexing}
 pub use Rattle.office_tables.specs.Standing.{Holds, Stands}
@@ -90,4 +90,4 @@ put_means {k} {s} {text} of schema n it =
 -- where all tables stand for the content, and one is changed as the put changes it, all stand for the content behind the put
 abbrev pub StaysBeside : OfficeTable → {K X : Type 0} → Form K X → Put → X → (Tables → List X) → Type 0
 StaysBeside k f p x part =
-    (t : Tables) (rows : OfficeTable → List Row) (changed : List Row) → Stands rows t → StandsAs f changed (row_put f.cmp f.key (part t) x) → Stands (with_rows rows k changed) (after_put p t)
+    (t : Tables) (rows : OfficeTable → List Row) (changed : List Row) → Stands rows t → RowsStand f changed (row_put f.cmp f.key (part t) x) → Stands (with_rows rows k changed) (after_put p t)

@@ -11,7 +11,7 @@ use Rattle.sqlite.specs.Held.{Held, state}
 use Rattle.sqlite.specs.State.{State, HasCleanDisk, ExecutesInside}
 use Rattle.office_base.specs.Tables.{Tables}
 use Rattle.office_base.specs.declared.records.ClockRow.{ClockRow}
-use Rattle.office_tables.specs.Forms.{StandsAs}
+use Rattle.office_tables.specs.Forms.{RowsStand}
 use Rattle.office_tables.specs.Tables.Notices.{former_form}
 use Rattle.office_tables.specs.Tables.Office.{clock_values, clock_form_of, upsert_office}
 use Rattle.office_tables.specs.Apart.{AddsNoReference, LeadsInside}
@@ -37,8 +37,8 @@ tables_since_version_1 false = Performances ∷ Notices ∷ LateRules ∷ []
 
 -- the rows of a table of version 1 stand for its part of the content: `notices` for notices that ask for no performance securities, `office` for the clock behind version 1
 abbrev pub StandForFirst : OfficeTable → List Row → Tables → Type 0
-StandForFirst FormerNotices rows t = StandsAs former_form rows t.notices
-StandForFirst Office rows t = StandsAs (clock_form_of 1) rows (t.clock ∷ [])
+StandForFirst FormerNotices rows t = RowsStand former_form rows t.notices
+StandForFirst Office rows t = RowsStand (clock_form_of 1) rows (t.clock ∷ [])
 StandForFirst Notices rows t = ⊥
 StandForFirst Performances rows t = ⊥
 StandForFirst k rows t = StandFor k rows t

@@ -99,5 +99,5 @@ abbrev pub rowid_form : {K X : Type 0} → Table → (K → K → Ordering) → 
 rowid_form table cmp key row read = record { table = table; cmp = cmp; key = key; row = row; read = read; stored = by_rowid row; back = read_by_rowid read }
 
 -- the rows of a tree stand for these records, as a table of this form keeps them
-abbrev pub StandsAs : {K X : Type 0} → Form K X → List Row → List X → Type 0
-StandsAs f rows xs = Stand f.cmp f.key f.stored f.back rows xs
+abbrev pub RowsStand : {K X : Type 0} → Form K X → List Row → List X → Type 0
+RowsStand f rows xs = Stand f.cmp f.key f.stored f.back rows xs

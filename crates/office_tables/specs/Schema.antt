@@ -7,7 +7,7 @@ use Rattle.office_base.specs.Tables.{Tables}
 use Rattle.office_base.specs.declared.puts.Put.{Put}
 use Rattle.office_base.specs.declared.puts.Put.TheVariants as put
 use Rattle.office_tables.specs.ItemTexts.{items_text, items_in_text}
-use Rattle.office_tables.specs.Forms.{StandsAs}
+use Rattle.office_tables.specs.Forms.{RowsStand}
 use Rattle.office_tables.specs.Tables.Lines.{lines, create_lines, upsert_lines, line_values, line_form}
 use Rattle.office_tables.specs.Tables.Batches.{batches, create_batches, upsert_batches, batch_values, batch_form}
 use Rattle.office_tables.specs.Tables.Tenderers.{tenderers, create_tenderers, upsert_tenderers, tenderer_values, tenderer_form}
@@ -92,23 +92,23 @@ all_tables =
 
 -- the rows of a table stand for its part of an office's content; the clock stands in the one row of `office`
 abbrev pub StandFor : OfficeTable → List Row → Tables → Type 0
-StandFor Lines rows t = StandsAs line_form rows t.lines
-StandFor Batches rows t = StandsAs batch_form rows t.batches
-StandFor Tenderers rows t = StandsAs tenderer_form rows t.tenderers
-StandFor Notices rows t = StandsAs notice_form rows t.notices
-StandFor Lots rows t = StandsAs lot_form rows t.lots
-StandFor Envelopes rows t = StandsAs envelope_form rows t.envelopes
-StandFor Seals rows t = StandsAs seal_form rows t.seals
-StandFor Securities rows t = StandsAs security_form rows t.securities
-StandFor Awards rows t = StandsAs award_form rows t.awards
-StandFor Contracts rows t = StandsAs contract_form rows t.contracts
-StandFor Entries rows t = StandsAs entry_form rows t.entries
-StandFor Releases rows t = StandsAs release_form rows t.releases
-StandFor Compiled rows t = StandsAs compiled_form rows t.compiled
-StandFor Office rows t = StandsAs clock_form rows (t.clock ∷ [])
-StandFor LateRules rows t = StandsAs late_form rows t.late_rules
+StandFor Lines rows t = RowsStand line_form rows t.lines
+StandFor Batches rows t = RowsStand batch_form rows t.batches
+StandFor Tenderers rows t = RowsStand tenderer_form rows t.tenderers
+StandFor Notices rows t = RowsStand notice_form rows t.notices
+StandFor Lots rows t = RowsStand lot_form rows t.lots
+StandFor Envelopes rows t = RowsStand envelope_form rows t.envelopes
+StandFor Seals rows t = RowsStand seal_form rows t.seals
+StandFor Securities rows t = RowsStand security_form rows t.securities
+StandFor Awards rows t = RowsStand award_form rows t.awards
+StandFor Contracts rows t = RowsStand contract_form rows t.contracts
+StandFor Entries rows t = RowsStand entry_form rows t.entries
+StandFor Releases rows t = RowsStand release_form rows t.releases
+StandFor Compiled rows t = RowsStand compiled_form rows t.compiled
+StandFor Office rows t = RowsStand clock_form rows (t.clock ∷ [])
+StandFor LateRules rows t = RowsStand late_form rows t.late_rules
 StandFor FormerNotices rows t = rows ≡ []
-StandFor Performances rows t = StandsAs performance_form rows t.performances
+StandFor Performances rows t = RowsStand performance_form rows t.performances
 
 -- the text of a change
 abbrev pub statement_of : Put → List ℕ

@@ -9,7 +9,7 @@ use Rattle.sqlite.specs.Held.{Held}
 use Rattle.sqlite.specs.State.{State}
 use Rattle.sqlite.specs.declared.error.Error.TheVariants.{SqlInputError}
 use Rattle.office_base.specs.declared.records.ClockRow.{ClockRow}
-use Rattle.office_tables.specs.Forms.{StandsAs}
+use Rattle.office_tables.specs.Forms.{RowsStand}
 use Rattle.office_tables.specs.Tables.Office.{clock_form_of, office}
 use Rattle.office_tables.specs.Known.{IsIn}
 use Rattle.office_tables.specs.Steps.{IsRefusal}
@@ -25,7 +25,7 @@ one_version n = (Int (pos n) ∷ []) ∷ []
 pub record HasVersion (n : ℕ) (clock : ClockRow) (db : Database) : Type 0 where
   pub place : ℕ
   pub table : IsIn db.schema office place
-  pub stand : StandsAs (clock_form_of n) (db.trees place) (clock ∷ [])
+  pub stand : RowsStand (clock_form_of n) (db.trees place) (clock ∷ [])
 
 -- in the last commit of an open store
 abbrev pub ShowsVersion : ℕ → ClockRow → State → Type 0

@@ -1,5 +1,5 @@
 -- Notices: what is shown of their table, of the text that puts one, and of each question.
-use Rattle.office_tables.proofs.TableTools.{◌≡◌, inl, ◌∷◌, [], List, ℕ, pos, None, Some, codes, refl, ap, ◌∙◌, true, map, slice_get, drop, option_map, range_with_len, is_lt, nat_list_cmp_total, Int, Text, Binary, first_key, Row, value_cmp-Text, col, op2, Compare, Gt, same_name, Schema, Select, alone, chosen, first_found, max_budget, first, everything, State, Shown, id_cmp, same_id, Tables, ids_exact, same_id_is, text_column, IsIn, at_tree, StandsAs, Holds, cast_null, cast_int, cast_perhaps, texts_equal, equal_texts, one_true, only_true, text_tested, and_true, then_equal, text_above, indexed, StatementMeans, parsed_in, parameter_counts, equals_e, above_e, count_e, names_of, outputs_of, Has, no_test, one_test, above_test, out_parameter, select, capped_select, columns_of, left, IsSelect, IsCapped, selects_mean, capped_selects_mean, found_by_tree, gets, lists, pages, filter-all, Shape, behind_rowid, columns_in, rows_in, clause_in, IsStored, ReadsTable, creates_it, IsOfficeTable, IsPutText, IsPutOf, StaysBeside}
+use Rattle.office_tables.proofs.TableTools.{◌≡◌, inl, ◌∷◌, [], List, ℕ, pos, None, Some, codes, refl, ap, ◌∙◌, true, map, slice_get, drop, option_map, range_with_len, is_lt, nat_list_cmp_total, Int, Text, Binary, first_key, Row, value_cmp-Text, col, op2, Compare, Gt, same_name, Schema, Select, alone, chosen, first_found, max_budget, first, everything, State, Shown, id_cmp, same_id, Tables, ids_exact, same_id_is, text_column, IsIn, at_tree, RowsStand, Holds, cast_null, cast_int, cast_perhaps, texts_equal, equal_texts, one_true, only_true, text_tested, and_true, then_equal, text_above, indexed, StatementMeans, parsed_in, parameter_counts, equals_e, above_e, count_e, names_of, outputs_of, Has, no_test, one_test, above_test, out_parameter, select, capped_select, columns_of, left, IsSelect, IsCapped, selects_mean, capped_selects_mean, found_by_tree, gets, lists, pages, filter-all, Shape, behind_rowid, columns_in, rows_in, clause_in, IsStored, ReadsTable, creates_it, IsOfficeTable, IsPutText, IsPutOf, StaysBeside}
 use Rattle.office_base.specs.declared.puts.Put.TheVariants as put
 use Rattle.office_base.specs.declared.records.NoticeRow.{NoticeRow}
 use Rattle.office_base.specs.Tables.{notice_at}
@@ -136,7 +136,7 @@ list_former_means schema n it =
     (no_test schema it.place (at_tree former_notices n) it.found former_notices.name (outputs_of (at_tree former_notices n) [] (columns_of former_notices)) (left (columns_of former_notices)) _)
     (refl, refl, refl, tt) (refl, tt) (rw (it.stored, found_by_tree schema former_notices n it))
 
-pub select_list_former : (old new : State) (rows : List Row) (place : ℕ) (table : IsIn old.now.schema former_notices place) (xs : List NoticeRow) → StandsAs former_form (old.now.trees place) xs → Shown list_former ([]) old new rows → map former_read rows ≡ xs
+pub select_list_former : (old new : State) (rows : List Row) (place : ℕ) (table : IsIn old.now.schema former_notices place) (xs : List NoticeRow) → RowsStand former_form (old.now.trees place) xs → Shown list_former ([]) old new rows → map former_read rows ≡ xs
 select_list_former old new rows place table xs stand h =
     lists former_form.cmp nat_list_cmp_total ids_exact former_form.key former_form.stored former_form.back former_form.row former_form.read (λ v x. refl) old new rows place xs stand list_former ([]) ([]) (range_with_len 1 11) (1 ∷ []) _ (list_former_means old.now.schema place table) (λ (x : NoticeRow). true) (λ v x. refl)
     (λ (x : NoticeRow). Text x.notice ∷ []) (λ v x. refl) (λ x y. then_equal _ ∙ ap is_lt (value_cmp-Text x.notice y.notice)) h ∙ filter-all xs
