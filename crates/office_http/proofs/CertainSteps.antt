@@ -152,8 +152,8 @@ module _ (settings : Settings) (s : Tables) (moment : ℕ) (text : List ℕ) (Ri
 
   pub certain_nobody : (route : Route) (refusal : Refusal) → takes ≡ Ok route → (Err refusal ≡ asker) ⊎ (Err refusal ≡ no_caller) → (Err refusal ≡ no_caller → Rises)
       → text ≡ response_of (Refused refusal None) → Certain (meant settings request s)
-  certain_nobody route refusal at (inl by) risen is none =
-      certain_refusal text Rises s moment (meant settings request s) refusal None (means route (Err refusal) at (sym by)) is
+  certain_nobody route refusal at (inl by) risen is none why refused =
+      certain_refusal text Rises s moment (meant settings request s) refusal None (means route (Err refusal) at (sym by)) is why refused
   certain_nobody route refusal at (inr wanting) risen is none why refused = inr (risen wanting)
 
   pub certain_asked : (route : Route) (caller : Caller) (read : Result Asked Refusal) → takes ≡ Ok route → (Ok caller ≡ asker) ⊎ (Ok caller ≡ no_caller)
