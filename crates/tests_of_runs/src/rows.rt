@@ -23,7 +23,7 @@ struct Lines {
 impl Lines {
     fn put(&mut self, field: &[u8]) -> Result<(), AllocError> {
         self.bytes.extend_from_slice(field)?;
-        self.bytes.push(b'\t')
+        self.bytes.extend_from_slice(b"\t")
     }
 
     fn put_id(&mut self, id: &Id) -> Result<(), AllocError> {
@@ -67,7 +67,7 @@ impl Lines {
     }
 
     fn end(&mut self) -> Result<(), AllocError> {
-        self.bytes.push(b'\n')
+        self.bytes.extend_from_slice(b"\n")
     }
 }
 
@@ -396,7 +396,8 @@ fn put_of_notice<H: Lookups>(
     put_releases(lines, shelf, &row.notice)
 }
 
-/// All rows of an office to which nothing but these blocks was sent.
+/// All rows of an office to which nothing but these blocks was sent. Batches are asked for by the names that the blocks give them, since no list has them. What
+/// belongs to a notice, a tender or a contract is found by it: a row whose notice, tender or contract isn't there isn't seen.
 pub(crate) fn rows_of<H: Lookups>(
     alloc: Global,
     shelf: &mut H,
@@ -410,6 +411,5 @@ pub(crate) fn rows_of<H: Lookups>(
     for row in shelf.list_notices_after(None, u32::MAX)? {
         put_of_notice(&mut lines, shelf, &row)?;
     }
-    let Lines { alloc: _, bytes } = lines;
-    Ok(bytes)
+    Ok(lines.bytes)
 }
