@@ -152,8 +152,8 @@ module _ (settings : Settings) (s : Tables) (moment : ℕ) (text : List ℕ) (Ri
 
   pub certain_nobody : (route : Route) (refusal : Refusal) → takes ≡ Ok route → (Err refusal ≡ asker) ⊎ (Err refusal ≡ no_caller) → (Err refusal ≡ no_caller → Rises)
       → text ≡ response_of (Refused refusal None) → Certain (meant settings request s)
-  certain_nobody route refusal at (inl by) risen is none =
-      certain_refusal text Rises s moment (meant settings request s) refusal None (means route (Err refusal) at (sym by)) is
+  certain_nobody route refusal at (inl by) risen is none why refused =
+      certain_refusal text Rises s moment (meant settings request s) refusal None (means route (Err refusal) at (sym by)) is why refused
   certain_nobody route refusal at (inr wanting) risen is none why refused = inr (risen wanting)
 
   pub certain_asked : (route : Route) (caller : Caller) (read : Result Asked Refusal) → takes ≡ Ok route → (Ok caller ≡ asker) ⊎ (Ok caller ≡ no_caller)
@@ -162,6 +162,6 @@ module _ (settings : Settings) (s : Tables) (moment : ℕ) (text : List ℕ) (Ri
   certain_asked route caller read at (inr never) path forbidden found certain = absurd (cc never)
   certain_asked route caller read at (inl by) path forbidden found certain =
       let here : is_found takes asker ≡ is_found (Ok route) (Ok caller) =
-          ap (λ (r : Result Route Reason). is_found r asker) at ∙ ap (λ (c : Result Caller Refusal). is_found (Ok route) c) (sym by) in
+      ap (λ (r : Result Route Reason). is_found r asker) at ∙ ap (λ (c : Result Caller Refusal). is_found (Ok route) c) (sym by) in
       let is : read ≡ asked_by_route caller route request = found_read request route caller read path forbidden (sym here ∙ found) in
       subst (λ (m : Meant). Certain m) (ap (λ (r : Result Asked Refusal). meant_asked caller r) is ∙ sym (means route (Ok caller) at (sym by))) certain

@@ -64,12 +64,11 @@ returns-clause-changes g c honest s held =
     let before = c.answer_asked.ensures.before honest in
     elim (c.answer_asked.ensures.changes honest s (c.caller_of.ensures.looks.0.same before s held)) [
       | inl same ↦ inl same
-      | inr (gives, reply, is) ↦
+      | inr (gives, shown) ↦
           inr (
             asked_gives c.args.desk.now.settings s c.answer_asked.result c.args.request.now c.in-Ok.route c.in-Ok-caller_of.caller c.command_of-asked.result (sym c.in-Ok.ensures)
                 (c.in-Ok-caller_of.ensures.looks.1 before s held) c.command_of-asked.ensures.asked gives,
-            reply,
-            is,
+            shown,
           )
     ]
 

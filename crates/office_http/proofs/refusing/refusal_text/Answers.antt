@@ -17,7 +17,7 @@ returns c =
     let shown = length c.bytes.result.now in
     let size : shown ≡ length body = ap length (c.bytes.ensures.bytes ∙ c.refusal_object-body.ensures.body) in
     let same : head_start c.status-status.result json shown ≡ head_start (status_of_refusal refusal) json (length body) =
-        ap (λ (st : ℕ). head_start st json shown) c.status-status.ensures ∙ ap (λ (n : ℕ). head_start (status_of_refusal refusal) json n) size in
+    ap (λ (st : ℕ). head_start st json shown) c.status-status.ensures ∙ ap (λ (n : ℕ). head_start (status_of_refusal refusal) json n) size in
     let allow : c.as_bytes.result.now ≡ allow_field c.args.method = c.as_bytes.ensures.value ∙ c.allow_field.ensures in
     let challenge : c.as_bytes-2.result.now ≡ challenge_field (status_of_refusal refusal) = c.as_bytes-2.ensures.value ∙ c.challenge_field.ensures ∙ ap challenge_field c.status-status.ensures in
     let all = fits_then _ _ _ _ _
