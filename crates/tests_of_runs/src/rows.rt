@@ -142,7 +142,18 @@ fn put_lot(lines: &mut Lines, row: &LotRow) -> Result<(), AllocError> {
     lines.end()
 }
 
-fn put_reading(lines: &mut Lines, reading: Option<Reading>) -> Result<(), AllocError> {
+fn put_price(
+    lines: &mut Lines,
+    stated: u64,
+    corrected: u64,
+    corrections: u64,
+) -> Result<(), AllocError> {
+    lines.put_number(stated)?;
+    lines.put_number(corrected)?;
+    lines.put_number(corrections)
+}
+
+fn put_reading(lines: &mut Lines, reading: &Option<Reading>) -> Result<(), AllocError> {
     match reading {
         None => lines.put(b"-"),
         Some(Reading::Unreadable) => lines.put(b"unreadable"),
@@ -151,11 +162,12 @@ fn put_reading(lines: &mut Lines, reading: Option<Reading>) -> Result<(), AllocE
             stated,
             corrected,
             corrections,
-        }) => {
-            lines.put_number(stated.units())?;
-            lines.put_number(corrected.units())?;
-            lines.put_number(corrections.get())
-        }
+        }) => put_price(
+            lines,
+            stated.units(),
+            corrected.units(),
+            corrections.get(),
+        ),
     }
 }
 
@@ -175,7 +187,7 @@ fn put_envelope(lines: &mut Lines, row: &EnvelopeRow) -> Result<(), AllocError> 
     put_received(lines, row)?;
     lines.put_optional(row.security.map(|number| number.get()))?;
     lines.put_number(row.state as u64)?;
-    put_reading(lines, row.reading)?;
+    put_reading(lines, &row.reading)?;
     lines.put_bool_or_none(row.responsive)?;
     lines.put_optional(row.quality.map(|quality| quality.get()))?;
     lines.put_bool_or_none(Some(row.failed))?;
