@@ -16,7 +16,7 @@ use procure_programs::serving::{serve_at, take_one};
 use sqlite::Alter;
 use std::alloc::{AllocError, Global};
 use std::io;
-use std::io::{BufReader, Cursor, ErrorKind, Read};
+use std::io::{Cursor, ErrorKind, Read};
 use std::net::SocketAddrV4;
 use std::time::Duration;
 use tests_sql_office::office::{SqlOffice, in_sql};
@@ -38,7 +38,7 @@ impl Host for Scripted {
 
     type Writer = Vec<u8>;
 
-    ghost events = { record { takes = λ _ _ _. Unit {0}; tells = λ _ _ _. Unit {0}; closes = λ _ _ _ _. Unit {0} } };
+    ghost events = { record { takes = λ _ _ _. Unit {0}; tells = λ _ _ _. Unit {0}; closes = λ _ _ _. Unit {0} } };
 
     fn accept(&mut self) -> Option<(&'static [u8], Vec<u8>)> {
         let came = *self.came.get(self.taken)?;
@@ -53,13 +53,8 @@ impl Host for Scripted {
         Some(Duration::from_secs(second))
     }
 
-    fn close(
-        &mut self,
-        _reader: Option<CountedReader<BufReader<&'static [u8]>>>,
-        writer: WatchedWriter<Vec<u8>>,
-    ) {
-        let written = writer.into_inner();
-        let _ = self.told.extend_from_slice(&written);
+    fn close(&mut self, writer: Vec<u8>) {
+        let _ = self.told.extend_from_slice(&writer);
     }
 }
 
@@ -150,7 +145,7 @@ fn ends_alone<H: Shelf + Drop>(alloc: Global, shelf: H) -> bool {
         return false;
     };
     let mut full = WatchedWriter::new(Cursor::new([0u8; 20]));
-    let (_reader, ended) = serve_connection(alloc, &mut office, Moment::EPOCH, IMPORT, &mut full);
+    let ended = serve_connection(alloc, &mut office, Moment::EPOCH, IMPORT, &mut full);
     let mut host = host(alloc, &LATER, Some(BEGIN));
     let is_seen = matches!(take_one(alloc, &mut host, &mut office), Ok(true));
     matches!(ended, Err(RunFault::Write)) && is_seen && host.told.as_slice() == LOOKED
@@ -178,13 +173,7 @@ fn tells_nothing<H: Shelf + Drop>(alloc: Global, shelf: H) -> bool {
     };
     let mut written = WatchedWriter::new(Vec::new(alloc));
     let reader = Broken { rest: CUT };
-    let (_reader, ended) = serve_connection(
-        alloc,
-        &mut office,
-        Moment::EPOCH,
-        reader,
-        &mut written,
-    );
+    let ended = serve_connection(alloc, &mut office, Moment::EPOCH, reader, &mut written);
     matches!(ended, Err(RunFault::Read)) && written.into_inner().is_empty()
 }
 
