@@ -11,7 +11,7 @@ use Rattle.office_base.specs.Shelves.{Meaning}
 use Rattle.office_base.specs.Tables.{Tables}
 use Rattle.office_desk.specs.Desks.{DeskOf}
 use Rattle.office_desk.specs.Steps.{IsSeen}
-use Rattle.office_wire.specs.Sending.{AppendsPart}
+use Rattle.office_wire.specs.Sending.{AppendsPart, WriterView}
 use Rattle.office_wire.specs.Runs.{Served}
 use Rattle.office_wire.specs.declared.fault.ReadFault.TheVariants as fault
 use Rattle.office_wire.specs.declared.fault.RunFault.{RunFault}
@@ -20,7 +20,7 @@ use Rattle.office_http.specs.Answering.{fault_text, held_by, office_answers}
 use Rattle.procure_config.specs.declared.fault.ProgramFault.{ProgramFault}
 use Rattle.procure_config.specs.declared.fault.ProgramFault.TheVariants.{Arguments, Settings, Store, Input, Output, Refused}
 use Rattle.procure_programs.specs.Showing.{IsOfPrinting, IsPrinted, IsOfOffice, IsShown}
-use Rattle.procure_programs.specs.Turns.{AnswersConnection}
+use Rattle.procure_programs.specs.Turns.{AnswersConnection, EndsConnection}
 
 -- ---- a buffer over a reader
 
@@ -38,6 +38,11 @@ buffers remaining reader buffered inner empty capacity =
     ∙ ap remaining inner
 
 -- ---- a connection for whose buffer there is no memory
+
+pub ended_refused : (written : WriterView) (result : Result ⊤ RunFault) → OnOk result (written.is_flushed ≡ true) → OnErr result (written.has_failed ≡ true)
+    → IfErr result (λ (why : RunFault). why ≡ ends.Write) → EndsConnection result None written
+ended_refused written (Ok done) flushed failed is = record { flushed = flushed; cut = λ same. absurd (cc same); stopped = λ same. absurd (cc same) }
+ended_refused written (Err why) flushed failed is = record { flushed = tt; cut = λ same. failed; stopped = λ same. absurd (cc (same, is)) }
 
 module _ {S : Type 0} (M : Meaning S) (moment : ℕ) (came before after : Option (List ℕ)) (office : DeskOf S) where
   pub refused_connection : (result : Result ⊤ RunFault) → OnOk result (Appends before after (fault_text fault.Unavailable))

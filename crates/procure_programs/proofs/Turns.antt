@@ -27,7 +27,7 @@ module _ {S T R W : Type 0} (N : Hosting T R W) (M : Meaning S) (before taken : 
 
   pub served_one : (told after : T) (left : W) (old new : DeskOf S) (moment : ℕ) (ended : Result ⊤ RunFault) (begun over : Option (List ℕ)) → TellsMoment N.events taken told (Ok moment)
       → begun ≡ N.contents writer → N.contents left ≡ over → AnswersConnection M moment (N.remaining reader) begun over old new ended → StopsOnce M moment old new
-      → (M.honest new.shelf → M.honest old.shelf) → N.events.closes told left after → TakesOne N M before after old new (Ok true)
+      → (M.honest new.shelf → M.honest old.shelf) → N.events.closes told left ended after → TakesOne N M before after old new (Ok true)
   served_one told after left old new moment ended begun over (nanos, tells, is) at_first at_last answers once honest closes = record {
     reader = reader;
     writer = writer;

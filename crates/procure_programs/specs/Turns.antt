@@ -1,5 +1,5 @@
 -- How an office in a store is served, one connection after another, until its store is shut.
-use Rattle.std.specs.Prelude.{◌≡◌, ◌⊎◌, ⊤, ℕ, zero, suc, ◌<◌, Bool, true, false, List, Option, Some, None, Result, Ok, Err, IsTrue}
+use Rattle.std.specs.Prelude.{◌≡◌, ◌⊎◌, ⊤, ℕ, zero, suc, ◌<◌, Bool, true, false, List, Option, Some, None, Result, Ok, Err, IsErrOf, IsTrue, OnOk}
 use Rattle.std.specs.Result.{result_unwrap_or}
 use Rattle.std.specs.declared.net.socket_addr.SocketAddrV4.{SocketAddrV4}
 use Rattle.office_base.specs.Shelves.{Meaning}
@@ -8,13 +8,23 @@ use Rattle.office_base.specs.declared.shelf.ShelfFault.{ShelfFault}
 use Rattle.office_base.specs.Shutting.{Standing, TellsShut}
 use Rattle.office_desk.specs.Desks.{DeskOf}
 use Rattle.office_publications.specs.Standing.{IsReached}
+use Rattle.office_wire.specs.Counting.{HasStopped, ReaderView}
 use Rattle.office_wire.specs.Runs.{Served}
+use Rattle.office_wire.specs.Sending.{WriterView}
 use Rattle.office_wire.specs.declared.fault.RunFault.{RunFault}
+use Rattle.office_wire.specs.declared.fault.RunFault.TheVariants as ends
 use Rattle.office_http.specs.Answering.{Held, StandsAs, held_by, office_answers}
 use Rattle.office_http.specs.Stops.{StopsOnce}
 use Rattle.procure_config.specs.declared.fault.ProgramFault.{ProgramFault}
 use Rattle.procure_config.specs.declared.fault.ProgramFault.TheVariants.{Store, Input}
 use Rattle.procure_programs.specs.Hosts.{HostEvents, Hosting, IsLoopbackAt, clock_moment}
+
+-- a connection ended so, by its reader, where there was memory for a buffer, and its writer as they are left: what was written is flushed; or the writer
+-- failed; or the reader did, or no more may be read of it
+pub record EndsConnection (ended : Result ⊤ RunFault) (read : Option ReaderView) (written : WriterView) : Type 0 where
+  pub flushed : OnOk ended (written.is_flushed ≡ true)
+  pub cut : IsErrOf ended ends.Write → written.has_failed ≡ true
+  pub stopped : IsErrOf ended ends.Read → (reader : ReaderView) × (read ≡ Some reader) × HasStopped reader
 
 -- Over a connection one request was answered at this moment: where the bytes that came are known, what was written is the one response to the request at
 -- their front, or the one refusal of them; a front of it where the writer failed; and nothing where the reader failed. So the office is left.
@@ -23,7 +33,8 @@ AnswersConnection M moment came before after old new result =
     M.honest new.shelf → (input : List ℕ) → came ≡ Some input → (s : Tables) → M.holds old.shelf s → IsReached old.settings s
     → (now : Option (List ℕ)) × (h : Held) × Served office_answers result input now moment (held_by old s) h before after × StandsAs M new h
 
--- a connection was taken, behind that the clock was read, the request that came was answered at that moment, and the connection was closed
+-- A connection was taken, behind that the clock was read, the request that came was answered at that moment, and the connection was closed. How it ended is a
+-- value (`Ended`) that only serving one gives: `serve_connection`, clause `ended`, says when it can be a fault.
 pub record ServesConnection {S T R W : Type 0} (N : Hosting T R W) (M : Meaning S) (before after : T) (old new : DeskOf S) : Type 0 where
   pub reader : R
   pub writer : W
@@ -37,7 +48,7 @@ pub record ServesConnection {S T R W : Type 0} (N : Hosting T R W) (M : Meaning 
   pub answers : AnswersConnection M (clock_moment nanos) (N.remaining reader) (N.contents writer) (N.contents left) old new ended
   pub once : StopsOnce M (clock_moment nanos) old new
   pub honest : M.honest new.shelf → M.honest old.shelf
-  pub closes : N.events.closes told left after
+  pub closes : N.events.closes told left ended after
 
 -- a connection was taken, and then the clock couldn't be read
 abbrev pub FindsNoClock : {T R W : Type 0} → HostEvents T R W → T → T → Type 0

@@ -5,6 +5,7 @@ ghost use Rattle.std.specs.Duration.{as_nanos};
 ghost use Rattle.std.specs.declared.net.socket_addr.SocketAddrV4.{SocketAddrV4 as Address};
 ghost use Rattle.procure_programs.specs.Hosts.{HostEvents, IsLoopbackAt};
 
+use crate::connection::Ended;
 use std::io;
 use std::io::{Read, Write};
 use std::net::{Ipv4Addr, Net, OpenListener, OpenStream, SocketAddr, SocketAddrV4};
@@ -28,9 +29,9 @@ pub trait Host {
     fn time(&mut self) -> Option<Duration>
         ensures { events.tells self.old (option_map as_nanos result) self.new };
 
-    /// Closes a connection.
-    fn close(&mut self, writer: Self::Writer)
-        ensures { events.closes self.old writer self.new };
+    /// Closes a connection, which has ended so.
+    fn close(&mut self, writer: Self::Writer, ended: Ended)
+        ensures { events.closes self.old writer ended self.new };
 }
 
 /// Where hosts are had.
@@ -102,7 +103,7 @@ impl<'a, N: Net + Clock> Host for ListeningHost<'a, N> {
 
     type Writer = N::Stream;
 
-    ghost events = { record { takes = λ _ _ _. Unit {0}; tells = λ _ _ _. Unit {0}; closes = λ _ _ _. Unit {0} } };
+    ghost events = { record { takes = λ _ _ _. Unit {0}; tells = λ _ _ _. Unit {0}; closes = λ _ _ _ _. Unit {0} } };
 
     fn accept(&mut self) -> Option<(N::Stream, N::Stream)> {
         let Ok((stream, _)) = self.listener.accept() else {
@@ -125,5 +126,5 @@ impl<'a, N: Net + Clock> Host for ListeningHost<'a, N> {
     }
 
     // Its second handle is let go here.
-    fn close(&mut self, _writer: N::Stream) {}
+    fn close(&mut self, _writer: N::Stream, _ended: Ended) {}
 }

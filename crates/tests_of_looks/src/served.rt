@@ -9,7 +9,7 @@ use office_wire::counted::CountedReader;
 use office_wire::fault::RunFault;
 use office_wire::watched::WatchedWriter;
 use procure_config::fault::ProgramFault;
-use procure_programs::connection::serve_connection;
+use procure_programs::connection::{Ended, serve_connection};
 use procure_programs::desk::answer_streams;
 use procure_programs::host::{Host, Network};
 use procure_programs::serving::{serve_at, take_one};
@@ -38,7 +38,7 @@ impl Host for Scripted {
 
     type Writer = Vec<u8>;
 
-    ghost events = { record { takes = λ _ _ _. Unit {0}; tells = λ _ _ _. Unit {0}; closes = λ _ _ _. Unit {0} } };
+    ghost events = { record { takes = λ _ _ _. Unit {0}; tells = λ _ _ _. Unit {0}; closes = λ _ _ _ _. Unit {0} } };
 
     fn accept(&mut self) -> Option<(&'static [u8], Vec<u8>)> {
         let came = *self.came.get(self.taken)?;
@@ -53,7 +53,7 @@ impl Host for Scripted {
         Some(Duration::from_secs(second))
     }
 
-    fn close(&mut self, writer: Vec<u8>) {
+    fn close(&mut self, writer: Vec<u8>, _ended: Ended) {
         let _ = self.told.extend_from_slice(&writer);
     }
 }
@@ -145,10 +145,10 @@ fn ends_alone<H: Shelf + Drop>(alloc: Global, shelf: H) -> bool {
         return false;
     };
     let mut full = WatchedWriter::new(Cursor::new([0u8; 20]));
-    let ended = serve_connection(alloc, &mut office, Moment::EPOCH, IMPORT, &mut full);
+    let (_reader, ended) = serve_connection(alloc, &mut office, Moment::EPOCH, IMPORT, &mut full);
     let mut host = host(alloc, &LATER, Some(BEGIN));
     let is_seen = matches!(take_one(alloc, &mut host, &mut office), Ok(true));
-    matches!(ended, Err(RunFault::Write)) && is_seen && host.told.as_slice() == LOOKED
+    matches!(ended.result(), Err(RunFault::Write)) && is_seen && host.told.as_slice() == LOOKED
 }
 
 /// Gives these bytes, and then fails.
@@ -173,8 +173,14 @@ fn tells_nothing<H: Shelf + Drop>(alloc: Global, shelf: H) -> bool {
     };
     let mut written = WatchedWriter::new(Vec::new(alloc));
     let reader = Broken { rest: CUT };
-    let ended = serve_connection(alloc, &mut office, Moment::EPOCH, reader, &mut written);
-    matches!(ended, Err(RunFault::Read)) && written.into_inner().is_empty()
+    let (_reader, ended) = serve_connection(
+        alloc,
+        &mut office,
+        Moment::EPOCH,
+        reader,
+        &mut written,
+    );
+    matches!(ended.result(), Err(RunFault::Read)) && written.into_inner().is_empty()
 }
 
 #[test]
