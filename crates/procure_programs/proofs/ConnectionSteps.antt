@@ -56,8 +56,7 @@ module _ {S : Type 0} (M : Meaning S) (moment : ℕ) (came before after : Option
       sent = whole;
       served = inr (record { why = fault.Unavailable; refused = tt; was_read = λ same. cc same; text_is = refl; left = refl });
     },
-    (refl, held),
-    stands,
+    ((refl, held), stands),
   )
   refused_connection (Err why) whole part is honest input known s held stands = (
     None,
@@ -71,8 +70,7 @@ module _ {S : Type 0} (M : Meaning S) (moment : ℕ) (came before after : Option
         part.front,
       );
     }),
-    (refl, held),
-    stands,
+    ((refl, held), stands),
   )
 
 -- ---- what is printed

@@ -7,7 +7,7 @@ returns-in-Ok-clause-served g c honest input came s held stands =
     let new = c.in-Ok.ensures in
     let there = c.new-counted.ensures.remaining ∙ buffers g.R.Read.remaining c.args.reader c.in-Ok.buffered new.inner new.empty new.capacity ∙ came in
     let served = c.serve_one-result.ensures.served honest input there s held stands in
-    (c.serve_one-result.new.reader.remaining, served)
+    (c.serve_one-result.new.reader.remaining, served.0, served.1, served.2)
 
 pub returns-in-Ok-clause-ended : goal.returns-in-Ok-clause-ended
 returns-in-Ok-clause-ended g c = record {
