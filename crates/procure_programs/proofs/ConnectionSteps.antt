@@ -47,18 +47,19 @@ ended_refused written (Err why) flushed failed is = record { flushed = tt; cut =
 module _ {S : Type 0} (M : Meaning S) (moment : ℕ) (came before after : Option (List ℕ)) (office : DeskOf S) where
   pub refused_connection : (result : Result ⊤ RunFault) → OnOk result (Appends before after (fault_text fault.Unavailable))
       → OnErr result (AppendsPart before after (fault_text fault.Unavailable)) → IfErr result (λ (why : RunFault). why ≡ ends.Write)
-      → AnswersConnection M moment came None before after office office result
+      → AnswersConnection M moment came before after office office result
   refused_connection (Ok done) whole part why honest input known s held stands = (
+    None,
     held_by office s,
     record {
       told = fault_text fault.Unavailable;
       sent = whole;
       served = inr (record { why = fault.Unavailable; refused = tt; was_read = λ same. cc same; text_is = refl; left = refl });
     },
-    (refl, held),
-    stands,
+    ((refl, held), stands),
   )
   refused_connection (Err why) whole part is honest input known s held stands = (
+    None,
     held_by office s,
     subst (λ (f : RunFault). Served office_answers (Err f) input None moment (held_by office s) (held_by office s) before after) (sym is) (record {
       told = part.part;
@@ -69,8 +70,7 @@ module _ {S : Type 0} (M : Meaning S) (moment : ℕ) (came before after : Option
         part.front,
       );
     }),
-    (refl, held),
-    stands,
+    ((refl, held), stands),
   )
 
 -- ---- what is printed

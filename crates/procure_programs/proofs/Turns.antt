@@ -5,15 +5,13 @@ use Rattle.office_base.specs.Shelves.{Meaning}
 use Rattle.office_base.specs.declared.shelf.ShelfFault.{ShelfFault}
 use Rattle.office_base.specs.Shutting.{Standing, TellsShut}
 use Rattle.office_desk.specs.Desks.{DeskOf}
-use Rattle.office_wire.specs.Counting.{ReaderView}
-use Rattle.office_wire.specs.Sending.{WriterView}
 use Rattle.office_wire.specs.declared.fault.RunFault.{RunFault}
 use Rattle.office_http.specs.Stops.{StopsOnce}
 use Rattle.procure_config.specs.declared.fault.ProgramFault.{ProgramFault}
 use Rattle.procure_config.specs.declared.fault.ProgramFault.TheVariants.{Arguments, Settings, Store, Input, Output, Refused}
 use Rattle.procure_programs.specs.Hosts.{Hosting, TellsMoment, clock_moment}
 use Rattle.procure_programs.specs.Serving.{TakesTurns}
-use Rattle.procure_programs.specs.Turns.{AnswersConnection, EndsBy, EndsConnection, GoesOnFor, IsOneTurn, ServesAndAsks, ServesInTurn, TakesOne, unread}
+use Rattle.procure_programs.specs.Turns.{AnswersConnection, EndsBy, GoesOnFor, IsOneTurn, ServesAndAsks, ServesInTurn, TakesOne}
 use Rattle.procure_programs.proofs.ServingSteps.{served_none, served_on, served_still, served_within}
 
 -- ---- one connection that was taken
@@ -27,11 +25,10 @@ module _ {S T R W : Type 0} (N : Hosting T R W) (M : Meaning S) (before taken : 
   no_clock Output after office it = absurd it
   no_clock (Refused why) after office it = absurd it
 
-  pub served_one : (told after : T) (read : Option ReaderView) (written : WriterView) (old new : DeskOf S) (moment : ℕ) (ended : Result ⊤ RunFault) (begun : Option (List ℕ))
-      → TellsMoment N.events taken told (Ok moment) → begun ≡ N.contents writer
-      → AnswersConnection M moment (N.remaining reader) (unread read) begun written.contents old new ended → EndsConnection ended read written
-      → StopsOnce M moment old new → (M.honest new.shelf → M.honest old.shelf) → N.events.closes told read written after → TakesOne N M before after old new (Ok true)
-  served_one told after read written old new moment ended begun (nanos, tells, is) at_first answers ends_so once honest closes = record {
+  pub served_one : (told after : T) (left : W) (old new : DeskOf S) (moment : ℕ) (ended : Result ⊤ RunFault) (begun over : Option (List ℕ)) → TellsMoment N.events taken told (Ok moment)
+      → begun ≡ N.contents writer → N.contents left ≡ over → AnswersConnection M moment (N.remaining reader) begun over old new ended → StopsOnce M moment old new
+      → (M.honest new.shelf → M.honest old.shelf) → N.events.closes told left ended after → TakesOne N M before after old new (Ok true)
+  served_one told after left old new moment ended begun over (nanos, tells, is) at_first at_last answers once honest closes = record {
     reader = reader;
     writer = writer;
     taken = taken;
@@ -40,11 +37,10 @@ module _ {S T R W : Type 0} (N : Hosting T R W) (M : Meaning S) (before taken : 
     told = told;
     tells = tells;
     ended = ended;
-    read = read;
-    written = written;
-    answers = subst (λ (m : ℕ). AnswersConnection M m (N.remaining reader) (unread read) (N.contents writer) written.contents old new ended) is
-        (subst (λ (b : Option (List ℕ)). AnswersConnection M moment (N.remaining reader) (unread read) b written.contents old new ended) at_first answers);
-    ends_so = ends_so;
+    left = left;
+    answers = subst (λ (m : ℕ). AnswersConnection M m (N.remaining reader) (N.contents writer) (N.contents left) old new ended) is
+        (subst (λ (b : Option (List ℕ)). AnswersConnection M moment (N.remaining reader) b (N.contents left) old new ended) at_first
+        (subst (λ (o : Option (List ℕ)). AnswersConnection M moment (N.remaining reader) begun o old new ended) (sym at_last) answers));
     once = subst (λ (m : ℕ). StopsOnce M m old new) is once;
     honest = honest;
     closes = closes;

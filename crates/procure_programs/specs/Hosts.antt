@@ -1,11 +1,10 @@
 -- The computer that an office is served on: where it is found, the connections that come there, and its clock.
-use Rattle.std.specs.Prelude.{◌≡◌, ℕ, ◌/◌, min, List, [], ◌∷◌, Option, Some, None, Result, Ok, Err}
+use Rattle.std.specs.Prelude.{◌≡◌, ⊤, ℕ, ◌/◌, min, List, [], ◌∷◌, Option, Some, None, Result, Ok, Err}
 use Rattle.std.specs.Net.Addr.{ipv4_octets}
 use Rattle.std.specs.Net.Socket.{v4_ip, v4_port}
 use Rattle.std.specs.declared.net.socket_addr.SocketAddrV4.{SocketAddrV4}
 use Rattle.office_values.specs.Moments.{last_moment}
-use Rattle.office_wire.specs.Counting.{ReaderView}
-use Rattle.office_wire.specs.Sending.{WriterView}
+use Rattle.office_wire.specs.declared.fault.RunFault.{RunFault}
 use Rattle.procure_config.specs.declared.fault.ProgramFault.{ProgramFault}
 use Rattle.procure_config.specs.declared.fault.ProgramFault.TheVariants.{Input}
 
@@ -15,8 +14,8 @@ pub record HostEvents (T R W : Type 0) : Type 1 where
   pub takes : T → Option (R × W) → T → Type 0
   -- it tells how many nanoseconds have passed since 1970-01-01T00:00:00Z; none where its clock can't be read
   pub tells : T → Option ℕ → T → Type 0
-  -- it closes a connection, whose reader is left so, where there was memory for its buffer, and its writer so
-  pub closes : T → Option ReaderView → WriterView → T → Type 0
+  -- it closes a connection, whose writer is left so, and which has ended so
+  pub closes : T → W → Result ⊤ RunFault → T → Type 0
 
 -- and what is known of the bytes that a reader has left and a writer holds
 pub record Hosting (T R W : Type 0) : Type 1 where

@@ -19,25 +19,22 @@ use Rattle.procure_config.specs.declared.fault.ProgramFault.{ProgramFault}
 use Rattle.procure_config.specs.declared.fault.ProgramFault.TheVariants.{Store, Input}
 use Rattle.procure_programs.specs.Hosts.{HostEvents, Hosting, IsLoopbackAt, clock_moment}
 
--- Over a connection one request was answered at this moment: where the bytes that came are known, of which these are left, what was written is the one response
--- to the request at their front, or the one refusal of them; a front of it where the writer failed; and nothing where the reader failed. So the office is left.
-abbrev pub AnswersConnection : {S : Type 0} → Meaning S → ℕ → Option (List ℕ) → Option (List ℕ) → Option (List ℕ) → Option (List ℕ) → DeskOf S → DeskOf S → Result ⊤ RunFault → Type 0
-AnswersConnection M moment came left before after old new result =
-    M.honest new.shelf → (input : List ℕ) → came ≡ Some input → (s : Tables) → M.holds old.shelf s → IsReached old.settings s
-    → (h : Held) × Served office_answers result input left moment (held_by old s) h before after × StandsAs M new h
-
--- the bytes that a reader has left, where there was memory for its buffer
-abbrev pub unread : Option ReaderView → Option (List ℕ)
-unread None = None
-unread (Some reader) = reader.remaining
-
--- how it ended, by its reader and its writer as they are left: what was written is flushed; or the writer failed; or the reader did, or no more may be read of it
+-- a connection ended so, by its reader, where there was memory for a buffer, and its writer as they are left: what was written is flushed; or the writer
+-- failed; or the reader did, or no more may be read of it
 pub record EndsConnection (ended : Result ⊤ RunFault) (read : Option ReaderView) (written : WriterView) : Type 0 where
   pub flushed : OnOk ended (written.is_flushed ≡ true)
   pub cut : IsErrOf ended ends.Write → written.has_failed ≡ true
   pub stopped : IsErrOf ended ends.Read → (reader : ReaderView) × (read ≡ Some reader) × HasStopped reader
 
--- a connection was taken, behind that the clock was read, the request that came was answered at that moment, and the connection was closed
+-- Over a connection one request was answered at this moment: where the bytes that came are known, what was written is the one response to the request at
+-- their front, or the one refusal of them; a front of it where the writer failed; and nothing where the reader failed. So the office is left.
+abbrev pub AnswersConnection : {S : Type 0} → Meaning S → ℕ → Option (List ℕ) → Option (List ℕ) → Option (List ℕ) → DeskOf S → DeskOf S → Result ⊤ RunFault → Type 0
+AnswersConnection M moment came before after old new result =
+    M.honest new.shelf → (input : List ℕ) → came ≡ Some input → (s : Tables) → M.holds old.shelf s → IsReached old.settings s
+    → (now : Option (List ℕ)) × (h : Held) × Served office_answers result input now moment (held_by old s) h before after × StandsAs M new h
+
+-- A connection was taken, behind that the clock was read, the request that came was answered at that moment, and the connection was closed. How it ended is a
+-- value (`Ended`) that only serving one gives: `serve_connection`, clause `ended`, says when it can be a fault.
 pub record ServesConnection {S T R W : Type 0} (N : Hosting T R W) (M : Meaning S) (before after : T) (old new : DeskOf S) : Type 0 where
   pub reader : R
   pub writer : W
@@ -47,13 +44,11 @@ pub record ServesConnection {S T R W : Type 0} (N : Hosting T R W) (M : Meaning 
   pub told : T
   pub tells : N.events.tells taken (Some nanos) told
   pub ended : Result ⊤ RunFault
-  pub read : Option ReaderView
-  pub written : WriterView
-  pub answers : AnswersConnection M (clock_moment nanos) (N.remaining reader) (unread read) (N.contents writer) written.contents old new ended
-  pub ends_so : EndsConnection ended read written
+  pub left : W
+  pub answers : AnswersConnection M (clock_moment nanos) (N.remaining reader) (N.contents writer) (N.contents left) old new ended
   pub once : StopsOnce M (clock_moment nanos) old new
   pub honest : M.honest new.shelf → M.honest old.shelf
-  pub closes : N.events.closes told read written after
+  pub closes : N.events.closes told left ended after
 
 -- a connection was taken, and then the clock couldn't be read
 abbrev pub FindsNoClock : {T R W : Type 0} → HostEvents T R W → T → T → Type 0

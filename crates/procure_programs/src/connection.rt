@@ -5,7 +5,7 @@ ghost use Rattle.office_wire.specs.Sending.{AppendsPart};
 ghost use Rattle.office_wire.specs.declared.fault.ReadFault.TheVariants.{Unavailable};
 ghost use Rattle.office_http.specs.Answering.{fault_text};
 ghost use Rattle.office_http.specs.Stops.{StopsOnce};
-ghost use Rattle.procure_programs.specs.Turns.{AnswersConnection, EndsConnection, unread};
+ghost use Rattle.procure_programs.specs.Turns.{AnswersConnection, EndsConnection};
 
 use office_base::shelf::{Lookups, Shelf};
 use office_http::answering::fault_response;
@@ -17,6 +17,31 @@ use office_wire::sending::send_flushed;
 use office_wire::watched::WatchedWriter;
 use std::alloc::Global;
 use std::io::{BufReader, Read, Write};
+use std::marker::Model;
+
+/// How serving a connection ended. Only serving one gives it.
+#[derive(Drop)]
+pub struct Ended {
+    result: Result<(), RunFault>,
+}
+
+impl Model for Ended {
+    ghost use Rattle.std.specs.Prelude.{⊤, Result};
+    ghost use Rattle.office_wire.specs.declared.fault.RunFault.{RunFault};
+
+    ghost Value = { Result ⊤ RunFault };
+
+    ghost view = { λ s. s.result };
+}
+
+impl Ended {
+    /// The fault that it ended by, where it did.
+    pub fn result(&self) -> Result<(), RunFault>
+        ensures { result ≡ self.now }
+    {
+        self.result
+    }
+}
 
 // Sends and flushes the response where there is no memory to read.
 fn refuse<W: Write>(writer: &mut WatchedWriter<W>) -> Result<(), RunFault>
@@ -32,7 +57,7 @@ fn refuse<W: Write>(writer: &mut WatchedWriter<W>) -> Result<(), RunFault>
 
 /// Serves one connection: reads a request, and sends and flushes the response to it, at this moment. A fault of the reader or the writer ends the
 /// connection and nothing else. Where there is no memory for the reader's buffer, the response is `Unavailable`, and nothing is read. Gives the reader back,
-/// none where there was no memory for its buffer, and what serving came to.
+/// none where there was no memory for its buffer.
 #[tactic(auto, using(crate::proofs::ServingSteps::once_none))]
 pub fn serve_connection<H: Shelf + Drop, R: Read + Drop, W: Write>(
     alloc: Global,
@@ -40,18 +65,21 @@ pub fn serve_connection<H: Shelf + Drop, R: Read + Drop, W: Write>(
     moment: Moment,
     reader: R,
     writer: &mut WatchedWriter<W>,
-) -> (Option<CountedReader<BufReader<R>>>, Result<(), RunFault>)
+) -> (Option<CountedReader<BufReader<R>>>, Ended)
     ensures before { H.meaning.honest office.new.shelf → H.meaning.honest office.old.shelf }
-    ensures served { AnswersConnection H.meaning moment (R.remaining reader) (unread result.0) writer.old.contents writer.new.contents office.old office.new result.1 }
+    ensures served { AnswersConnection H.meaning moment (R.remaining reader) writer.old.contents writer.new.contents office.old office.new result.1 }
     ensures ended { EndsConnection result.1 result.0 writer.new }
     ensures stepped { StopsOnce H.meaning moment office.old office.new }
 {
     match BufReader::new(alloc, reader) {
         Ok(buffered) => {
             let mut counted = CountedReader::new(buffered);
-            let served = serve_one(alloc, office, moment, &mut counted, writer);
-            (Some(counted), served)
+            let result = serve_one(alloc, office, moment, &mut counted, writer);
+            (Some(counted), Ended { result })
         }
-        Err(_) => (None, refuse(writer)),
+        Err(_) => {
+            let result = refuse(writer);
+            (None, Ended { result })
+        }
     }
 }

@@ -5,10 +5,9 @@ ghost use Rattle.std.specs.Duration.{as_nanos};
 ghost use Rattle.std.specs.declared.net.socket_addr.SocketAddrV4.{SocketAddrV4 as Address};
 ghost use Rattle.procure_programs.specs.Hosts.{HostEvents, IsLoopbackAt};
 
-use office_wire::counted::CountedReader;
-use office_wire::watched::WatchedWriter;
+use crate::connection::Ended;
 use std::io;
-use std::io::{BufReader, Read, Write};
+use std::io::{Read, Write};
 use std::net::{Ipv4Addr, Net, OpenListener, OpenStream, SocketAddr, SocketAddrV4};
 use std::time::{Clock, Duration, SystemTime, UNIX_EPOCH};
 
@@ -30,13 +29,9 @@ pub trait Host {
     fn time(&mut self) -> Option<Duration>
         ensures { events.tells self.old (option_map as_nanos result) self.new };
 
-    /// Closes a connection, by its reader, where there was memory for a buffer, and its writer, as serving has left them.
-    fn close(
-        &mut self,
-        reader: Option<CountedReader<BufReader<Self::Reader>>>,
-        writer: WatchedWriter<Self::Writer>,
-    )
-        ensures { events.closes self.old reader writer self.new };
+    /// Closes a connection, which has ended so.
+    fn close(&mut self, writer: Self::Writer, ended: Ended)
+        ensures { events.closes self.old writer ended self.new };
 }
 
 /// Where hosts are had.
@@ -130,10 +125,6 @@ impl<'a, N: Net + Clock> Host for ListeningHost<'a, N> {
         }
     }
 
-    // Its two handles are let go here.
-    fn close(
-        &mut self,
-        _reader: Option<CountedReader<BufReader<N::Stream>>>,
-        _writer: WatchedWriter<N::Stream>,
-    ) {}
+    // Its second handle is let go here.
+    fn close(&mut self, _writer: N::Stream, _ended: Ended) {}
 }

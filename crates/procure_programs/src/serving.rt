@@ -30,8 +30,8 @@ pub fn take_one<T: Host, H: Shelf + Drop>(
     };
     let moment = moment_now(host)?;
     let mut watched = WatchedWriter::new(writer);
-    let (counted, _ended) = serve_connection(alloc, office, moment, reader, &mut watched);
-    host.close(counted, watched);
+    let (_reader, ended) = serve_connection(alloc, office, moment, reader, &mut watched);
+    host.close(watched.into_inner(), ended);
     Ok(true)
 }
 

@@ -9,14 +9,14 @@ use office_wire::counted::CountedReader;
 use office_wire::fault::RunFault;
 use office_wire::watched::WatchedWriter;
 use procure_config::fault::ProgramFault;
-use procure_programs::connection::serve_connection;
+use procure_programs::connection::{Ended, serve_connection};
 use procure_programs::desk::answer_streams;
 use procure_programs::host::{Host, Network};
 use procure_programs::serving::{serve_at, take_one};
 use sqlite::Alter;
 use std::alloc::{AllocError, Global};
 use std::io;
-use std::io::{BufReader, Cursor, ErrorKind, Read};
+use std::io::{Cursor, ErrorKind, Read};
 use std::net::SocketAddrV4;
 use std::time::Duration;
 use tests_sql_office::office::{SqlOffice, in_sql};
@@ -53,13 +53,8 @@ impl Host for Scripted {
         Some(Duration::from_secs(second))
     }
 
-    fn close(
-        &mut self,
-        _reader: Option<CountedReader<BufReader<&'static [u8]>>>,
-        writer: WatchedWriter<Vec<u8>>,
-    ) {
-        let written = writer.into_inner();
-        let _ = self.told.extend_from_slice(&written);
+    fn close(&mut self, writer: Vec<u8>, _ended: Ended) {
+        let _ = self.told.extend_from_slice(&writer);
     }
 }
 
@@ -153,7 +148,7 @@ fn ends_alone<H: Shelf + Drop>(alloc: Global, shelf: H) -> bool {
     let (_reader, ended) = serve_connection(alloc, &mut office, Moment::EPOCH, IMPORT, &mut full);
     let mut host = host(alloc, &LATER, Some(BEGIN));
     let is_seen = matches!(take_one(alloc, &mut host, &mut office), Ok(true));
-    matches!(ended, Err(RunFault::Write)) && is_seen && host.told.as_slice() == LOOKED
+    matches!(ended.result(), Err(RunFault::Write)) && is_seen && host.told.as_slice() == LOOKED
 }
 
 /// Gives these bytes, and then fails.
@@ -185,7 +180,7 @@ fn tells_nothing<H: Shelf + Drop>(alloc: Global, shelf: H) -> bool {
         reader,
         &mut written,
     );
-    matches!(ended, Err(RunFault::Read)) && written.into_inner().is_empty()
+    matches!(ended.result(), Err(RunFault::Read)) && written.into_inner().is_empty()
 }
 
 #[test]
