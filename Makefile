@@ -12,7 +12,9 @@
 # make release  an archive and a Debian package of build/procure, in build/release (tools/release --help)
 # make bench  measures build/procure (bench/desk --help)
 RT ?= rt
-export RT
+# How many checks run side by side (scripts/lanes.py); where it is empty, rt reckons by itself.
+RT_JOBS ?= $(shell scripts/lanes.py)
+export RT RT_JOBS
 
 .PHONY: run build try test check docs edits soak release bench
 

@@ -1,5 +1,5 @@
 -- What is told, and what stays, whatever tables a shelf holds.
-use Rattle.std.proofs.Common.{◌≡◌, ℕ, ◌⊎◌, inl, inr, Bool, true, false, not, ◌&&◌, List, Option, Some, None, Result, Ok, Err, refl, sym, ap, ◌∙◌, subst}
+use Rattle.std.proofs.Common.{◌≡◌, ℕ, ◌⊎◌, inl, inr, Bool, true, false, not, ◌&&◌, List, Option, Some, None, Result, Ok, Err, refl, sym, ap, ◌∙◌, subst, true≢false}
 use Rattle.std.specs.Prelude.{is_none}
 use Rattle.office_commands.specs.Queries.{query_kind_of}
 use Rattle.office_commands.specs.declared.command.Caller.{Caller}
@@ -64,7 +64,7 @@ module _ (settings : Settings) (s : Tables) (moment : ℕ) (text : List ℕ) (Ho
       let accepted : is_accepted s moment (Gives caller command) ≡ true = ap (λ (o : Option Refusal). is_none o) plan.allowed in (
         false,
         is ∙ ap response_of (sym (ap (λ (o : Option Refusal). told_as (reply_by o (publishing settings) x)) plan.allowed ∙ accepted_as x plan.allowed ∙ ap Json (sym plan.reply))),
-        λ none. absurd (cc (sym (ap (λ (b : Bool). b && not false) accepted) ∙ none)),
+        λ none. absurd (true≢false (sym (ap (λ (b : Bool). b && not false) accepted) ∙ none)),
       )
 
   -- ---- a query

@@ -1,8 +1,8 @@
 -- How long the response to a refusal is at most.
-use Rattle.std.proofs.Common.{◌≡◌, ℕ, ◌+◌, ◌≤◌, List, ◌++◌, length, Option, None, Some, refl, sym, ap, subst, arith, ◌∙◌, append_assoc, length-append}
+use Rattle.std.proofs.Common.{◌≡◌, ℕ, ◌+◌, ◌≤◌, List, ◌++◌, length, Option, None, Some, refl, sym, subst, arith, ◌∙◌, length-append}
 use Rattle.std.specs.Fmt.{digits}
 use Rattle.std.specs.Prelude.{codes, decimal, option_map}
-use Rattle.office_values.specs.Refusals.{About, Named, Record, field_name, name_of_refusal, number_of_refusal, status_of_refusal, subject_of_refusal, thing_name, told}
+use Rattle.office_values.specs.Refusals.{Named, Record, field_name, name_of_refusal, number_of_refusal, status_of_refusal, subject_of_refusal, thing_name, told}
 use Rattle.office_values.specs.declared.refusal.What.{What}
 use Rattle.office_values.specs.declared.refusal.Field.{Field}
 use Rattle.office_values.specs.declared.refusal.Field.TheVariants as fields
@@ -13,7 +13,7 @@ use Rattle.office_values.specs.declared.refusal.Refusal.{Refusal}
 use Rattle.office_values.specs.declared.refusal.Refusal.TheVariants.{BadHead, TooLong, Coding, NoRoute, WrongMethod, BadKey, Forbidden, BadBody, NoSuch, Exists, NotYourTender, DeadlinePassed, DeadlineEarlier, NotOpenForTenders, AlreadyPresented, SecurityMissing, SecurityTooSmall, SecurityNotAsked, NotSealed, TooEarlyToOpen, AlreadyOpened, NotOpened, AlreadyDecided, NotAllExamined, Expired, Standstill, InsufficientFunds, MoreThanOutstanding, ContractEnded, NothingToCancel, LimitReached, Unavailable}
 use Rattle.office_requests.specs.declared.route.Allow.{Allow}
 use Rattle.office_requests.specs.declared.route.Allow.TheVariants as allow
-use Rattle.office_http.specs.Response.{IsShortNumber, allow_field, challenge_field, head_start, json, phrase_of, refusal_body, response_of, response_with, what_member}
+use Rattle.office_http.specs.Response.{IsShortNumber, allow_field, challenge_field, head_start, json, phrase_of, refusal_body, response_of, what_member}
 use Rattle.office_http.specs.declared.reply.Reply.TheVariants.{Refused}
 
 -- ---- the parts of a row
@@ -285,46 +285,50 @@ about_short Unavailable fits = omega arith
 
 -- ---- the whole
 
+four : (a b c d : List ℕ) → length (a ++ b ++ c ++ d) ≡ length a + length b + length c + length d
+four a b c d = omega (arith, length-append (a ++ b ++ c) d, length-append (a ++ b) c, length-append a b)
+
+body_within : (a b c d e f : List ℕ) → length a ≤ 9 → length b ≤ 19 → length c ≤ 12 → length d ≤ 2 → length e ≤ 40 → length f ≤ 1
+    → length (a ++ b ++ c ++ d ++ e ++ f) ≤ 100
+body_within a b c d e f p q r s t u = omega (arith, length-append (a ++ b ++ c ++ d ++ e) f, length-append (a ++ b ++ c ++ d) e, four a b c d, p, q, r, s, t, u)
+
 pub body_short : (r : Refusal) → length (what_member (subject_of_refusal r)) ≤ 40 → length (refusal_body r) ≤ 100
 body_short r few =
-    let about = what_member (subject_of_refusal r) in
-    let number = decimal (number_of_refusal r) in
-    let name = name_of_refusal r in
-    let a = length-append (codes "{\"name\":\"") (name ++ codes "\",\"refusal\":" ++ number ++ about ++ codes "}") in
-    let b = length-append name (codes "\",\"refusal\":" ++ number ++ about ++ codes "}") in
-    let d = length-append (codes "\",\"refusal\":") (number ++ about ++ codes "}") in
-    let e = length-append number (about ++ codes "}") in
-    let f = length-append about (codes "}") in
-    omega (arith, a, b, d, e, f, few, name_short r, number_short r)
+    body_within (codes "{\"name\":\"") (name_of_refusal r) (codes "\",\"refusal\":") (decimal (number_of_refusal r)) (what_member (subject_of_refusal r)) (codes "}")
+    (omega arith) (name_short r) (omega arith) (number_short r) few (omega arith)
+
+start_within : (a b c d e f g h : List ℕ) → length a ≤ 9 → length b ≤ 3 → length c ≤ 1 → length d ≤ 19 → length e ≤ 16 → length f ≤ 16 → length g ≤ 18 → length h ≤ 3
+    → length (a ++ b ++ c ++ d ++ e ++ f ++ g ++ h) ≤ 90
+start_within a b c d e f g h p q r s t u v w =
+    omega (
+      arith,
+      length-append (a ++ b ++ c ++ d ++ e ++ f ++ g) h,
+      length-append (a ++ b ++ c ++ d ++ e ++ f) g,
+      length-append (a ++ b ++ c ++ d ++ e) f,
+      length-append (a ++ b ++ c ++ d) e,
+      four a b c d,
+      p,
+      q,
+      r,
+      s,
+      t,
+      u,
+      v,
+      w,
+    )
 
 -- the head up to the length of the body
 start_short : (r : Refusal) (size : ℕ) → length (decimal size) ≤ 3 → length (head_start (status_of_refusal r) json size) ≤ 90
 start_short r size few =
-    let status = decimal (status_of_refusal r) in
-    let phrase = phrase_of (status_of_refusal r) in
-    let last = decimal size in
-    let a = length-append (codes "HTTP/1.1 ") (status ++ codes " " ++ phrase ++ codes "\r\nContent-Type: " ++ json ++ codes "\r\nContent-Length: " ++ last) in
-    let b = length-append status (codes " " ++ phrase ++ codes "\r\nContent-Type: " ++ json ++ codes "\r\nContent-Length: " ++ last) in
-    let d = length-append (codes " ") (phrase ++ codes "\r\nContent-Type: " ++ json ++ codes "\r\nContent-Length: " ++ last) in
-    let e = length-append phrase (codes "\r\nContent-Type: " ++ json ++ codes "\r\nContent-Length: " ++ last) in
-    let f = length-append (codes "\r\nContent-Type: ") (json ++ codes "\r\nContent-Length: " ++ last) in
-    let g = length-append json (codes "\r\nContent-Length: " ++ last) in
-    let h = length-append (codes "\r\nContent-Length: ") last in
-    omega (arith, a, b, d, e, f, g, h, few, status_short r, phrase_short r)
+    start_within (codes "HTTP/1.1 ") (decimal (status_of_refusal r)) (codes " ") (phrase_of (status_of_refusal r)) (codes "\r\nContent-Type: ") json
+    (codes "\r\nContent-Length: ") (decimal size)
+    (omega arith) (status_short r) (omega arith) (phrase_short r) (omega arith) (omega arith) (omega arith) few
 
--- the fields, the empty line and the body behind it
-rest_short : (r : Refusal) (method : Option Allow) → length (refusal_body r) ≤ 100
-    → length ((allow_field method ++ challenge_field (status_of_refusal r)) ++ codes "\r\nConnection: close\r\n\r\n" ++ refusal_body r) ≤ 166
-rest_short r method few =
-    let fields = allow_field method ++ challenge_field (status_of_refusal r) in
-    let a = length-append fields (codes "\r\nConnection: close\r\n\r\n" ++ refusal_body r) in
-    let b = length-append (allow_field method) (challenge_field (status_of_refusal r)) in
-    let d = length-append (codes "\r\nConnection: close\r\n\r\n") (refusal_body r) in
-    omega (arith, a, b, d, few, allow_short method, challenge_short r)
+whole_within : (a b c d e : List ℕ) → length a ≤ 90 → length b ≤ 13 → length c ≤ 30 → length d ≤ 23 → length e ≤ 100 → length (a ++ (b ++ c) ++ d ++ e) ≤ 288
+whole_within a b c d e p q r s t = omega (arith, four a (b ++ c) d e, length-append b c, p, q, r, s, t)
 
 pub response_short : (r : Refusal) (method : Option Allow) → length (refusal_body r) ≤ 100 → length (decimal (length (refusal_body r))) ≤ 3 → length (response_of (Refused r method)) ≤ 288
 response_short r method few digits =
-    let start = head_start (status_of_refusal r) json (length (refusal_body r)) in
-    let rest = (allow_field method ++ challenge_field (status_of_refusal r)) ++ codes "\r\nConnection: close\r\n\r\n" ++ refusal_body r in
-    let a = length-append start rest in
-    omega (arith, a, start_short r (length (refusal_body r)) digits, rest_short r method few)
+    whole_within (head_start (status_of_refusal r) json (length (refusal_body r))) (allow_field method) (challenge_field (status_of_refusal r))
+    (codes "\r\nConnection: close\r\n\r\n") (refusal_body r)
+    (start_short r (length (refusal_body r)) digits) (allow_short method) (challenge_short r) (omega arith) few

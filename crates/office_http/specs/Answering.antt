@@ -25,6 +25,7 @@ use Rattle.office_wire.specs.Runs.{Answers}
 use Rattle.office_wire.specs.declared.fault.ReadFault.{ReadFault}
 use Rattle.office_wire.specs.declared.fault.ReadFault.TheVariants as fault
 use Rattle.office_http.specs.AtSight.{TellsAtSight}
+use Rattle.office_http.specs.Certain.{TellsCertain}
 use Rattle.office_http.specs.Meaning.{Meant, Refuses, Gives, Sees, meant}
 use Rattle.office_http.specs.Response.{response_of}
 use Rattle.office_http.specs.declared.reply.Reply.{Reply}
@@ -192,6 +193,7 @@ pub record AnswersRequest {S : Type 0} (M : Meaning S) (settings : Settings) (ol
   pub changes : ChangesOnlyAccepting M old new (meant settings request) text
   pub shown : ShowsOnlyWhole M old new (meant settings request) text
   pub sight : TellsAtSight settings request text
+  pub certain : TellsCertain M settings old new moment request text
   pub told : IsTold M settings old new moment (meant settings request) text
 
 -- the bytes were refused, perhaps for want of memory, which may be so of any bytes; and nothing changed

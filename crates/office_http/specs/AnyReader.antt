@@ -17,7 +17,7 @@ abbrev pub KeepsSteps : Held → List Step → Type 0
 KeepsSteps h steps =
     (xs : List Given) → Reaches (publishing h.settings) xs h.tables → OfficeIsKept h.settings (accepted_steps h steps xs) (office_left office_answers h steps).tables
 
--- A run went through steps, each of a request that was read, for which a read was made at least, out of so many that were left before and after it.
+-- A run went through steps, each of a request of the grammar, for which a read was made at least, out of so many that were left before and after it.
 -- The office is what they lead to, what was written is their responses, a stop leaves what they may, and all accepted commands are kept.
 abbrev pub HasRun : {S : Type 0} → Meaning S → Result ℕ RunFault → ℕ → ℕ → DeskOf S → DeskOf S → Option (List ℕ) → Option (List ℕ) → Type 0
 HasRun M result reads left old new before after =

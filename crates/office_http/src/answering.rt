@@ -2,16 +2,15 @@
 ghost use Rattle.std.specs.Prelude.{◌≡◌, ◌⊎◌, None, Ok, Err, OnOk, true};
 ghost use Rattle.office_values.specs.declared.refusal.Refusal.{Refusal as RefusalOf};
 ghost use Rattle.office_values.specs.declared.refusal.Refusal.TheVariants.{Unavailable};
+ghost use Rattle.office_base.specs.Faults.{HasRisen};
 ghost use Rattle.office_base.specs.Tables.{Tables};
 ghost use Rattle.office_base.specs.Shelves.{Looks};
 ghost use Rattle.office_http.specs.AtSight.{TellsAtSight, is_known_at_sight};
-ghost use Rattle.office_requests.specs.Routing.{routed};
-ghost use Rattle.office_base.specs.Faults.{HasRisen};
-ghost use Rattle.office_http.specs.Certain.{IsCertain, is_path_told};
+ghost use Rattle.office_http.specs.Certain.{TellsCertain};
 ghost use Rattle.office_http.specs.Credentials.{credentials_of};
 ghost use Rattle.office_http.specs.Meaning.{Gives, Sees, meant, meant_asked, who};
 ghost use Rattle.office_http.specs.Answering.{AnswersRequest, ChangesOnlyAccepting, IsAnswered, IsTold, RefusesBytes, ShowsOnlyWhole, fault_text};
-ghost use Rattle.office_http.specs.Inside.Meant.{AnswersMeant};
+ghost use Rattle.office_http.specs.Inside.Meant.{AnswersMeant, IsCertain};
 ghost use Rattle.office_http.specs.Joined.{IsKeptAnswering, KeepsAnswering, KeepsRefusing};
 ghost use Rattle.office_http.specs.Response.{response_of};
 ghost use Rattle.office_http.specs.declared.reply.Reply.TheVariants.{Refused};
@@ -154,8 +153,7 @@ fn answer_read<H: Shelf + Drop>(
     ensures answered { IsAnswered H.meaning desk.old.settings desk.old.shelf desk.new.shelf moment (meant desk.old.settings request.now) result }
     ensures changes { ChangesOnlyAccepting H.meaning desk.old.shelf desk.new.shelf (meant desk.old.settings request.now) result }
     ensures told { IsTold H.meaning desk.old.settings desk.old.shelf desk.new.shelf moment (meant desk.old.settings request.now) result }
-    ensures certain { is_path_told (routed request.now.head.method request.now.head.target) ≡ true
-        → IsCertain H.meaning desk.old.shelf desk.new.shelf moment (meant desk.old.settings request.now) result }
+    ensures certain { TellsCertain H.meaning desk.old.settings desk.old.shelf desk.new.shelf moment request.now result }
     ensures sight { TellsAtSight desk.old.settings request.now result }
     ensures shown { ShowsOnlyWhole H.meaning desk.old.shelf desk.new.shelf (meant desk.old.settings request.now) result }
 {
@@ -174,7 +172,8 @@ fn answer_read<H: Shelf + Drop>(
 /// Answers a request that was read. The response is built whole before anything changes; where memory or the store is wanting, it
 /// is the constant response to `Unavailable`, and the tables stay as they are; a stop right then may leave an accepted command whole. An office
 /// that stands as its commands left it stands so again; whatever the shelf holds, it holds it still unless a command is given and the answer is a 200, and a
-/// package is shown only where each release that its notice's row counts is there. What is refused at sight is told so, whatever memory there is.
+/// package is shown only where each release that its notice's row counts is there. What is refused at sight is told so, whatever memory
+/// there is; and a refusal that takes none to find is told, or the store's count of faults rose.
 pub fn answer_request<H: Shelf + Drop>(
     alloc: Global,
     routes: &Routes,
@@ -188,8 +187,7 @@ pub fn answer_request<H: Shelf + Drop>(
     ensures answered { IsAnswered H.meaning desk.old.settings desk.old.shelf desk.new.shelf moment (meant desk.old.settings request.now) result }
     ensures changes { ChangesOnlyAccepting H.meaning desk.old.shelf desk.new.shelf (meant desk.old.settings request.now) result }
     ensures told { IsTold H.meaning desk.old.settings desk.old.shelf desk.new.shelf moment (meant desk.old.settings request.now) result }
-    ensures certain { is_path_told (routed request.now.head.method request.now.head.target) ≡ true
-        → IsCertain H.meaning desk.old.shelf desk.new.shelf moment (meant desk.old.settings request.now) result }
+    ensures certain { TellsCertain H.meaning desk.old.settings desk.old.shelf desk.new.shelf moment request.now result }
     ensures sight { TellsAtSight desk.old.settings request.now result }
     ensures shown { ShowsOnlyWhole H.meaning desk.old.shelf desk.new.shelf (meant desk.old.settings request.now) result }
     ensures kept { IsKeptAnswering H.meaning desk.old.settings desk.old.shelf desk.new.shelf moment (meant desk.old.settings request.now) result }

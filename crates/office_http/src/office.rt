@@ -103,7 +103,8 @@ impl<H: Shelf + Drop> Responder for Office<H> {
 
 /// Answers each block of the input in turn: a line `at MOMENT` and a request. Answers how many there were, where the input ends behind a
 /// block. The responses are flushed once, at the end. `Read` is answered where a read failed or no more may be made, `Write` where a write
-/// or the flush failed. Whatever the reader tells of its bytes, the office goes through steps, each of a request that was read.
+/// or the flush failed. Whatever the reader tells of its bytes, the office goes through steps, each of a request of the grammar, for which
+/// a read was made at least.
 pub fn run<H: Shelf + Drop, R: BufRead, W: Write>(
     alloc: Global,
     office: &mut Office<H>,

@@ -1,5 +1,5 @@
 //! The work that the words ask for.
-ghost use Rattle.procure_config.specs.Jobs.{asked_by};
+ghost use Rattle.procure_config.specs.Jobs.{asked_by_job};
 ghost use Rattle.procure_programs.specs.Showing.{AsksPrintout};
 
 use crate::config::settings_at;
@@ -13,7 +13,7 @@ use procure_config::notice::notice_named;
 
 /// What a job prints of an office; none of a job that prints nothing of one. `Refused(NoRoute)` where it names a notice that can be none.
 pub fn printout_of(job: &Job<'_>) -> Result<Option<Printout>, ProgramFault>
-    ensures { AsksPrintout (asked_by job.now) result }
+    ensures { AsksPrintout (asked_by_job job.now) result }
 {
     match *job {
         Job::Desk { .. } | Job::Serve { .. } => Ok(None),

@@ -39,7 +39,7 @@ fn files_of(rt: &HostRuntime, names: Vec<String>) -> io::Result<Vec<File>> {
 
 fn work(rt: &HostRuntime) -> io::Result<bool> {
     let words = words_of(rt)?;
-    let is_refused = match words.first() {
+    let is_refused = match words.as_slice().first() {
         Some(first) => first.as_str() == "refuse",
         None => false,
     };

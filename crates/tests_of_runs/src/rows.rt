@@ -23,7 +23,7 @@ struct Lines {
 impl Lines {
     fn put(&mut self, field: &[u8]) -> Result<(), AllocError> {
         self.bytes.extend_from_slice(field)?;
-        self.bytes.push(b'\t')
+        self.bytes.extend_from_slice(b"\t")
     }
 
     fn put_id(&mut self, id: &Id) -> Result<(), AllocError> {
@@ -67,7 +67,7 @@ impl Lines {
     }
 
     fn end(&mut self) -> Result<(), AllocError> {
-        self.bytes.push(b'\n')
+        self.bytes.extend_from_slice(b"\n")
     }
 }
 
@@ -142,7 +142,18 @@ fn put_lot(lines: &mut Lines, row: &LotRow) -> Result<(), AllocError> {
     lines.end()
 }
 
-fn put_reading(lines: &mut Lines, reading: Option<Reading>) -> Result<(), AllocError> {
+fn put_price(
+    lines: &mut Lines,
+    stated: u64,
+    corrected: u64,
+    corrections: u64,
+) -> Result<(), AllocError> {
+    lines.put_number(stated)?;
+    lines.put_number(corrected)?;
+    lines.put_number(corrections)
+}
+
+fn put_reading(lines: &mut Lines, reading: &Option<Reading>) -> Result<(), AllocError> {
     match reading {
         None => lines.put(b"-"),
         Some(Reading::Unreadable) => lines.put(b"unreadable"),
@@ -151,11 +162,12 @@ fn put_reading(lines: &mut Lines, reading: Option<Reading>) -> Result<(), AllocE
             stated,
             corrected,
             corrections,
-        }) => {
-            lines.put_number(stated.units())?;
-            lines.put_number(corrected.units())?;
-            lines.put_number(corrections.get())
-        }
+        }) => put_price(
+            lines,
+            stated.units(),
+            corrected.units(),
+            corrections.get(),
+        ),
     }
 }
 
@@ -175,7 +187,7 @@ fn put_envelope(lines: &mut Lines, row: &EnvelopeRow) -> Result<(), AllocError> 
     put_received(lines, row)?;
     lines.put_optional(row.security.map(|number| number.get()))?;
     lines.put_number(row.state as u64)?;
-    put_reading(lines, row.reading)?;
+    put_reading(lines, &row.reading)?;
     lines.put_bool_or_none(row.responsive)?;
     lines.put_optional(row.quality.map(|quality| quality.get()))?;
     lines.put_bool_or_none(Some(row.failed))?;
@@ -396,7 +408,8 @@ fn put_of_notice<H: Lookups>(
     put_releases(lines, shelf, &row.notice)
 }
 
-/// All rows of an office to which nothing but these blocks was sent.
+/// All rows of an office to which nothing but these blocks was sent. Batches are asked for by the names that the blocks give them, since no list has them. What
+/// belongs to a notice, a tender or a contract is found by it: a row whose notice, tender or contract isn't there isn't seen.
 pub(crate) fn rows_of<H: Lookups>(
     alloc: Global,
     shelf: &mut H,
@@ -410,6 +423,5 @@ pub(crate) fn rows_of<H: Lookups>(
     for row in shelf.list_notices_after(None, u32::MAX)? {
         put_of_notice(&mut lines, shelf, &row)?;
     }
-    let Lines { alloc: _, bytes } = lines;
-    Ok(bytes)
+    Ok(lines.bytes)
 }

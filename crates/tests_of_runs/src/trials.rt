@@ -155,7 +155,8 @@ fn concluded<H: Shelf + Drop>(
         return Err(Fault::Answer(told));
     }
     let mut shelf = shelf;
-    if rows_in(alloc, &mut shelf, asked.all)? != asked.behind {
+    let rows = rows_in(alloc, &mut shelf, asked.all)?;
+    if rows.as_slice() != asked.behind.as_slice() {
         return Err(Fault::Rows);
     }
     Ok(shelf)
@@ -164,7 +165,8 @@ fn concluded<H: Shelf + Drop>(
 // The office behind the same request, with ample memory, where that changed nothing before.
 fn asked_again<H: Shelf + Drop>(alloc: Global, shelf: H, asked: &Asked<'_>) -> Result<H, Fault> {
     let mut shelf = shelf;
-    if rows_in(alloc, &mut shelf, asked.all)? != asked.rows {
+    let rows = rows_in(alloc, &mut shelf, asked.all)?;
+    if rows.as_slice() != asked.rows.as_slice() {
         return Err(Fault::Changed);
     }
     let mut session = Session::new(alloc, shelf, 0)?;
@@ -188,7 +190,8 @@ fn tried<H: Shelf + Drop>(
     }
 }
 
-// The last of these blocks, and what the office holds before it and behind it.
+// The last of these blocks, and what the office holds before it and behind it. It is sent to an office whose rows weren't read before, as at each trial, so
+// that it takes as much memory.
 fn asked_last<'a, M: Maker>(
     rt: &HostRuntime,
     maker: &M,
@@ -200,8 +203,9 @@ fn asked_last<'a, M: Maker>(
         Ok(block) => block,
         Err(_) => return Err(Fault::NoOffice),
     };
-    let mut office = office_behind(alloc, maker, before)?;
-    let rows = rows_in(alloc, &mut office, blocks)?;
+    let mut unasked = office_behind(alloc, maker, before)?;
+    let rows = rows_in(alloc, &mut unasked, blocks)?;
+    let office = office_behind(alloc, maker, before)?;
     let (mut office, told) = answered_without(rt, office, &block, 0)?;
     if told.as_slice() != block.response.as_slice() {
         return Err(Fault::Answer(told));
@@ -216,8 +220,8 @@ fn asked_last<'a, M: Maker>(
     })
 }
 
-/// Tries the last of these blocks behind the others, with one allocation after another refused. An office that it changed is made anew. What was found, or the
-/// number of the refusal at which something is wrong, and what.
+/// Tries the last of these blocks behind the others, with one allocation after another refused, each time over an office that is made anew. What was found, or
+/// the number of the refusal at which something is wrong, and what.
 pub(crate) fn try_all<M: Maker>(
     rt: &HostRuntime,
     maker: &M,

@@ -13,6 +13,7 @@ returns-in-Ok-clause-answered g c =
       changes = c.answer_request.ensures.changes;
       shown = c.answer_request.ensures.shown;
       sight = c.answer_request.ensures.sight;
+      certain = c.answer_request.ensures.certain;
       told = c.answer_request.ensures.told;
     })
 

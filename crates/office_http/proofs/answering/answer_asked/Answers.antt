@@ -2,9 +2,8 @@ use Rattle.std.proofs.Common.{rules, ◌≡◌, false, None, Result, Ok, Err, re
 use Rattle.office_values.specs.declared.refusal.Refusal.{Refusal}
 use Rattle.office_requests.specs.declared.asked.Asked.{Asked}
 use Rattle.office_requests.specs.declared.asked.Asked.TheVariants.{Does, Looks}
-use Rattle.office_http.specs.Inside.Meant.{AnswersMeant}
+use Rattle.office_http.specs.Inside.Meant.{AnswersMeant, IsCertain}
 use Rattle.office_http.specs.Answering.{ChangesOnlyAccepting, IsTold, ShowsMeant}
-use Rattle.office_http.specs.Certain.{IsCertain}
 use Rattle.office_http.proofs.CertainSteps.{certain_refusal}
 use Rattle.office_http.specs.Meaning.{Refuses, meant_asked}
 use Rattle.office_http.specs.Response.{response_of}

@@ -1,7 +1,6 @@
 use Rattle.std.proofs.Common.{◌∙◌, ap, ℕ, List, inl, inr}
 use Rattle.office_http.specs.Response.{response_of}
 use Rattle.office_http.specs.declared.reply.Reply.TheVariants.{Json}
-use Rattle.office_values.specs.declared.refusal.Refusal.{Refusal}
 use Rattle.office_http.proofs.CertainSteps.{certain_command, nothing_certain}
 use Rattle.office_http.proofs.AlwaysTold.{tells_done_command, tells_refused_command, tells_unavailable}
 use Rattle.office_http.specs.Meaning.{Gives}
@@ -24,7 +23,7 @@ returns-in-Ok-commit-clause-answered g c honest s held stands can =
     (c.in-Ok-commit.ensures.alters.stop_all honest s (looks.0.same before s held))
 
 pub returns-in-Ok-commit-clause-changes : goal.returns-in-Ok-commit-clause-changes
-returns-in-Ok-commit-clause-changes g c honest s held = inr (tt, _, c.built.ensures ∙ c.in-Ok-accepted_response.ensures)
+returns-in-Ok-commit-clause-changes g c honest s held = inr (tt, (_, c.built.ensures ∙ c.in-Ok-accepted_response.ensures))
 
 pub returns-in-Err-commit-clause-answered : goal.returns-in-Err-commit-clause-answered
 returns-in-Err-commit-clause-answered g c honest s held stands can =
@@ -55,8 +54,7 @@ returns-in-Err-commit-clause-told g c honest s held needs =
 
 pub returns-in-Err-clause-certain : goal.returns-in-Err-clause-certain
 returns-in-Err-clause-certain g c honest s held =
-    certain_command s c.args.moment c.args.caller.now c.args.command c.refuse.result _ c.in-Err.refusal c.refuse.ensures
-    (λ none why refused. elim (c.in-Err.ensures.tells none honest s held why refused) [ inl same ↦ inl (cc same) | inr rises ↦ inr rises ])
+    certain_command s c.args.moment c.args.caller.now c.args.command c.refuse.result _ c.in-Err.refusal (λ small. c.in-Err.ensures.tells small honest s held) c.refuse.ensures
 
 pub returns-in-Ok-commit-clause-certain : goal.returns-in-Ok-commit-clause-certain
 returns-in-Ok-commit-clause-certain g c honest s held none =
@@ -67,3 +65,7 @@ pub returns-in-Err-commit-clause-certain : goal.returns-in-Err-commit-clause-cer
 returns-in-Err-commit-clause-certain g c honest s held none =
     let before = c.in-Err-commit.ensures.alters.before honest in
     nothing_certain s c.args.moment c.args.caller.now c.args.command c.constant-in-Err-commit.result _ (c.in-Ok.ensures.looks.1 before s held).allowed
+
+pub returns-in_default-clause-certain : goal.returns-in_default-clause-certain
+returns-in_default-clause-certain g c honest s held none =
+    nothing_certain s c.args.moment c.args.caller.now c.args.command c.constant.result _ (c.in-Ok.ensures.looks.1 honest s held).allowed

@@ -1,11 +1,9 @@
-use Rattle.std.proofs.Common.{◌≡◌, ◌∙◌, None, Err, ap, inr, inl, subst}
+use Rattle.std.proofs.Common.{◌∙◌, None, ap, inr, inl}
 use Rattle.office_commands.specs.declared.command.QueryKind.{QueryKind}
-use Rattle.office_values.specs.declared.refusal.Refusal.{Refusal}
 use Rattle.office_http.specs.Answering.{seen_as}
 use Rattle.office_http.specs.Response.{response_of}
-use Rattle.office_http.specs.declared.reply.Reply.TheVariants.{Refused}
 use Rattle.office_http.proofs.AlwaysTold.{tells_refused_query, tells_shown_query}
-use Rattle.office_http.proofs.CertainSteps.{certain_query}
+use Rattle.office_http.proofs.CertainSteps.{refused_query, shown_query}
 use Rattle.office_http.proofs.AnswerSteps.{query_refused, query_told}
 use Rattle.office_http.proofs.RequestSteps.{tells_some}
 use Rattle.office_http.proofs.answering.answer_query.Goals as goal
@@ -39,13 +37,12 @@ returns-in-Ok-seen_response-clause-told g c honest s held needs =
 
 pub returns-in-Err-clause-certain : goal.returns-in-Err-clause-certain
 returns-in-Err-clause-certain g c honest s held none =
-    certain_query s c.args.moment c.args.caller.now c.args.query c.refuse.result _ _ (c.in-Err.ensures.tells honest s held)
-    (λ why is. let same : c.in-Err.refusal ≡ why = cc is in subst (λ (w : Refusal). c.refuse.result ≡ response_of (Refused w None)) same c.refuse.ensures)
+    refused_query s c.args.moment c.args.caller.now c.args.query c.refuse.result _ c.in-Err.refusal (c.in-Err.ensures.tells honest s held) c.refuse.ensures
 
 pub returns-in-Ok-seen_response-clause-certain : goal.returns-in-Ok-seen_response-clause-certain
 returns-in-Ok-seen_response-clause-certain g c honest s held none =
-    certain_query s c.args.moment c.args.caller.now c.args.query c.built.result _ _ (c.in-Ok.ensures.tells honest s held) (λ why is. absurd (cc is))
+    shown_query s c.args.moment c.args.caller.now c.args.query c.built.result _ c.in-Ok.text (c.in-Ok.ensures.tells honest s held)
 
 pub returns-in-Err-seen_response-clause-certain : goal.returns-in-Err-seen_response-clause-certain
 returns-in-Err-seen_response-clause-certain g c honest s held none =
-    certain_query s c.args.moment c.args.caller.now c.args.query c.constant.result _ _ (c.in-Ok.ensures.tells honest s held) (λ why is. absurd (cc is))
+    shown_query s c.args.moment c.args.caller.now c.args.query c.constant.result _ c.in-Ok.text (c.in-Ok.ensures.tells honest s held)

@@ -1,11 +1,11 @@
-use Rattle.std.proofs.Common.{◌≡◌, Bool, false, None, sym, subst, inl, inr}
+use Rattle.std.proofs.Common.{◌≡◌, ℕ, Bool, false, None, sym, subst, inl, inr}
 use Rattle.office_values.specs.declared.settings.Settings.{Settings}
 use Rattle.office_publications.specs.Standing.{IsReached}
 use Rattle.office_http.specs.Inside.Meant.{Answered, CanBeMeant}
 use Rattle.office_http.specs.Meaning.{meant, meant_asked}
 use Rattle.office_http.proofs.LeftSteps.{stops_then}
 use Rattle.office_base.specs.Faults.{HasRisen}
-use Rattle.office_http.proofs.CertainSteps.{by_path, certain_asked, certain_nobody, certain_route}
+use Rattle.office_http.proofs.CertainSteps.{Certain, certain_asked, certain_nobody, certain_route}
 use Rattle.office_http.proofs.AlwaysTold.{tells_asked, tells_no_route, tells_nobody}
 use Rattle.office_http.specs.Answering.{NeedsMeant, answer_bytes, is_done}
 use Rattle.office_http.proofs.SightSteps.{sight_of_asker, sight_of_nobody, sight_of_route}
@@ -64,12 +64,11 @@ returns-clause-changes g c honest s held =
     let before = c.answer_asked.ensures.before honest in
     elim (c.answer_asked.ensures.changes honest s (c.caller_of.ensures.looks.0.same before s held)) [
       | inl same ↦ inl same
-      | inr (gives, reply, is) ↦
+      | inr (gives, shown) ↦
           inr (
             asked_gives c.args.desk.now.settings s c.answer_asked.result c.args.request.now c.in-Ok.route c.in-Ok-caller_of.caller c.command_of-asked.result (sym c.in-Ok.ensures)
                 (c.in-Ok-caller_of.ensures.looks.1 before s held) c.command_of-asked.ensures.asked gives,
-            reply,
-            is,
+            shown,
           )
     ]
 
@@ -107,20 +106,21 @@ returns-clause-told g c honest s held needs =
     (subst family c.caller_of.ensures.settings (c.answer_asked.ensures.told honest s (c.caller_of.ensures.looks.0.same before s held)))
 
 pub returns-in-Err-clause-certain : goal.returns-in-Err-clause-certain
-returns-in-Err-clause-certain g c path honest s held =
+returns-in-Err-clause-certain g c honest s held found =
     certain_route c.args.desk.now.settings s c.args.moment c.refuse.result _ c.args.request.now c.in-Err.refusal c.in-Err.method (sym c.in-Err.ensures) c.refuse.ensures
 
 pub returns-in-Err-caller_of-clause-certain : goal.returns-in-Err-caller_of-clause-certain
-returns-in-Err-caller_of-clause-certain g c path honest s held =
+returns-in-Err-caller_of-clause-certain g c honest s held found =
     certain_nobody c.args.desk.now.settings s c.args.moment c.refuse-in-Err-caller_of.result _ c.args.request.now c.in-Ok.route c.in-Err-caller_of.refusal (sym c.in-Ok.ensures)
     (c.in-Err-caller_of.ensures.looks.1 honest s held) c.in-Err-caller_of.ensures.risen c.refuse-in-Err-caller_of.ensures
 
 pub returns-clause-certain : goal.returns-clause-certain
-returns-clause-certain g c path honest s held =
+returns-clause-certain g c honest s held found =
     let M = g.H.Lookups.meaning in
     let before = c.answer_asked.ensures.before honest in
-    let certain = subst (λ (n : ℕ). _ → (why : _) → _ → _ ⊎ HasRisen n (M.fault_count c.answer_asked.new.desk.shelf)) c.in-Ok-caller_of.ensures.counted
-    (c.answer_asked.ensures.certain honest s (c.caller_of.ensures.looks.0.same before s held)) in
+    let family : ℕ → Type 0 = λ n. Certain c.args.desk.now.settings s c.args.moment c.answer_asked.result (HasRisen n (M.fault_count c.answer_asked.new.desk.shelf)) c.args.request.now
+    (meant_asked c.in-Ok-caller_of.caller c.command_of-asked.result) in
+    let certain = subst family c.in-Ok-caller_of.ensures.counted (c.answer_asked.ensures.certain honest s (c.caller_of.ensures.looks.0.same before s held)) in
     certain_asked c.args.desk.now.settings s c.args.moment c.answer_asked.result _ c.args.request.now c.in-Ok.route c.in-Ok-caller_of.caller c.command_of-asked.result (sym c.in-Ok.ensures)
     (c.in-Ok-caller_of.ensures.looks.1 before s held)
-    (c.command_of-asked.ensures.path (by_path c.args.desk.now.settings s c.args.moment c.answer_asked.result _ c.args.request.now c.in-Ok.route (sym c.in-Ok.ensures) path)) certain
+    c.command_of-asked.ensures.path c.command_of-asked.ensures.forbidden found certain
