@@ -1,5 +1,5 @@
 -- One connection after another.
-use Rattle.std.proofs.Common.{◌≡◌, ◌⊎◌, inl, inr, ℕ, zero, suc, ◌+◌, Bool, true, false, not, List, Option, Some, Result, Ok, Err, refl, sym, subst, arith}
+use Rattle.std.proofs.Common.{◌≡◌, ◌⊎◌, inl, inr, ℕ, zero, suc, ◌+◌, Bool, true, false, List, Option, Some, Result, Ok, Err, refl, sym, subst, arith}
 use Rattle.std.specs.Prelude.{⊤, IfErr}
 use Rattle.office_base.specs.Shelves.{Meaning}
 use Rattle.office_base.specs.declared.shelf.ShelfFault.{ShelfFault}
@@ -84,12 +84,12 @@ module _ {S T R W : Type 0} (N : Hosting T R W) (M : Meaning S) (store : Standin
       let next : suc n ≡ n + 1 = omega arith in subst (λ (k : ℕ). GoesOnFor N M store k before after first new) next (host, mid, so_far, last)
 
   -- a connection that couldn't be taken
-  pub none_taken : (before after : T) (old new : DeskOf S) (taken : Bool) → not taken ≡ true → TakesOne N M before after old new (Ok taken)
+  pub none_taken : (before after : T) (old new : DeskOf S) (taken : Bool) → taken ≡ false → TakesOne N M before after old new (Ok taken)
       → IsOneTurn N M store before after old new
   none_taken before after old new false is it = inl it
   none_taken before after old new true is it = absurd (cc is)
 
-  pub asks : (before after : T) (old served new : DeskOf S) (answer : Result Bool ShelfFault) (taken : Bool) → not taken ≡ false
+  pub asks : (before after : T) (old served new : DeskOf S) (answer : Result Bool ShelfFault) (taken : Bool) → taken ≡ true
       → TakesOne N M before after old served (Ok taken) → TellsShut M store served.shelf new.shelf answer → new.settings ≡ served.settings
       → ServesAndAsks N M store before after old new answer
   asks before after old served new answer true is one asked settings = record { served = served; one = one; asked = asked; settings = settings }
