@@ -114,13 +114,17 @@ impl<'a> OpenListener for Listener<'a> {
     fn accept(&self) -> io::Result<(Stream<'a>, SocketAddr)> {
         let taken = self.asked.taken.get();
         self.asked.taken.set(taken.saturating_add(1));
-        match self.came.get(taken) {
-            Some(&Some(rest)) => {
+        let came = match self.came.get(taken) {
+            Some(came) => *came,
+            None => None,
+        };
+        match came {
+            Some(rest) => {
                 let from = SocketAddr::V4(SocketAddrV4::new(Ipv4Addr::LOCALHOST, 1024));
                 let asked = self.asked;
                 Ok((Stream { rest, asked }, from))
             }
-            _ => Err(io::Error::from(ErrorKind::ConnectionAborted)),
+            None => Err(io::Error::from(ErrorKind::ConnectionAborted)),
         }
     }
 }
