@@ -19,7 +19,6 @@ use std::io;
 use std::io::{Cursor, ErrorKind, Read};
 use std::net::SocketAddrV4;
 use std::time::Duration;
-use tests_sql_office::office::{SqlOffice, in_sql};
 use tests_transcripts::session::desk_over;
 
 /// A host: what comes over its connections, none of one that can't be taken; and the second that its clock tells next, none where it can't be read.
@@ -116,7 +115,7 @@ fn needs_a_clock<H: Shelf + Drop>(alloc: Global, shelf: H) -> bool {
     };
     let mut host = host(alloc, &CAME, None);
     matches!(
-        take_one(alloc, &mut host, &mut office),
+        &take_one(alloc, &mut host, &mut office),
         Err(ProgramFault::Input)
     ) && host.told.is_empty()
 }
@@ -219,7 +218,7 @@ fn answers_blocks<H: Shelf + Drop>(alloc: Global, shelf: H) -> bool {
     )
     .is_ok();
     let is_cut = matches!(
-        answer_streams(
+        &answer_streams(
             alloc,
             &mut office,
             &mut CountedReader::new(&BLOCKS[..9]),
@@ -267,7 +266,7 @@ fn serves_at_a_port<H: StoredShelf + Drop>(alloc: Global, shelf: H) -> bool {
     };
     let ports = Ports { alloc, free: 8083 };
     let is_refused = matches!(
-        serve_at(alloc, &ports, &mut office, 8084, 1),
+        &serve_at(alloc, &ports, &mut office, 8084, 1),
         Err(ProgramFault::Input)
     );
     let is_served = serve_at(alloc, &ports, &mut office, 8083, 2).is_ok();
@@ -283,9 +282,9 @@ fn serves_over<A: Alter + Drop>(alloc: Global, shelf: SqlShelf<A>) -> bool {
 }
 
 fn serves_in_sql(alloc: Global) -> bool {
-    match in_sql(alloc) {
-        Some(SqlOffice { shelf }) => serves_over(alloc, shelf),
-        None => false,
+    match SqlShelf::create(alloc) {
+        Ok(shelf) => serves_over(alloc, shelf),
+        Err(_) => false,
     }
 }
 

@@ -13,7 +13,6 @@ use std::io::{ErrorKind, Read, Write};
 use std::net::{Ipv4Addr, Net, OpenListener, OpenStream, SocketAddr, SocketAddrV4};
 use std::os::fd::{AsRawFd, RawFd};
 use std::time::{Clock, Duration};
-use tests_sql_office::office::{SqlOffice, in_sql};
 
 /// What was asked of the sockets.
 #[derive(Drop)]
@@ -199,9 +198,9 @@ fn serves_over<A: Alter + Drop>(alloc: Global, shelf: SqlShelf<A>) -> bool {
 }
 
 fn serves_in_sql(alloc: Global) -> bool {
-    match in_sql(alloc) {
-        Some(SqlOffice { shelf }) => serves_over(alloc, shelf),
-        None => false,
+    match SqlShelf::create(alloc) {
+        Ok(shelf) => serves_over(alloc, shelf),
+        Err(_) => false,
     }
 }
 
