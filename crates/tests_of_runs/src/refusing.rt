@@ -48,7 +48,10 @@ fn tell_fault(rt: &HostRuntime, number: u64, fault: &Fault) -> io::Result<()> {
 fn tell(rt: &HostRuntime, found: Result<Found, (u64, Fault)>) -> io::Result<bool> {
     match found {
         Ok(found) => {
-            println!(rt; "{} answered, {} unavailable", found.answered, found.unavailable)?;
+            println!(rt;
+                "{} answered, {} unavailable",
+                found.answered, found.unavailable
+            )?;
             Ok(true)
         }
         Err((number, fault)) => {
@@ -66,7 +69,12 @@ pub(crate) fn refuse(rt: &HostRuntime, words: &[String]) -> io::Result<bool> {
         return Ok(false);
     };
     let text = fs::read_to_string(rt, file.as_str())?;
-    match found_in(rt, store.as_str(), text.as_str().trim_matches("\n"), numbers) {
+    match found_in(
+        rt,
+        store.as_str(),
+        text.as_str().trim_matches("\n"),
+        numbers,
+    ) {
         Some(found) => tell(rt, found),
         None => {
             println!(rt; "{store}: no such store")?;

@@ -158,16 +158,13 @@ fn put_reading(lines: &mut Lines, reading: &Option<Reading>) -> Result<(), Alloc
         None => lines.put(b"-"),
         Some(Reading::Unreadable) => lines.put(b"unreadable"),
         Some(Reading::Nonconforming) => lines.put(b"nonconforming"),
-        Some(Reading::Priced {
-            stated,
-            corrected,
-            corrections,
-        }) => put_price(
-            lines,
-            stated.units(),
-            corrected.units(),
-            corrections.get(),
-        ),
+        Some(
+            Reading::Priced {
+                stated,
+                corrected,
+                corrections,
+            },
+        ) => put_price(lines, stated.units(), corrected.units(), corrections.get()),
     }
 }
 
@@ -311,11 +308,7 @@ fn batch_in(line: &str) -> Option<Id> {
 }
 
 // The batches that these blocks import: no list has them.
-fn put_batches<H: Lookups>(
-    lines: &mut Lines,
-    shelf: &mut H,
-    blocks: &str,
-) -> Result<(), Refusal> {
+fn put_batches<H: Lookups>(lines: &mut Lines, shelf: &mut H, blocks: &str) -> Result<(), Refusal> {
     for line in blocks.lines() {
         let Some(batch) = batch_in(line) else {
             continue;
