@@ -22,7 +22,6 @@ mod served;
 #[cfg(test)]
 mod showing;
 #[cfg(test)]
-mod sockets;
 #[cfg(test)]
 mod unreadable_texts;
 #[cfg(test)]

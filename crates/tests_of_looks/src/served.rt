@@ -58,7 +58,7 @@ impl Host for Scripted {
 }
 
 // 2026-01-05T09:00:00Z.
-pub(crate) const BEGIN: u64 = 1_767_603_600;
+const BEGIN: u64 = 1_767_603_600;
 
 fn host(alloc: Global, came: &'static [Option<&'static [u8]>], second: Option<u64>) -> Scripted {
     Scripted {
@@ -77,19 +77,19 @@ const LOOK: &[u8] = b"GET /lines/1000 HTTP/1.1\r\n\r\n";
 
 const CUT: &[u8] = b"GET /li";
 
-pub(crate) static CAME: [Option<&[u8]>; 4] = [Some(IMPORT), None, Some(LOOK), Some(CUT)];
+static CAME: [Option<&[u8]>; 4] = [Some(IMPORT), None, Some(LOOK), Some(CUT)];
 
 static LATER: [Option<&[u8]>; 1] = [Some(LOOK)];
 
 // What is told over the three that can be taken.
-pub(crate) static TOLD: &[u8] =
+static TOLD: &[u8] =
     b"HTTP/1.1 200 OK\r\nContent-Type: application/json\r\nContent-Length: 55\r\nConnection: close\r\n\r\n{\"batch\":\"B1\",\"moment\":\"2026-01-05T09:00:00Z\",\"rows\":1}HTTP/1.1 200 OK\r\nContent-Type: application/json\r\nContent-Length: 99\r\nConnection: close\r\n\r\n{\"appropriation\":700,\"contracted\":0,\"free\":700,\"line\":\"1000\",\"paid\":0,\"reserved\":0,\"title\":\"Roads\"}HTTP/1.1 400 Bad Request\r\nContent-Type: application/json\r\nContent-Length: 30\r\nConnection: close\r\n\r\n{\"name\":\"BadHead\",\"refusal\":1}";
 
 // What is told over the third.
 static LOOKED: &[u8] =
     b"HTTP/1.1 200 OK\r\nContent-Type: application/json\r\nContent-Length: 99\r\nConnection: close\r\n\r\n{\"appropriation\":700,\"contracted\":0,\"free\":700,\"line\":\"1000\",\"paid\":0,\"reserved\":0,\"title\":\"Roads\"}";
 
-pub(crate) fn office<H: Shelf + Drop>(alloc: Global, shelf: H) -> Result<Office<H>, AllocError> {
+fn office<H: Shelf + Drop>(alloc: Global, shelf: H) -> Result<Office<H>, AllocError> {
     Ok(Office::new(alloc, desk_over(alloc, shelf)?)?)
 }
 
