@@ -5,8 +5,9 @@
     bench/gate_model.py TABLE 8         for 8
 
 It plays the schedule of `rt ci` on paper: proofs and tests first, those with most lines behind them in front; the check that a crate's wrong bodies begin with
-and then these fill the lanes that are free; a proof gets the lanes that no other proof waits for, four at most, fixed for its life; and what rt reckons that
-a check takes of memory holds it back where the others' leave too little, a proof the wrong bodies behind it too. Not in it: other work on the machine.
+and then these fill the lanes that are free. Where rt was told how many lanes there are, as `make test` does (scripts/lanes.py), each check takes one. Else a
+proof gets the lanes that no other proof waits for, four at most, fixed for its life; and what rt reckons that a check takes of memory holds it back where the
+others' leave too little, a proof the wrong bodies behind it too. Not in it: other work on the machine.
 Printed are the wall minutes for each number, and the longest chain of crates. `bench/gate` prints them too, beside the minutes that the run took.
 Exit status: 0 where they are told, 1 where the table can't be read or lacks what the model wants, 2 for wrong arguments.
 """
@@ -128,16 +129,16 @@ def jobs_for(key, ready, idle, room, needs):
 
 
 def begin(tasks, left, running, ended, lanes, memory):
-    """The tasks that begin now, each with its jobs: those that are ready, in order, where a lane and memory are free."""
+    """The tasks that begin now, each with its jobs: those that are ready, in order, where a lane and memory are free; no memory told: a job a lane."""
     ready, begun, lacks = [key for key in left if ended.issuperset(tasks[key].waits)], {}, False
     for key in ready:
         if lacks and key[1] in FILLS:
             break
         held = {**running, **begun}
         idle = lanes - sum(held.values())
-        room = memory - sum(tasks[it].memory(jobs) for it, jobs in held.items())
-        if idle > 0 and (not held or tasks[key].needs <= room):
-            begun[key] = jobs_for(key, ready, idle, room, tasks[key].needs)
+        room = None if memory is None else memory - sum(tasks[it].memory(jobs) for it, jobs in held.items())
+        if idle > 0 and (not held or room is None or tasks[key].needs <= room):
+            begun[key] = 1 if room is None else jobs_for(key, ready, idle, room, tasks[key].needs)
         else:
             lacks = lacks or idle > 0 and key[1] in PROOFS
     return begun
@@ -163,7 +164,8 @@ def minutes_on(root, table, lanes):
     """The wall minutes of a gate on so many processors. Programs and tests run one after another, once nothing is left to prove."""
     slower = SLOWER.get(lanes, SLOWER[4]) / SLOWER.get(table["lanes"], SLOWER[4])
     runs = sum(row["runs"] for row in table["crates"].values())
-    return wall_of(tasks_of(root, table, crates_of(root)), lanes, slower, table.get("memory", MEMORY)) + runs
+    memory = None if table.get("are_told") else table.get("memory", MEMORY)
+    return wall_of(tasks_of(root, table, crates_of(root)), lanes, slower, memory) + runs
 
 
 def longest_chain(root, table):

@@ -5,6 +5,7 @@ is their sum, `tries` their number, `around` the checks around them, and `all` t
 """
 import os
 import re
+import statistics
 
 HEADS = ("wall", "proof", "builds", "tests", "wrong bodies", "tries", "around these", "runs", "all")
 AIMS = {4: 75, 2: 135}
@@ -55,10 +56,13 @@ def budgets(root):
 
 
 def above_budget(crates, allowed):
-    """How much slower than all their budgets the crates were in all, at least 1; and of each that took a tenth more than its own times that, what it took."""
+    """How much slower the machine is than where budgets were set, at least 1; and what each crate took that took a tenth more than its budget times that.
+
+    A budget is a tenth more than its crate took when it was set, so what was taken then is a tenth less; the median is that of single crates.
+    """
     named = sorted({*allowed} & {*crates})
     used = {name: cells_of(crates[name])[-1] for name in named}
-    slower = max(1.0, sum(used.values()) / max(1.0, sum(allowed[name] for name in named)))
+    slower = max(1.0, statistics.median([1.1 * used[name] / allowed[name] for name in named] or [1.0]))
     return slower, {name: used[name] for name in named if used[name] > 1.1 * slower * allowed[name]}
 
 
@@ -100,6 +104,6 @@ def page_of(table, names, allowed):
         out.append(f"| {name} | {' | '.join(texts_of(cells))} | {'none' if most is None else f'{most:.1f}'} |")
     slower, above = above_budget(crates, allowed)
     told = ", ".join(f"`{name}` ({used:.1f})" for name, used in above.items()) or "none"
-    held = f" All took {slower:.2f} of their budgets, and each is held to its own times that." if slower > 1 else ""
+    held = f" In the median crates took {slower:.2f} of what they took where budgets were set, and each is held to its own times that." if slower > 1 else ""
     out += ["", f"Above its budget by more than a tenth: {told}.{held}"]
     return "\n".join(out) + "\n"

@@ -1,5 +1,5 @@
 -- Who asks, by a name and a key.
-use Rattle.std.specs.Prelude.{ℕ, Bool, true, List, Option, Some, None, Result, Ok, Err, nat_eq, codes, if◌then◌else◌}
+use Rattle.std.specs.Prelude.{ℕ, Bool, true, not, ◌||◌, List, Option, Some, None, Result, Ok, Err, nat_eq, codes, if◌then◌else◌}
 use Rattle.std.specs.Cmp.Lexicographic.{pointwise}
 use Rattle.sha2.specs.Sha256.{sha256}
 use Rattle.office_commands.specs.declared.command.Caller.{Caller}
@@ -19,9 +19,9 @@ fits_key digest key = pointwise nat_eq (sha256 key) digest
 abbrev pub is_clerk_name : List ℕ → Bool
 is_clerk_name name = pointwise nat_eq name (codes "clerk")
 
--- no tenderer is to be looked up: a value is absent, or the name is `clerk`
+-- no tenderer is to be looked up: a value is absent, or the name is `clerk` or no identifier
 abbrev pub names_no_tenderer : Option (List ℕ) → Option (List ℕ) → Bool
-names_no_tenderer (Some name) (Some key) = is_clerk_name name
+names_no_tenderer (Some name) (Some key) = is_clerk_name name || not (is_id name)
 names_no_tenderer (Some name) None = true
 names_no_tenderer None key = true
 

@@ -7,6 +7,7 @@ use Rattle.office_commands.specs.declared.queries.Query.TheVariants as queries
 use Rattle.office_values.specs.declared.refusal.Refusal.{Refusal}
 use Rattle.office_values.specs.declared.refusal.Refusal.TheVariants.{Unavailable}
 use Rattle.office_values.specs.declared.settings.Settings.{Settings}
+use Rattle.office_base.specs.Faults.{HasRisen}
 use Rattle.office_base.specs.Joined.{is_overdrawn}
 use Rattle.office_base.specs.Tables.{Tables, contract_at, entries_of_contract}
 use Rattle.office_base.specs.declared.records.ContractRow.{ContractRow}
@@ -81,6 +82,12 @@ no_packages query s = Rattle.std.specs.Prelude.[]
 
 abbrev pub IsShown : Caller → Query → Tables → Result (List ℕ) Refusal → Type 0
 IsShown caller query s result = (result ≡ text_of (told no_packages s caller query)) ⊎ (result ≡ Err Unavailable)
+
+-- a query that is to be refused is told its refusal, or the store's count of faults rose
+abbrev pub TellsQuery : {S T : Type 0} → Meaning S → S → S → Caller → Query → Result T Refusal → Type 0
+TellsQuery M old new caller query result =
+    M.honest new → (s : Tables) → M.holds old s → (why : Refusal) → text_of (told no_packages s caller query) ≡ Err why
+    → (result ≡ Err why) ⊎ HasRisen (M.fault_count old) (M.fault_count new)
 
 -- the office after the answer, and the accepted commands
 abbrev pub office_after_answer : Settings → Given → Result (List ℕ) Refusal → Tables

@@ -13,8 +13,8 @@ ghost use Rattle.office_values.specs.declared.settings.Settings.{Settings as Set
 ghost use Rattle.office_plans.specs.Asking.{given};
 ghost use Rattle.office_base.specs.Shutting.{TellsShut};
 ghost use Rattle.office_desk.specs.Callers.{caller_of, names_no_tenderer};
-ghost use Rattle.office_plans.specs.Published.{IsPlan, IsPlanned};
-ghost use Rattle.office_desk.specs.Steps.{Does, HasShown, IsReplyOrRefusal, IsSeen, Joins, read_text};
+ghost use Rattle.office_plans.specs.Published.{IsPlan, IsPlanned, TellsRefusal, gathers_lines};
+ghost use Rattle.office_desk.specs.Steps.{Does, HasShown, IsReplyOrRefusal, IsSeen, Joins, TellsQuery, read_text};
 
 use crate::callers::{clerk_with_key, is_clerk_name, tenderer_named};
 use crate::queries::look_at;
@@ -85,7 +85,7 @@ impl<H: Shelf + Drop> Desk<H> {
     }
 
     /// Who asks, by the name and the key of a request, each perhaps absent: the public with neither, the clerk with the clerk's key, a
-    /// registered tenderer with that tenderer's key, and else `BadKey`. Only a look-up of a tenderer can be answered `Unavailable`.
+    /// registered tenderer with that tenderer's key, and else `BadKey`. Only a look-up of a tenderer, by an identifier, can be answered `Unavailable`.
     pub fn caller(&mut self, name: Option<&[u8]>, key: Option<&[u8]>) -> Result<Caller, Refusal>
         ensures looks { Looks H.meaning self.old.shelf self.new.shelf (λ s.
             (result ≡ caller_of self.old.settings s (option_map (λ x. x.now) name.entry) (option_map (λ x. x.now) key.entry)) ⊎ (result ≡ Err Refusal.Unavailable)) }
@@ -95,6 +95,8 @@ impl<H: Shelf + Drop> Desk<H> {
         ensures no_name { IsNone name.entry → IsSome key.entry → result ≡ Err Refusal.BadKey }
         ensures no_tenderer { names_no_tenderer (option_map (λ x. x.now) name.entry) (option_map (λ x. x.now) key.entry) ≡ true → (s : Tables)
             → result ≡ caller_of self.old.settings s (option_map (λ x. x.now) name.entry) (option_map (λ x. x.now) key.entry) }
+        ensures risen { result ≡ Err Refusal.Unavailable → HasRisen (H.meaning.fault_count self.old.shelf) (H.meaning.fault_count self.new.shelf) }
+        ensures counted { OnOk result (H.meaning.fault_count self.new.shelf ≡ H.meaning.fault_count self.old.shelf) }
     {
         match name {
             Some(name) => match key {
@@ -114,7 +116,7 @@ impl<H: Shelf + Drop> Desk<H> {
         }
     }
 
-    /// What a command would do, and its reply. Nothing changes.
+    /// What a command would do, and its reply. Nothing changes. A refusal of a command that names no budget lines is told, or the store's count of faults rose.
     pub fn plan(
         &mut self,
         moment: Moment,
@@ -124,6 +126,7 @@ impl<H: Shelf + Drop> Desk<H> {
         ensures looks { Looks H.meaning self.old.shelf self.new.shelf (λ s. IsPlanned self.old.settings (given s moment caller.now command.entry) result) }
         ensures settings { self.new.settings ≡ self.old.settings }
         ensures forbidden { may caller.now (commands.kind_of command.entry) ≡ false → result ≡ Err Refusal.Forbidden }
+        ensures tells { gathers_lines command.entry ≡ false → TellsRefusal H.meaning self.old.shelf self.new.shelf (λ s. given s moment caller.now command.entry) result }
     {
         if !may(caller, command.kind()) {
             return Err(Refusal::Forbidden);
@@ -196,12 +199,14 @@ impl<H: Shelf + Drop> Desk<H> {
         self.commit(planned)
     }
 
-    /// Answers a query. Nothing changes. A package is shown only where each release that its notice's row counts is there, and can be merged.
+    /// Answers a query. Nothing changes. A package is shown only where each release that its notice's row counts is there, and can be merged. A refusal is told,
+    /// or the store's count of faults rose.
     pub fn look(&mut self, caller: &Caller, query: Query) -> Result<Vec<u8>, Refusal>
         ensures looks { Looks H.meaning self.old.shelf self.new.shelf (λ s. IsSeen self.old.settings caller.now query s (read_text result)) }
         ensures shown { H.meaning.honest self.new.shelf → (s : Tables) → H.meaning.holds self.old.shelf s → OnOk result (HasShown query s) }
         ensures settings { self.new.settings ≡ self.old.settings }
         ensures forbidden { may_look caller.now (queries.query_kind_of query) ≡ false → result ≡ Err Refusal.Forbidden }
+        ensures tells { TellsQuery H.meaning self.old.shelf self.new.shelf caller.now query result }
     {
         if !may_look(caller, query.kind()) {
             return Err(Refusal::Forbidden);

@@ -4,7 +4,7 @@ ghost use Rattle.office_commands.specs.Queries.{query_kind_of};
 ghost use Rattle.office_commands.specs.Rights.{may_look};
 ghost use Rattle.office_base.specs.Shelves.{Looks};
 ghost use Rattle.office_base.specs.Tables.{Tables};
-ghost use Rattle.office_desk.specs.Steps.{HasShown, IsSeen, read_text};
+ghost use Rattle.office_desk.specs.Steps.{HasShown, IsSeen, TellsQuery, read_text};
 
 mod contract;
 mod evaluation;
@@ -39,6 +39,7 @@ pub(crate) fn look_at<H: Lookups>(
 ) -> Result<Vec<u8>, Refusal>
     requires { may_look caller.now (query_kind_of query) ≡ true }
     ensures looks { Looks H.meaning shelf.old shelf.new (λ s. IsSeen settings.now caller.now query s (read_text result)) }
+    ensures tells { TellsQuery H.meaning shelf.old shelf.new caller.now query result }
     ensures shown { H.meaning.honest shelf.new → (s : Tables) → H.meaning.holds shelf.old s → OnOk result (HasShown query s) }
 {
     match query {

@@ -7,10 +7,6 @@ use Rattle.std.proofs.lemmas.List.{length-append}
 pub put_as : (old new text shown : List ℕ) → new ≡ old ++ text → text ≡ shown → new ≡ old ++ shown
 put_as old new text shown put is = rw is at put
 
--- three texts behind what was there
-pub three_behind : (out first second third a b c : List ℕ) → first ≡ out ++ a → second ≡ first ++ b → third ≡ second ++ c → third ≡ out ++ (a ++ b ++ c)
-three_behind out first second third a b c at_first at_second at_third = rw (at_third, at_second, at_first) (simp append_assoc)
-
 -- a head in a new list, two texts together behind it, and then two more
 pub five_in_new : (out head first second third fourth a b c d e : List ℕ) → out ≡ [] → head ≡ out ++ a → first ≡ head ++ b → second ≡ first ++ c
     → third ≡ second ++ d → fourth ≡ third ++ e → fourth ≡ a ++ (b ++ c) ++ d ++ e

@@ -1,8 +1,13 @@
 pub mod Joining
+pub mod ShortTexts
+pub mod ShortRefusals
 pub mod ToldSteps
 pub mod LeftSteps
 pub mod AnswerSteps
 pub mod RequestSteps
+pub mod SightSteps
+pub mod AlwaysTold
+pub mod CertainSteps
 pub mod WorkedRequests
 pub mod AskedCommands
 pub mod MeantSteps

@@ -1,6 +1,7 @@
 -- A run or a request that is answered by one office is so by another of which it is a view.
 use Rattle.std.proofs.Common.{◌≡◌, ℕ, ◌⊎◌, inl, inr, Bool, List, [], ◌∷◌, ◌++◌, Option, Result, Ok, Err, refl, ap, ◌∙◌, subst}
 use Rattle.std.specs.Prelude.{⊤}
+use Rattle.office_wire.specs.AnyReader.{CutsAnyRefusal, HasTold, WentThrough}
 use Rattle.office_wire.specs.Blocks.{Block}
 use Rattle.office_wire.specs.Runs.{Answers, AnswersOne, CutsRefusal, CutsReply, Ends, Ran, RefusesOne, Served, Serves, Step, office_left, written}
 use Rattle.office_wire.specs.Sending.{IsPrefix}
@@ -70,6 +71,42 @@ module _ {X Y : Type 0} (A : Answers X) (B : Answers Y) (f : X → Y)
     blocks = it.blocks;
     sent = it.sent;
     ends_so = ends_as result x steps it.rest now it.told it.ends_so;
+  }
+
+  -- ---- a run over any reader
+
+  cuts_any_refusal : (x : X) (steps : List Step) (told : List ℕ) → CutsAnyRefusal A x steps told → CutsAnyRefusal B (f x) steps told
+  cuts_any_refusal x steps told it = record {
+    why = it.why;
+    was_read = it.was_read;
+    part = it.part;
+    front = subst (λ (text : List ℕ). IsPrefix it.part text) (refuses it.why) it.front;
+    told_is = it.told_is ∙ ap (λ (earlier : List ℕ). earlier ++ it.part) (written_as x steps);
+  }
+
+  told_as_well : (result : Result ℕ RunFault) (x : X) (steps : List Step) (told : List ℕ) → HasTold A result x steps told → HasTold B result (f x) steps told
+  told_as_well (Ok n) x steps told (count, is) = (count, is ∙ written_as x steps)
+  told_as_well (Err ends.BadBlock) x steps told is = is ∙ written_as x steps
+  told_as_well (Err ends.LostPlace) x steps told (why, was_read, is) = (
+    why,
+    was_read,
+    is
+        ∙ ap (λ (earlier : List ℕ). earlier ++ A.refusal why) (written_as x steps)
+        ∙ ap (λ (text : List ℕ). written B (f x) steps ++ text) (refuses why),
+  )
+  told_as_well (Err ends.Read) x steps told is = is ∙ written_as x steps
+  told_as_well (Err ends.Write) x steps told (inl cut) = inl (cuts_reply x steps told cut)
+  told_as_well (Err ends.Write) x steps told (inr (inl cut)) = inr (inl (cuts_any_refusal x steps told cut))
+  told_as_well (Err ends.Write) x steps told (inr (inr is)) = inr (inr (is ∙ written_as x steps))
+
+  pub went_as : (result : Result ℕ RunFault) (reads left : ℕ) (x : X) (steps : List Step) (before after : Option (List ℕ))
+      → WentThrough A result reads left x steps before after → WentThrough B result reads left (f x) steps before after
+  went_as result reads left x steps before after it = record {
+    formed = it.formed;
+    few = it.few;
+    told = it.told;
+    sent = it.sent;
+    told_so = told_as_well result x steps it.told it.told_so;
   }
 
   -- ---- one request

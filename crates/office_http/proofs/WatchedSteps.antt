@@ -5,6 +5,7 @@ use Rattle.office_values.specs.declared.settings.Settings.{Settings}
 use Rattle.office_base.specs.Tables.{Tables}
 use Rattle.office_base.specs.Shelves.{Meaning}
 use Rattle.office_desk.specs.Desks.{DeskOf}
+use Rattle.office_wire.specs.AnyReader.{WentThrough}
 use Rattle.office_wire.specs.Blocks.{Block}
 use Rattle.office_wire.specs.Runs.{Ran, Served, Step, office_left}
 use Rattle.office_wire.specs.declared.fault.RunFault.{RunFault}
@@ -12,7 +13,7 @@ use Rattle.office_http.specs.Meaning.{meant}
 use Rattle.office_http.specs.Answering.{Held, IsAnswered, IsWholeAfter, LeftAfter, StandsAs, is_accepted, meant_in, office_answers}
 use Rattle.office_http.specs.Stops.{LeftBySteps, StandsWatched, StopsBy, Watched, office_now, watched_answers}
 use Rattle.office_http.proofs.LeftSteps.{left_weaker}
-use Rattle.office_http.proofs.ViewedAnswers.{ran_as, served_as}
+use Rattle.office_http.proofs.ViewedAnswers.{ran_as, served_as, went_as}
 
 -- ---- a step more, behind the others
 
@@ -88,6 +89,12 @@ module _ {S : Type 0} (M : Meaning S) where
     ran_watched result input now steps before after ran =
         ran_as watched_answers office_answers office_now (λ busy w b. refl) (λ busy w b. office_push w.first w.steps (record { busy = busy; block = b })) (λ why. refl)
         result input now (watched_from shelf h) steps before after ran
+
+    pub went_watched : (result : Result ℕ RunFault) (reads left : ℕ) (steps : List Step) (before after : Option (List ℕ))
+        → WentThrough watched_answers result reads left (watched_from shelf h) steps before after → WentThrough office_answers result reads left h steps before after
+    went_watched result reads left steps before after went =
+        went_as watched_answers office_answers office_now (λ busy w b. refl) (λ busy w b. office_push w.first w.steps (record { busy = busy; block = b })) (λ why. refl)
+        result reads left (watched_from shelf h) steps before after went
 
     pub served_watched : (result : Result ⊤ RunFault) (input : List ℕ) (now : Option (List ℕ)) (moment : ℕ) (t : Watched S) (before after : Option (List ℕ))
         → Served watched_answers result input now moment (watched_from shelf h) t before after → Served office_answers result input now moment h (office_now t) before after

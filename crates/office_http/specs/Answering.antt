@@ -1,5 +1,5 @@
 -- How an office answers what is meant: the reply, its bytes, and the office after it.
-use Rattle.std.specs.Prelude.{◌≡◌, ℕ, ◌⊎◌, Bool, true, false, List, Option, None, is_none, if◌then◌else◌}
+use Rattle.std.specs.Prelude.{◌≡◌, ℕ, ◌⊎◌, Bool, true, false, not, ◌&&◌, List, Option, None, is_none, if◌then◌else◌}
 use Rattle.office_commands.specs.declared.command.QueryKind.{QueryKind}
 use Rattle.office_commands.specs.declared.command.QueryKind.TheVariants as kinds
 use Rattle.office_values.specs.declared.refusal.Refusal.{Refusal}
@@ -16,7 +16,7 @@ use Rattle.office_publications.specs.Publishing.{publishing}
 use Rattle.office_publications.specs.Standing.{IsReached, office_kept}
 use Rattle.office_plans.specs.Asking.{given}
 use Rattle.office_desk.specs.Desks.{DeskOf}
-use Rattle.office_desk.specs.Steps.{HasShown}
+use Rattle.office_desk.specs.Steps.{HasShown, Needs}
 use Rattle.office_plans.specs.Replies.{reply_text}
 use Rattle.office_requests.specs.declared.route.Allow.{Allow}
 use Rattle.office_wire.specs.Blocks.{Block}
@@ -24,6 +24,8 @@ use Rattle.office_wire.specs.Request.{RequestView, IsRequest, IsRefused}
 use Rattle.office_wire.specs.Runs.{Answers}
 use Rattle.office_wire.specs.declared.fault.ReadFault.{ReadFault}
 use Rattle.office_wire.specs.declared.fault.ReadFault.TheVariants as fault
+use Rattle.office_http.specs.AtSight.{TellsAtSight}
+use Rattle.office_http.specs.Certain.{TellsCertain}
 use Rattle.office_http.specs.Meaning.{Meant, Refuses, Gives, Sees, meant}
 use Rattle.office_http.specs.Response.{response_of}
 use Rattle.office_http.specs.declared.reply.Reply.{Reply}
@@ -141,10 +143,32 @@ IsAnswered M settings old new moment m text =
     → (busy : Bool) × (text ≡ answer_bytes settings busy s moment (m s)) × M.holds new (tables_left settings busy s moment (m s))
     × IsReached settings (tables_left settings busy s moment (m s)) × StopsAfter M settings old new busy s moment (m s)
 
--- whatever the shelf held, it holds it still, or the answer is a 200 in JSON, as that to an accepted command and to most queries; what it holds then isn't said here
-abbrev pub ChangesOnlyAccepting : {S : Type 0} → Meaning S → S → S → List ℕ → Type 0
-ChangesOnlyAccepting M old new text =
-    M.honest new → (s : Tables) → M.holds old s → M.holds new s ⊎ ((reply : List ℕ) × (text ≡ response_of (Json reply)))
+-- a command is given
+abbrev pub GivesCommand : Meant → Type 0
+GivesCommand (Refuses why method) = ⊥
+GivesCommand (Gives caller command) = Unit {0}
+GivesCommand (Sees caller query) = ⊥
+
+-- whatever the shelf held, it holds it still, or a command is given and the answer is a 200 in JSON, as that to an accepted command; what it holds then isn't said here
+abbrev pub ChangesOnlyAccepting : {S : Type 0} → Meaning S → S → S → (Tables → Meant) → List ℕ → Type 0
+ChangesOnlyAccepting M old new m text =
+    M.honest new → (s : Tables) → M.holds old s → M.holds new s ⊎ (GivesCommand (m s) × ((reply : List ℕ) × (text ≡ response_of (Json reply))))
+
+-- a command was given that isn't refused, and it wasn't answered Unavailable
+abbrev pub is_done : Bool → Tables → ℕ → Meant → Bool
+is_done busy s moment m = is_accepted s moment m && not busy
+
+-- what a query needs of the tables to be seen rightly: packages, that they stand as commands left them
+abbrev pub NeedsMeant : Settings → Tables → Meant → Type 0
+NeedsMeant settings s (Refuses why method) = Unit {0}
+NeedsMeant settings s (Gives caller command) = Unit {0}
+NeedsMeant settings s (Sees caller query) = Needs settings query s
+
+-- Whatever tables the shelf held, no commands need have led to them: this text is the answer, perhaps Unavailable, and all but a command that is done leaves them.
+abbrev pub IsTold : {S : Type 0} → Meaning S → Settings → S → S → ℕ → (Tables → Meant) → List ℕ → Type 0
+IsTold M settings old new moment m text =
+    M.honest new → (s : Tables) → M.holds old s → NeedsMeant settings s (m s)
+    → (busy : Bool) × (text ≡ answer_bytes settings busy s moment (m s)) × (is_done busy s moment (m s) ≡ false → M.holds new s)
 
 -- the response to a refusal
 abbrev pub IsRefusedText : List ℕ → Type 0
@@ -166,8 +190,11 @@ pub record AnswersRequest {S : Type 0} (M : Meaning S) (settings : Settings) (ol
   pub rest : List ℕ
   pub stands : IsRequest input request rest
   pub answered : IsAnswered M settings old new moment (meant settings request) text
-  pub changes : ChangesOnlyAccepting M old new text
+  pub changes : ChangesOnlyAccepting M old new (meant settings request) text
   pub shown : ShowsOnlyWhole M old new (meant settings request) text
+  pub sight : TellsAtSight settings request text
+  pub certain : TellsCertain M settings old new moment request text
+  pub told : IsTold M settings old new moment (meant settings request) text
 
 -- the bytes were refused, perhaps for want of memory, which may be so of any bytes; and nothing changed
 pub record RefusesBytes {S : Type 0} (M : Meaning S) (old new : S) (input text : List ℕ) : Type 0 where

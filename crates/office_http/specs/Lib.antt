@@ -1,8 +1,11 @@
 pub mod Response
 pub mod Credentials
 pub mod Meaning
+pub mod AtSight
+pub mod Certain
 pub mod Answering
 pub mod Joined
 pub mod Stops
+pub mod AnyReader
 pub mod Sealed
 pub mod Inside

@@ -1,7 +1,8 @@
 -- Responses: a status line, fields, an empty line and a body (RFC 9112, sections 2 to 6). Lines end with CR LF.
-use Rattle.std.specs.Prelude.{◌≡◌, ℕ, ◌==◌, if◌then◌else◌, List, [], ◌++◌, length, codes, decimal, Option, Some, None, is_some, unwrap_or, ⊤}
+use Rattle.std.specs.Prelude.{◌≡◌, ℕ, ◌≤◌, ◌==◌, if◌then◌else◌, List, [], ◌++◌, length, codes, decimal, Option, Some, None, is_some, option_map, unwrap_or, ⊤}
 use Rattle.http.specs.StatusCode.{reason_phrase}
-use Rattle.office_values.specs.Refusals.{number_of_refusal, status_of_refusal, name_of_refusal, subject_of_refusal, About, Named, Record}
+use Rattle.office_values.specs.Refusals.{number_of_refusal, status_of_refusal, name_of_refusal, subject_of_refusal, About, Named, Record, told}
+use Rattle.office_values.specs.declared.refusal.What.{What}
 use Rattle.office_values.specs.declared.refusal.Refusal.{Refusal}
 use Rattle.office_requests.specs.declared.route.Allow.{Allow}
 use Rattle.office_requests.specs.declared.route.Allow.TheVariants as allow
@@ -44,6 +45,10 @@ abbrev pub what_member : Option About → List ℕ
 what_member None = []
 what_member (Some (Named name)) = codes ",\"what\":\"" ++ name ++ codes "\""
 what_member (Some (Record number)) = codes ",\"what\":\"row " ++ decimal number ++ codes "\""
+
+-- the number of a record that this names has ten digits at most
+abbrev pub IsShortNumber : Option What → Type 0
+IsShortNumber what = (n : ℕ) → option_map told what ≡ Some (Record n) → length (decimal n) ≤ 10
 
 -- a refusal as a JSON object
 abbrev pub refusal_body : Refusal → List ℕ

@@ -1,20 +1,24 @@
 //! Requests answered in bytes.
-ghost use Rattle.std.specs.Prelude.{◌≡◌, ◌⊎◌, None, Ok, Err};
+ghost use Rattle.std.specs.Prelude.{◌≡◌, ◌⊎◌, None, Ok, Err, OnOk, true};
+ghost use Rattle.office_values.specs.declared.refusal.Refusal.{Refusal as RefusalOf};
 ghost use Rattle.office_values.specs.declared.refusal.Refusal.TheVariants.{Unavailable};
+ghost use Rattle.office_base.specs.Faults.{HasRisen};
+ghost use Rattle.office_base.specs.Tables.{Tables};
 ghost use Rattle.office_base.specs.Shelves.{Looks};
+ghost use Rattle.office_http.specs.AtSight.{TellsAtSight, is_known_at_sight};
+ghost use Rattle.office_http.specs.Certain.{TellsCertain};
 ghost use Rattle.office_http.specs.Credentials.{credentials_of};
 ghost use Rattle.office_http.specs.Meaning.{Gives, Sees, meant, meant_asked, who};
-ghost use Rattle.office_http.specs.Answering.{AnswersRequest, ChangesOnlyAccepting, IsAnswered, RefusesBytes, ShowsOnlyWhole, fault_text, unavailable_text};
-ghost use Rattle.office_http.specs.Inside.Meant.{AnswersMeant};
+ghost use Rattle.office_http.specs.Answering.{AnswersRequest, ChangesOnlyAccepting, IsAnswered, IsTold, RefusesBytes, ShowsOnlyWhole, fault_text};
+ghost use Rattle.office_http.specs.Inside.Meant.{AnswersMeant, IsCertain};
 ghost use Rattle.office_http.specs.Joined.{IsKeptAnswering, KeepsAnswering, KeepsRefusing};
 ghost use Rattle.office_http.specs.Response.{response_of};
 ghost use Rattle.office_http.specs.declared.reply.Reply.TheVariants.{Refused};
 
 use crate::credentials::credentials_of;
 use crate::laws;
-use crate::response::{
-    accepted_response, bad_head, coding, refusal_response, seen_response, too_long, unavailable,
-};
+use crate::refusing::refusal_text;
+use crate::response::{accepted_response, bad_head, coding, seen_response, too_long, unavailable};
 use office_base::shelf::{Lookups, Shelf};
 use office_commands::command::Caller;
 use office_commands::commands::Command;
@@ -32,14 +36,11 @@ use office_wire::fault::ReadFault;
 use office_wire::request::{Request, read_request};
 use std::alloc::Global;
 
-// The response to a refusal, or Unavailable where no memory is left for it.
-fn refuse(alloc: Global, refusal: Refusal, method: Option<Allow>) -> Answer
-    ensures { (result ≡ response_of (Refused refusal method)) ⊎ (result ≡ unavailable_text) }
+// The response to a refusal. Takes no memory.
+fn refuse(refusal: Refusal, method: Option<Allow>) -> Answer
+    ensures { result ≡ response_of (Refused refusal method) }
 {
-    match refusal_response(alloc, refusal, method) {
-        Ok(response) => Answer::built(response),
-        Err(_) => Answer::constant(unavailable()),
-    }
+    Answer::short(refusal_text(refusal, method))
 }
 
 // Answers a command. The response is built whole before anything changes.
@@ -54,12 +55,14 @@ fn answer_command<H: Shelf + Drop>(
     ensures sound { H.meaning.honest desk.new.shelf → H.meaning.leaves_sound desk.old.shelf → H.meaning.leaves_sound desk.new.shelf }
     ensures settings { desk.new.settings ≡ desk.old.settings }
     ensures answered { AnswersMeant H.meaning desk.old.settings desk.old.shelf desk.new.shelf moment (λ s. Gives caller.now command.entry) result }
-    ensures changes { ChangesOnlyAccepting H.meaning desk.old.shelf desk.new.shelf result }
+    ensures changes { ChangesOnlyAccepting H.meaning desk.old.shelf desk.new.shelf (λ s. Gives caller.now command.entry) result }
+    ensures told { IsTold H.meaning desk.old.settings desk.old.shelf desk.new.shelf moment (λ s. Gives caller.now command.entry) result }
+    ensures certain { IsCertain H.meaning desk.old.shelf desk.new.shelf moment (λ s. Gives caller.now command.entry) result }
 {
     keeping();
     let planned = match desk.plan(moment, caller, command) {
         Ok(planned) => planned,
-        Err(refusal) => return refuse(alloc, refusal, None),
+        Err(refusal) => return refuse(refusal, None),
     };
     let Ok(response) = accepted_response(alloc, planned.reply()) else {
         return Answer::constant(unavailable());
@@ -82,12 +85,14 @@ fn answer_query<H: Shelf + Drop>(
     ensures sound { H.meaning.honest desk.new.shelf → H.meaning.leaves_sound desk.old.shelf → H.meaning.leaves_sound desk.new.shelf }
     ensures settings { desk.new.settings ≡ desk.old.settings }
     ensures answered { AnswersMeant H.meaning desk.old.settings desk.old.shelf desk.new.shelf moment (λ s. Sees caller.now query) result }
-    ensures changes { ChangesOnlyAccepting H.meaning desk.old.shelf desk.new.shelf result }
+    ensures changes { ChangesOnlyAccepting H.meaning desk.old.shelf desk.new.shelf (λ s. Sees caller.now query) result }
+    ensures told { IsTold H.meaning desk.old.settings desk.old.shelf desk.new.shelf moment (λ s. Sees caller.now query) result }
+    ensures certain { IsCertain H.meaning desk.old.shelf desk.new.shelf moment (λ s. Sees caller.now query) result }
     ensures shown { ShowsOnlyWhole H.meaning desk.old.shelf desk.new.shelf (λ s. Sees caller.now query) result }
 {
     let text = match desk.look(caller, query) {
         Ok(text) => text,
-        Err(refusal) => return refuse(alloc, refusal, None),
+        Err(refusal) => return refuse(refusal, None),
     };
     match seen_response(alloc, query.kind(), text) {
         Ok(response) => Answer::built(response),
@@ -99,6 +104,10 @@ fn answer_query<H: Shelf + Drop>(
 fn caller_of<H: Shelf + Drop>(desk: &mut Desk<H>, request: &Request) -> Result<Caller, Refusal>
     ensures looks { Looks H.meaning desk.old.shelf desk.new.shelf (λ s.
         (result ≡ who desk.old.settings s (credentials_of request.now.head.fields)) ⊎ (result ≡ Err Unavailable)) }
+    ensures sight { is_known_at_sight (credentials_of request.now.head.fields) ≡ true → (s : Tables)
+        → result ≡ who desk.old.settings s (credentials_of request.now.head.fields) }
+    ensures risen { result ≡ Err Unavailable → HasRisen (H.meaning.fault_count desk.old.shelf) (H.meaning.fault_count desk.new.shelf) }
+    ensures counted { OnOk result (H.meaning.fault_count desk.new.shelf ≡ H.meaning.fault_count desk.old.shelf) }
     ensures settings { desk.new.settings ≡ desk.old.settings }
 {
     let credentials = credentials_of(request)?;
@@ -117,13 +126,16 @@ fn answer_asked<H: Shelf + Drop>(
     ensures sound { H.meaning.honest desk.new.shelf → H.meaning.leaves_sound desk.old.shelf → H.meaning.leaves_sound desk.new.shelf }
     ensures settings { desk.new.settings ≡ desk.old.settings }
     ensures answered { AnswersMeant H.meaning desk.old.settings desk.old.shelf desk.new.shelf moment (λ s. meant_asked caller.now asked.entry) result }
-    ensures changes { ChangesOnlyAccepting H.meaning desk.old.shelf desk.new.shelf result }
+    ensures changes { ChangesOnlyAccepting H.meaning desk.old.shelf desk.new.shelf (λ s. meant_asked caller.now asked.entry) result }
+    ensures told { IsTold H.meaning desk.old.settings desk.old.shelf desk.new.shelf moment (λ s. meant_asked caller.now asked.entry) result }
+    ensures certain { IsCertain H.meaning desk.old.shelf desk.new.shelf moment (λ s. meant_asked caller.now asked.entry) result }
+    ensures refused { (why : RefusalOf) → asked.entry ≡ Err why → result ≡ response_of (Refused why None) }
     ensures shown { ShowsOnlyWhole H.meaning desk.old.shelf desk.new.shelf (λ s. meant_asked caller.now asked.entry) result }
 {
     match asked {
         Ok(Asked::Does(command)) => answer_command(alloc, desk, moment, caller, command),
         Ok(Asked::Looks(query)) => answer_query(alloc, desk, moment, caller, query),
-        Err(refusal) => refuse(alloc, refusal, None),
+        Err(refusal) => refuse(refusal, None),
     }
 }
 
@@ -139,16 +151,19 @@ fn answer_read<H: Shelf + Drop>(
     ensures sound { H.meaning.honest desk.new.shelf → H.meaning.leaves_sound desk.old.shelf → H.meaning.leaves_sound desk.new.shelf }
     ensures settings { desk.new.settings ≡ desk.old.settings }
     ensures answered { IsAnswered H.meaning desk.old.settings desk.old.shelf desk.new.shelf moment (meant desk.old.settings request.now) result }
-    ensures changes { ChangesOnlyAccepting H.meaning desk.old.shelf desk.new.shelf result }
+    ensures changes { ChangesOnlyAccepting H.meaning desk.old.shelf desk.new.shelf (meant desk.old.settings request.now) result }
+    ensures told { IsTold H.meaning desk.old.settings desk.old.shelf desk.new.shelf moment (meant desk.old.settings request.now) result }
+    ensures certain { TellsCertain H.meaning desk.old.settings desk.old.shelf desk.new.shelf moment request.now result }
+    ensures sight { TellsAtSight desk.old.settings request.now result }
     ensures shown { ShowsOnlyWhole H.meaning desk.old.shelf desk.new.shelf (meant desk.old.settings request.now) result }
 {
     let route = match routes.route_of(request) {
         Ok(route) => route,
-        Err((refusal, method)) => return refuse(alloc, refusal, method),
+        Err((refusal, method)) => return refuse(refusal, method),
     };
     let caller = match caller_of(desk, request) {
         Ok(caller) => caller,
-        Err(refusal) => return refuse(alloc, refusal, None),
+        Err(refusal) => return refuse(refusal, None),
     };
     let asked = command_of(alloc, &caller, &route, request);
     answer_asked(alloc, desk, moment, &caller, asked)
@@ -156,8 +171,9 @@ fn answer_read<H: Shelf + Drop>(
 
 /// Answers a request that was read. The response is built whole before anything changes; where memory or the store is wanting, it
 /// is the constant response to `Unavailable`, and the tables stay as they are; a stop right then may leave an accepted command whole. An office
-/// that stands as its commands left it stands so again; whatever the shelf holds, it holds it still unless the answer is a 200 in JSON, and a package is
-/// shown only where each release that its notice's row counts is there.
+/// that stands as its commands left it stands so again; whatever the shelf holds, it holds it still unless a command is given and the answer is a 200, and a
+/// package is shown only where each release that its notice's row counts is there. What is refused at sight is told so, whatever memory
+/// there is; and a refusal that takes none to find is told, or the store's count of faults rose.
 pub fn answer_request<H: Shelf + Drop>(
     alloc: Global,
     routes: &Routes,
@@ -169,7 +185,10 @@ pub fn answer_request<H: Shelf + Drop>(
     ensures sound { H.meaning.honest desk.new.shelf → H.meaning.leaves_sound desk.old.shelf → H.meaning.leaves_sound desk.new.shelf }
     ensures settings { desk.new.settings ≡ desk.old.settings }
     ensures answered { IsAnswered H.meaning desk.old.settings desk.old.shelf desk.new.shelf moment (meant desk.old.settings request.now) result }
-    ensures changes { ChangesOnlyAccepting H.meaning desk.old.shelf desk.new.shelf result }
+    ensures changes { ChangesOnlyAccepting H.meaning desk.old.shelf desk.new.shelf (meant desk.old.settings request.now) result }
+    ensures told { IsTold H.meaning desk.old.settings desk.old.shelf desk.new.shelf moment (meant desk.old.settings request.now) result }
+    ensures certain { TellsCertain H.meaning desk.old.settings desk.old.shelf desk.new.shelf moment request.now result }
+    ensures sight { TellsAtSight desk.old.settings request.now result }
     ensures shown { ShowsOnlyWhole H.meaning desk.old.shelf desk.new.shelf (meant desk.old.settings request.now) result }
     ensures kept { IsKeptAnswering H.meaning desk.old.settings desk.old.shelf desk.new.shelf moment (meant desk.old.settings request.now) result }
 {

@@ -1,5 +1,6 @@
 //! Who asks, as a request says it.
 ghost use Rattle.std.specs.Prelude.{◌≡◌, IfOk, IfErr, Ok, Err, option_map};
+ghost use Rattle.office_values.specs.declared.refusal.Refusal.TheVariants.{BadKey};
 ghost use Rattle.office_wire.specs.Fields.{values_of};
 ghost use Rattle.office_http.specs.Credentials.{credentials_of, one_value};
 
@@ -18,6 +19,7 @@ pub struct Credentials<'a> {
 fn one_value<'a>(request: &'a Request, name: &[u8]) -> Result<Option<&'a [u8]>, Refusal>
     ensures ok { IfOk result (λ value. one_value (values_of name.now request.now.head.fields) ≡ Ok (option_map (λ v. v.now) value)) }
     ensures err { IfErr result (λ why. one_value (values_of name.now request.now.head.fields) ≡ Err why) }
+    ensures refused { IfErr result (λ why. why ≡ BadKey) }
 {
     match request.value(name) {
         FieldValue::Absent => Ok(None),
@@ -31,6 +33,7 @@ fn one_value<'a>(request: &'a Request, name: &[u8]) -> Result<Option<&'a [u8]>, 
 pub fn credentials_of(request: &Request) -> Result<Credentials<'_>, Refusal>
     ensures ok { IfOk result (λ c. credentials_of request.now.head.fields ≡ Ok (option_map (λ v. v.now) c.name, option_map (λ v. v.now) c.key)) }
     ensures err { IfErr result (λ why. credentials_of request.now.head.fields ≡ Err why) }
+    ensures refused { IfErr result (λ why. why ≡ BadKey) }
 {
     let name = one_value(request, b"office-caller")?;
     let key = one_value(request, b"office-key")?;

@@ -5,6 +5,7 @@ pub mod answering;
 pub mod credentials;
 pub mod laws;
 pub mod office;
+pub mod refusing;
 pub mod reply;
 pub mod response;
 

@@ -10,6 +10,7 @@ ghost use Rattle.office_desk.specs.Steps.{OfficeIsKept};
 ghost use Rattle.office_wire.specs.Counting.{HasStopped};
 ghost use Rattle.office_wire.specs.Runs.{Step, Ran, Served, office_left};
 ghost use Rattle.office_http.specs.Answering.{Held, StandsAs, held_by, office_answers};
+ghost use Rattle.office_http.specs.AnyReader.{HasRun};
 ghost use Rattle.office_http.specs.Joined.{IsServedOnce, KeepsServing, accepted_steps};
 ghost use Rattle.office_http.specs.Stops.{StopsBy, StopsOnce};
 
@@ -102,7 +103,8 @@ impl<H: Shelf + Drop> Responder for Office<H> {
 
 /// Answers each block of the input in turn: a line `at MOMENT` and a request. Answers how many there were, where the input ends behind a
 /// block. The responses are flushed once, at the end. `Read` is answered where a read failed or no more may be made, `Write` where a write
-/// or the flush failed.
+/// or the flush failed. Whatever the reader tells of its bytes, the office goes through steps, each of a request of the grammar, for which
+/// a read was made at least.
 pub fn run<H: Shelf + Drop, R: BufRead, W: Write>(
     alloc: Global,
     office: &mut Office<H>,
@@ -124,9 +126,11 @@ pub fn run<H: Shelf + Drop, R: BufRead, W: Write>(
         × OfficeIsKept office.old.settings (accepted_steps (held_by office.old s) steps xs) (office_left office_answers (held_by office.old s) steps).tables }
     ensures cause { IsErrOf result RunFault.Read → HasStopped reader.new }
     ensures writes { IsErrOf result RunFault.Write → writer.new.has_failed ≡ true }
+    ensures stepped { HasRun H.meaning result reader.old.left reader.new.left office.old office.new writer.old.contents writer.new.contents }
     ensures all_read { OnOk result (reader.new.has_failed ≡ reader.old.has_failed) }
     ensures all_written { OnOk result (writer.new.has_failed ≡ writer.old.has_failed) }
     ensures spent { reader.new.left ≤ reader.old.left }
+    ensures flushed { OnOk result (writer.new.is_flushed ≡ true) }
 {
     laws::accounts_and_fates();
     runs::run(alloc, office, reader, writer)
@@ -160,6 +164,7 @@ pub fn serve_one<H: Shelf + Drop, R: BufRead, W: Write>(
     ensures writes { IsErrOf result RunFault.Write → writer.new.has_failed ≡ true }
     ensures all_written { OnOk result (writer.new.has_failed ≡ writer.old.has_failed) }
     ensures spent { reader.new.left ≤ reader.old.left }
+    ensures flushed { OnOk result (writer.new.is_flushed ≡ true) }
 {
     laws::accounts_and_fates();
     runs::serve_one(alloc, office, moment, reader, writer)

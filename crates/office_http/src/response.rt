@@ -1,18 +1,17 @@
 //! The bytes of a response.
-ghost use Rattle.std.specs.Prelude.{◌≡◌, ◌++◌, [], IfOk, None, Some, codes, option_map};
+ghost use Rattle.std.specs.Prelude.{◌≡◌, ◌++◌, [], IfOk, None, codes};
 ghost use Rattle.http.specs.StatusCode.{IsStatusCode};
-ghost use Rattle.office_values.specs.Refusals.{told, Record};
 ghost use Rattle.office_values.specs.declared.refusal.Refusal.TheVariants.{BadHead, TooLong, Coding, Unavailable};
-ghost use Rattle.office_http.specs.Response.{head_start, response_with, response_of, refusal_body, what_member, allow_field, challenge_field, NamesMethod, phrase_of};
+ghost use Rattle.office_http.specs.Response.{head_start, response_with, response_of, allow_field, challenge_field, NamesMethod, phrase_of};
 ghost use Rattle.office_http.specs.Answering.{seen_as};
 ghost use Rattle.office_http.specs.declared.reply.Reply.TheVariants.{Json, Refused};
 
+use crate::refusing::refusal_text;
 use crate::reply::Reply;
 use http::StatusCode;
 use itoa::Buffer;
 use office_commands::command::QueryKind;
 use office_requests::route::Allow;
-use office_values::refusal::{Refusal, What};
 use std::alloc::{AllocError, Global};
 
 const JSON: &str = "application/json";
@@ -22,11 +21,8 @@ const PLAIN_TEXT: &str = "text/plain; charset=utf-8";
 // As much as a head ever takes.
 const HEAD_ROOM: usize = 192;
 
-// As much as the body of a refusal ever takes.
-const REFUSAL_ROOM: usize = 96;
-
 // The phrase of a status.
-fn phrase(status: u16) -> &'static str
+pub(crate) fn phrase(status: u16) -> &'static str
     requires { IsStatusCode status }
     ensures { result.now ≡ phrase_of status }
 {
@@ -75,7 +71,7 @@ fn response(
 }
 
 // The field that names the method of a path.
-fn allow_field(method: Option<Allow>) -> &'static str
+pub(crate) fn allow_field(method: Option<Allow>) -> &'static str
     ensures { result.now ≡ allow_field method }
 {
     match method {
@@ -86,7 +82,7 @@ fn allow_field(method: Option<Allow>) -> &'static str
 }
 
 // The field that asks for a name and a key.
-fn challenge_field(status: u16) -> &'static str
+pub(crate) fn challenge_field(status: u16) -> &'static str
     ensures { result.now ≡ challenge_field status }
 {
     if status == 401 {
@@ -94,47 +90,6 @@ fn challenge_field(status: u16) -> &'static str
     } else {
         ""
     }
-}
-
-// The member that names a record, behind what is there.
-fn put_row(out: &mut Vec<u8>, number: u32) -> Result<(), AllocError>
-    ensures { IfOk result (λ _. out.new.items ≡ out.old.items ++ what_member (Some (Record number))) }
-{
-    let mut digits = Buffer::new();
-    out.extend_from_slice(b",\"what\":\"row ")?;
-    out.extend_from_slice(digits.format(number).as_bytes())?;
-    out.extend_from_slice(b"\"")?;
-    Ok(())
-}
-
-// The member that says what a refusal is about, behind what is there.
-fn put_what(out: &mut Vec<u8>, what: Option<What>) -> Result<(), AllocError>
-    ensures { IfOk result (λ _. out.new.items ≡ out.old.items ++ what_member (option_map told what)) }
-{
-    match what {
-        None => Ok(()),
-        Some(What::Name(name)) => {
-            out.extend_from_slice(b",\"what\":\"")?;
-            out.extend_from_slice(name.as_bytes())?;
-            out.extend_from_slice(b"\"")?;
-            Ok(())
-        }
-        Some(What::Row(number)) => put_row(out, number),
-    }
-}
-
-// A refusal as a JSON object.
-fn refusal_body(alloc: Global, refusal: Refusal) -> Result<Vec<u8>, AllocError>
-    ensures { IfOk result (λ out. out.items ≡ refusal_body refusal) }
-{
-    let mut out = Vec::with_capacity(alloc, REFUSAL_ROOM)?;
-    out.extend_from_slice(b"{\"name\":\"")?;
-    out.extend_from_slice(refusal.name().as_bytes())?;
-    out.extend_from_slice(b"\",\"refusal\":")?;
-    out.extend_from_slice(Buffer::new().format(refusal.number()).as_bytes())?;
-    put_what(&mut out, refusal.what())?;
-    out.extend_from_slice(b"}")?;
-    Ok(out)
 }
 
 // The response to what is accepted, as a JSON text.
@@ -201,20 +156,6 @@ pub(crate) fn seen_response(
     }
 }
 
-// The response to a refusal.
-pub(crate) fn refusal_response(
-    alloc: Global,
-    refusal: Refusal,
-    method: Option<Allow>,
-) -> Result<Vec<u8>, AllocError>
-    ensures { IfOk result (λ out. out.items ≡ response_of (Refused refusal method)) }
-{
-    let body = refusal_body(alloc, refusal)?;
-    let status = refusal.status();
-    let allow = allow_field(method);
-    response(alloc, status, JSON, allow, challenge_field(status), &body)
-}
-
 /// The response's bytes: an HTTP/1.1 response whose connection is closed behind it (RFC 9112, section 9.6). The body of a refusal
 /// is a JSON object, its members in the byte order of their names.
 pub fn respond(alloc: Global, reply: &Reply) -> Result<Vec<u8>, AllocError>
@@ -224,7 +165,12 @@ pub fn respond(alloc: Global, reply: &Reply) -> Result<Vec<u8>, AllocError>
     match reply {
         Reply::Json(body) => accepted_response(alloc, body.as_slice()),
         Reply::Text(body) => response(alloc, 200, PLAIN_TEXT, "", "", body.as_slice()),
-        Reply::Refused(refusal, method) => refusal_response(alloc, *refusal, *method),
+        Reply::Refused(refusal, method) => {
+            let text = refusal_text(*refusal, *method);
+            let mut out = Vec::with_capacity(alloc, text.bytes().len())?;
+            out.extend_from_slice(text.bytes())?;
+            Ok(out)
+        }
     }
 }
 

@@ -1,5 +1,5 @@
 -- What a request asks of the office: by its route, the query of its target, and its body.
-use Rattle.std.specs.Prelude.{ℕ, Bool, if◌then◌else◌, List, Result, Ok, Err}
+use Rattle.std.specs.Prelude.{ℕ, Bool, true, false, if◌then◌else◌, List, Result, Ok, Err}
 use Rattle.office_values.specs.declared.refusal.Refusal.{Refusal}
 use Rattle.office_values.specs.declared.refusal.Refusal.TheVariants.{NoRoute, Forbidden}
 use Rattle.office_commands.specs.Commands as of_commands
@@ -33,6 +33,17 @@ use Rattle.office_requests.specs.declared.route.Route.{Route}
 abbrev pub may_ask : Caller → Endpoint → Bool
 may_ask caller (Commands kind) = may caller kind
 may_ask caller (Queries kind) = may_look caller kind
+
+-- the path alone says what is asked: no query and no body are read
+abbrev pub is_told_by_path : Endpoint → Bool
+is_told_by_path (Commands kinds.Open) = true
+is_told_by_path (Commands kinds.Withdraw) = true
+is_told_by_path (Commands kinds.Award) = true
+is_told_by_path (Commands kinds.Fail) = true
+is_told_by_path (Commands kind) = false
+is_told_by_path (Queries looks.Notices) = false
+is_told_by_path (Queries looks.Tenderers) = false
+is_told_by_path (Queries kind) = true
 
 -- the command of a route whose path names one thing
 unfoldable pub named_command : CommandKind → List ℕ → List ℕ → Result Command Refusal

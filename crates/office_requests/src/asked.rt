@@ -1,10 +1,11 @@
 //! What a request asks.
-ghost use Rattle.std.specs.Prelude.{◌≡◌, ◌≤◌, ◌⊎◌, false, length, Err, IfOk};
+ghost use Rattle.std.specs.Prelude.{◌≡◌, ◌≤◌, ◌⊎◌, true, false, length, Err, IfOk};
 ghost use Rattle.office_values.specs.declared.refusal.Refusal.TheVariants.{Forbidden, Unavailable};
 ghost use Rattle.office_commands.specs.Commands.{kind_of};
 ghost use Rattle.office_commands.specs.Queries as queries;
+ghost use Rattle.office_requests.specs.declared.route.Endpoint.TheVariants.{Commands, Queries};
 ghost use Rattle.office_requests.specs.Inside.Answers.{ReadsAs};
-ghost use Rattle.office_requests.specs.Asking.{asked_by_route, asked_by, command_at, endpoint_of, lot_command, may_ask, named_command, numbered_command, query_at};
+ghost use Rattle.office_requests.specs.Asking.{asked_by_route, asked_by, command_at, endpoint_of, is_told_by_path, lot_command, may_ask, named_command, numbered_command, query_at};
 
 use crate::bodies::{
     cancellation, contract_amendment, ending, examination, import_of, notice_amendment,
@@ -52,6 +53,7 @@ fn named_command<'a>(
 ) -> Result<Command<'a>, Refusal>
     requires { length body.now ≤ 65536 }
     ensures read { ReadsAs result (named_command kind name body.now) }
+    ensures path { is_told_by_path (Commands kind) ≡ true → result ≡ named_command kind name body.now }
     ensures kind { IfOk result (λ command. kind_of command ≡ kind) }
 {
     match kind {
@@ -76,6 +78,7 @@ fn lot_command<'a>(
     body: &'a [u8],
 ) -> Result<Command<'a>, Refusal>
     ensures read { ReadsAs result (lot_command kind notice lot query.now body.now) }
+    ensures path { is_told_by_path (Commands kind) ≡ true → result ≡ lot_command kind notice lot query.now body.now }
     ensures kind { IfOk result (λ command. kind_of command ≡ kind) }
 {
     match kind {
@@ -99,6 +102,7 @@ fn numbered_command<'a>(
     body: &'a [u8],
 ) -> Result<Command<'a>, Refusal>
     ensures read { ReadsAs result (numbered_command kind number body.now) }
+    ensures path { is_told_by_path (Commands kind) ≡ true → result ≡ numbered_command kind number body.now }
     ensures kind { IfOk result (λ command. kind_of command ≡ kind) }
 {
     match kind {
@@ -135,6 +139,7 @@ fn command_at<'a>(
 ) -> Result<Command<'a>, Refusal>
     requires { length body.now ≤ 65536 }
     ensures read { ReadsAs result (command_at kind place query.now body.now) }
+    ensures path { is_told_by_path (Commands kind) ≡ true → result ≡ command_at kind place query.now body.now }
     ensures kind { IfOk result (λ command. kind_of command ≡ kind) }
 {
     match place {
@@ -149,6 +154,7 @@ fn command_at<'a>(
 #[tactic(auto, unfolding(crate::specs::Asking::query_at))]
 fn query_at(alloc: Global, kind: QueryKind, place: Place, query: &[u8]) -> Result<Query, Refusal>
     ensures read { ReadsAs result (query_at kind place query.now) }
+    ensures path { is_told_by_path (Queries kind) ≡ true → result ≡ query_at kind place query.now }
     ensures kind { IfOk result (λ look. queries.query_kind_of look ≡ kind) }
 {
     match (kind, place) {
@@ -186,6 +192,7 @@ fn asked_by<'a>(
 ) -> Result<Asked<'a>, Refusal>
     requires { length body.now ≤ 65536 }
     ensures read { ReadsAs result (asked_by route.now.endpoint route.now.place query.now body.now) }
+    ensures path { is_told_by_path route.now.endpoint ≡ true → result ≡ asked_by route.now.endpoint route.now.place query.now body.now }
     ensures kind { IfOk result (λ asked. endpoint_of asked ≡ route.now.endpoint) }
 {
     match route.endpoint {
@@ -197,7 +204,8 @@ fn asked_by<'a>(
 }
 
 /// What the caller asks by a route and a request: `Forbidden` where the caller may not, and so no memory is taken; else `BadBody`
-/// where the query or the body is wrong; `Unavailable` where memory was refused. The route is that of this request.
+/// where the query or the body is wrong; `Unavailable` where memory was refused, and none is taken where the path alone says what is asked. The route is that of
+/// this request.
 #[tactic(auto, using(crate::proofs::FieldSteps::read_or_wanting))]
 pub fn command_of<'a>(
     alloc: Global,
@@ -206,6 +214,7 @@ pub fn command_of<'a>(
     request: &'a Request,
 ) -> Result<Asked<'a>, Refusal>
     ensures asked { (result ≡ asked_by_route caller.now route.now request.now) ⊎ (result ≡ Err Unavailable) }
+    ensures path { is_told_by_path route.now.endpoint ≡ true → result ≡ asked_by_route caller.now route.now request.now }
     ensures kind { IfOk result (λ asked. endpoint_of asked ≡ route.now.endpoint) }
     ensures forbidden { may_ask caller.now route.now.endpoint ≡ false → result ≡ Err Forbidden }
 {

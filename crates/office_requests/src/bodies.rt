@@ -24,7 +24,9 @@ use tender_papers::budget::{BudgetFault, read_budget};
 
 // The refusal of a body that isn't JSON.
 fn json_fault(error: &serde_json::Error) -> Refusal
-    ensures { (result ≡ Unavailable) ⊎ ((result ≡ BadBody Body) × (¬ (IsMemory error.now))) }
+    ensures memory { IsMemory error.now → result ≡ Unavailable }
+    ensures wrong { ¬ (IsMemory error.now) → result ≡ BadBody Body }
+    ensures either { (result ≡ Unavailable) ⊎ ((result ≡ BadBody Body) × (¬ (IsMemory error.now))) }
 {
     if error.is_memory() {
         Refusal::Unavailable

@@ -6,3 +6,4 @@ pub mod SendLemmas
 pub mod RequestLemmas
 pub mod BlockLemmas
 pub mod RunLemmas
+pub mod AnyReaderLemmas

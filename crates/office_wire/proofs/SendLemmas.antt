@@ -1,7 +1,7 @@
 use Rattle.std.proofs.Common.{zero, suc, zero-add, ◌≡◌, ℕ, ◌+◌, ◌≤◌, List, [], ◌∷◌, ◌++◌, length, take, drop, Option, Some, None, sym, ap, arith, ◌∙◌, append_assoc}
 use Rattle.std.proofs.lemmas.List.{append-nil, take-append-drop}
 use Rattle.std.specs.Io.KnownBytes.{Appends, Keeps}
-use Rattle.office_wire.specs.Sending.{IsPrefix}
+use Rattle.office_wire.specs.Sending.{AppendsPart, IsPrefix}
 
 pub appends_more : (a b c : Option (List ℕ)) (x y : List ℕ) → Appends a b x → Appends b c y → Appends a c (x ++ y)
 appends_more None b c x y p q = tt
@@ -18,6 +18,10 @@ appends_keep (Some s) (Some t) (Some u) x p q = q ∙ p
 pub appends_none : (a : Option (List ℕ)) → Appends a a []
 appends_none None = tt
 appends_none (Some s) = sym (append-nil s)
+
+-- all of a text is a front of it
+pub whole_part : (a b : Option (List ℕ)) (x : List ℕ) → Appends a b x → AppendsPart a b x
+whole_part a b x p = record { part = x; front = ([], sym (append-nil x)); more = p }
 
 pub front : (n : ℕ) (xs : List ℕ) → IsPrefix (take n xs) xs
 front n xs = (drop n xs, sym (take-append-drop n xs))

@@ -7,4 +7,6 @@ pub mod Request
 pub mod Responders
 pub mod Runs
 pub mod Sending
+pub mod Short
+pub mod AnyReader
 pub mod Inside

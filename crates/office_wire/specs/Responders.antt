@@ -16,7 +16,8 @@ Responds M old new b text =
     (s : M.Office) → M.holds old s
     → (busy : Bool) × (text ≡ M.answers.reply busy s b) × M.holds new (M.answers.after busy s b)
 
--- the bytes of a response: those that were built, or else the constant ones
-abbrev pub answer_text : Option (List ℕ) → List ℕ → List ℕ
-answer_text None constant = constant
-answer_text (Some built) constant = built
+-- the bytes of a response: those that were built, or those in a place of their own, or else the constant ones
+abbrev pub answer_text : Option (List ℕ) → Option (List ℕ) → List ℕ → List ℕ
+answer_text None None constant = constant
+answer_text None (Some short) constant = short
+answer_text (Some built) short constant = built

@@ -2,10 +2,12 @@
 use Rattle.std.specs.Prelude.{◌≡◌, ℕ, Bool, List, ◌++◌, Option}
 use Rattle.std.specs.Io.KnownBytes.{Appends}
 
--- what was written so far, where that is known, and whether a write or a flush has failed
+-- what was written so far, where that is known, whether a write or a flush has failed, and whether all that was taken is handed on: the last of
+-- all writes and flushes that succeeded was a flush
 pub record WriterView : Type 0 where
   pub contents : Option (List ℕ)
   pub has_failed : Bool
+  pub is_flushed : Bool
 
 -- a front of the text
 abbrev pub IsPrefix : List ℕ → List ℕ → Type 0

@@ -1,12 +1,14 @@
 //! A response.
 ghost use Rattle.std.specs.Prelude.{◌≡◌};
 
+use crate::short::ShortText;
 use std::marker::Model;
 
-/// A response: bytes that were built, or constant ones where memory was wanting.
+/// A response: bytes that were built; a short text, which took no memory; or a constant one.
 #[derive(Drop)]
 pub struct Answer {
     built: Option<Vec<u8>>,
+    short: Option<ShortText>,
     constant: &'static [u8],
 }
 
@@ -16,7 +18,7 @@ impl Model for Answer {
 
     ghost Value = { List ℕ };
 
-    ghost view = { λ s. answer_text (option_map (λ v. v.items) s.built) s.constant.now };
+    ghost view = { λ s. answer_text (option_map (λ v. v.items) s.built) s.short s.constant.now };
 }
 
 impl Answer {
@@ -26,7 +28,19 @@ impl Answer {
     {
         Answer {
             built: None,
+            short: None,
             constant: text,
+        }
+    }
+
+    /// A short response. It takes no memory.
+    pub fn short(text: ShortText) -> Answer
+        ensures { result ≡ text }
+    {
+        Answer {
+            built: None,
+            short: Some(text),
+            constant: &[],
         }
     }
 
@@ -36,6 +50,7 @@ impl Answer {
     {
         Answer {
             built: Some(text),
+            short: None,
             constant: &[],
         }
     }
@@ -46,7 +61,10 @@ impl Answer {
     {
         match &self.built {
             Some(text) => text,
-            None => self.constant,
+            None => match &self.short {
+                Some(text) => text.bytes(),
+                None => self.constant,
+            },
         }
     }
 }

@@ -1,6 +1,7 @@
 //! Reading the head of a request.
 ghost use Rattle.std.specs.Prelude.{◌≡◌, ◌≢◌, ◌≤◌, ◌<◌, ℕ, List, length, take, slice_get, IfOk, IfErr, IfSome, IsNone, IsErrOf, OnOk, Some};
 ghost use Rattle.httparse.specs.Spans.{IsRequestWithin};
+ghost use Rattle.office_wire.specs.AnyReader.{IsWellFormedHead};
 ghost use Rattle.office_wire.specs.Counting.{HasStopped};
 ghost use Rattle.office_wire.specs.Fields.{values_of, Tells};
 ghost use Rattle.office_wire.specs.Head.{IsBadHead, IsLongHead};
@@ -153,6 +154,7 @@ pub fn read_head<R: BufRead>(
     reader: &mut CountedReader<R>,
 ) -> Result<Head, ReadFault>
     ensures whole { IfOk result (λ head. (input : List ℕ) → reader.old.remaining ≡ Some input → IsHeadRead input reader.new.remaining head) }
+    ensures formed { IfOk result (λ head. IsWellFormedHead head) }
     ensures bad { IsErrOf result ReadFault.BadHead → (input : List ℕ) → reader.old.remaining ≡ Some input → IsBadHead input }
     ensures long { IsErrOf result ReadFault.TooLong → (input : List ℕ) → reader.old.remaining ≡ Some input → IsLongHead input }
     ensures cut { IsErrOf result ReadFault.Read → (input : List ℕ) → reader.old.remaining ≡ Some input → IsCutHead input reader.new.remaining }

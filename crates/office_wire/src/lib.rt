@@ -13,4 +13,5 @@ mod reading;
 pub mod request;
 pub mod runs;
 pub mod sending;
+pub mod short;
 pub mod watched;

@@ -1,5 +1,6 @@
 //! Reading a request.
 ghost use Rattle.std.specs.Prelude.{◌≡◌, ◌≤◌, ◌<◌, ◌⊎◌, ℕ, List, length, option_map, slice_get, IfOk, IfErr, IfSome, IsErr, IsErrOf, OnOk, Some};
+ghost use Rattle.office_wire.specs.AnyReader.{IsWellFormed};
 ghost use Rattle.office_wire.specs.Counting.{HasStopped};
 ghost use Rattle.office_wire.specs.Fields.{values_of, Tells};
 ghost use Rattle.office_wire.specs.Reading.{BodyRead, IsCutShort};
@@ -108,6 +109,7 @@ pub fn read_request<R: BufRead>(
     reader: &mut CountedReader<R>,
 ) -> Result<Request, ReadFault>
     ensures request { IfOk result (λ r. (input : List ℕ) → reader.old.remaining ≡ Some input → IsRequestRead input reader.new.remaining r) }
+    ensures formed { IfOk result (λ r. IsWellFormed r) }
     ensures refused { IfErr result (λ e. (input : List ℕ) → reader.old.remaining ≡ Some input → IsRefused input e) }
     ensures stands { IfErr result (λ e. (input : List ℕ) → reader.old.remaining ≡ Some input → StandsAfter input reader.new.remaining e) }
     ensures cut { IsErrOf result ReadFault.Read → (input : List ℕ) → reader.old.remaining ≡ Some input → IsCutRequest input reader.new.remaining }

@@ -1,5 +1,6 @@
 //! Runs: blocks in, responses out.
 ghost use Rattle.std.specs.Prelude.{◌≡◌, ◌≤◌, ℕ, List, true, Some, IsErrOf, OnOk};
+ghost use Rattle.office_wire.specs.AnyReader.{WentThrough};
 ghost use Rattle.office_wire.specs.Counting.{HasStopped};
 ghost use Rattle.office_wire.specs.Responders.{Meaning, Responds};
 ghost use Rattle.office_wire.specs.Runs.{Step, IsOneAtMost, Ran, Served, office_left};
@@ -39,6 +40,8 @@ fn answer_blocks<D: Responder, R: BufRead, W: Write>(
     ensures before { D.meaning.honest desk.new → D.meaning.honest desk.old }
     ensures ran { D.meaning.honest desk.new → (input : List ℕ) → reader.old.remaining ≡ Some input → (s : D.meaning.Office) → D.meaning.holds desk.old s
         → (steps : List Step) × Ran D.meaning.answers result input reader.new.remaining s steps writer.old.contents writer.new.contents × D.meaning.holds desk.new (office_left D.meaning.answers s steps) }
+    ensures stepped { D.meaning.honest desk.new → (s : D.meaning.Office) → D.meaning.holds desk.old s
+        → (steps : List Step) × WentThrough D.meaning.answers result reader.old.left reader.new.left s steps writer.old.contents writer.new.contents × D.meaning.holds desk.new (office_left D.meaning.answers s steps) }
     ensures cause { IsErrOf result RunFault.Read → HasStopped reader.new }
     ensures writes { IsErrOf result RunFault.Write → writer.new.has_failed ≡ true }
     ensures all_read { OnOk result (reader.new.has_failed ≡ reader.old.has_failed) }
@@ -67,7 +70,8 @@ fn answer_blocks<D: Responder, R: BufRead, W: Write>(
     Err(RunFault::Read)
 }
 
-/// Answers each block of the input in turn, and answers how many there were. The responses are flushed once, at the end.
+/// Answers each block of the input in turn, and answers how many there were. The responses are flushed once, at the end. Whatever the reader tells of
+/// its bytes, it goes through steps, and what was written is their responses.
 pub fn run<D: Responder, R: BufRead, W: Write>(
     alloc: Global,
     desk: &mut D,
@@ -77,11 +81,14 @@ pub fn run<D: Responder, R: BufRead, W: Write>(
     ensures before { D.meaning.honest desk.new → D.meaning.honest desk.old }
     ensures ran { D.meaning.honest desk.new → (input : List ℕ) → reader.old.remaining ≡ Some input → (s : D.meaning.Office) → D.meaning.holds desk.old s
         → (steps : List Step) × Ran D.meaning.answers result input reader.new.remaining s steps writer.old.contents writer.new.contents × D.meaning.holds desk.new (office_left D.meaning.answers s steps) }
+    ensures stepped { D.meaning.honest desk.new → (s : D.meaning.Office) → D.meaning.holds desk.old s
+        → (steps : List Step) × WentThrough D.meaning.answers result reader.old.left reader.new.left s steps writer.old.contents writer.new.contents × D.meaning.holds desk.new (office_left D.meaning.answers s steps) }
     ensures cause { IsErrOf result RunFault.Read → HasStopped reader.new }
     ensures writes { IsErrOf result RunFault.Write → writer.new.has_failed ≡ true }
     ensures all_read { OnOk result (reader.new.has_failed ≡ reader.old.has_failed) }
     ensures all_written { OnOk result (writer.new.has_failed ≡ writer.old.has_failed) }
     ensures spent { reader.new.left ≤ reader.old.left }
+    ensures flushed { OnOk result (writer.new.is_flushed ≡ true) }
 {
     let outcome = answer_blocks(alloc, desk, reader, writer);
     if writer.flush().is_err() {
@@ -141,6 +148,7 @@ pub fn serve_one<D: Responder, R: BufRead, W: Write>(
     ensures writes { IsErrOf result RunFault.Write → writer.new.has_failed ≡ true }
     ensures all_written { OnOk result (writer.new.has_failed ≡ writer.old.has_failed) }
     ensures spent { reader.new.left ≤ reader.old.left }
+    ensures flushed { OnOk result (writer.new.is_flushed ≡ true) }
 {
     answer_one(alloc, desk, moment, reader, writer)?;
     writer.flush()?;

@@ -34,3 +34,15 @@ pub fn send<W: Write>(writer: &mut WatchedWriter<W>, bytes: &[u8]) -> Result<(),
     }
     Ok(())
 }
+
+/// Writes all of the bytes and flushes; where the writer fails, a front of them was written, or all.
+pub fn send_flushed<W: Write>(writer: &mut WatchedWriter<W>, bytes: &[u8]) -> Result<(), WriteFault>
+    ensures ok { OnOk result (Appends writer.old.contents writer.new.contents bytes.now) }
+    ensures err { OnErr result (AppendsPart writer.old.contents writer.new.contents bytes.now) }
+    ensures cause { OnErr result (writer.new.has_failed ≡ true) }
+    ensures flushed { OnOk result (writer.new.is_flushed ≡ true) }
+{
+    send(writer, bytes)?;
+    writer.flush()?;
+    Ok(())
+}

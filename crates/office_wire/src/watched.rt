@@ -6,11 +6,13 @@ use crate::sending::WriteFault;
 use std::io::Write;
 use std::marker::Model;
 
-/// A writer, and whether it has failed: a write or a flush of it gave an error, be it that it was interrupted, or it took no more.
+/// A writer, whether it has failed: a write or a flush of it gave an error, be it that it was interrupted, or it took no more; and whether what it took
+/// was flushed.
 #[derive(Drop)]
 pub struct WatchedWriter<W: Write> {
     writer: W,
     has_failed: bool,
+    is_flushed: bool,
 }
 
 impl<W: Write> Model for WatchedWriter<W> {
@@ -18,18 +20,20 @@ impl<W: Write> Model for WatchedWriter<W> {
 
     ghost Value = { WriterView };
 
-    ghost view = { λ s. record { contents = W.contents s.writer; has_failed = s.has_failed } };
+    ghost view = { λ s. record { contents = W.contents s.writer; has_failed = s.has_failed; is_flushed = s.is_flushed } };
 }
 
 impl<W: Write> WatchedWriter<W> {
-    /// A writer that hasn't failed.
+    /// A writer that hasn't failed. What it was given before isn't known to be flushed.
     pub fn new(writer: W) -> WatchedWriter<W>
         ensures contents { result.contents ≡ W.contents writer }
         ensures whole { result.has_failed ≡ false }
+        ensures unflushed { result.is_flushed ≡ false }
     {
         WatchedWriter {
             writer,
             has_failed: false,
+            is_flushed: false,
         }
     }
 
@@ -38,6 +42,13 @@ impl<W: Write> WatchedWriter<W> {
         ensures { result ≡ self.now.has_failed }
     {
         self.has_failed
+    }
+
+    /// Whether all that the writer took was flushed.
+    pub fn is_flushed(&self) -> bool
+        ensures { result ≡ self.now.is_flushed }
+    {
+        self.is_flushed
     }
 
     /// The writer.
@@ -57,10 +68,14 @@ impl<W: Write> WatchedWriter<W> {
         ensures kept { OnErr result (Keeps self.old.contents self.new.contents) }
         ensures cause { OnErr result (self.new.has_failed ≡ true) }
         ensures sound { OnOk result (self.new.has_failed ≡ self.old.has_failed) }
+        ensures unflushed { OnOk result (self.new.is_flushed ≡ false) }
     {
         match self.writer.write(bytes) {
             Ok(0) => {}
-            Ok(count) => return Ok(count),
+            Ok(count) => {
+                self.is_flushed = false;
+                return Ok(count);
+            }
             Err(_) => {}
         }
         self.has_failed = true;
@@ -72,8 +87,10 @@ impl<W: Write> WatchedWriter<W> {
         ensures kept { Keeps self.old.contents self.new.contents }
         ensures cause { OnErr result (self.new.has_failed ≡ true) }
         ensures sound { OnOk result (self.new.has_failed ≡ self.old.has_failed) }
+        ensures flushed { OnOk result (self.new.is_flushed ≡ true) }
     {
         if self.writer.flush().is_ok() {
+            self.is_flushed = true;
             return Ok(());
         }
         self.has_failed = true;

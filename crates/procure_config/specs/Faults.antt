@@ -1,4 +1,5 @@
 -- How a program's faults are told.
+use Rattle.std.specs.Fmt.{with_newline}
 use Rattle.std.specs.Prelude.{codes, ◌≡◌, ◌≢◌, ℕ, List, ◌++◌, Option, Some, None}
 use Rattle.clap.specs.Words.{kind_of}
 use Rattle.clap.specs.declared.error.Error.{Error}
@@ -20,6 +21,10 @@ line_of Store = Some (codes "procure: store")
 line_of Input = Some (codes "procure: input")
 line_of Output = Some (codes "procure: output")
 line_of (Refused refusal) = Some (codes "procure: " ++ name_of_refusal refusal)
+
+-- as it is told: with the end of its line
+abbrev pub ended_line : ProgramFault → Option (List ℕ)
+ended_line fault = with_newline (line_of fault)
 
 -- the exit status
 abbrev pub exit_of : ProgramFault → ℕ

@@ -70,14 +70,14 @@ pub data Asked : Type 0 where
   Evaluation : (config store notice : Text) → Asked
 
 -- so a job says it
-abbrev pub asked_by : Job → Asked
-asked_by (job.Desk config) = Desk config.now
-asked_by (job.Serve config store port count) = Serve config.now store.now port count
-asked_by (job.Ledger config store) = Ledger config.now store.now
-asked_by (job.Minutes config store notice) = Minutes config.now store.now notice.now
-asked_by (job.Record config store notice) = Record config.now store.now notice.now
-asked_by (job.Notices config store) = Notices config.now store.now
-asked_by (job.Evaluation config store notice) = Evaluation config.now store.now notice.now
+abbrev pub asked_by_job : Job → Asked
+asked_by_job (job.Desk config) = Desk config.now
+asked_by_job (job.Serve config store port count) = Serve config.now store.now port count
+asked_by_job (job.Ledger config store) = Ledger config.now store.now
+asked_by_job (job.Minutes config store notice) = Minutes config.now store.now notice.now
+asked_by_job (job.Record config store notice) = Record config.now store.now notice.now
+asked_by_job (job.Notices config store) = Notices config.now store.now
+asked_by_job (job.Evaluation config store notice) = Evaluation config.now store.now notice.now
 
 -- the number that a value writes in decimal digits, where it is from 1 to the most
 abbrev pub number_in : ℕ → Option Text → Option ℕ
@@ -159,7 +159,7 @@ asked words = job_of_subcommand (subcommand_of procure words)
 
 -- the words ask for this job
 abbrev pub AsksFor : List Text → Job → Type 0
-AsksFor words j = asked words ≡ Some (asked_by j)
+AsksFor words j = asked words ≡ Some (asked_by_job j)
 
 -- the kinds of fault that words may have: those that clap states, and where it states none, that no job is named
 abbrev pub faults_of : List Text → Kinds

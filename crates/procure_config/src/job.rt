@@ -3,7 +3,7 @@ ghost use Rattle.std.specs.Prelude.{◌≡◌, true, codes, [], ◌∷◌, map, 
 ghost use Rattle.clap.specs.Words.{fault_of, first_of, found_of, one_of, rows_of, subcommand_rows_of, takes};
 ghost use Rattle.procure_config.specs.Faults.{no_memory};
 ghost use Rattle.procure_config.specs.Jobs as spec;
-ghost use Rattle.procure_config.specs.Jobs.{AsksFor, IsFaultOf, asked, asked_by, faults_of, number_in};
+ghost use Rattle.procure_config.specs.Jobs.{AsksFor, IsFaultOf, asked, asked_by_job, faults_of, number_in};
 
 use crate::command_line::{COUNT_BOUND, procure};
 use crate::fault::ProgramFault;
@@ -103,14 +103,14 @@ fn count_of(met: &ArgMatches<'_>) -> Option<u32>
 }
 
 fn desk_in<'a>(met: &ArgMatches<'a>) -> Option<Job<'a>>
-    ensures { option_map asked_by result ≡ spec.desk_in (rows_of (found_of met.now)) }
+    ensures { option_map asked_by_job result ≡ spec.desk_in (rows_of (found_of met.now)) }
 {
     let config = text_of(met, "CONFIG")?;
     Some(Job::Desk { config })
 }
 
 fn serve_in<'a>(met: &ArgMatches<'a>) -> Option<Job<'a>>
-    ensures { option_map asked_by result ≡ spec.serve_in (rows_of (found_of met.now)) }
+    ensures { option_map asked_by_job result ≡ spec.serve_in (rows_of (found_of met.now)) }
 {
     let config = text_of(met, "CONFIG")?;
     let store = text_of(met, "DB")?;
@@ -125,7 +125,7 @@ fn serve_in<'a>(met: &ArgMatches<'a>) -> Option<Job<'a>>
 }
 
 fn ledger_in<'a>(met: &ArgMatches<'a>) -> Option<Job<'a>>
-    ensures { option_map asked_by result ≡ spec.ledger_in (rows_of (found_of met.now)) }
+    ensures { option_map asked_by_job result ≡ spec.ledger_in (rows_of (found_of met.now)) }
 {
     let config = text_of(met, "CONFIG")?;
     let store = text_of(met, "DB")?;
@@ -133,7 +133,7 @@ fn ledger_in<'a>(met: &ArgMatches<'a>) -> Option<Job<'a>>
 }
 
 fn minutes_in<'a>(met: &ArgMatches<'a>) -> Option<Job<'a>>
-    ensures { option_map asked_by result ≡ spec.minutes_in (rows_of (found_of met.now)) }
+    ensures { option_map asked_by_job result ≡ spec.minutes_in (rows_of (found_of met.now)) }
 {
     let config = text_of(met, "CONFIG")?;
     let store = text_of(met, "DB")?;
@@ -146,7 +146,7 @@ fn minutes_in<'a>(met: &ArgMatches<'a>) -> Option<Job<'a>>
 }
 
 fn record_in<'a>(met: &ArgMatches<'a>) -> Option<Job<'a>>
-    ensures { option_map asked_by result ≡ spec.record_in (rows_of (found_of met.now)) }
+    ensures { option_map asked_by_job result ≡ spec.record_in (rows_of (found_of met.now)) }
 {
     let config = text_of(met, "CONFIG")?;
     let store = text_of(met, "DB")?;
@@ -159,7 +159,7 @@ fn record_in<'a>(met: &ArgMatches<'a>) -> Option<Job<'a>>
 }
 
 fn notices_in<'a>(met: &ArgMatches<'a>) -> Option<Job<'a>>
-    ensures { option_map asked_by result ≡ spec.notices_in (rows_of (found_of met.now)) }
+    ensures { option_map asked_by_job result ≡ spec.notices_in (rows_of (found_of met.now)) }
 {
     let config = text_of(met, "CONFIG")?;
     let store = text_of(met, "DB")?;
@@ -167,7 +167,7 @@ fn notices_in<'a>(met: &ArgMatches<'a>) -> Option<Job<'a>>
 }
 
 fn evaluation_in<'a>(met: &ArgMatches<'a>) -> Option<Job<'a>>
-    ensures { option_map asked_by result ≡ spec.evaluation_in (rows_of (found_of met.now)) }
+    ensures { option_map asked_by_job result ≡ spec.evaluation_in (rows_of (found_of met.now)) }
 {
     let config = text_of(met, "CONFIG")?;
     let store = text_of(met, "DB")?;
@@ -181,7 +181,7 @@ fn evaluation_in<'a>(met: &ArgMatches<'a>) -> Option<Job<'a>>
 
 // What a subcommand with these values asks for.
 fn asked_as<'a>(name: &str, met: &ArgMatches<'a>) -> Option<Job<'a>>
-    ensures { option_map asked_by result ≡ spec.asked_as name.now (rows_of (found_of met.now)) }
+    ensures { option_map asked_by_job result ≡ spec.asked_as name.now (rows_of (found_of met.now)) }
 {
     if name == "desk" {
         desk_in(met)
@@ -204,7 +204,7 @@ fn asked_as<'a>(name: &str, met: &ArgMatches<'a>) -> Option<Job<'a>>
 
 // What the subcommand that was met asks for.
 fn job_of_subcommand<'a>(matches: &ArgMatches<'a>) -> Option<Job<'a>>
-    ensures { option_map asked_by result ≡ spec.job_of_subcommand (subcommand_rows_of matches.now) }
+    ensures { option_map asked_by_job result ≡ spec.job_of_subcommand (subcommand_rows_of matches.now) }
 {
     let (name, met) = matches.subcommand()?;
     asked_as(name, met)

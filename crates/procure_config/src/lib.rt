@@ -6,4 +6,5 @@ pub mod fault;
 pub mod job;
 pub mod notice;
 pub mod settings;
+pub mod telling;
 pub mod worked_words;

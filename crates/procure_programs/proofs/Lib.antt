@@ -4,4 +4,6 @@ mod EmptyOpened
 mod ListedPages
 mod OpenedFiles
 mod StoppedFiles
-mod Turns
+pub mod Turns
+pub mod ConnectionSteps
+pub mod FaultSteps

@@ -1,4 +1,7 @@
+pub mod Hosts
+pub mod FaultsTold
 pub mod Turns
+pub mod Streams
 pub mod Showing
 pub mod Listing
 pub mod Serving

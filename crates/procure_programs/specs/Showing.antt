@@ -1,16 +1,67 @@
--- What a program shows of an office.
-use Rattle.std.specs.Prelude.{ℕ, Result, Ok, Err, Vec}
+-- What a program shows of an office, and prints.
+use Rattle.std.specs.Prelude.{◌≡◌, ℕ, Bool, true, List, Option, Some, None, Result, Ok, Err, Vec}
+use Rattle.std.specs.Io.KnownBytes.{Appends}
 use Rattle.std.specs.declared.alloc.Global.{Global}
 use Rattle.office_commands.specs.declared.command.Caller.TheVariants.{Public}
 use Rattle.office_commands.specs.declared.queries.Query.{Query}
+use Rattle.office_commands.specs.declared.queries.Query.TheVariants as queries
+use Rattle.office_values.specs.Ids.{IsId}
+use Rattle.office_values.specs.declared.refusal.Refusal.TheVariants.{Unavailable}
 use Rattle.office_values.specs.declared.settings.Settings.{Settings}
 use Rattle.office_base.specs.Tables.{Tables}
 use Rattle.office_desk.specs.Steps.{IsSeen}
+use Rattle.office_wire.specs.Sending.{AppendsPart}
+use Rattle.procure_config.specs.Faults.{no_route}
+use Rattle.procure_config.specs.Jobs.{Asked, Desk, Evaluation, Ledger, Minutes, Notices, Record, Serve}
 use Rattle.procure_config.specs.declared.fault.ProgramFault.{ProgramFault}
+use Rattle.procure_config.specs.declared.fault.ProgramFault.TheVariants as fault
 use Rattle.procure_config.specs.declared.fault.ProgramFault.TheVariants.{Refused}
+use Rattle.procure_programs.specs.declared.showing.Printout.{Printout}
+use Rattle.procure_programs.specs.declared.showing.Printout.TheVariants as printouts
+use Rattle.procure_programs.specs.declared.showing.Printout.TheVariants.{Seen}
 
 -- what the public sees by a query, its refusal as the program's fault; there is no other fault
 abbrev pub IsShown : Settings → Query → Tables → Result (Vec ℕ Global) ProgramFault → Type 0
 IsShown settings query s (Ok text) = IsSeen settings Public query s (Ok text.items)
 IsShown settings query s (Err (Refused why)) = IsSeen settings Public query s (Err why)
 IsShown settings query s (Err _) = ⊥
+
+-- a fault of the office, which refuses: no other one
+abbrev pub IsOfOffice : ProgramFault → Type 0
+IsOfOffice (Refused why) = Unit {0}
+IsOfOffice _ = ⊥
+
+-- a fault of printing: a refusal, or that of an output, which has failed then
+abbrev pub IsOfPrinting : Bool → ProgramFault → Type 0
+IsOfPrinting has_failed (Refused why) = Unit {0}
+IsOfPrinting has_failed fault.Output = has_failed ≡ true
+IsOfPrinting has_failed _ = ⊥
+
+-- what the public sees by a query is printed, all of it, behind what the output held before; a front of it where the output failed; and nothing where it is
+-- refused. There is no other fault.
+abbrev pub IsPrinted : Settings → Query → Tables → Option (List ℕ) → Option (List ℕ) → Result (Unit {0}) ProgramFault → Type 0
+IsPrinted settings query s before after (Ok done) = (text : List ℕ) × IsSeen settings Public query s (Ok text) × Appends before after text
+IsPrinted settings query s before after (Err fault.Output) = (text : List ℕ) × IsSeen settings Public query s (Ok text) × AppendsPart before after text
+IsPrinted settings query s before after (Err (Refused why)) = IsSeen settings Public query s (Err why) × (after ≡ before)
+IsPrinted settings query s before after (Err _) = ⊥
+
+-- a paper of a notice that is named; NoRoute where the name can be no notice's
+abbrev pub AsksOfNotice : (List ℕ → Query) → List ℕ → Result (Option Printout) ProgramFault → Type 0
+AsksOfNotice query notice (Ok asked) = IsId notice × (asked ≡ Some (Seen (query notice)))
+AsksOfNotice query notice (Err told) = (¬ (IsId notice)) × (told ≡ no_route)
+
+-- what the words ask to be printed; nothing by those that ask for something else
+abbrev pub AsksPrintout : Asked → Result (Option Printout) ProgramFault → Type 0
+AsksPrintout (Desk config) result = result ≡ Ok None
+AsksPrintout (Serve config store port count) result = result ≡ Ok None
+AsksPrintout (Ledger config store) result = result ≡ Ok (Some (Seen queries.Ledger))
+AsksPrintout (Minutes config store notice) result = AsksOfNotice queries.Minutes notice result
+AsksPrintout (Record config store notice) result = AsksOfNotice queries.Record notice result
+AsksPrintout (Notices config store) result = result ≡ Ok (Some printouts.Notices)
+AsksPrintout (Evaluation config store notice) result = AsksOfNotice queries.Evaluation notice result
+
+-- a fault of settings: want of memory, a faulty member, or none that can be read
+abbrev pub IsOfSettings : ProgramFault → Type 0
+IsOfSettings (Refused why) = why ≡ Unavailable
+IsOfSettings (fault.Settings member) = Unit {0}
+IsOfSettings _ = ⊥

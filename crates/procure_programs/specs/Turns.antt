@@ -1,44 +1,111 @@
 -- How an office in a store is served, one connection after another, until its store is shut.
-use Rattle.std.specs.Prelude.{◌≡◌, ◌⊎◌, ℕ, zero, suc, ◌<◌, Bool, false, Result, Ok, Err, IsTrue}
+use Rattle.std.specs.Prelude.{◌≡◌, ◌⊎◌, ⊤, ℕ, zero, suc, ◌<◌, Bool, true, false, List, Option, Some, None, Result, Ok, Err, IsErrOf, IsTrue, OnOk}
 use Rattle.std.specs.Result.{result_unwrap_or}
+use Rattle.std.specs.declared.net.socket_addr.SocketAddrV4.{SocketAddrV4}
 use Rattle.office_base.specs.Shelves.{Meaning}
+use Rattle.office_base.specs.Tables.{Tables}
 use Rattle.office_base.specs.declared.shelf.ShelfFault.{ShelfFault}
 use Rattle.office_base.specs.Shutting.{Standing, TellsShut}
 use Rattle.office_desk.specs.Desks.{DeskOf}
+use Rattle.office_publications.specs.Standing.{IsReached}
+use Rattle.office_wire.specs.Counting.{HasStopped, ReaderView}
+use Rattle.office_wire.specs.Runs.{Served}
+use Rattle.office_wire.specs.Sending.{WriterView}
+use Rattle.office_wire.specs.declared.fault.RunFault.{RunFault}
+use Rattle.office_wire.specs.declared.fault.RunFault.TheVariants as ends
+use Rattle.office_http.specs.Answering.{Held, StandsAs, held_by, office_answers}
 use Rattle.office_http.specs.Stops.{StopsOnce}
 use Rattle.procure_config.specs.declared.fault.ProgramFault.{ProgramFault}
 use Rattle.procure_config.specs.declared.fault.ProgramFault.TheVariants.{Store, Input}
+use Rattle.procure_programs.specs.Hosts.{HostEvents, Hosting, IsLoopbackAt, clock_moment}
+
+-- a connection ended so, by its reader, where there was memory for a buffer, and its writer as they are left: what was written is flushed; or the writer
+-- failed; or the reader did, or no more may be read of it
+pub record EndsConnection (ended : Result ⊤ RunFault) (read : Option ReaderView) (written : WriterView) : Type 0 where
+  pub flushed : OnOk ended (written.is_flushed ≡ true)
+  pub cut : IsErrOf ended ends.Write → written.has_failed ≡ true
+  pub stopped : IsErrOf ended ends.Read → (reader : ReaderView) × (read ≡ Some reader) × HasStopped reader
+
+-- Over a connection one request was answered at this moment: where the bytes that came are known, what was written is the one response to the request at
+-- their front, or the one refusal of them; a front of it where the writer failed; and nothing where the reader failed. So the office is left.
+abbrev pub AnswersConnection : {S : Type 0} → Meaning S → ℕ → Option (List ℕ) → Option (List ℕ) → Option (List ℕ) → DeskOf S → DeskOf S → Result ⊤ RunFault → Type 0
+AnswersConnection M moment came before after old new result =
+    M.honest new.shelf → (input : List ℕ) → came ≡ Some input → (s : Tables) → M.holds old.shelf s → IsReached old.settings s
+    → (now : Option (List ℕ)) × (h : Held) × Served office_answers result input now moment (held_by old s) h before after × StandsAs M new h
+
+-- A connection was taken, behind that the clock was read, the request that came was answered at that moment, and the connection was closed. How it ended is a
+-- value (`Ended`) that only serving one gives: `serve_connection`, clause `ended`, says when it can be a fault.
+pub record ServesConnection {S T R W : Type 0} (N : Hosting T R W) (M : Meaning S) (before after : T) (old new : DeskOf S) : Type 0 where
+  pub reader : R
+  pub writer : W
+  pub taken : T
+  pub takes : N.events.takes before (Some (reader, writer)) taken
+  pub nanos : ℕ
+  pub told : T
+  pub tells : N.events.tells taken (Some nanos) told
+  pub ended : Result ⊤ RunFault
+  pub left : W
+  pub answers : AnswersConnection M (clock_moment nanos) (N.remaining reader) (N.contents writer) (N.contents left) old new ended
+  pub once : StopsOnce M (clock_moment nanos) old new
+  pub honest : M.honest new.shelf → M.honest old.shelf
+  pub closes : N.events.closes told left ended after
+
+-- a connection was taken, and then the clock couldn't be read
+abbrev pub FindsNoClock : {T R W : Type 0} → HostEvents T R W → T → T → Type 0
+FindsNoClock {T = T} {R = R} {W = W} E before after = (connection : R × W) × (taken : T) × E.takes before (Some connection) taken × E.tells taken None after
+
+-- the next connection: it couldn't be taken, or it was served, or there was no clock to serve it by
+abbrev pub TakesOne : {S T R W : Type 0} → Hosting T R W → Meaning S → T → T → DeskOf S → DeskOf S → Result Bool ProgramFault → Type 0
+TakesOne N M before after old new (Ok false) = N.events.takes before None after × (new ≡ old)
+TakesOne N M before after old new (Ok true) = ServesConnection N M before after old new
+TakesOne N M before after old new (Err Input) = FindsNoClock N.events before after × (new ≡ old)
+TakesOne N M before after old new (Err _) = ⊥
 
 -- the answer is that the store is shut; where it couldn't be asked, nothing is known
 abbrev pub is_known_shut : Result Bool ShelfFault → Bool
 is_known_shut answer = result_unwrap_or answer false
 
 -- one connection was served, and then it was asked whether the store is shut, with this answer
-pub record ServesAndAsks {S : Type 0} (M : Meaning S) (store : Standing S) (old new : DeskOf S) (answer : Result Bool ShelfFault) : Type 0 where
-  pub moment : ℕ
+pub record ServesAndAsks {S T R W : Type 0} (N : Hosting T R W) (M : Meaning S) (store : Standing S) (before after : T) (old new : DeskOf S) (answer : Result Bool ShelfFault) : Type 0 where
   pub served : DeskOf S
-  pub before : M.honest served.shelf → M.honest old.shelf
-  pub once : StopsOnce M moment old served
+  pub one : ServesConnection N M before after old served
   pub asked : TellsShut M store served.shelf new.shelf answer
   pub settings : new.settings ≡ served.settings
 
 -- one connection: it couldn't be taken, or it was served and the store isn't known to be shut
-abbrev pub IsOneTurn : {S : Type 0} → Meaning S → Standing S → DeskOf S → DeskOf S → Type 0
-IsOneTurn M store old new = (new ≡ old) ⊎ ((answer : Result Bool ShelfFault) × ServesAndAsks M store old new answer × (is_known_shut answer ≡ false))
+abbrev pub IsOneTurn : {S T R W : Type 0} → Hosting T R W → Meaning S → Standing S → T → T → DeskOf S → DeskOf S → Type 0
+IsOneTurn N M store before after old new =
+    (N.events.takes before None after × (new ≡ old))
+    ⊎ ((answer : Result Bool ShelfFault) × ServesAndAsks N M store before after old new answer × (is_known_shut answer ≡ false))
 
 -- so many connections, one after another
-abbrev pub GoesOnFor : {S : Type 0} → Meaning S → Standing S → ℕ → DeskOf S → DeskOf S → Type 0
-GoesOnFor M store zero old new = new ≡ old
-GoesOnFor {S = S} M store (suc n) old new = (mid : DeskOf S) × GoesOnFor M store n old mid × IsOneTurn M store mid new
+abbrev pub GoesOnFor : {S T R W : Type 0} → Hosting T R W → Meaning S → Standing S → ℕ → T → T → DeskOf S → DeskOf S → Type 0
+GoesOnFor N M store zero before after old new = (after ≡ before) × (new ≡ old)
+GoesOnFor {S = S} {T = T} N M store (suc n) before after old new =
+    (host : T) × (mid : DeskOf S) × GoesOnFor N M store n before host old mid × IsOneTurn N M store host after mid new
 
--- what comes behind them where not all connections are taken: one more, behind which the store is shut; or the clock can't be read
-abbrev pub EndsBy : {S : Type 0} → Meaning S → Standing S → ProgramFault → DeskOf S → DeskOf S → Type 0
-EndsBy M store Store old new = (answer : Result Bool ShelfFault) × ServesAndAsks M store old new answer × IsTrue (is_known_shut answer)
-EndsBy M store Input old new = new ≡ old
-EndsBy M store _ old new = ⊥
+-- what comes behind them where not all connections are taken: one more, behind which the store is shut; or one for which the clock can't be read
+abbrev pub EndsBy : {S T R W : Type 0} → Hosting T R W → Meaning S → Standing S → ProgramFault → T → T → DeskOf S → DeskOf S → Type 0
+EndsBy N M store Store before after old new =
+    (answer : Result Bool ShelfFault) × ServesAndAsks N M store before after old new answer × IsTrue (is_known_shut answer)
+EndsBy N M store Input before after old new = FindsNoClock N.events before after × (new ≡ old)
+EndsBy N M store _ before after old new = ⊥
+
+-- one connection, or what comes in its place
+abbrev pub TakesTurn : {S T R W : Type 0} → Hosting T R W → Meaning S → Standing S → T → T → DeskOf S → DeskOf S → Result (Unit {0}) ProgramFault → Type 0
+TakesTurn N M store before after old new (Ok done) = IsOneTurn N M store before after old new
+TakesTurn N M store before after old new (Err fault) = EndsBy N M store fault before after old new
 
 -- all connections were taken, or fewer and one of these faults
-abbrev pub ServesInTurn : {S : Type 0} → Meaning S → Standing S → ℕ → DeskOf S → DeskOf S → Result (Unit {0}) ProgramFault → Type 0
-ServesInTurn M store count old new (Ok done) = GoesOnFor M store count old new
-ServesInTurn {S = S} M store count old new (Err fault) =
-    (n : ℕ) × (n < count) × (mid : DeskOf S) × GoesOnFor M store n old mid × EndsBy M store fault mid new
+abbrev pub ServesInTurn : {S T R W : Type 0} → Hosting T R W → Meaning S → Standing S → ℕ → T → T → DeskOf S → DeskOf S → Result (Unit {0}) ProgramFault → Type 0
+ServesInTurn N M store count before after old new (Ok done) = GoesOnFor N M store count before after old new
+ServesInTurn {S = S} {T = T} N M store count before after old new (Err fault) =
+    (n : ℕ) × (n < count) × (host : T) × (mid : DeskOf S) × GoesOnFor N M store n before host old mid × EndsBy N M store fault host after mid new
+
+-- At 127.0.0.1 and this port an office was served: the port couldn't be had, which is Input, and nothing changed; or so many connections came there in
+-- turn, or fewer and a fault.
+abbrev pub ServesAt : {S X T R W : Type 0} → (X → SocketAddrV4 → Option T → Type 0) → Hosting T R W → Meaning S → Standing S → X → ℕ → ℕ → DeskOf S → DeskOf S → Result (Unit {0}) ProgramFault → Type 0
+ServesAt {T = T} binds N M store network port count old new result =
+    (address : SocketAddrV4) × IsLoopbackAt port address
+    × ((binds network address None × (result ≡ Err Input) × (new ≡ old))
+    ⊎ ((host : T) × (last : T) × binds network address (Some host) × ServesInTurn N M store count host last old new result))

@@ -1,23 +1,23 @@
 //! The settings of an office, from their file.
-use office_values::refusal::Refusal;
+ghost use Rattle.std.specs.Prelude.{IfErr};
+ghost use Rattle.procure_programs.specs.Showing.{IsOfSettings};
+
+use crate::faults::of_unread_settings;
 use office_values::settings::Settings;
 use procure_config::fault::ProgramFault;
 use procure_config::settings::read_settings;
 use std::fs;
-use std::io::ErrorKind;
 
-/// Want of memory outside a request.
-pub fn no_memory() -> ProgramFault {
-    ProgramFault::Refused(Refusal::Unavailable)
-}
-
-/// The settings in a file. A file that can't be read has no settings.
-pub fn settings_at(rt: &HostRuntime, path: &str) -> Result<Settings, ProgramFault> {
+/// The settings in a file. A file that can't be read has no settings. The fault is of the settings, or of memory.
+#[tactic(auto, using(crate::proofs::FaultSteps::settings_are))]
+pub fn settings_at(rt: &HostRuntime, path: &str) -> Result<Settings, ProgramFault>
+    ensures fault { IfErr result IsOfSettings }
+{
     match fs::read(rt, path) {
-        Ok(text) => Ok(read_settings(rt.alloc(), &text)?),
-        Err(error) => match error.kind() {
-            ErrorKind::OutOfMemory => Err(no_memory()),
-            _ => Err(ProgramFault::Settings(None)),
+        Ok(text) => match read_settings(rt.alloc(), &text) {
+            Ok(settings) => Ok(settings),
+            Err(fault) => Err(ProgramFault::from(fault)),
         },
+        Err(error) => Err(of_unread_settings(error)),
     }
 }

@@ -1,13 +1,35 @@
 //! `procure desk CONFIG`: an empty office in memory, over the standard streams.
-use crate::config::{no_memory, settings_at};
+ghost use Rattle.std.specs.Prelude.{◌≡◌, true, OnOk};
+ghost use Rattle.procure_programs.specs.Streams.{AnswersBlocks};
+
+use crate::config::settings_at;
+use crate::faults::{no_memory, of_run};
+use office_base::shelf::{Lookups, Shelf};
 use office_desk::desk::Desk;
 use office_http::office::{Office, run};
 use office_memory::memory::MemoryShelf;
 use office_wire::counted::CountedReader;
-use office_wire::fault::RunFault;
 use office_wire::watched::WatchedWriter;
 use procure_config::fault::ProgramFault;
-use std::io::{BufReader, BufWriter};
+use std::alloc::Global;
+use std::io::{BufRead, BufReader, BufWriter, Write};
+
+/// Answers the blocks of an input on an output. `Output` where the output failed, `Input` where the input did or isn't blocks.
+pub fn answer_streams<H: Shelf + Drop, R: BufRead, W: Write>(
+    alloc: Global,
+    office: &mut Office<H>,
+    input: &mut CountedReader<R>,
+    output: &mut WatchedWriter<W>,
+) -> Result<(), ProgramFault>
+    ensures before { H.meaning.honest office.new.shelf → H.meaning.honest office.old.shelf }
+    ensures ran { AnswersBlocks H.meaning input.old input.new output.old output.new office.old office.new result }
+    ensures flushed { OnOk result (output.new.is_flushed ≡ true) }
+{
+    match run(alloc, office, input, output) {
+        Ok(_) => Ok(()),
+        Err(fault) => Err(of_run(fault)),
+    }
+}
 
 // A buffer round a stream is refused for want of memory alone.
 fn answer_input(rt: &HostRuntime, office: &mut Office<MemoryShelf>) -> Result<(), ProgramFault> {
@@ -18,13 +40,9 @@ fn answer_input(rt: &HostRuntime, office: &mut Office<MemoryShelf>) -> Result<()
     let Ok(buffered_output) = BufWriter::new(alloc, rt.stdout()) else {
         return Err(no_memory());
     };
-    let mut reader = CountedReader::new(buffered_input);
-    let mut writer = WatchedWriter::new(buffered_output);
-    match run(alloc, office, &mut reader, &mut writer) {
-        Ok(_) => Ok(()),
-        Err(RunFault::Write) => Err(ProgramFault::Output),
-        Err(_) => Err(ProgramFault::Input),
-    }
+    let mut input = CountedReader::new(buffered_input);
+    let mut output = WatchedWriter::new(buffered_output);
+    answer_streams(alloc, office, &mut input, &mut output)
 }
 
 /// Answers the blocks of the standard input on the standard output, from an empty office in memory.

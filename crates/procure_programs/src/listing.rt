@@ -1,15 +1,18 @@
 //! The list of an office's notices, page by page.
-ghost use Rattle.std.specs.Prelude.{IfOk};
+ghost use Rattle.std.specs.Prelude.{IfErr, IfOk};
 ghost use Rattle.std.specs.Io.KnownBytes.{Appends};
 ghost use Rattle.office_base.specs.Shelves.{Looks};
 ghost use Rattle.tender_papers.specs.Listing.{listing_text};
 ghost use Rattle.procure_programs.specs.Listing.{WritesPage};
+ghost use Rattle.procure_programs.specs.Showing.{IsOfPrinting};
 
 use office_base::laws;
 use office_base::pages::{ASKED_ROWS, next_after, page_of};
 use office_base::shelf::Lookups;
 use office_values::id::Id;
 use office_values::refusal::Refusal;
+use office_wire::sending::send;
+use office_wire::watched::WatchedWriter;
 use procure_config::fault::ProgramFault;
 use std::alloc::Global;
 use std::io::Write;
@@ -19,30 +22,33 @@ use tender_papers::listing::listing_text;
 fn write_page<H: Lookups, W: Write>(
     alloc: Global,
     shelf: &mut H,
-    writer: &mut W,
+    writer: &mut WatchedWriter<W>,
     after: Option<Id>,
 ) -> Result<Option<Id>, ProgramFault>
-    ensures { Looks H.meaning shelf.old shelf.new (λ s. IfOk result (WritesPage after s (W.contents writer.old) (W.contents writer.new))) }
+    ensures page { Looks H.meaning shelf.old shelf.new (λ s. IfOk result (WritesPage after s writer.old.contents writer.new.contents)) }
+    ensures cause { IfErr result (IsOfPrinting writer.new.has_failed) }
 {
     let rows = match shelf.list_notices_after(after, ASKED_ROWS) {
         Ok(rows) => rows,
         Err(fault) => return Err(ProgramFault::Refused(Refusal::from(fault))),
     };
     let text = listing_text(alloc, page_of(rows.as_slice()))?;
-    match writer.write_all(text.as_slice()) {
+    match send(writer, text.as_slice()) {
         Ok(()) => Ok(next_after(rows.as_slice())),
         Err(_) => Err(ProgramFault::Output),
     }
 }
 
 /// Writes a line for each notice, in the order of their identifiers, as `procure notices` prints them: page by page, so that no more than a page
-/// of them is held. `Output` where the writer fails, and else a refusal as `show` has it; some lines may be written then. Nothing changes.
+/// of them is held. `Output` where the writer fails, and else a refusal as `show` has it; some lines may be written then. Nothing changes, and nothing is
+/// flushed.
 pub fn list_notices<H: Lookups, W: Write>(
     alloc: Global,
     shelf: &mut H,
-    writer: &mut W,
+    writer: &mut WatchedWriter<W>,
 ) -> Result<(), ProgramFault>
-    ensures { Looks H.meaning shelf.old shelf.new (λ s. IfOk result (λ _. Appends (W.contents writer.old) (W.contents writer.new) (listing_text s.notices))) }
+    ensures listed { Looks H.meaning shelf.old shelf.new (λ s. IfOk result (λ _. Appends writer.old.contents writer.new.contents (listing_text s.notices))) }
+    ensures cause { IfErr result (IsOfPrinting writer.new.has_failed) }
 {
     laws::pages();
     laws::looks_follow::<H>();

@@ -1,8 +1,11 @@
 //! Puts an empty database where a new office is to stand, whole or not at all: the pages of a file that is made so are smaller than those that the
 //! ported `sqlite` gives a new file. What stands at the path otherwise is left as it is, to the store, which takes or refuses it.
 
+ghost use Rattle.std.specs.Prelude.{IfErr};
+ghost use Rattle.procure_programs.specs.FaultsTold.{IsOfStore};
+
 use crate::blank::empty_database;
-use crate::config::no_memory;
+use crate::faults::of_unplaced_file;
 use procure_config::fault::ProgramFault;
 use std::fs::{self, File, Metadata, OpenOptions};
 use std::io::{self, ErrorKind};
@@ -11,16 +14,15 @@ use std::path::PathBuf;
 
 /// Where the path names nothing, or a file of one byte at most, which SQLite takes for an empty one, puts an empty database there. A file with a log or a
 /// journal beside it is left as it is: their pages are not those of the new file.
-pub fn place_empty(rt: &HostRuntime, path: &str) -> Result<(), ProgramFault> {
+pub fn place_empty(rt: &HostRuntime, path: &str) -> Result<(), ProgramFault>
+    ensures fault { IfErr result IsOfStore }
+{
     if path == ":memory:" || path.starts_with("file:") {
         return Ok(());
     }
     match place_where_empty(rt, path) {
         Ok(()) => Ok(()),
-        Err(error) => match error.kind() {
-            ErrorKind::OutOfMemory => Err(no_memory()),
-            _ => Err(ProgramFault::Store),
-        },
+        Err(error) => Err(of_unplaced_file(error)),
     }
 }
 

@@ -1,12 +1,12 @@
 //! What the public sees of an office.
-ghost use Rattle.std.specs.Prelude.{◌≡◌, Err, false};
+ghost use Rattle.std.specs.Prelude.{◌≡◌, Err, IfErr, false};
 ghost use Rattle.office_commands.specs.Queries as queries;
 ghost use Rattle.office_commands.specs.Rights.{may_look};
 ghost use Rattle.office_commands.specs.declared.command.Caller.TheVariants.{Public};
 ghost use Rattle.office_base.specs.Shelves.{Looks};
 ghost use Rattle.office_values.specs.declared.refusal.Refusal.TheVariants.{Forbidden};
 ghost use Rattle.procure_config.specs.declared.fault.ProgramFault.TheVariants.{Refused};
-ghost use Rattle.procure_programs.specs.Showing.{IsShown};
+ghost use Rattle.procure_programs.specs.Showing.{IsOfOffice, IsShown};
 
 use office_base::shelf::{Lookups, Shelf};
 use office_commands::command::Caller;
@@ -27,6 +27,7 @@ pub enum Printout {
 pub fn show<H: Shelf + Drop>(desk: &mut Desk<H>, query: Query) -> Result<Vec<u8>, ProgramFault>
     ensures looks { Looks H.meaning desk.old.shelf desk.new.shelf (λ s. IsShown desk.old.settings query s result) }
     ensures settings { desk.new.settings ≡ desk.old.settings }
+    ensures refuses { IfErr result IsOfOffice }
     ensures forbidden { may_look Public (queries.query_kind_of query) ≡ false → result ≡ Err (Refused Forbidden) }
 {
     match desk.look(&Caller::Public, query) {

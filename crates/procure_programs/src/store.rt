@@ -1,5 +1,5 @@
 //! The programs over an office in a file. Each closes it in the end, so that the file alone is the office.
-ghost use Rattle.std.specs.Prelude.{IfOk};
+ghost use Rattle.std.specs.Prelude.{IfErr, IfOk};
 ghost use Rattle.sqlite_wal.specs.Files.{image_at};
 ghost use Rattle.sqlite_wal.specs.Reads.{AreClean};
 ghost use Rattle.sqlite.specs.Closing.{IsCopied};
@@ -8,17 +8,16 @@ ghost use Rattle.sqlite.specs.State.{HasCleanDisk};
 ghost use Rattle.office_base.specs.Shelves.{Keeps};
 ghost use Rattle.office_store.specs.Reopening.{OpensHeld};
 ghost use Rattle.office_store.specs.SqlMeaning.{LeavesNoOther, LeavesShown, sql_meaning};
+ghost use Rattle.procure_programs.specs.FaultsTold.{IsOfStore};
 ghost use Rattle.procure_programs.specs.Placed.{OpensEmpty};
 ghost use Rattle.procure_programs.specs.Serving.{ServesFiles, ServesOpened, StopsFiles, WasServed};
 
-use crate::config::no_memory;
+use crate::faults::{of_opening, of_shelf};
 use crate::kept::{print_office, serve_office};
 use crate::placing::place_empty;
 use crate::room::{page_size_at, room_for};
 use crate::showing::Printout;
-use office_base::shelf::ShelfFault;
 use office_machine::laws::order;
-use office_store::found::OpenFault;
 use office_store::opened::{Opened, Origin};
 use office_store::shelf::SqlShelf;
 use office_values::settings::Settings;
@@ -27,6 +26,7 @@ use sqlite::{Alter, FileFrom, FileStore, Files, Start, Unknown};
 use sqlite_disk::Disk;
 
 // The office in a file, or a new one where nothing of an office stands there: in a new file, whose pages are small, where there is none.
+#[tactic(auto, using(crate::proofs::FaultSteps::opening_is))]
 fn open_office<S: Start>(
     rt: &HostRuntime,
     path: &str,
@@ -36,13 +36,13 @@ fn open_office<S: Start>(
     ensures empty { IfOk result (λ opened. OpensEmpty (image_at S.Start) opened.shelf.0) }
     ensures sound { IfOk result (λ opened. HasCleanDisk (file_state opened.shelf.0) → LeavesShown (file_state opened.shelf.0)) }
     ensures alone { IfOk result (λ opened. HasCleanDisk (file_state opened.shelf.0) → LeavesNoOther (file_state opened.shelf.0)) }
+    ensures fault { IfErr result IsOfStore }
 {
     place_empty(rt, path)?;
     let room = room_for(page_size_at(rt, path));
     match SqlShelf::open_from(rt, path, start, room) {
         Ok(opened) => Ok(opened),
-        Err((OpenFault::NoMemory, _)) => Err(no_memory()),
-        Err((OpenFault::Store | OpenFault::NotAnOffice, _)) => Err(ProgramFault::Store),
+        Err((fault, _)) => Err(of_opening(fault)),
     }
 }
 
@@ -57,10 +57,7 @@ fn close_office<D: Disk + Drop>(
         Ok(files) => Ok((files, worked)),
         Err(fault) => {
             worked?;
-            match fault {
-                ShelfFault::NoMemory => Err(no_memory()),
-                ShelfFault::Store => Err(ProgramFault::Store),
-            }
+            Err(of_shelf(fault))
         }
     }
 }
@@ -73,7 +70,8 @@ fn serve_shelf<A: Alter + Drop>(
     port: u16,
     count: u32,
 ) -> Result<(SqlShelf<A>, Result<(), ProgramFault>), ProgramFault>
-    ensures { IfOk result (λ left. WasServed (sql_meaning A.Store) count settings shelf left.0) }
+    ensures serves { IfOk result (λ left. WasServed (sql_meaning A.Store) count settings shelf left.0) }
+    ensures fault { IfErr result IsOfStore }
 {
     serve_office(rt, settings, shelf, port, count)
 }
@@ -99,7 +97,8 @@ fn serve_open<S: Start>(
     port: u16,
     count: u32,
 ) -> Result<(SqlShelf<FileStore<FileFrom<S>>>, Result<(), ProgramFault>), ProgramFault>
-    ensures { IfOk result (λ left. ServesOpened (image_at S.Start) settings count left.0) }
+    ensures serves { IfOk result (λ left. ServesOpened (image_at S.Start) settings count left.0) }
+    ensures fault { IfErr result IsOfStore }
 {
     let opened = open_office(rt, path, start)?;
     serve_shelf(rt, settings, opened.shelf, port, count)

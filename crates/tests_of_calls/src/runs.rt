@@ -218,6 +218,24 @@ fn ends_where_a_writer_fails(rt: HostRuntime) {
     assert!(rt; ends_at_a_failed_write(rt.alloc()));
 }
 
+fn flushes_in_the_end(alloc: Global) -> bool {
+    let mut desk = Echo { total: 0 };
+    let mut reader = CountedReader::new(INPUT);
+    let mut writer = WatchedWriter::new(make_narrow(alloc, 9, 9, ErrorKind::BrokenPipe));
+    let end = run(alloc, &mut desk, &mut reader, &mut writer);
+    let is_flushed = writer.is_flushed();
+    let narrow = writer.into_inner();
+    end == Ok(2)
+        && is_flushed
+        && narrow.flushes == 1
+        && narrow.bytes.as_slice() == b"hello!".as_slice()
+}
+
+#[test]
+fn flushes_what_was_written(rt: HostRuntime) {
+    assert!(rt; flushes_in_the_end(rt.alloc()));
+}
+
 /// Requests that are refused, each with `more` behind its head.
 const REFUSED: [&[u8]; 3] = [
     b"nonsense\nmore",

@@ -74,13 +74,14 @@ impl BufRead for Drip<'_> {
     }
 }
 
-/// Takes at most so many bytes a write, and so many writes.
+/// Takes at most so many bytes a write, and so many writes; counts how often it is flushed.
 #[derive(Drop)]
 pub struct Narrow {
     pub bytes: Vec<u8>,
     pub most: usize,
     pub writes: u32,
     pub kind: ErrorKind,
+    pub flushes: u32,
 }
 
 impl Write for Narrow {
@@ -102,6 +103,7 @@ impl Write for Narrow {
         if self.writes == 0 {
             return Err(io::Error::from(self.kind));
         }
+        self.flushes = self.flushes.saturating_add(1);
         Ok(())
     }
 }
@@ -113,5 +115,6 @@ pub fn make_narrow(alloc: Global, most: usize, writes: u32, kind: ErrorKind) -> 
         most,
         writes,
         kind,
+        flushes: 0,
     }
 }

@@ -1,5 +1,6 @@
 //! What is read of an office where a transcript can't say it: merges that aren't kept or that other hands wrote, releases that are missing or can't be read, the
-//! ledger's rows one at a time, looks at more than a request can bring, and what the programs show the public.
+//! ledger's rows one at a time, looks at more than a request can bring, what the programs show the public, and what they answer over connections that a test
+//! makes up.
 #![tactic(auto)]
 
 #[cfg(test)]
@@ -17,7 +18,10 @@ mod looked_at_rows;
 #[cfg(test)]
 mod missing_releases;
 #[cfg(test)]
+mod served;
+#[cfg(test)]
 mod showing;
+#[cfg(test)]
 #[cfg(test)]
 mod unreadable_texts;
 #[cfg(test)]

@@ -4,8 +4,9 @@ use office_base::records::{NoticeRow, NoticeState};
 use office_base::shelf::Shelf;
 use office_memory::memory::MemoryShelf;
 use office_values::id::Id;
+use office_wire::watched::WatchedWriter;
 use procure_config::fault::ProgramFault;
-use procure_programs::listing::list_notices;
+use procure_programs::printing::print_notices;
 use std::alloc::Global;
 use std::io::Cursor;
 use std::test::Fail;
@@ -64,9 +65,11 @@ fn lines_of(alloc: Global, count: u64) -> Option<Vec<u8>> {
 // Whether all notices of such an office are listed; None where memory is wanting.
 fn is_listed<H: Shelf + Drop>(alloc: Global, shelf: H, count: u64) -> Option<bool> {
     let mut shelf = with_notices(alloc, shelf, count)?;
-    let mut lines = Vec::new(alloc);
-    list_notices(alloc, &mut shelf, &mut lines).ok()?;
-    Some(lines.as_slice() == lines_of(alloc, count)?.as_slice())
+    let mut output = WatchedWriter::new(Vec::new(alloc));
+    print_notices(alloc, &mut shelf, &mut output).ok()?;
+    let is_flushed = output.is_flushed();
+    let lines = output.into_inner();
+    Some(is_flushed && lines.as_slice() == lines_of(alloc, count)?.as_slice())
 }
 
 fn listed_in_memory(alloc: Global, count: u64) -> bool {
@@ -102,8 +105,8 @@ fn is_full_writer_told(alloc: Global) -> bool {
     let Some(mut shelf) = with_notices(alloc, MemoryShelf::new(alloc), 1) else {
         return false;
     };
-    let mut writer = Cursor::new([0u8; 20]);
-    let listed = list_notices(alloc, &mut shelf, &mut writer);
+    let mut output = WatchedWriter::new(Cursor::new([0u8; 20]));
+    let listed = print_notices(alloc, &mut shelf, &mut output);
     matches!(&listed, Err(ProgramFault::Output))
 }
 

@@ -7,8 +7,10 @@ use office_http::answering::answer;
 use office_memory::memory::MemoryShelf;
 use office_values::id::Id;
 use office_values::moment::Moment;
+use office_wire::watched::WatchedWriter;
 use procure_config::fault::exit_code;
 use procure_config::settings::read_settings;
+use procure_programs::printing::print;
 use procure_programs::showing::show;
 use std::alloc::Global;
 use std::test::Fail;
@@ -44,6 +46,14 @@ fn shows_ledger<H: Shelf + Drop>(desk: &mut Desk<H>) -> bool {
     }
 }
 
+// Whether the ledger is printed, all of it, and handed on.
+fn prints_ledger<H: Shelf + Drop>(alloc: Global, desk: &mut Desk<H>) -> bool {
+    let mut output = WatchedWriter::new(Vec::new(alloc));
+    let is_printed = print(desk, Query::Ledger, &mut output).is_ok() && output.is_flushed();
+    let text = output.into_inner();
+    is_printed && text.as_slice() == LEDGER
+}
+
 // Whether the minutes of this notice are refused with this line, and exit code 1.
 fn refuses_minutes<H: Shelf + Drop>(
     alloc: Global,
@@ -69,6 +79,7 @@ fn shows<H: Shelf + Drop>(alloc: Global, shelf: H) -> bool {
         return false;
     };
     shows_ledger(&mut desk)
+        && prints_ledger(alloc, &mut desk)
         && refuses_minutes(alloc, &mut desk, b"N1", "procure: NotOpened")
         && refuses_minutes(alloc, &mut desk, b"N2", "procure: NoSuch")
 }

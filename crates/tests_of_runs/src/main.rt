@@ -1,22 +1,36 @@
 //! `tests_of_runs FILE..`: plays the transcripts in these files to an office in memory, to one in SQL and to one in a file, and prints what it finds. The
-//! form of the files is told at the head of `data/setup.txt`. Status 1 where anything isn't as written, 2 where it can't be printed.
+//! form of the files is told at the head of `data/setup.txt`. Status 1 where anything isn't as written, 2 where it can't be printed. With `refuse` as the first
+//! word it tries one request while memory is refused (`refusing.rt`).
 #![tactic(auto)]
 
 mod found;
 mod pieces;
+mod refusing;
+mod rows;
 mod sections;
 mod stores;
 mod times;
 mod topics;
+mod trials;
 
+use refusing::refuse;
 use std::process::ExitCode;
 use std::{env, fs, io};
 use topics::{File, play_all};
 
-// The files that the words name.
-fn files_of(rt: &HostRuntime) -> io::Result<Vec<File>> {
+// The words behind the program's name.
+fn words_of(rt: &HostRuntime) -> io::Result<Vec<String>> {
+    let mut words = Vec::new(rt.alloc());
+    for word in env::args(rt)?.skip(1) {
+        words.push(word)?;
+    }
+    Ok(words)
+}
+
+// The files that these words name.
+fn files_of(rt: &HostRuntime, names: Vec<String>) -> io::Result<Vec<File>> {
     let mut files = Vec::new(rt.alloc());
-    for name in env::args(rt)?.skip(1) {
+    for name in names {
         let text = fs::read_to_string(rt, name.as_str()).ok();
         files.push(File { name, text })?;
     }
@@ -24,7 +38,15 @@ fn files_of(rt: &HostRuntime) -> io::Result<Vec<File>> {
 }
 
 fn work(rt: &HostRuntime) -> io::Result<bool> {
-    let files = files_of(rt)?;
+    let words = words_of(rt)?;
+    let is_refused = match words.as_slice().first() {
+        Some(first) => first.as_str() == "refuse",
+        None => false,
+    };
+    if is_refused {
+        return refuse(rt, words.as_slice());
+    }
+    let files = files_of(rt, words)?;
     play_all(rt, files.as_slice())
 }
 

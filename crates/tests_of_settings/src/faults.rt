@@ -1,8 +1,10 @@
 //! How the faults of the program are told.
 use office_values::refusal::Refusal;
-use procure_config::fault::{ProgramFault, exit_code};
+use procure_config::fault::ProgramFault;
 use procure_config::settings::{SettingName, SettingsFault};
+use procure_config::telling::tell;
 use std::alloc::Global;
+use std::io::Cursor;
 
 // Faults of settings, and their lines.
 const SETTINGS_FAULTS: &[(SettingsFault, &str)] = &[
@@ -16,9 +18,11 @@ const SETTINGS_FAULTS: &[(SettingsFault, &str)] = &[
 
 /// Whether a fault is told in this line, with status 1.
 pub(crate) fn is_told(alloc: Global, fault: &ProgramFault, line: &str) -> bool {
-    match format!(in alloc; "{fault}") {
-        Ok(text) => text.as_str() == line && exit_code(fault) == 1,
-        Err(_) => false,
+    let mut text = Vec::new(alloc);
+    let (status, is_whole) = tell(&mut text, fault);
+    match text.as_slice().strip_prefix(line.as_bytes()) {
+        Some(end) => is_whole && status == 1 && end == b"\n".as_slice(),
+        None => false,
     }
 }
 
@@ -47,4 +51,11 @@ fn settings_faults_are_told(alloc: Global) -> bool {
 #[test]
 fn tells_the_settings_faults(rt: HostRuntime) {
     assert!(rt; settings_faults_are_told(rt.alloc()));
+}
+
+#[test]
+fn says_where_not_all_was_told(rt: HostRuntime) {
+    let mut full = Cursor::new([0u8; 8]);
+    let (status, is_whole) = tell(&mut full, &ProgramFault::Store);
+    assert!(rt; status == 1 && !is_whole);
 }

@@ -10,7 +10,7 @@ ghost use Rattle.office_base.specs.Tables.{Tables};
 ghost use Rattle.office_machine.specs.Replies.{ContractSeen};
 ghost use Rattle.office_plans.specs.Replies.{reply_text};
 ghost use Rattle.office_plans.specs.RowMembers.{entry_entries};
-ghost use Rattle.office_desk.specs.Steps.{HasShown, IsShown, read_text};
+ghost use Rattle.office_desk.specs.Steps.{HasShown, IsShown, TellsQuery, read_text};
 
 use crate::queries::security::is_by_clerk_or;
 use award_core::entries::{is_overdrawn, outstanding, paid};
@@ -119,6 +119,7 @@ fn contract_text(
 }
 
 /// A contract with its entries. It is shown to its tenderer and to the clerk.
+#[tactic(auto, using(crate::proofs::Rising::has_risen))]
 pub(crate) fn look<H: Lookups>(
     alloc: Global,
     shelf: &mut H,
@@ -127,6 +128,7 @@ pub(crate) fn look<H: Lookups>(
 ) -> Result<Vec<u8>, Refusal>
     requires { may_look caller.now kinds.Contract ≡ true }
     ensures looks { Looks H.meaning shelf.old shelf.new (λ s. IsShown caller.now (Contract contract) s (read_text result)) }
+    ensures tells { TellsQuery H.meaning shelf.old shelf.new caller.now (Contract contract) result }
     ensures shown { H.meaning.honest shelf.new → (s : Tables) → H.meaning.holds shelf.old s → OnOk result (HasShown (Contract contract) s) }
 {
     laws::looks_follow::<H>();

@@ -8,7 +8,7 @@ ghost use Rattle.office_values.specs.declared.refusal.Refusal.TheVariants.{Unava
 ghost use Rattle.office_base.specs.Shelves.{Looks};
 ghost use Rattle.office_machine.specs.Evaluation.{awards_of_lot, evaluated_lot, evaluated_tender, evaluated_tenders, has_outcome, is_award_of, points_told};
 ghost use Rattle.office_plans.specs.Replies.{evaluated_lines, finding_of};
-ghost use Rattle.office_desk.specs.Steps.{IsShown, read_text};
+ghost use Rattle.office_desk.specs.Steps.{IsShown, TellsQuery, read_text};
 ghost use Rattle.tender_papers.specs.Evaluation.{award_line, finding_line};
 
 use award_core::best::{is_admissible, lowest, points};
@@ -151,6 +151,7 @@ fn lots_text<H: Lookups>(
 }
 
 /// How the awards of a notice that was opened came about: to the clerk all of it, to others of each lot that has had an outcome.
+#[tactic(auto, using(crate::proofs::Rising::has_risen))]
 pub(crate) fn look<H: Lookups>(
     alloc: Global,
     shelf: &mut H,
@@ -158,7 +159,8 @@ pub(crate) fn look<H: Lookups>(
     notice: Id,
 ) -> Result<Vec<u8>, Refusal>
     requires { may_look caller.now kinds.Evaluation ≡ true }
-    ensures { Looks H.meaning shelf.old shelf.new (λ s. IsShown caller.now (Evaluation notice) s (read_text result)) }
+    ensures looks { Looks H.meaning shelf.old shelf.new (λ s. IsShown caller.now (Evaluation notice) s (read_text result)) }
+    ensures tells { TellsQuery H.meaning shelf.old shelf.new caller.now (Evaluation notice) result }
 {
     laws::looks_follow::<H>();
     let Some(row) = shelf.get_notice(&notice)? else {

@@ -4,7 +4,7 @@ ghost use Rattle.office_commands.specs.Rights.{may_look};
 ghost use Rattle.office_commands.specs.declared.command.QueryKind.TheVariants as kinds;
 ghost use Rattle.office_commands.specs.declared.queries.Query.TheVariants.{Ledger};
 ghost use Rattle.office_base.specs.Shelves.{Looks};
-ghost use Rattle.office_desk.specs.Steps.{IsShown, read_text};
+ghost use Rattle.office_desk.specs.Steps.{IsShown, TellsQuery, read_text};
 
 use office_base::shelf::Lookups;
 use office_commands::command::Caller;
@@ -13,13 +13,15 @@ use std::alloc::Global;
 use tender_papers::ledger::ledger_text;
 
 /// The ledger. A sum that is out of its range is a fault of the store.
+#[tactic(auto, using(crate::proofs::Rising::has_risen))]
 pub(crate) fn look<H: Lookups>(
     alloc: Global,
     shelf: &mut H,
     caller: &Caller,
 ) -> Result<Vec<u8>, Refusal>
     requires { may_look caller.now kinds.Ledger ≡ true }
-    ensures { Looks H.meaning shelf.old shelf.new (λ s. IsShown caller.now Ledger s (read_text result)) }
+    ensures looks { Looks H.meaning shelf.old shelf.new (λ s. IsShown caller.now Ledger s (read_text result)) }
+    ensures tells { TellsQuery H.meaning shelf.old shelf.new caller.now Ledger result }
 {
     let rows = shelf.ledger()?;
     Ok(ledger_text(alloc, &rows)?.into_vec())

@@ -6,7 +6,7 @@ ghost use Rattle.office_commands.specs.declared.queries.Query.TheVariants.{Line}
 ghost use Rattle.office_base.specs.Shelves.{Looks};
 ghost use Rattle.office_machine.specs.Replies.{LineSeen};
 ghost use Rattle.office_plans.specs.Replies.{reply_text};
-ghost use Rattle.office_desk.specs.Steps.{IsShown, read_text};
+ghost use Rattle.office_desk.specs.Steps.{IsShown, TellsQuery, read_text};
 
 use office_base::laws;
 use office_base::ledger::Pots;
@@ -39,6 +39,7 @@ fn line_text(alloc: Global, row: &LineRow, pots: &Pots) -> Result<Vec<u8>, Alloc
 }
 
 /// A look at a budget line: where its money is. A sum that is out of its range is answered like a fault of the store.
+#[tactic(auto, using(crate::proofs::Rising::has_risen))]
 pub(crate) fn look<H: Lookups>(
     alloc: Global,
     shelf: &mut H,
@@ -46,7 +47,8 @@ pub(crate) fn look<H: Lookups>(
     line: Id,
 ) -> Result<Vec<u8>, Refusal>
     requires { may_look caller.now kinds.Line ≡ true }
-    ensures { Looks H.meaning shelf.old shelf.new (λ s. IsShown caller.now (Line line) s (read_text result)) }
+    ensures looks { Looks H.meaning shelf.old shelf.new (λ s. IsShown caller.now (Line line) s (read_text result)) }
+    ensures tells { TellsQuery H.meaning shelf.old shelf.new caller.now (Line line) result }
 {
     laws::looks_follow::<H>();
     let Some(row) = shelf.get_line(&line)? else {

@@ -7,7 +7,7 @@ ghost use Rattle.office_values.specs.declared.refusal.Refusal.TheVariants.{Unava
 ghost use Rattle.office_base.specs.Shelves.{Looks};
 ghost use Rattle.office_machine.specs.Sights.{is_read_envelope, minuted};
 ghost use Rattle.office_plans.specs.Replies.{minuted_tender};
-ghost use Rattle.office_desk.specs.Steps.{IsShown, read_text};
+ghost use Rattle.office_desk.specs.Steps.{IsShown, TellsQuery, read_text};
 ghost use Rattle.tender_papers.specs.Minutes.{minutes_text};
 
 use office_base::laws;
@@ -81,6 +81,7 @@ fn opened_text(
 }
 
 /// The minutes of an opening.
+#[tactic(auto, using(crate::proofs::Rising::has_risen))]
 pub(crate) fn look<H: Lookups>(
     alloc: Global,
     shelf: &mut H,
@@ -88,7 +89,8 @@ pub(crate) fn look<H: Lookups>(
     notice: Id,
 ) -> Result<Vec<u8>, Refusal>
     requires { may_look caller.now kinds.Minutes ≡ true }
-    ensures { Looks H.meaning shelf.old shelf.new (λ s. IsShown caller.now (Minutes notice) s (read_text result)) }
+    ensures looks { Looks H.meaning shelf.old shelf.new (λ s. IsShown caller.now (Minutes notice) s (read_text result)) }
+    ensures tells { TellsQuery H.meaning shelf.old shelf.new caller.now (Minutes notice) result }
 {
     laws::looks_follow::<H>();
     let Some(row) = shelf.get_notice(&notice)? else {

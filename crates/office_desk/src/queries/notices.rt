@@ -7,7 +7,7 @@ ghost use Rattle.office_base.specs.Shelves.{Looks};
 ghost use Rattle.office_machine.specs.Sights.{notices_told};
 ghost use Rattle.office_plans.specs.Replies.{reply_text};
 ghost use Rattle.office_plans.specs.RowMembers.{notice_entries};
-ghost use Rattle.office_desk.specs.Steps.{IsShown, read_text};
+ghost use Rattle.office_desk.specs.Steps.{IsShown, TellsQuery, read_text};
 
 use json::Writer;
 use office_base::pages::{ASKED_ROWS, next_after, page_of};
@@ -67,6 +67,7 @@ fn notices_text(alloc: Global, rows: &[NoticeRow]) -> Result<Vec<u8>, AllocError
 }
 
 /// A page of the notices: the first hundred behind this one, or of all.
+#[tactic(auto, using(crate::proofs::Rising::has_risen))]
 pub(crate) fn look<H: Lookups>(
     alloc: Global,
     shelf: &mut H,
@@ -74,7 +75,8 @@ pub(crate) fn look<H: Lookups>(
     after: Option<Id>,
 ) -> Result<Vec<u8>, Refusal>
     requires { may_look caller.now kinds.Notices ≡ true }
-    ensures { Looks H.meaning shelf.old shelf.new (λ s. IsShown caller.now (Notices after) s (read_text result)) }
+    ensures looks { Looks H.meaning shelf.old shelf.new (λ s. IsShown caller.now (Notices after) s (read_text result)) }
+    ensures tells { TellsQuery H.meaning shelf.old shelf.new caller.now (Notices after) result }
 {
     let rows = shelf.list_notices_after(after, ASKED_ROWS)?;
     Ok(notices_text(alloc, &rows)?)

@@ -11,7 +11,7 @@ ghost use Rattle.office_machine.specs.Replies.{OwnTendersSeen};
 ghost use Rattle.office_machine.specs.Sights.{own_of_lot, own_tender};
 ghost use Rattle.office_plans.specs.Replies.{reply_text};
 ghost use Rattle.office_plans.specs.RowMembers.{own_tender_entries};
-ghost use Rattle.office_desk.specs.Steps.{IsShown, read_text};
+ghost use Rattle.office_desk.specs.Steps.{IsShown, TellsQuery, read_text};
 
 use json::Writer;
 use office_base::laws;
@@ -80,6 +80,7 @@ fn tenders_text(alloc: Global, rows: &[EnvelopeRow]) -> Result<Vec<u8>, AllocErr
 }
 
 /// The tenders of a notice that the caller presented, in whatever state.
+#[tactic(auto, using(crate::proofs::Rising::has_risen))]
 pub(crate) fn look<H: Lookups>(
     alloc: Global,
     shelf: &mut H,
@@ -87,7 +88,8 @@ pub(crate) fn look<H: Lookups>(
     notice: Id,
 ) -> Result<Vec<u8>, Refusal>
     requires { may_look caller.now kinds.OwnTenders ≡ true }
-    ensures { Looks H.meaning shelf.old shelf.new (λ s. IsShown caller.now (OwnTenders notice) s (read_text result)) }
+    ensures looks { Looks H.meaning shelf.old shelf.new (λ s. IsShown caller.now (OwnTenders notice) s (read_text result)) }
+    ensures tells { TellsQuery H.meaning shelf.old shelf.new caller.now (OwnTenders notice) result }
 {
     laws::looks_follow::<H>();
     let Caller::Tenderer(tenderer) = caller else {

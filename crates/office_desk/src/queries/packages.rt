@@ -5,7 +5,7 @@ ghost use Rattle.office_commands.specs.declared.command.QueryKind.TheVariants as
 ghost use Rattle.office_commands.specs.declared.queries.Query.TheVariants.{Record, Releases};
 ghost use Rattle.office_base.specs.Shelves.{Looks};
 ghost use Rattle.office_base.specs.Tables.{Tables};
-ghost use Rattle.office_desk.specs.Steps.{HasShown, IsSeen, read_text};
+ghost use Rattle.office_desk.specs.Steps.{HasShown, IsSeen, TellsQuery, read_text};
 
 mod texts;
 
@@ -18,6 +18,7 @@ use office_values::settings::Settings;
 use std::alloc::Global;
 
 /// The package of a notice's releases.
+#[tactic(auto, using(crate::proofs::Rising::has_risen))]
 pub(crate) fn look_at_releases<H: Lookups>(
     alloc: Global,
     shelf: &mut H,
@@ -27,6 +28,7 @@ pub(crate) fn look_at_releases<H: Lookups>(
 ) -> Result<Vec<u8>, Refusal>
     requires { may_look caller.now kinds.Releases ≡ true }
     ensures looks { Looks H.meaning shelf.old shelf.new (λ s. IsSeen settings.now caller.now (Releases notice) s (read_text result)) }
+    ensures tells { TellsQuery H.meaning shelf.old shelf.new caller.now (Releases notice) result }
     ensures shown { H.meaning.honest shelf.new → (s : Tables) → H.meaning.holds shelf.old s → OnOk result (HasShown (Releases notice) s) }
 {
     laws::looks_follow::<H>();
@@ -37,6 +39,7 @@ pub(crate) fn look_at_releases<H: Lookups>(
 }
 
 /// The package of a notice's record.
+#[tactic(auto, using(crate::proofs::Rising::has_risen))]
 pub(crate) fn look_at_record<H: Lookups>(
     alloc: Global,
     shelf: &mut H,
@@ -46,6 +49,7 @@ pub(crate) fn look_at_record<H: Lookups>(
 ) -> Result<Vec<u8>, Refusal>
     requires { may_look caller.now kinds.Record ≡ true }
     ensures looks { Looks H.meaning shelf.old shelf.new (λ s. IsSeen settings.now caller.now (Record notice) s (read_text result)) }
+    ensures tells { TellsQuery H.meaning shelf.old shelf.new caller.now (Record notice) result }
     ensures shown { H.meaning.honest shelf.new → (s : Tables) → H.meaning.holds shelf.old s → OnOk result (HasShown (Record notice) s) }
 {
     laws::looks_follow::<H>();

@@ -6,7 +6,7 @@ ghost use Rattle.office_commands.specs.declared.queries.Query.TheVariants.{Perfo
 ghost use Rattle.office_base.specs.Shelves.{Looks};
 ghost use Rattle.office_machine.specs.Replies.{PerformanceSeen};
 ghost use Rattle.office_plans.specs.Replies.{reply_text};
-ghost use Rattle.office_desk.specs.Steps.{IsShown, read_text};
+ghost use Rattle.office_desk.specs.Steps.{IsShown, TellsQuery, read_text};
 
 use crate::queries::security::is_by_clerk_or;
 use office_base::records::{ContractRow, PerformanceRow};
@@ -43,6 +43,7 @@ fn performance_text(
 }
 
 /// A look at the performance security of a contract. It is shown to the contract's tenderer and to the clerk; the contract is looked for first.
+#[tactic(auto, using(crate::proofs::Rising::has_risen))]
 pub(crate) fn look<H: Lookups>(
     alloc: Global,
     shelf: &mut H,
@@ -50,7 +51,8 @@ pub(crate) fn look<H: Lookups>(
     contract: AskedNumber,
 ) -> Result<Vec<u8>, Refusal>
     requires { may_look caller.now kinds.Performance ≡ true }
-    ensures { Looks H.meaning shelf.old shelf.new (λ s. IsShown caller.now (Performance contract) s (read_text result)) }
+    ensures looks { Looks H.meaning shelf.old shelf.new (λ s. IsShown caller.now (Performance contract) s (read_text result)) }
+    ensures tells { TellsQuery H.meaning shelf.old shelf.new caller.now (Performance contract) result }
 {
     let Some(row) = shelf.get_contract(contract)? else {
         return Err(Refusal::NoSuch(Thing::Contract));

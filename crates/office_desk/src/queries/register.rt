@@ -7,7 +7,7 @@ ghost use Rattle.office_base.specs.Shelves.{Looks};
 ghost use Rattle.office_machine.specs.Replies.{Registry};
 ghost use Rattle.office_machine.specs.Sights.{registered};
 ghost use Rattle.office_plans.specs.Replies.{reply_text};
-ghost use Rattle.office_desk.specs.Steps.{IsShown, read_text};
+ghost use Rattle.office_desk.specs.Steps.{IsShown, TellsQuery, read_text};
 
 use office_base::laws;
 use office_base::records::EnvelopeRow;
@@ -27,6 +27,7 @@ fn registry_text(alloc: Global, notice: Id, rows: &[EnvelopeRow]) -> Result<Vec<
 }
 
 /// The register of a notice's tenders. The clerk alone asks for it.
+#[tactic(auto, using(crate::proofs::Rising::has_risen))]
 pub(crate) fn look<H: Lookups>(
     alloc: Global,
     shelf: &mut H,
@@ -34,7 +35,8 @@ pub(crate) fn look<H: Lookups>(
     notice: Id,
 ) -> Result<Vec<u8>, Refusal>
     requires { may_look caller.now kinds.Register ≡ true }
-    ensures { Looks H.meaning shelf.old shelf.new (λ s. IsShown caller.now (Register notice) s (read_text result)) }
+    ensures looks { Looks H.meaning shelf.old shelf.new (λ s. IsShown caller.now (Register notice) s (read_text result)) }
+    ensures tells { TellsQuery H.meaning shelf.old shelf.new caller.now (Register notice) result }
 {
     laws::looks_follow::<H>();
     let Some(row) = shelf.get_notice(&notice)? else {

@@ -8,7 +8,7 @@ ghost use Rattle.office_machine.specs.Replies.{SecuritiesSeen};
 ghost use Rattle.office_machine.specs.Sights.{listed_security};
 ghost use Rattle.office_plans.specs.Replies.{reply_text};
 ghost use Rattle.office_plans.specs.RowMembers.{listed_security_entries};
-ghost use Rattle.office_desk.specs.Steps.{IsShown, read_text};
+ghost use Rattle.office_desk.specs.Steps.{IsShown, TellsQuery, read_text};
 
 use json::Writer;
 use office_base::records::{NoticeRow, NoticeState, SecurityRow};
@@ -75,6 +75,7 @@ fn securities_text(
 }
 
 /// The tender securities of a notice, in whatever state. The clerk alone asks for them, and isn't told who named them while tenders are received.
+#[tactic(auto, using(crate::proofs::Rising::has_risen))]
 pub(crate) fn look<H: Lookups>(
     alloc: Global,
     shelf: &mut H,
@@ -82,7 +83,8 @@ pub(crate) fn look<H: Lookups>(
     notice: Id,
 ) -> Result<Vec<u8>, Refusal>
     requires { may_look caller.now kinds.Securities ≡ true }
-    ensures { Looks H.meaning shelf.old shelf.new (λ s. IsShown caller.now (Securities notice) s (read_text result)) }
+    ensures looks { Looks H.meaning shelf.old shelf.new (λ s. IsShown caller.now (Securities notice) s (read_text result)) }
+    ensures tells { TellsQuery H.meaning shelf.old shelf.new caller.now (Securities notice) result }
 {
     let Some(row) = shelf.get_notice(&notice)? else {
         return Err(Refusal::NoSuch(Thing::Notice));

@@ -7,7 +7,7 @@ ghost use Rattle.office_commands.specs.declared.queries.Query.TheVariants.{Secur
 ghost use Rattle.office_base.specs.Shelves.{Looks};
 ghost use Rattle.office_machine.specs.Replies.{Security as SecuritySeen};
 ghost use Rattle.office_plans.specs.Replies.{reply_text};
-ghost use Rattle.office_desk.specs.Steps.{IsShown, read_text};
+ghost use Rattle.office_desk.specs.Steps.{IsShown, TellsQuery, read_text};
 
 use office_base::records::SecurityRow;
 use office_base::shelf::Lookups;
@@ -48,6 +48,7 @@ fn security_text(alloc: Global, row: &SecurityRow) -> Result<Vec<u8>, AllocError
 }
 
 /// A look at a security. It is shown to whoever named it and to the clerk.
+#[tactic(auto, using(crate::proofs::Rising::has_risen))]
 pub(crate) fn look<H: Lookups>(
     alloc: Global,
     shelf: &mut H,
@@ -55,7 +56,8 @@ pub(crate) fn look<H: Lookups>(
     security: AskedNumber,
 ) -> Result<Vec<u8>, Refusal>
     requires { may_look caller.now kinds.Security ≡ true }
-    ensures { Looks H.meaning shelf.old shelf.new (λ s. IsShown caller.now (Security security) s (read_text result)) }
+    ensures looks { Looks H.meaning shelf.old shelf.new (λ s. IsShown caller.now (Security security) s (read_text result)) }
+    ensures tells { TellsQuery H.meaning shelf.old shelf.new caller.now (Security security) result }
 {
     let Some(row) = shelf.get_security(security)? else {
         return Err(Refusal::NoSuch(Thing::Security));

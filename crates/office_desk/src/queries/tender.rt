@@ -6,7 +6,7 @@ ghost use Rattle.office_commands.specs.declared.queries.Query.TheVariants.{Tende
 ghost use Rattle.office_base.specs.Shelves.{Looks};
 ghost use Rattle.office_machine.specs.Replies.{Tender as TenderSeen};
 ghost use Rattle.office_plans.specs.Replies.{reply_text};
-ghost use Rattle.office_desk.specs.Steps.{IsShown, read_text};
+ghost use Rattle.office_desk.specs.Steps.{IsShown, TellsQuery, read_text};
 
 use office_base::records::EnvelopeRow;
 use office_base::shelf::Lookups;
@@ -43,6 +43,7 @@ fn tender_text(alloc: Global, row: &EnvelopeRow) -> Result<Vec<u8>, AllocError>
 }
 
 /// A look at a tender. It is shown to whoever presented it.
+#[tactic(auto, using(crate::proofs::Rising::has_risen))]
 pub(crate) fn look<H: Lookups>(
     alloc: Global,
     shelf: &mut H,
@@ -50,7 +51,8 @@ pub(crate) fn look<H: Lookups>(
     receipt: AskedNumber,
 ) -> Result<Vec<u8>, Refusal>
     requires { may_look caller.now kinds.Tender ≡ true }
-    ensures { Looks H.meaning shelf.old shelf.new (λ s. IsShown caller.now (Tender receipt) s (read_text result)) }
+    ensures looks { Looks H.meaning shelf.old shelf.new (λ s. IsShown caller.now (Tender receipt) s (read_text result)) }
+    ensures tells { TellsQuery H.meaning shelf.old shelf.new caller.now (Tender receipt) result }
 {
     let Some(row) = shelf.get_envelope(receipt)? else {
         return Err(Refusal::NoSuch(Thing::Tender));

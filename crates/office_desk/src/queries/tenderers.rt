@@ -7,7 +7,7 @@ ghost use Rattle.office_base.specs.Shelves.{Looks};
 ghost use Rattle.office_machine.specs.Sights.{listed_tenderer, tenderers_told};
 ghost use Rattle.office_plans.specs.Replies.{reply_text};
 ghost use Rattle.office_plans.specs.RowMembers.{listed_tenderer_entries};
-ghost use Rattle.office_desk.specs.Steps.{IsShown, read_text};
+ghost use Rattle.office_desk.specs.Steps.{IsShown, TellsQuery, read_text};
 
 use json::Writer;
 use office_base::pages::{ASKED_ROWS, next_after, page_of};
@@ -59,6 +59,7 @@ fn tenderers_text(alloc: Global, rows: &[TendererRow]) -> Result<Vec<u8>, AllocE
 }
 
 /// A page of the tenderers: the first hundred behind this one, or of all. The clerk alone asks for it.
+#[tactic(auto, using(crate::proofs::Rising::has_risen))]
 pub(crate) fn look<H: Lookups>(
     alloc: Global,
     shelf: &mut H,
@@ -66,7 +67,8 @@ pub(crate) fn look<H: Lookups>(
     after: Option<Id>,
 ) -> Result<Vec<u8>, Refusal>
     requires { may_look caller.now kinds.Tenderers ≡ true }
-    ensures { Looks H.meaning shelf.old shelf.new (λ s. IsShown caller.now (Tenderers after) s (read_text result)) }
+    ensures looks { Looks H.meaning shelf.old shelf.new (λ s. IsShown caller.now (Tenderers after) s (read_text result)) }
+    ensures tells { TellsQuery H.meaning shelf.old shelf.new caller.now (Tenderers after) result }
 {
     let rows = shelf.list_tenderers_after(after, ASKED_ROWS)?;
     Ok(tenderers_text(alloc, &rows)?)

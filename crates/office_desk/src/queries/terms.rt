@@ -7,7 +7,7 @@ ghost use Rattle.office_base.specs.Shelves.{Looks};
 ghost use Rattle.office_machine.specs.Replies.{TermsSeen};
 ghost use Rattle.office_plans.specs.Replies.{reply_text};
 ghost use Rattle.office_plans.specs.RowMembers.{criteria_word, item_entries, late_word, lot_entries, weight_told};
-ghost use Rattle.office_desk.specs.Steps.{IsShown, read_text};
+ghost use Rattle.office_desk.specs.Steps.{IsShown, TellsQuery, read_text};
 
 use json::Writer;
 use office_base::records::{LotRow, NoticeRow};
@@ -146,6 +146,7 @@ fn terms_text(
 }
 
 /// The terms of a notice: what binds who presents a tender, with its lots (UNCITRAL Model Law 2011, article 39).
+#[tactic(auto, using(crate::proofs::Rising::has_risen))]
 pub(crate) fn look<H: Lookups>(
     alloc: Global,
     shelf: &mut H,
@@ -153,7 +154,8 @@ pub(crate) fn look<H: Lookups>(
     notice: Id,
 ) -> Result<Vec<u8>, Refusal>
     requires { may_look caller.now kinds.Terms ≡ true }
-    ensures { Looks H.meaning shelf.old shelf.new (λ s. IsShown caller.now (Terms notice) s (read_text result)) }
+    ensures looks { Looks H.meaning shelf.old shelf.new (λ s. IsShown caller.now (Terms notice) s (read_text result)) }
+    ensures tells { TellsQuery H.meaning shelf.old shelf.new caller.now (Terms notice) result }
 {
     let Some(row) = shelf.get_notice(&notice)? else {
         return Err(Refusal::NoSuch(Thing::Notice));

@@ -1,12 +1,18 @@
 -- One answer to what is meant, where it can be given.
-use Rattle.std.specs.Prelude.{◌≡◌, ℕ, Bool, List}
+use Rattle.std.specs.Prelude.{◌≡◌, ℕ, ◌⊎◌, Bool, true, List, Option, Some}
+use Rattle.office_values.specs.declared.refusal.Refusal.{Refusal}
 use Rattle.office_values.specs.declared.settings.Settings.{Settings}
+use Rattle.office_base.specs.Faults.{HasRisen}
 use Rattle.office_base.specs.Tables.{Tables}
 use Rattle.office_base.specs.Shelves.{Meaning}
 use Rattle.office_machine.specs.Machine.{IsCommand, IsRegistered}
 use Rattle.office_publications.specs.Standing.{IsReached}
+use Rattle.office_requests.specs.declared.route.Allow.{Allow}
+use Rattle.office_http.specs.Certain.{refusal_meant, takes_none}
 use Rattle.office_http.specs.Meaning.{Meant, Refuses, Gives, Sees}
 use Rattle.office_http.specs.Answering.{StopsAfter, answer_bytes, tables_left}
+use Rattle.office_http.specs.Response.{response_of}
+use Rattle.office_http.specs.declared.reply.Reply.TheVariants.{Refused}
 
 -- a command that is given is one that can be, and a tenderer who gives it is registered
 abbrev pub CanBeMeant : Tables → Meant → Type 0
@@ -28,3 +34,9 @@ Answered M settings old new s moment m text =
 abbrev pub AnswersMeant : {S : Type 0} → Meaning S → Settings → S → S → ℕ → (Tables → Meant) → List ℕ → Type 0
 AnswersMeant M settings old new moment m text =
     M.honest new → (s : Tables) → M.holds old s → IsReached settings s → CanBeMeant s (m s) → Answered M settings old new s moment (m s) text
+
+-- where the refusal of what is meant is found without memory, it is told, or the store's count of faults rose
+abbrev pub IsCertain : {S : Type 0} → Meaning S → S → S → ℕ → (Tables → Meant) → List ℕ → Type 0
+IsCertain M old new moment m text =
+    M.honest new → (s : Tables) → M.holds old s → takes_none (m s) ≡ true → (why : Refusal × Option Allow) → refusal_meant s moment (m s) ≡ Some why
+    → (text ≡ response_of (Refused why.0 why.1)) ⊎ HasRisen (M.fault_count old) (M.fault_count new)

@@ -12,6 +12,9 @@ returns-in-Ok-clause-answered g c =
       answered = c.answer_request.ensures.answered;
       changes = c.answer_request.ensures.changes;
       shown = c.answer_request.ensures.shown;
+      sight = c.answer_request.ensures.sight;
+      certain = c.answer_request.ensures.certain;
+      told = c.answer_request.ensures.told;
     })
 
 pub returns-in-Ok-clause-kept : goal.returns-in-Ok-clause-kept

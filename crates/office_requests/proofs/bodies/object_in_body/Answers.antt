@@ -3,7 +3,7 @@ use Rattle.office_requests.proofs.BodySteps.{object_read, no_json}
 use Rattle.office_requests.proofs.bodies.object_in_body.Goals as goal
 
 pub returns-in-Err : goal.returns-in-Err
-returns-in-Err c = elim c.json_fault.ensures [
+returns-in-Err c = elim c.json_fault.ensures.either [
   | inl memory ↦ inl memory
   | inr (is, known) ↦ inr (rw is (no_json _ (c.in-Err.ensures.err known)))
 ]

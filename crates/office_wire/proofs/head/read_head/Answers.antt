@@ -1,4 +1,4 @@
-use Rattle.std.proofs.Common.{◌≡◌, ℕ, List, ◌++◌, length, drop, Some, Ok, arith, rules, sym, ap, subst, refl, inl, inr, ◌∙◌}
+use Rattle.std.proofs.Common.{◌≡◌, ℕ, List, [], ◌++◌, length, drop, Some, Ok, arith, rules, sym, ap, subst, refl, inl, inr, ◌∙◌}
 use Rattle.std.proofs.lemmas.List.{append-nil, drop_at}
 use Rattle.std.proofs.lemmas.Result.{err_from_is_err_and}
 use Rattle.httparse.specs.Grammar.{HasNoRequest}
@@ -122,3 +122,15 @@ returns-in_default-clause-stands g c input e =
     let all : input ≡ c.bytes.lines = parts ∙ (ap (λ (t : List ℕ). c.bytes.lines ++ t) none.0 ∙ append-nil c.bytes.lines) in
     let same : length input ≡ length c.bytes.lines = ap length all in
     inl (none.1, omega (arith, same, c.bytes-test.true, ap length c.bytes-in-bytes.ensures))
+
+pub returns-in-Whole-clause-formed : goal.returns-in-Whole-clause-formed
+returns-in-Whole-clause-formed g c =
+    let inv = c.bytes.invariant in
+    let x = rw c.in-Some.is at c.in_ok-is_worth.ensures.read in
+    let of = rw (c.in-Whole.is, c.bytes-then-is_worth.ensures) at c.in_ok-spans.ensures in
+    let stands = stands_now c.read_on.new.self (c.bytes.lines ++ x.front) x.last [] c.parse.new.headers.items c.in-Whole.spans x.appended (no_head_quiet c.bytes.lines x.front x.quiet inv.none) x.short of.1 in (
+      stands.head,
+      stands.stands.reads.0,
+      stands.stands.short,
+      ◌∙◌ {c = view_of stands.head} (rw c.into_bytes.ensures at c.of_spans.ensures) stands.view,
+    )

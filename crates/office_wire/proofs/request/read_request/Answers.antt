@@ -3,6 +3,7 @@ use Rattle.std.proofs.lemmas.Result.{err_from_is_err_and}
 use Rattle.office_wire.specs.Fields.{framing_of}
 use Rattle.office_wire.specs.declared.fault.ReadFault.TheVariants as fault
 use Rattle.httparse.specs.Grammar.{print_request}
+use Rattle.office_wire.proofs.AnyReaderLemmas.{well_formed}
 use Rattle.office_wire.proofs.RequestLemmas.{no_whole_head, no_whole_body, head_refused, misframed_refused, past_head_stands, head_stands, body_stands}
 use Rattle.office_wire.proofs.request.read_request.Goals as goal
 
@@ -127,3 +128,8 @@ returns-in-None-clause-stands g c input e =
         short = short;
       });
     }))
+
+pub returns-in-Some-clause-formed : goal.returns-in-Some-clause-formed
+returns-in-Some-clause-formed g c =
+    let long = rw c.in-Some.is at c.in_ok-body.ensures.long in
+    well_formed _ c.in_ok-head.ensures.formed (sym c.body_length_of.ensures.framed ∙ (c.in_ok-length.was ∙ ap (λ n. Ok n) (sym long)))

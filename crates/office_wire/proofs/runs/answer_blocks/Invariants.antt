@@ -1,5 +1,7 @@
 use Rattle.std.proofs.Common.{◌≡◌, ◌≤◌, ◌+◌, ℕ, List, length, Some}
-use Rattle.office_wire.specs.Runs.{Step, office_left}
+use Rattle.std.specs.Io.KnownBytes.{Appends}
+use Rattle.office_wire.specs.AnyReader.{AreWellFormed}
+use Rattle.office_wire.specs.Runs.{Step, office_left, written}
 use Rattle.office_wire.proofs.RunLemmas.{Answered}
 use Rattle.office_wire.proofs.runs.answer_blocks.Given as goal
 
@@ -15,6 +17,13 @@ invariant-rounds g l = record {
     now : l.reader.remaining ≡ Some rest;
     count : l.count ≡ length steps;
     answered : Answered g.D.Responder.meaning.answers input s steps rest l.fn.writer.contents l.writer.contents;
+    holds : g.D.Responder.meaning.holds l.desk (office_left g.D.Responder.meaning.answers s steps);
+  };
+  stepped : g.D.Responder.meaning.honest l.desk → (s : g.D.Responder.meaning.Office) → g.D.Responder.meaning.holds l.fn.desk s → record {
+    steps : List Step;
+    count : l.count ≡ length steps;
+    formed : AreWellFormed steps;
+    sent : Appends l.fn.writer.contents l.writer.contents (written g.D.Responder.meaning.answers s steps);
     holds : g.D.Responder.meaning.holds l.desk (office_left g.D.Responder.meaning.answers s steps);
   };
 }

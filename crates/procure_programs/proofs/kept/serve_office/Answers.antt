@@ -3,8 +3,7 @@ use Rattle.office_desk.specs.Desks.{DeskOf}
 use Rattle.procure_programs.proofs.ServingSteps.{was_served}
 use Rattle.procure_programs.proofs.kept.serve_office.Goals as goal
 
-pub returns : goal.returns
-returns g c = record {
-  serves = was_served g.H.Lookups.meaning c.args.count c.args.settings c.args.shelf c.into_shelf.result c.in-Ok.office c.serve_at-served.new.office
-      (c.in-Ok.ensures ∙ c.new.ensures) (c.into_shelf.ensures ∙ ap (λ (d : DeskOf _). d.shelf) c.into_desk.ensures) c.serve_at-served.ensures.before c.serve_at-served.ensures.serves;
-}
+pub returns-clause-serves : goal.returns-clause-serves
+returns-clause-serves g c =
+    was_served g.H.Lookups.meaning c.args.count c.args.settings c.args.shelf c.into_shelf.result c.in-Ok.office c.serve_at-served.new.office
+    (c.in-Ok.ensures ∙ c.new.ensures) (c.into_shelf.ensures ∙ ap (λ (d : DeskOf _). d.shelf) c.into_desk.ensures) c.serve_at-served.ensures.before c.serve_at-served.ensures.serves

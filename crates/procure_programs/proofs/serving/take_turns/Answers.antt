@@ -1,45 +1,15 @@
-use Rattle.std.proofs.Common.{inl, inr, refl, sym, ◌∙◌}
+use Rattle.std.proofs.lemmas.Result.{err_from_is_err_and}
+use Rattle.procure_programs.specs.Hosts.{hosting}
 use Rattle.procure_programs.proofs.Turns.{one_more}
 use Rattle.procure_programs.proofs.serving.take_turns.Goals as goal
-use Rattle.procure_programs.proofs.serving.take_turns.Goals.{in-Ok+in-Ok-moment_now+else-unwrap_or, in_default}
 
-pub returns-then-unwrap_or : goal.returns-then-unwrap_or
-returns-then-unwrap_or g c = (
-  c.connections.taken,
-  c.connections-test.true,
-  c.connections.office,
-  c.connections.invariant.turns,
-  (
-    c.is_shut.result,
-    record {
-      moment = _;
-      served = c.serve_stream.new.office;
-      before = c.serve_stream.ensures.before;
-      once = c.serve_stream.ensures.stepped;
-      asked = c.is_shut.ensures.told;
-      settings = c.is_shut.ensures.settings;
-    },
-    sym c.unwrap_or.ensures ∙ c.if-unwrap_or.true,
-  ),
-)
+pub returns-in_err-take_turn : goal.returns-in_err-take_turn
+returns-in_err-take_turn g c =
+    let p = err_from_is_err_and c.from_residual.result c.from_residual.ensures.1 in
+    rw (p.1, p.2) (c.connections.taken, c.connections-test.true, c.connections.host, c.connections.office, c.connections.invariant.turns, c.in_err-take_turn.ensures)
 
 pub connections-preserved : goal.connections-preserved
-connections-preserved g c =
-    let so_far = c.connections.invariant.turns in
-    elim c.match-accept.branch [
-      | in-Ok+in-Ok-moment_now+else-unwrap_or w ↦ rw w.office-is (record {
-        turns = one_more g.H.Lookups.meaning g.H.StoredShelf.store c.connections.taken c.args.office.now c.connections.office _ so_far (inr (
-          w.is_shut.result,
-          record {
-            moment = _;
-            served = w.serve_stream.new.office;
-            before = w.serve_stream.ensures.before;
-            once = w.serve_stream.ensures.stepped;
-            asked = w.is_shut.ensures.told;
-            settings = w.is_shut.ensures.settings;
-          },
-          sym w.unwrap_or.ensures ∙ w.if-unwrap_or.false,
-        ));
-      })
-      | in_default w ↦ rw w.office-is (record { turns = one_more g.H.Lookups.meaning g.H.StoredShelf.store c.connections.taken c.args.office.now c.connections.office _ so_far (inl refl) })
-    ]
+connections-preserved g c = record {
+  turns = one_more (hosting g.T.Host.events g.T.Reader.Read.remaining g.T.Writer.Write.contents) g.H.Lookups.meaning g.H.StoredShelf.store c.connections.taken
+      c.args.host.now c.connections.host c.take_turn.new.host c.args.office.now c.connections.office c.take_turn.new.office c.connections.invariant.turns c.in_ok-take_turn.ensures;
+}

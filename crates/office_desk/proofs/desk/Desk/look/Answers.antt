@@ -3,7 +3,7 @@ use Rattle.std.specs.Prelude.{OnOk}
 use Rattle.office_base.specs.Tables.{Tables}
 use Rattle.office_base.specs.Shelves.{Looks}
 use Rattle.office_desk.specs.Desks.{DeskOf}
-use Rattle.office_desk.specs.Steps.{HasShown, IsSeen, read_text}
+use Rattle.office_desk.specs.Steps.{HasShown, IsSeen, TellsQuery, read_text}
 use Rattle.office_desk.proofs.desk.Desk.look.Goals as goal
 
 pub returns-clause-looks : goal.returns-clause-looks
@@ -17,3 +17,8 @@ returns-clause-shown g c =
     let family : DeskOf g.row.H.Denot → Type 0 = λ d. g.H.Lookups.meaning.honest c.look_at.new.shelf → (s : Tables) → g.H.Lookups.meaning.holds d.shelf s
     → OnOk c.look_at.result (HasShown c.args.query s) in
     subst family c.self.view_is c.look_at.ensures.shown
+
+pub returns-clause-tells : goal.returns-clause-tells
+returns-clause-tells g c =
+    let family : DeskOf g.row.H.Denot → Type 0 = λ d. TellsQuery g.H.Lookups.meaning d.shelf c.look_at.new.shelf c.args.caller.now c.args.query c.look_at.result in
+    subst family c.self.view_is c.look_at.ensures.tells

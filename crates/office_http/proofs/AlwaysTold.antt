@@ -1,0 +1,141 @@
+-- What is told, and what stays, whatever tables a shelf holds.
+use Rattle.std.proofs.Common.{◌≡◌, ℕ, ◌⊎◌, inl, inr, Bool, true, false, not, ◌&&◌, List, Option, Some, None, Result, Ok, Err, refl, sym, ap, ◌∙◌, subst, true≢false}
+use Rattle.std.specs.Prelude.{is_none}
+use Rattle.office_commands.specs.Queries.{query_kind_of}
+use Rattle.office_commands.specs.declared.command.Caller.{Caller}
+use Rattle.office_commands.specs.declared.commands.Command.{Command}
+use Rattle.office_commands.specs.declared.queries.Query.{Query}
+use Rattle.office_values.specs.declared.refusal.Refusal.{Refusal}
+use Rattle.office_values.specs.declared.refusal.Refusal.TheVariants.{Unavailable}
+use Rattle.office_values.specs.declared.settings.Settings.{Settings}
+use Rattle.office_base.specs.Tables.{Tables}
+use Rattle.office_machine.specs.Machine.{Given, refusal_of}
+use Rattle.office_machine.specs.Requests.{reply_by}
+use Rattle.office_machine.specs.Sights.{told}
+use Rattle.office_publications.specs.Packages.{packages}
+use Rattle.office_publications.specs.Publishing.{publishing}
+use Rattle.office_plans.specs.Asking.{given}
+use Rattle.office_plans.specs.Plans.{Plan}
+use Rattle.office_plans.specs.Replies.{text_of}
+use Rattle.office_plans.specs.Published.{IsPlan}
+use Rattle.office_desk.specs.Steps.{IsSeen, Needs}
+use Rattle.office_wire.specs.Request.{RequestView}
+use Rattle.office_requests.specs.Asking.{asked_by_route}
+use Rattle.office_requests.specs.Routing.{routed}
+use Rattle.office_requests.specs.declared.asked.Asked.{Asked}
+use Rattle.office_requests.specs.declared.route.Allow.{Allow}
+use Rattle.office_requests.specs.declared.route.Route.{Route}
+use Rattle.office_http.specs.Credentials.{credentials_of}
+use Rattle.office_http.specs.Meaning.{Meant, Refuses, Gives, Sees, meant, meant_asked, meant_at, meant_by, who}
+use Rattle.office_http.specs.Answering.{NeedsMeant, answer_bytes, is_accepted, is_done, reply_to_meant, seen_as, told_as, unavailable_text}
+use Rattle.office_http.specs.Response.{response_of}
+use Rattle.office_http.specs.declared.reply.Reply as replies
+use Rattle.office_http.specs.declared.reply.Reply.TheVariants.{Json, Refused}
+use Rattle.office_http.proofs.ToldSteps.{accepted_as, refused_as, told_seen}
+
+module _ (settings : Settings) (s : Tables) (moment : ℕ) (text : List ℕ) (Holds : Type 0) where
+  -- the answer, and what stays
+  abbrev pub Tells : Meant → Type 0
+  Tells m = (busy : Bool) × (text ≡ answer_bytes settings busy s moment m) × (is_done busy s moment m ≡ false → Holds)
+
+  -- Unavailable, or a reply, where the tables stay
+  pub tells_unavailable : (m : Meant) → text ≡ unavailable_text → Holds → Tells m
+  tells_unavailable m is held = (true, is, λ none. held)
+
+  tells_reply : (m : Meant) (reply : replies.Reply) → reply_to_meant settings s moment m ≡ reply → text ≡ response_of reply → Holds → Tells m
+  tells_reply m reply replies is held = (false, is ∙ ap response_of (sym replies), λ none. held)
+
+  unavailable_refusal : (why : Refusal) → why ≡ Unavailable → text ≡ response_of (Refused why None) → text ≡ unavailable_text
+  unavailable_refusal why is tells = tells ∙ ap (λ (w : Refusal). response_of (Refused w None)) is
+
+  -- ---- a command
+
+  pub tells_refused_command : (caller : Caller) (command : Command) (why : Refusal) → (refusal_of (given s moment caller command) ≡ Some why) ⊎ (why ≡ Unavailable)
+      → text ≡ response_of (Refused why None) → Holds → Tells (Gives caller command)
+  tells_refused_command caller command why (inl guarded) is held =
+      tells_reply (Gives caller command) (Refused why None)
+      (ap (λ (o : Option Refusal). told_as (reply_by o (publishing settings) (given s moment caller command))) guarded) is held
+  tells_refused_command caller command why (inr wanting) is held = tells_unavailable (Gives caller command) (unavailable_refusal why wanting is) held
+
+  pub tells_done_command : (caller : Caller) (command : Command) (planned : Plan) → IsPlan settings (given s moment caller command) planned
+      → text ≡ response_of (Json planned.reply) → Tells (Gives caller command)
+  tells_done_command caller command planned plan is =
+      let x : Given = given s moment caller command in
+      let accepted : is_accepted s moment (Gives caller command) ≡ true = ap (λ (o : Option Refusal). is_none o) plan.allowed in (
+        false,
+        is ∙ ap response_of (sym (ap (λ (o : Option Refusal). told_as (reply_by o (publishing settings) x)) plan.allowed ∙ accepted_as x plan.allowed ∙ ap Json (sym plan.reply))),
+        λ none. absurd (true≢false (sym (ap (λ (b : Bool). b && not false) accepted) ∙ none)),
+      )
+
+  -- ---- a query
+
+  said_refused : (caller : Caller) (query : Query) (why : Refusal)
+      → (let it : Result (List ℕ) Refusal = Err why in (it ≡ text_of (told (packages settings) s caller query)) ⊎ (it ≡ Err Unavailable))
+      → text ≡ response_of (Refused why None) → Holds → Tells (Sees caller query)
+  said_refused caller query why (inl said) is held =
+      tells_reply (Sees caller query) (Refused why None) (refused_as (told (packages settings) s caller query) why said) is held
+  said_refused caller query why (inr wanting) is held = tells_unavailable (Sees caller query) (unavailable_refusal why (cc wanting) is) held
+
+  pub tells_refused_query : (caller : Caller) (query : Query) (why : Refusal) → IsSeen settings caller query s (Err why) → Needs settings query s
+      → text ≡ response_of (Refused why None) → Holds → Tells (Sees caller query)
+  tells_refused_query caller query why seen needs is held = said_refused caller query why (seen needs) is held
+
+  said_shown : (caller : Caller) (query : Query) (shown : List ℕ)
+      → (let it : Result (List ℕ) Refusal = Ok shown in (it ≡ text_of (told (packages settings) s caller query)) ⊎ (it ≡ Err Unavailable))
+      → text ≡ response_of (seen_as (query_kind_of query) shown) → Holds → Tells (Sees caller query)
+  said_shown caller query shown (inl said) is held =
+      tells_reply (Sees caller query) (seen_as (query_kind_of query) shown) (told_seen (packages settings) s caller query shown said) is held
+  said_shown caller query shown (inr never) is held = absurd (cc never)
+
+  pub tells_shown_query : (caller : Caller) (query : Query) (shown : List ℕ) → IsSeen settings caller query s (Ok shown) → Needs settings query s
+      → text ≡ response_of (seen_as (query_kind_of query) shown) → Holds → Tells (Sees caller query)
+  tells_shown_query caller query shown seen needs is held = said_shown caller query shown (seen needs) is held
+
+  -- ---- what a request means
+
+  module _ (request : RequestView) where
+    abbrev takes : Result Route (Refusal × Option Allow)
+    takes = routed request.head.method request.head.target
+
+    abbrev asker : Result Caller Refusal
+    asker = who settings s (credentials_of request.head.fields)
+
+    abbrev no_caller : Result Caller Refusal
+    no_caller = Err Unavailable
+
+    pub tells_refused : (m : Meant) (why : Refusal) (method : Option Allow) → m ≡ Refuses why method → text ≡ response_of (Refused why method) → Holds → Tells m
+    tells_refused m why method means is held = tells_reply m (Refused why method) (ap (λ (n : Meant). reply_to_meant settings s moment n) means) is held
+
+    pub tells_no_route : (why : Refusal) (method : Option Allow) → takes ≡ Err (why, method) → text ≡ response_of (Refused why method) → Holds → Tells (meant settings request s)
+    tells_no_route why method at is held =
+        tells_refused (meant settings request s) why method (ap (λ (r : Result Route (Refusal × Option Allow)). meant_at settings request s r) at) is held
+
+    means : (route : Route) (caller : Result Caller Refusal) → takes ≡ Ok route → asker ≡ caller → meant settings request s ≡ meant_by route request caller
+    means route caller at by =
+        ap (λ (r : Result Route (Refusal × Option Allow)). meant_at settings request s r) at
+        ∙ ap (λ (c : Result Caller Refusal). meant_by route request c) by
+
+    pub tells_nobody : (route : Route) (why : Refusal) → takes ≡ Ok route → (Err why ≡ asker) ⊎ (Err why ≡ no_caller) → text ≡ response_of (Refused why None) → Holds
+        → Tells (meant settings request s)
+    tells_nobody route why at (inl by) is held = tells_refused (meant settings request s) why None (means route (Err why) at (sym by)) is held
+    tells_nobody route why at (inr wanting) is held = tells_unavailable (meant settings request s) (unavailable_refusal why (cc wanting) is) held
+
+    -- what is asked, or want of memory to read it
+    wanting_asked : (caller : Caller) → NeedsMeant settings s (meant settings request s)
+        → (NeedsMeant settings s (meant_asked caller (Err Unavailable)) → Tells (meant_asked caller (Err Unavailable))) → Tells (meant settings request s)
+    wanting_asked caller needs tells = from (tells tt)
+      where
+        from : Tells (meant_asked caller (Err Unavailable)) → Tells (meant settings request s)
+        from (true, is, held) = tells_unavailable (meant settings request s) is (held refl)
+        from (false, is, held) = tells_unavailable (meant settings request s) is (held refl)
+
+    pub tells_asked : (route : Route) (caller : Caller) (read : Result Asked Refusal) → takes ≡ Ok route → (Ok caller ≡ asker) ⊎ (Ok caller ≡ no_caller)
+        → (read ≡ asked_by_route caller route request) ⊎ (read ≡ Err Unavailable) → NeedsMeant settings s (meant settings request s)
+        → (NeedsMeant settings s (meant_asked caller read) → Tells (meant_asked caller read)) → Tells (meant settings request s)
+    tells_asked route caller read at (inr never) is needs tells = absurd (cc never)
+    tells_asked route caller read at (inl by) (inl is) needs tells =
+        let same : meant_asked caller read ≡ meant settings request s = ap (λ (r : Result Asked Refusal). meant_asked caller r) is ∙ sym (means route (Ok caller) at (sym by)) in
+        subst (λ (m : Meant). Tells m) same (tells (subst (λ (m : Meant). NeedsMeant settings s m) (sym same) needs))
+    tells_asked route caller read at (inl by) (inr is) needs tells =
+        wanting_asked caller needs
+        (subst (λ (r : Result Asked Refusal). NeedsMeant settings s (meant_asked caller r) → Tells (meant_asked caller r)) is tells)

@@ -1,0 +1,167 @@
+-- What is certain.
+use Rattle.std.proofs.Common.{◌≡◌, ℕ, ◌⊎◌, inl, inr, Bool, true, false, not, ◌||◌, if◌then◌else◌, List, Option, Some, None, Result, Ok, Err, refl, sym, ap, ◌∙◌, subst}
+use Rattle.std.specs.Prelude.{option_map}
+use Rattle.office_commands.specs.declared.command.Caller.{Caller}
+use Rattle.office_commands.specs.declared.commands.Command.{Command}
+use Rattle.office_commands.specs.declared.queries.Query.{Query}
+use Rattle.office_values.specs.declared.refusal.Refusal.{Refusal}
+use Rattle.office_values.specs.declared.refusal.Refusal.TheVariants.{Forbidden, Unavailable}
+use Rattle.office_values.specs.declared.settings.Settings.{Settings}
+use Rattle.office_base.specs.Tables.{Tables}
+use Rattle.office_machine.specs.Machine.{refusal_of}
+use Rattle.office_machine.specs.Sights.{told}
+use Rattle.office_plans.specs.Asking.{given}
+use Rattle.office_plans.specs.Published.{gathers_lines}
+use Rattle.office_plans.specs.Replies.{text_of}
+use Rattle.office_desk.specs.Steps.{no_packages}
+use Rattle.office_wire.specs.Request.{RequestView}
+use Rattle.office_requests.specs.Asking.{asked_by, asked_by_route, is_told_by_path, may_ask}
+use Rattle.office_requests.specs.Parameters.{query_of}
+use Rattle.office_requests.specs.Routing.{routed}
+use Rattle.office_requests.specs.declared.asked.Asked.{Asked}
+use Rattle.office_requests.specs.declared.route.Allow.{Allow}
+use Rattle.office_requests.specs.declared.route.Route.{Route}
+use Rattle.office_http.specs.Certain.{is_found, refusal_in, refusal_meant, takes_none}
+use Rattle.office_http.specs.Credentials.{credentials_of}
+use Rattle.office_http.specs.Meaning.{Meant, Refuses, Gives, Sees, meant, meant_asked, meant_at, meant_by, who}
+use Rattle.office_http.specs.Response.{response_of}
+use Rattle.office_http.specs.declared.reply.Reply.TheVariants.{Refused}
+
+-- a refusal, with the method of the path where the request has another
+abbrev Reason : Type 0
+Reason = Refusal × Option Allow
+
+-- what is refused and told so
+pub certain_refusal : (text : List ℕ) (Rises : Type 0) (s : Tables) (moment : ℕ) (m : Meant) (refusal : Refusal) (method : Option Allow) → m ≡ Refuses refusal method
+    → text ≡ response_of (Refused refusal method) → (why : Reason) → refusal_meant s moment m ≡ Some why → (text ≡ response_of (Refused why.0 why.1)) ⊎ Rises
+certain_refusal text Rises s moment m refusal method means is why refused =
+    let same : (refusal, method) ≡ why = cc (sym (ap (λ (n : Meant). refusal_meant s moment n) means) ∙ refused) in
+    inl (subst (λ (w : Reason). text ≡ response_of (Refused w.0 w.1)) same is)
+
+-- ---- a command
+
+-- the refusal that is told is this one
+same_told : {T : Type 0} (text : List ℕ) (refusal why : Refusal) → ◌≡◌ {A = Result T Refusal} (Err refusal) (Err why) → text ≡ response_of (Refused refusal None)
+    → text ≡ response_of (Refused why None)
+same_told text refusal why same is = let e : refusal ≡ why = cc same in is ∙ ap (λ (w : Refusal). response_of (Refused w None)) e
+
+-- it is told with the method of the path, which isn't there
+with_none : (text : List ℕ) (why : Reason) → why.1 ≡ None → text ≡ response_of (Refused why.0 None) → text ≡ response_of (Refused why.0 why.1)
+with_none text why none is = is ∙ ap (λ (m : Option Allow). response_of (Refused why.0 m)) (sym none)
+
+module _ (s : Tables) (moment : ℕ) (caller : Caller) (command : Command) where
+  not_gathers : takes_none (Gives caller command) ≡ true → gathers_lines command ≡ false
+  not_gathers none = by (gathers_lines command) none
+    where
+      by : (b : Bool) → not b ≡ true → b ≡ false
+      by true is = absurd (cc is)
+      by false is = refl
+
+  -- its own refusal
+  own : (refusal : Option Refusal) (why : Reason) → option_map (λ (w : Refusal). (w, (let none : Option Allow = None in none))) refusal ≡ Some why → (refusal ≡ Some why.0) × (why.1 ≡ None)
+  own None why is = absurd (cc is)
+  own (Some w) why is = let same : (w, None) ≡ why = cc is in (ap (λ (r : Reason). Some r.0) same, ap (λ (r : Reason). r.1) (sym same))
+
+  -- one that was refused, and is told its refusal or another for a fault
+  pub certain_command : {T : Type 0} (text : List ℕ) (Rises : Type 0) (refusal : Refusal)
+      → (gathers_lines command ≡ false → (why : Refusal) → refusal_of (given s moment caller command) ≡ Some why → ◌≡◌ {A = Result T Refusal} (Err refusal) (Err why) ⊎ Rises)
+      → text ≡ response_of (Refused refusal None) → takes_none (Gives caller command) ≡ true → (why : Reason) → refusal_meant s moment (Gives caller command) ≡ Some why
+      → (text ≡ response_of (Refused why.0 why.1)) ⊎ Rises
+  certain_command text Rises refusal tells is none why refused =
+      let it = own (refusal_of (given s moment caller command)) why refused in
+      elim (tells (not_gathers none) why.0 it.0) [
+        | inl same ↦ inl (with_none text why it.1 (same_told text refusal why.0 same is))
+        | inr rises ↦ inr rises
+      ]
+
+  -- none is there where it is allowed
+  pub nothing_certain : (text : List ℕ) (Rises : Type 0) → refusal_of (given s moment caller command) ≡ None → (why : Reason)
+      → refusal_meant s moment (Gives caller command) ≡ Some why → (text ≡ response_of (Refused why.0 why.1)) ⊎ Rises
+  nothing_certain text Rises allowed why refused =
+      let it = own (refusal_of (given s moment caller command)) why refused in
+      let never : ◌≡◌ {A = Option Refusal} None (Some why.0) = sym allowed ∙ it.0 in
+      absurd (cc never)
+
+-- ---- a query
+
+module _ (s : Tables) (moment : ℕ) (caller : Caller) (query : Query) where
+  -- it is what is told of the query
+  is_refusal : (shown : Result (List ℕ) Refusal) (why : Reason) → option_map (λ (w : Refusal). (w, (let none : Option Allow = None in none))) (refusal_in shown) ≡ Some why
+      → (shown ≡ Err why.0) × (why.1 ≡ None)
+  is_refusal (Ok text) why is = absurd (cc is)
+  is_refusal (Err w) why is = let same : (w, None) ≡ why = cc is in (ap (λ (r : Reason). Err r.0) same, ap (λ (r : Reason). r.1) (sym same))
+
+  -- one that was refused
+  pub refused_query : {T : Type 0} (text : List ℕ) (Rises : Type 0) (refusal : Refusal)
+      → ((why : Refusal) → text_of (told no_packages s caller query) ≡ Err why → ◌≡◌ {A = Result T Refusal} (Err refusal) (Err why) ⊎ Rises)
+      → text ≡ response_of (Refused refusal None) → (why : Reason) → refusal_meant s moment (Sees caller query) ≡ Some why
+      → (text ≡ response_of (Refused why.0 why.1)) ⊎ Rises
+  refused_query text Rises refusal tells is why refused =
+      let it = is_refusal (text_of (told no_packages s caller query)) why refused in
+      elim (tells why.0 it.0) [
+        | inl same ↦ inl (with_none text why it.1 (same_told text refusal why.0 same is))
+        | inr rises ↦ inr rises
+      ]
+
+  -- one that was answered
+  pub shown_query : {T : Type 0} (text : List ℕ) (Rises : Type 0) (value : T)
+      → ((why : Refusal) → text_of (told no_packages s caller query) ≡ Err why → ◌≡◌ {A = Result T Refusal} (Ok value) (Err why) ⊎ Rises)
+      → (why : Reason) → refusal_meant s moment (Sees caller query) ≡ Some why → (text ≡ response_of (Refused why.0 why.1)) ⊎ Rises
+  shown_query text Rises value tells why refused =
+      let it = is_refusal (text_of (told no_packages s caller query)) why refused in
+      elim (tells why.0 it.0) [
+        | inl never ↦ absurd (cc never)
+        | inr rises ↦ inr rises
+      ]
+
+-- ---- what a request means
+
+-- what is asked by a route is read without memory: its path alone says it, or the caller may not ask by it
+found_read : (request : RequestView) (route : Route) (caller : Caller) (read : Result Asked Refusal)
+    → (is_told_by_path route.endpoint ≡ true → read ≡ asked_by_route caller route request) → (may_ask caller route.endpoint ≡ false → read ≡ Err Forbidden)
+    → (is_told_by_path route.endpoint || not (may_ask caller route.endpoint)) ≡ true → read ≡ asked_by_route caller route request
+found_read request route caller read path forbidden = by (is_told_by_path route.endpoint) (may_ask caller route.endpoint) refl refl
+  where
+    by : (alone may : Bool) → is_told_by_path route.endpoint ≡ alone → may_ask caller route.endpoint ≡ may → (alone || not may) ≡ true → read ≡ asked_by_route caller route request
+    by true may is right found = path is
+    by false true is right found = absurd (cc found)
+    by false false is right found =
+        forbidden right ∙ sym (ap (λ (b : Bool). if b then asked_by route.endpoint route.place (query_of request.head.target) request.body else Err Forbidden) right)
+
+module _ (settings : Settings) (s : Tables) (moment : ℕ) (text : List ℕ) (Rises : Type 0) (request : RequestView) where
+  -- what is certain of what is meant
+  abbrev pub Certain : Meant → Type 0
+  Certain m = takes_none m ≡ true → (why : Reason) → refusal_meant s moment m ≡ Some why → (text ≡ response_of (Refused why.0 why.1)) ⊎ Rises
+
+  abbrev takes : Result Route Reason
+  takes = routed request.head.method request.head.target
+
+  abbrev asker : Result Caller Refusal
+  asker = who settings s (credentials_of request.head.fields)
+
+  abbrev no_caller : Result Caller Refusal
+  no_caller = Err Unavailable
+
+  pub certain_route : (refusal : Refusal) (method : Option Allow) → takes ≡ Err (refusal, method) → text ≡ response_of (Refused refusal method) → Certain (meant settings request s)
+  certain_route refusal method at is none =
+      certain_refusal text Rises s moment (meant settings request s) refusal method (ap (λ (r : Result Route Reason). meant_at settings request s r) at) is
+
+  means : (route : Route) (caller : Result Caller Refusal) → takes ≡ Ok route → asker ≡ caller → meant settings request s ≡ meant_by route request caller
+  means route caller at by =
+      ap (λ (r : Result Route Reason). meant_at settings request s r) at ∙ ap (λ (c : Result Caller Refusal). meant_by route request c) by
+
+  pub certain_nobody : (route : Route) (refusal : Refusal) → takes ≡ Ok route → (Err refusal ≡ asker) ⊎ (Err refusal ≡ no_caller) → (Err refusal ≡ no_caller → Rises)
+      → text ≡ response_of (Refused refusal None) → Certain (meant settings request s)
+  certain_nobody route refusal at (inl by) risen is none why refused =
+      certain_refusal text Rises s moment (meant settings request s) refusal None (means route (Err refusal) at (sym by)) is why refused
+  certain_nobody route refusal at (inr wanting) risen is none why refused = inr (risen wanting)
+
+  pub certain_asked : (route : Route) (caller : Caller) (read : Result Asked Refusal) → takes ≡ Ok route → (Ok caller ≡ asker) ⊎ (Ok caller ≡ no_caller)
+      → (is_told_by_path route.endpoint ≡ true → read ≡ asked_by_route caller route request) → (may_ask caller route.endpoint ≡ false → read ≡ Err Forbidden)
+      → is_found takes asker ≡ true → Certain (meant_asked caller read) → Certain (meant settings request s)
+  certain_asked route caller read at (inr never) path forbidden found certain = absurd (cc never)
+  certain_asked route caller read at (inl by) path forbidden found certain =
+      let here : is_found takes asker ≡ is_found (Ok route) (Ok caller) =
+      ap (λ (r : Result Route Reason). is_found r asker) at ∙ ap (λ (c : Result Caller Refusal). is_found (Ok route) c) (sym by) in
+      let is : read ≡ asked_by_route caller route request = found_read request route caller read path forbidden (sym here ∙ found) in
+      subst (λ (m : Meant). Certain m) (ap (λ (r : Result Asked Refusal). meant_asked caller r) is ∙ sym (means route (Ok caller) at (sym by))) certain

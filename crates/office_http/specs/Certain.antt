@@ -1,0 +1,54 @@
+-- Refusals that are certain: they are told, or the store's count of faults rose.
+use Rattle.std.specs.Prelude.{◌≡◌, ℕ, ◌⊎◌, Bool, true, not, ◌||◌, List, Option, Some, None, Result, Ok, Err, option_map}
+use Rattle.office_commands.specs.declared.command.Caller.{Caller}
+use Rattle.office_values.specs.declared.refusal.Refusal.{Refusal}
+use Rattle.office_values.specs.declared.settings.Settings.{Settings}
+use Rattle.office_base.specs.Faults.{HasRisen}
+use Rattle.office_base.specs.Shelves.{Meaning}
+use Rattle.office_base.specs.Tables.{Tables}
+use Rattle.office_machine.specs.Machine.{refusal_of}
+use Rattle.office_machine.specs.Sights.{told}
+use Rattle.office_plans.specs.Asking.{given}
+use Rattle.office_plans.specs.Published.{gathers_lines}
+use Rattle.office_plans.specs.Replies.{text_of}
+use Rattle.office_desk.specs.Steps.{no_packages}
+use Rattle.office_wire.specs.Request.{RequestView}
+use Rattle.office_requests.specs.Asking.{is_told_by_path, may_ask}
+use Rattle.office_requests.specs.Routing.{routed}
+use Rattle.office_requests.specs.declared.route.Allow.{Allow}
+use Rattle.office_requests.specs.declared.route.Route.{Route}
+use Rattle.office_http.specs.Credentials.{credentials_of}
+use Rattle.office_http.specs.Meaning.{Meant, Refuses, Gives, Sees, meant, who}
+use Rattle.office_http.specs.Response.{response_of}
+use Rattle.office_http.specs.declared.reply.Reply.TheVariants.{Refused}
+
+-- the refusal that an answer is
+abbrev pub refusal_in : Result (List ℕ) Refusal → Option Refusal
+refusal_in (Ok text) = None
+refusal_in (Err why) = Some why
+
+-- the refusal of what is meant, with the method of the path where the request has another
+abbrev pub refusal_meant : Tables → ℕ → Meant → Option (Refusal × Option Allow)
+refusal_meant s moment (Refuses why method) = Some (why, method)
+refusal_meant s moment (Gives caller command) = option_map (λ (why : Refusal). (why, None)) (refusal_of (given s moment caller command))
+refusal_meant s moment (Sees caller query) = option_map (λ (why : Refusal). (why, None)) (refusal_in (text_of (told no_packages s caller query)))
+
+-- it is found without memory: the command names no budget lines
+abbrev pub takes_none : Meant → Bool
+takes_none (Refuses why method) = true
+takes_none (Gives caller command) = not (gathers_lines command)
+takes_none (Sees caller query) = true
+
+-- what is meant is found without memory: no route is taken; whoever asks isn't anybody, or may not ask by it; or its path alone says what is asked
+abbrev pub is_found : Result Route (Refusal × Option Allow) → Result Caller Refusal → Bool
+is_found (Err why) asker = true
+is_found (Ok route) (Err why) = true
+is_found (Ok route) (Ok caller) = is_told_by_path route.endpoint || not (may_ask caller route.endpoint)
+
+-- where both are found so, a request that is refused is told its refusal, or the store's count of faults rose
+abbrev pub TellsCertain : {S : Type 0} → Meaning S → Settings → S → S → ℕ → RequestView → List ℕ → Type 0
+TellsCertain M settings old new moment request text =
+    M.honest new → (s : Tables) → M.holds old s
+    → is_found (routed request.head.method request.head.target) (who settings s (credentials_of request.head.fields)) ≡ true
+    → takes_none (meant settings request s) ≡ true → (why : Refusal × Option Allow) → refusal_meant s moment (meant settings request s) ≡ Some why
+    → (text ≡ response_of (Refused why.0 why.1)) ⊎ HasRisen (M.fault_count old) (M.fault_count new)

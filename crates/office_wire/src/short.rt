@@ -1,0 +1,49 @@
+//! A text in a place of its own.
+ghost use Rattle.std.specs.Prelude.{◌≡◌, ◌≤◌, [], length};
+ghost use Rattle.office_wire.specs.Short.{FitsBehind};
+
+use arrayvec::ArrayVec;
+use std::marker::Model;
+
+/// How many bytes such a text may have.
+pub const SHORT_ROOM: usize = 288;
+
+/// A text of at most 288 bytes. It takes no memory beside itself.
+#[derive(Drop)]
+pub struct ShortText {
+    bytes: ArrayVec<u8, SHORT_ROOM>,
+}
+
+impl Model for ShortText {
+    ghost use Rattle.std.specs.Prelude.{ℕ, List};
+
+    ghost Value = { List ℕ };
+
+    ghost view = { λ s. s.bytes.items };
+}
+
+impl ShortText {
+    /// An empty one.
+    pub fn new() -> ShortText
+        ensures { result ≡ [] }
+    {
+        ShortText {
+            bytes: ArrayVec::new(),
+        }
+    }
+
+    /// Puts a text behind it, where there is room for both.
+    pub fn put(&mut self, text: &[u8])
+        ensures { FitsBehind self.old text.now self.new }
+    {
+        let _is_put = self.bytes.try_extend_from_slice(text);
+    }
+
+    /// Its bytes.
+    pub fn bytes(&self) -> &[u8]
+        ensures bytes { result.now ≡ self.now }
+        ensures most { length result.now ≤ 288 }
+    {
+        self.bytes.as_slice()
+    }
+}

@@ -1,0 +1,104 @@
+-- One connection, and what is printed.
+use Rattle.std.proofs.Common.{◌≡◌, ℕ, ◌==◌, inr, Bool, true, List, [], Option, Some, None, Result, Ok, Err, if◌then◌else◌, refl, sym, ap, subst, ◌∙◌}
+use Rattle.std.specs.Prelude.{⊤, IfErr, OnErr, OnOk}
+use Rattle.std.specs.Io.Buffered.{reader_buffer, reader_capacity, reader_inner, reader_remaining}
+use Rattle.std.specs.Io.KnownBytes.{Appends, prepend_known}
+use Rattle.std.specs.declared.io.buffered.BufReader.{BufReader}
+use Rattle.office_commands.specs.declared.command.Caller.TheVariants.{Public}
+use Rattle.office_commands.specs.declared.queries.Query.{Query}
+use Rattle.office_values.specs.declared.settings.Settings.{Settings as OfficeSettings}
+use Rattle.office_base.specs.Shelves.{Meaning}
+use Rattle.office_base.specs.Tables.{Tables}
+use Rattle.office_desk.specs.Desks.{DeskOf}
+use Rattle.office_desk.specs.Steps.{IsSeen}
+use Rattle.office_wire.specs.Sending.{AppendsPart, WriterView}
+use Rattle.office_wire.specs.Runs.{Served}
+use Rattle.office_wire.specs.declared.fault.ReadFault.TheVariants as fault
+use Rattle.office_wire.specs.declared.fault.RunFault.{RunFault}
+use Rattle.office_wire.specs.declared.fault.RunFault.TheVariants as ends
+use Rattle.office_http.specs.Answering.{fault_text, held_by, office_answers}
+use Rattle.procure_config.specs.declared.fault.ProgramFault.{ProgramFault}
+use Rattle.procure_config.specs.declared.fault.ProgramFault.TheVariants.{Arguments, Settings, Store, Input, Output, Refused}
+use Rattle.procure_programs.specs.Showing.{IsOfPrinting, IsPrinted, IsOfOffice, IsShown}
+use Rattle.procure_programs.specs.Turns.{AnswersConnection, EndsConnection}
+
+-- ---- a buffer over a reader
+
+nothing_before : (known : Option (List ℕ)) → prepend_known [] known ≡ known
+nothing_before None = refl
+nothing_before (Some bytes) = refl
+
+-- a new buffer has what its reader has
+pub buffers : {R A : Type 0} (remaining : R → Option (List ℕ)) (reader : R) (buffered : BufReader R A) → reader_inner buffered ≡ reader → reader_buffer buffered ≡ []
+    → reader_capacity buffered ≡ 8192 → reader_remaining remaining buffered ≡ remaining reader
+buffers remaining reader buffered inner empty capacity =
+    ap (λ (n : ℕ). if n == 0 then None else prepend_known (reader_buffer buffered) (remaining (reader_inner buffered))) capacity
+    ∙ ap (λ (bytes : List ℕ). prepend_known bytes (remaining (reader_inner buffered))) empty
+    ∙ nothing_before (remaining (reader_inner buffered))
+    ∙ ap remaining inner
+
+-- ---- a connection for whose buffer there is no memory
+
+pub ended_refused : (written : WriterView) (result : Result ⊤ RunFault) → OnOk result (written.is_flushed ≡ true) → OnErr result (written.has_failed ≡ true)
+    → IfErr result (λ (why : RunFault). why ≡ ends.Write) → EndsConnection result None written
+ended_refused written (Ok done) flushed failed is = record { flushed = flushed; cut = λ same. absurd (cc same); stopped = λ same. absurd (cc same) }
+ended_refused written (Err why) flushed failed is = record { flushed = tt; cut = λ same. failed; stopped = λ same. absurd (cc (same, is)) }
+
+module _ {S : Type 0} (M : Meaning S) (moment : ℕ) (came before after : Option (List ℕ)) (office : DeskOf S) where
+  pub refused_connection : (result : Result ⊤ RunFault) → OnOk result (Appends before after (fault_text fault.Unavailable))
+      → OnErr result (AppendsPart before after (fault_text fault.Unavailable)) → IfErr result (λ (why : RunFault). why ≡ ends.Write)
+      → AnswersConnection M moment came before after office office result
+  refused_connection (Ok done) whole part why honest input known s held stands = (
+    None,
+    held_by office s,
+    record {
+      told = fault_text fault.Unavailable;
+      sent = whole;
+      served = inr (record { why = fault.Unavailable; refused = tt; was_read = λ same. cc same; text_is = refl; left = refl });
+    },
+    ((refl, held), stands),
+  )
+  refused_connection (Err why) whole part is honest input known s held stands = (
+    None,
+    held_by office s,
+    subst (λ (f : RunFault). Served office_answers (Err f) input None moment (held_by office s) (held_by office s) before after) (sym is) (record {
+      told = part.part;
+      sent = part.more;
+      served = (
+        fault_text fault.Unavailable,
+        inr (record { why = fault.Unavailable; refused = tt; was_read = λ same. cc same; text_is = refl; left = refl }),
+        part.front,
+      );
+    }),
+    ((refl, held), stands),
+  )
+
+-- ---- what is printed
+
+pub of_printing : (failed : Bool) (result : Result (Unit {0}) ProgramFault) → IfErr result (λ (why : ProgramFault). why ≡ Output) → OnErr result (failed ≡ true)
+    → IfErr result (IsOfPrinting failed)
+of_printing failed (Ok done) is cause = tt
+of_printing failed (Err why) is cause = subst (λ (f : ProgramFault). IsOfPrinting failed f) (sym is) cause
+
+pub of_refusal : (failed : Bool) (why : ProgramFault) → IsOfOffice why → IsOfPrinting failed why
+of_refusal failed (Refused why) is = tt
+of_refusal failed (Arguments e) is = absurd is
+of_refusal failed (Settings name) is = absurd is
+of_refusal failed Store is = absurd is
+of_refusal failed Input is = absurd is
+of_refusal failed Output is = absurd is
+
+module _ (settings : OfficeSettings) (query : Query) (s : Tables) (before after : Option (List ℕ)) where
+  pub printed : (text : List ℕ) (result : Result (Unit {0}) ProgramFault) → IsSeen settings Public query s (Ok text) → OnOk result (Appends before after text)
+      → OnErr result (AppendsPart before after text) → IfErr result (λ (why : ProgramFault). why ≡ Output) → IsPrinted settings query s before after result
+  printed text (Ok done) seen whole part why = (text, seen, whole)
+  printed text (Err why) seen whole part is =
+      subst (λ (f : ProgramFault). IsPrinted settings query s before after (Err f)) (sym is) (text, seen, part)
+
+  pub printed_nothing : (why : ProgramFault) → IsShown settings query s (Err why) → after ≡ before → IsPrinted settings query s before after (Err why)
+  printed_nothing (Refused why) shown same = (shown, same)
+  printed_nothing (Arguments e) shown same = absurd shown
+  printed_nothing (Settings name) shown same = absurd shown
+  printed_nothing Store shown same = absurd shown
+  printed_nothing Input shown same = absurd shown
+  printed_nothing Output shown same = absurd shown

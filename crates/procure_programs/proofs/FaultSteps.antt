@@ -1,0 +1,29 @@
+-- Whose each fault is.
+use Rattle.std.proofs.Common.{◌≡◌, refl, subst, sym}
+use Rattle.office_store.specs.declared.found.OpenFault.{OpenFault}
+use Rattle.office_store.specs.declared.found.OpenFault.TheVariants as opening
+use Rattle.procure_config.specs.Faults.{no_memory, of_settings}
+use Rattle.procure_config.specs.declared.fault.ProgramFault.{ProgramFault}
+use Rattle.procure_config.specs.declared.settings.SettingsFault.{SettingsFault}
+use Rattle.procure_config.specs.declared.settings.SettingsFault.TheVariants.{NoMemory, NotToml, Member}
+use Rattle.procure_programs.specs.FaultsTold.{IsOfStore, of_opening}
+use Rattle.procure_programs.specs.Showing.{IsOfSettings}
+
+pub memory_is : (told : ProgramFault) → told ≡ no_memory → IsOfStore told
+memory_is told is = subst (λ (t : ProgramFault). IsOfStore t) (sym is) refl
+
+openings : (f : OpenFault) → IsOfStore (of_opening f)
+openings opening.NoMemory = refl
+openings opening.Store = tt
+openings opening.NotAnOffice = tt
+
+pub opening_is : (told : ProgramFault) (f : OpenFault) → told ≡ of_opening f → IsOfStore told
+opening_is told f is = subst (λ (t : ProgramFault). IsOfStore t) (sym is) (openings f)
+
+all_settings : (f : SettingsFault) → IsOfSettings (of_settings f)
+all_settings NoMemory = refl
+all_settings NotToml = tt
+all_settings (Member member) = tt
+
+pub settings_are : (told : ProgramFault) (f : SettingsFault) → told ≡ of_settings f → IsOfSettings told
+settings_are told f is = subst (λ (t : ProgramFault). IsOfSettings t) (sym is) (all_settings f)

@@ -1,0 +1,23 @@
+use Rattle.std.proofs.Common.{Err, ap, refl}
+use Rattle.procure_config.specs.declared.fault.ProgramFault.{ProgramFault}
+use Rattle.procure_programs.proofs.desk.answer_streams.Goals as goal
+
+pub returns-in-Ok-clause-ran : goal.returns-in-Ok-clause-ran
+returns-in-Ok-clause-ran g c = record {
+  ended = c.run.result;
+  told = rw c.in-Ok.is refl;
+  run = c.run.ensures.stepped;
+  read = c.run.ensures.cause;
+  written = c.run.ensures.writes;
+  known = λ honest input came s held stands. let ran = c.run.ensures.ran honest input came s held stands in (ran.0, ran.1);
+}
+
+pub returns-in-Err-clause-ran : goal.returns-in-Err-clause-ran
+returns-in-Err-clause-ran g c = record {
+  ended = c.run.result;
+  told = rw c.in-Err.is (ap (λ (f : ProgramFault). Err f) c.of_run.ensures);
+  run = c.run.ensures.stepped;
+  read = c.run.ensures.cause;
+  written = c.run.ensures.writes;
+  known = λ honest input came s held stands. let ran = c.run.ensures.ran honest input came s held stands in (ran.0, ran.1);
+}

@@ -1,0 +1,85 @@
+//! One connection, whatever its bytes come from and go to.
+ghost use Rattle.std.specs.Prelude.{◌≡◌, true, IfErr, OnErr, OnOk};
+ghost use Rattle.std.specs.Io.KnownBytes.{Appends};
+ghost use Rattle.office_wire.specs.Sending.{AppendsPart};
+ghost use Rattle.office_wire.specs.declared.fault.ReadFault.TheVariants.{Unavailable};
+ghost use Rattle.office_http.specs.Answering.{fault_text};
+ghost use Rattle.office_http.specs.Stops.{StopsOnce};
+ghost use Rattle.procure_programs.specs.Turns.{AnswersConnection, EndsConnection};
+
+use office_base::shelf::{Lookups, Shelf};
+use office_http::answering::fault_response;
+use office_http::office::{Office, serve_one};
+use office_values::moment::Moment;
+use office_wire::counted::CountedReader;
+use office_wire::fault::{ReadFault, RunFault};
+use office_wire::sending::send_flushed;
+use office_wire::watched::WatchedWriter;
+use std::alloc::Global;
+use std::io::{BufReader, Read, Write};
+use std::marker::Model;
+
+/// How serving a connection ended. Only serving one gives it.
+#[derive(Drop)]
+pub struct Ended {
+    result: Result<(), RunFault>,
+}
+
+impl Model for Ended {
+    ghost use Rattle.std.specs.Prelude.{⊤, Result};
+    ghost use Rattle.office_wire.specs.declared.fault.RunFault.{RunFault};
+
+    ghost Value = { Result ⊤ RunFault };
+
+    ghost view = { λ s. s.result };
+}
+
+impl Ended {
+    /// The fault that it ended by, where it did.
+    pub fn result(&self) -> Result<(), RunFault>
+        ensures { result ≡ self.now }
+    {
+        self.result
+    }
+}
+
+// Sends and flushes the response where there is no memory to read.
+fn refuse<W: Write>(writer: &mut WatchedWriter<W>) -> Result<(), RunFault>
+    ensures told { OnOk result (Appends writer.old.contents writer.new.contents (fault_text Unavailable)) }
+    ensures part { OnErr result (AppendsPart writer.old.contents writer.new.contents (fault_text Unavailable)) }
+    ensures fault { IfErr result (λ fault. fault ≡ RunFault.Write) }
+    ensures cause { OnErr result (writer.new.has_failed ≡ true) }
+    ensures flushed { OnOk result (writer.new.is_flushed ≡ true) }
+{
+    send_flushed(writer, fault_response(ReadFault::Unavailable))?;
+    Ok(())
+}
+
+/// Serves one connection: reads a request, and sends and flushes the response to it, at this moment. A fault of the reader or the writer ends the
+/// connection and nothing else. Where there is no memory for the reader's buffer, the response is `Unavailable`, and nothing is read. Gives the reader back,
+/// none where there was no memory for its buffer.
+#[tactic(auto, using(crate::proofs::ServingSteps::once_none))]
+pub fn serve_connection<H: Shelf + Drop, R: Read + Drop, W: Write>(
+    alloc: Global,
+    office: &mut Office<H>,
+    moment: Moment,
+    reader: R,
+    writer: &mut WatchedWriter<W>,
+) -> (Option<CountedReader<BufReader<R>>>, Ended)
+    ensures before { H.meaning.honest office.new.shelf → H.meaning.honest office.old.shelf }
+    ensures served { AnswersConnection H.meaning moment (R.remaining reader) writer.old.contents writer.new.contents office.old office.new result.1 }
+    ensures ended { EndsConnection result.1 result.0 writer.new }
+    ensures stepped { StopsOnce H.meaning moment office.old office.new }
+{
+    match BufReader::new(alloc, reader) {
+        Ok(buffered) => {
+            let mut counted = CountedReader::new(buffered);
+            let result = serve_one(alloc, office, moment, &mut counted, writer);
+            (Some(counted), Ended { result })
+        }
+        Err(_) => {
+            let result = refuse(writer);
+            (None, Ended { result })
+        }
+    }
+}

@@ -1,0 +1,261 @@
+//! A request that is tried while one of its allocations is refused, each time another: whether it is answered as is written, or as `Unavailable`; and whether
+//! the office then holds what it held, record by record, and answers the same request as is written.
+//!
+//! Who refuses stands before the C library (`tests/refused_rows`), and hears by lines on the standard error what to do: `refuse N` says that the Nth allocation
+//! from there on is refused, none of number 0, and `enough` that no further one is.
+use crate::rows::rows_of;
+use office_base::shelf::{Lookups, Shelf};
+use office_memory::memory::MemoryShelf;
+use std::alloc::{AllocError, Global};
+use std::io::Write;
+use tests_sql_office::office::{SqlOffice, in_sql};
+use tests_transcripts::blocks::{Block, read};
+use tests_transcripts::session::{Session, Wrong, played};
+
+/// What is wrong of a trial.
+#[derive(Drop)]
+pub(crate) enum Fault {
+    /// The blocks before the request are answered otherwise than written, or it can't be read.
+    Played(Wrong),
+    /// No office can be made, or its rows can't be read; or the standard error can't be written.
+    NoOffice,
+    /// The request is answered otherwise: by this.
+    Answer(Vec<u8>),
+    /// The request was answered `Unavailable`, and changed a row.
+    Changed,
+    /// It was answered as is written, and the rows are others than without a refusal.
+    Rows,
+}
+
+impl From<AllocError> for Fault {
+    fn from(_: AllocError) -> Fault {
+        Fault::NoOffice
+    }
+}
+
+impl From<Wrong> for Fault {
+    fn from(wrong: Wrong) -> Fault {
+        Fault::Played(wrong)
+    }
+}
+
+/// Which allocations are refused: from the first on, so many, each so far behind the one before.
+#[derive(Clone, Copy)]
+pub(crate) struct Numbers {
+    pub(crate) first: u64,
+    pub(crate) step: u64,
+    pub(crate) count: u64,
+}
+
+/// How often a request was answered as is written, and how often as `Unavailable`.
+#[derive(Clone, Copy)]
+pub(crate) struct Found {
+    pub(crate) answered: u64,
+    pub(crate) unavailable: u64,
+}
+
+/// Where an office is made.
+pub(crate) trait Maker {
+    /// What it is held in.
+    type Office: Shelf + Drop;
+
+    /// An empty one; None where memory is wanting.
+    fn made(&self, alloc: Global) -> Option<Self::Office>;
+}
+
+/// In memory.
+#[derive(Drop)]
+pub(crate) struct InMemory;
+
+impl Maker for InMemory {
+    type Office = MemoryShelf;
+
+    fn made(&self, alloc: Global) -> Option<MemoryShelf> {
+        Some(MemoryShelf::new(alloc))
+    }
+}
+
+/// In SQL in memory.
+#[derive(Drop)]
+pub(crate) struct InSql;
+
+impl Maker for InSql {
+    type Office = SqlOffice;
+
+    fn made(&self, alloc: Global) -> Option<SqlOffice> {
+        in_sql(alloc)
+    }
+}
+
+// A request: the blocks before it, those and its own, and what the office holds before it and behind it.
+#[derive(Drop)]
+struct Asked<'a> {
+    before: &'a str,
+    all: &'a str,
+    block: Block,
+    rows: Vec<u8>,
+    behind: Vec<u8>,
+}
+
+static UNAVAILABLE: &[u8] =
+    b"HTTP/1.1 503 Service Unavailable\r\nContent-Type: application/json\r\nContent-Length: 35\r\nConnection: close\r\n\r\n{\"name\":\"Unavailable\",\"refusal\":32}";
+
+// Tells whoever refuses.
+fn say(rt: &HostRuntime, line: &str) -> Result<(), Fault> {
+    let mut output = rt.stderr();
+    match output.write_all(line.as_bytes()) {
+        Ok(()) => Ok(()),
+        Err(_) => Err(Fault::NoOffice),
+    }
+}
+
+fn rows_in<H: Lookups>(alloc: Global, shelf: &mut H, blocks: &str) -> Result<Vec<u8>, Fault> {
+    match rows_of(alloc, shelf, blocks) {
+        Ok(rows) => Ok(rows),
+        Err(_) => Err(Fault::NoOffice),
+    }
+}
+
+// An office behind these blocks.
+fn office_behind<M: Maker>(alloc: Global, maker: &M, blocks: &str) -> Result<M::Office, Fault> {
+    let Some(office) = maker.made(alloc) else {
+        return Err(Fault::NoOffice);
+    };
+    if blocks.is_empty() {
+        return Ok(office);
+    }
+    Ok(played(alloc, office, 0, &[blocks])?)
+}
+
+// What is answered to the block while the allocation of this number is refused, and the office then.
+fn answered_without<H: Shelf + Drop>(
+    rt: &HostRuntime,
+    shelf: H,
+    block: &Block,
+    number: u64,
+) -> Result<(H, Vec<u8>), Fault> {
+    let alloc = rt.alloc();
+    let mut session = Session::new(alloc, shelf, 0)?;
+    let line = format!(in alloc; "refuse {number}\n")?;
+    say(rt, line.as_str())?;
+    let answer = session.answer_to(block);
+    say(rt, "enough\n")?;
+    let told = Vec::from_slice(alloc, answer.bytes())?;
+    Ok((session.into_shelf(), told))
+}
+
+// The office behind the request, where that is answered as is written and leaves the rows that it must.
+fn concluded<H: Shelf + Drop>(
+    alloc: Global,
+    shelf: H,
+    asked: &Asked<'_>,
+    told: Vec<u8>,
+) -> Result<H, Fault> {
+    if told.as_slice() != asked.block.response.as_slice() {
+        return Err(Fault::Answer(told));
+    }
+    let mut shelf = shelf;
+    let rows = rows_in(alloc, &mut shelf, asked.all)?;
+    if rows.as_slice() != asked.behind.as_slice() {
+        return Err(Fault::Rows);
+    }
+    Ok(shelf)
+}
+
+// The office behind the same request, with ample memory, where that changed nothing before.
+fn asked_again<H: Shelf + Drop>(alloc: Global, shelf: H, asked: &Asked<'_>) -> Result<H, Fault> {
+    let mut shelf = shelf;
+    let rows = rows_in(alloc, &mut shelf, asked.all)?;
+    if rows.as_slice() != asked.rows.as_slice() {
+        return Err(Fault::Changed);
+    }
+    let mut session = Session::new(alloc, shelf, 0)?;
+    let answer = session.answer_to(&asked.block);
+    let told = Vec::from_slice(alloc, answer.bytes())?;
+    concluded(alloc, session.into_shelf(), asked, told)
+}
+
+// Tries the request once. The office behind it, and whether it was answered `Unavailable`.
+fn tried<H: Shelf + Drop>(
+    rt: &HostRuntime,
+    shelf: H,
+    asked: &Asked<'_>,
+    number: u64,
+) -> Result<(H, bool), Fault> {
+    let (shelf, told) = answered_without(rt, shelf, &asked.block, number)?;
+    if told.as_slice() == UNAVAILABLE {
+        Ok((asked_again(rt.alloc(), shelf, asked)?, true))
+    } else {
+        Ok((concluded(rt.alloc(), shelf, asked, told)?, false))
+    }
+}
+
+// The last of these blocks, and what the office holds before it and behind it. It is sent to an office whose rows weren't read before, as at each trial, so
+// that it takes as much memory.
+fn asked_last<'a, M: Maker>(
+    rt: &HostRuntime,
+    maker: &M,
+    blocks: &'a str,
+) -> Result<Asked<'a>, Fault> {
+    let alloc = rt.alloc();
+    let (before, last) = blocks.rsplit_once("\n\n").unwrap_or(("", blocks));
+    let block = match read(alloc, last) {
+        Ok(block) => block,
+        Err(_) => return Err(Fault::NoOffice),
+    };
+    let mut unasked = office_behind(alloc, maker, before)?;
+    let rows = rows_in(alloc, &mut unasked, blocks)?;
+    let office = office_behind(alloc, maker, before)?;
+    let (mut office, told) = answered_without(rt, office, &block, 0)?;
+    if told.as_slice() != block.response.as_slice() {
+        return Err(Fault::Answer(told));
+    }
+    let behind = rows_in(alloc, &mut office, blocks)?;
+    Ok(Asked {
+        before,
+        all: blocks,
+        block,
+        rows,
+        behind,
+    })
+}
+
+/// Tries the last of these blocks behind the others, with one allocation after another refused, each time over an office that is made anew. What was found, or
+/// the number of the refusal at which something is wrong, and what.
+pub(crate) fn try_all<M: Maker>(
+    rt: &HostRuntime,
+    maker: &M,
+    blocks: &str,
+    numbers: Numbers,
+) -> Result<Found, (u64, Fault)> {
+    let asked = match asked_last(rt, maker, blocks) {
+        Ok(asked) => asked,
+        Err(fault) => return Err((0, fault)),
+    };
+    let mut found = Found {
+        answered: 0,
+        unavailable: 0,
+    };
+    let mut number = numbers.first;
+    for _ in 0..numbers.count {
+        match try_one(rt, maker, &asked, number) {
+            Ok(true) => found.unavailable = found.unavailable.saturating_add(1),
+            Ok(false) => found.answered = found.answered.saturating_add(1),
+            Err(fault) => return Err((number, fault)),
+        }
+        number = number.saturating_add(numbers.step);
+    }
+    Ok(found)
+}
+
+// Tries it once, over an office of its own.
+fn try_one<M: Maker>(
+    rt: &HostRuntime,
+    maker: &M,
+    asked: &Asked<'_>,
+    number: u64,
+) -> Result<bool, Fault> {
+    let office = office_behind(rt.alloc(), maker, asked.before)?;
+    let (_office, is_unavailable) = tried(rt, office, asked, number)?;
+    Ok(is_unavailable)
+}

@@ -1,0 +1,48 @@
+#!/usr/bin/env python3
+"""Prints how many checks the gate has side by side: one a processor, where there are 5 GB of free memory for each; else an empty line.
+
+`make test` and `bench/gate` tell rt so, by RT_JOBS. Left to itself, as behind an empty line, rt begins a check only where what it reckons that this one and
+those that run take of memory is there. That is 2 to 8 GB for each where 1 to 5 are taken, so on 24 GB processors stood idle for a fifth of the gate.
+"""
+import os
+import sys
+
+EACH = 5_000_000_000
+
+
+def number_in(path: str, behind: str = "") -> int | None:
+    """The first number of the file, or of the line that begins so; none where there is none."""
+    try:
+        with open(path) as file:
+            lines = [line for line in file if line.startswith(behind)]
+    except OSError:
+        return None
+    words = lines[0].removeprefix(behind).split() if lines else []
+    return int(words[0]) if words and words[0].isdigit() else None
+
+
+def processors() -> int:
+    """How many there are to use: those that a process may run on, or fewer by the quota of its control group (cpu.max of cgroups(7))."""
+    found = len(os.sched_getaffinity(0))
+    quota = number_in("/sys/fs/cgroup/cpu.max")
+    return found if quota is None else max(1, min(found, quota // 100_000))
+
+
+def free_memory() -> int:
+    """The free memory in bytes (MemAvailable of proc_meminfo(5)), under the limit of the control group too."""
+    free = 1024 * (number_in("/proc/meminfo", "MemAvailable:") or 0)
+    limit, held = number_in("/sys/fs/cgroup/memory.max"), number_in("/sys/fs/cgroup/memory.current")
+    return free if limit is None or held is None else min(free, limit - held)
+
+
+def side_by_side(wanted: int | None = None) -> str:
+    """RT_JOBS: the number, for so many processors or for all; empty where memory is short, or as it is set already."""
+    count = wanted or processors()
+    return os.environ.get("RT_JOBS") or (str(count) if free_memory() >= EACH * count else "")
+
+
+if __name__ == "__main__":
+    if sys.argv[1:]:
+        print(__doc__)
+        sys.exit(0 if sys.argv[1:] == ["--help"] else 2)
+    print(side_by_side())
