@@ -1,11 +1,8 @@
 //! The shelf of an office in SQL.
-ghost use Rattle.std.specs.Prelude.{◌≡◌, ℕ, ⊤};
-ghost use Rattle.sqlite.specs.Held.{Held, state};
+ghost use Rattle.std.specs.Prelude.{◌≡◌, ⊤, IfErr};
+ghost use Rattle.sqlite.specs.Held.{state};
 ghost use Rattle.sqlite.specs.State.{IsLive};
-ghost use Rattle.office_base.specs.Faults.{one_fault_more, IsFaultOf};
-ghost use Rattle.office_base.specs.Shelves.{LooksUp};
-ghost use Rattle.office_base.specs.Tables.{Tables};
-ghost use Rattle.office_tables.specs.Steps.{TellsOnly};
+ghost use Rattle.office_base.specs.Faults.{one_fault_more, count_after, IsFaultOf};
 ghost use Rattle.office_store.specs.SqlMeaning.{sql_meaning};
 
 use crate::sums;
@@ -87,9 +84,12 @@ impl<S: Alter> SqlShelf<S> {
         }
     }
 
-    // What the tables tell, with a fault counted.
+    // The same answer; a fault is counted.
     fn told<T>(&mut self, answer: Result<T, ShelfFault>) -> Result<T, ShelfFault>
-        ensures { (old : Held S) (entry : Held S × ℕ) (right : Tables → T → Type 0) → (old, self.old.1) ≡ entry → TellsOnly S.Store old self.old.0 answer right → LooksUp (sql_meaning S.Store) entry self.new result right }
+        ensures same { result ≡ answer }
+        ensures kept { self.new.0 ≡ self.old.0 }
+        ensures counted { self.new.1 ≡ count_after result self.old.1 }
+        ensures cause { IfErr result (IsFaultOf ⊤) }
     {
         match answer {
             Ok(found) => Ok(found),

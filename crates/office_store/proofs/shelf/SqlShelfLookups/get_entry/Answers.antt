@@ -1,4 +1,6 @@
+use Rattle.office_store.proofs.Shelves.{told_counted}
 use Rattle.office_store.proofs.shelf.SqlShelfLookups.get_entry.Goals as goal
 
 pub returns : goal.returns
-returns g c = c.told.ensures c.self.inside.conn _ _ c.self.view_is c.get_entry.ensures
+returns g c =
+    told_counted g.S.Store c.self.inside.conn c.get_entry.new.conn c.self.view_is c.told.ensures.same c.told.ensures.kept c.told.ensures.counted c.told.ensures.cause c.get_entry.ensures
