@@ -111,9 +111,9 @@ module _ {S : Type 0} (g : Ghosts S) (old new : Held S) where
       (subst (λ m. LooksUp (sql_meaning g) entry (new, m) (Ok value) right) (sym counted) (looked entry n value right is tells.1 tells.2 tells.0))
   recounts entry after n (Err fault) right is same counted cause tells = unanswered entry after n fault right is same counted cause tells.1 tells.2
 
-  pub told_counted : {T : Type 0} {entry after : Held S × ℕ} {n : ℕ} {answer result : Result T ShelfFault} {right : Tables → T → Type 0} → (old, n) ≡ entry → result ≡ answer → after.0 ≡ new
+  pub told_counted : {T : Type 0} {entry after : Held S × ℕ} {n : ℕ} {answer result : Result T ShelfFault} (right : Tables → T → Type 0) → (old, n) ≡ entry → result ≡ answer → after.0 ≡ new
       → after.1 ≡ count_after result n → IfErr result (IsFaultOf ⊤) → TellsOnly g old new answer right → LooksUp (sql_meaning g) entry after result right
-  told_counted {entry} {after} {n} {result} {right} is answered same counted cause tells =
+  told_counted {entry} {after} {n} {result} right is answered same counted cause tells =
       recounts entry after n result right is same counted cause (subst (λ r. TellsOnly g old new r right) (sym answered) tells)
 
   -- ---- a call that adds up

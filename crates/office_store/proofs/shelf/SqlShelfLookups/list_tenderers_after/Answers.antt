@@ -3,4 +3,4 @@ use Rattle.office_store.proofs.shelf.SqlShelfLookups.list_tenderers_after.Goals 
 
 pub returns : goal.returns
 returns g c =
-    told_counted g.S.Store c.self.inside.conn c.list_tenderers_after.new.conn c.self.view_is c.told.ensures.same c.told.ensures.kept c.told.ensures.counted c.told.ensures.cause c.list_tenderers_after.ensures
+    told_counted g.S.Store c.self.inside.conn c.list_tenderers_after.new.conn _ c.self.view_is c.told.ensures.same c.told.ensures.kept c.told.ensures.counted c.told.ensures.cause c.list_tenderers_after.ensures
