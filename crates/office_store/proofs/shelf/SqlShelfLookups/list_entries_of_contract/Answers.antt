@@ -1,6 +1,8 @@
+use Rattle.std.proofs.Common.{◌≡◌}
+use Rattle.office_base.specs.Tables.{entries_of_contract}
 use Rattle.office_store.proofs.Shelves.{told_counted}
 use Rattle.office_store.proofs.shelf.SqlShelfLookups.list_entries_of_contract.Goals as goal
 
 pub returns : goal.returns
 returns g c =
-    told_counted g.S.Store c.self.inside.conn c.list_entries_of_contract.new.conn _ c.self.view_is c.told.ensures.same c.told.ensures.kept c.told.ensures.counted c.told.ensures.cause c.list_entries_of_contract.ensures
+    told_counted g.S.Store c.self.inside.conn c.list_entries_of_contract.new.conn (λ t rows. rows.items ≡ entries_of_contract c.args.contract t) c.self.view_is c.told.ensures.same c.told.ensures.kept c.told.ensures.counted c.told.ensures.cause c.list_entries_of_contract.ensures

@@ -1,6 +1,8 @@
+use Rattle.std.proofs.Common.{◌≡◌}
+use Rattle.office_base.specs.Tables.{envelopes_of_tenderer}
 use Rattle.office_store.proofs.Shelves.{told_counted}
 use Rattle.office_store.proofs.shelf.SqlShelfLookups.list_envelopes_of_tenderer.Goals as goal
 
 pub returns : goal.returns
 returns g c =
-    told_counted g.S.Store c.self.inside.conn c.list_envelopes_of_tenderer.new.conn _ c.self.view_is c.told.ensures.same c.told.ensures.kept c.told.ensures.counted c.told.ensures.cause c.list_envelopes_of_tenderer.ensures
+    told_counted g.S.Store c.self.inside.conn c.list_envelopes_of_tenderer.new.conn (λ t rows. rows.items ≡ envelopes_of_tenderer c.args.notice.now c.args.lot.now c.args.tenderer.now t) c.self.view_is c.told.ensures.same c.told.ensures.kept c.told.ensures.counted c.told.ensures.cause c.list_envelopes_of_tenderer.ensures

@@ -1,6 +1,8 @@
+use Rattle.std.proofs.Common.{◌≡◌}
+use Rattle.office_base.specs.Tables.{lots_of_line}
 use Rattle.office_store.proofs.Shelves.{told_counted}
 use Rattle.office_store.proofs.shelf.SqlShelfLookups.list_lots_of_line.Goals as goal
 
 pub returns : goal.returns
 returns g c =
-    told_counted g.S.Store c.self.inside.conn c.list_lots_of_line.new.conn _ c.self.view_is c.told.ensures.same c.told.ensures.kept c.told.ensures.counted c.told.ensures.cause c.list_lots_of_line.ensures
+    told_counted g.S.Store c.self.inside.conn c.list_lots_of_line.new.conn (λ t rows. rows.items ≡ lots_of_line c.args.line.now t) c.self.view_is c.told.ensures.same c.told.ensures.kept c.told.ensures.counted c.told.ensures.cause c.list_lots_of_line.ensures
