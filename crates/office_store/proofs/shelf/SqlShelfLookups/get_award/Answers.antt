@@ -5,4 +5,4 @@ use Rattle.office_store.proofs.shelf.SqlShelfLookups.get_award.Goals as goal
 
 pub returns : goal.returns
 returns g c =
-    told_counted g.S.Store c.self.inside.conn c.get_award.new.conn (λ t row. row ≡ award_at c.args.award t) c.self.view_is c.told.ensures.same c.told.ensures.kept c.told.ensures.counted c.told.ensures.cause c.get_award.ensures
+    told_counted g.S.Store c.self.inside.conn c.get_award-found.new.conn (λ t row. row ≡ award_at c.args.award t) c.self.view_is c.told.ensures.same c.told.ensures.kept c.told.ensures.counted c.told.ensures.cause c.get_award-found.ensures

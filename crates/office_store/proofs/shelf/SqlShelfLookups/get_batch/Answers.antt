@@ -5,4 +5,4 @@ use Rattle.office_store.proofs.shelf.SqlShelfLookups.get_batch.Goals as goal
 
 pub returns : goal.returns
 returns g c =
-    told_counted g.S.Store c.self.inside.conn c.get_batch.new.conn (λ t row. row ≡ batch_at c.args.batch.now t) c.self.view_is c.told.ensures.same c.told.ensures.kept c.told.ensures.counted c.told.ensures.cause c.get_batch.ensures
+    told_counted g.S.Store c.self.inside.conn c.get_batch-found.new.conn (λ t row. row ≡ batch_at c.args.batch.now t) c.self.view_is c.told.ensures.same c.told.ensures.kept c.told.ensures.counted c.told.ensures.cause c.get_batch-found.ensures

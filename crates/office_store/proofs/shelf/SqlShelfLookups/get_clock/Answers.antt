@@ -4,4 +4,4 @@ use Rattle.office_store.proofs.shelf.SqlShelfLookups.get_clock.Goals as goal
 
 pub returns : goal.returns
 returns g c =
-    told_counted g.S.Store c.self.inside.conn c.get_clock.new.conn (λ t row. row ≡ t.clock) c.self.view_is c.told.ensures.same c.told.ensures.kept c.told.ensures.counted c.told.ensures.cause c.get_clock.ensures
+    told_counted g.S.Store c.self.inside.conn c.get_clock-clock.new.conn (λ t row. row ≡ t.clock) c.self.view_is c.told.ensures.same c.told.ensures.kept c.told.ensures.counted c.told.ensures.cause c.get_clock-clock.ensures

@@ -5,4 +5,4 @@ use Rattle.office_store.proofs.shelf.SqlShelfLookups.get_compiled.Goals as goal
 
 pub returns : goal.returns
 returns g c =
-    told_counted g.S.Store c.self.inside.conn c.get_compiled.new.conn (λ t row. row ≡ compiled_at c.args.notice.now t) c.self.view_is c.told.ensures.same c.told.ensures.kept c.told.ensures.counted c.told.ensures.cause c.get_compiled.ensures
+    told_counted g.S.Store c.self.inside.conn c.get_compiled-found.new.conn (λ t row. row ≡ compiled_at c.args.notice.now t) c.self.view_is c.told.ensures.same c.told.ensures.kept c.told.ensures.counted c.told.ensures.cause c.get_compiled-found.ensures

@@ -5,4 +5,4 @@ use Rattle.office_store.proofs.shelf.SqlShelfLookups.get_contract.Goals as goal
 
 pub returns : goal.returns
 returns g c =
-    told_counted g.S.Store c.self.inside.conn c.get_contract.new.conn (λ t row. row ≡ contract_at c.args.contract t) c.self.view_is c.told.ensures.same c.told.ensures.kept c.told.ensures.counted c.told.ensures.cause c.get_contract.ensures
+    told_counted g.S.Store c.self.inside.conn c.get_contract-found.new.conn (λ t row. row ≡ contract_at c.args.contract t) c.self.view_is c.told.ensures.same c.told.ensures.kept c.told.ensures.counted c.told.ensures.cause c.get_contract-found.ensures

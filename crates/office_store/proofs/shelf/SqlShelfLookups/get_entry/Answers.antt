@@ -5,4 +5,4 @@ use Rattle.office_store.proofs.shelf.SqlShelfLookups.get_entry.Goals as goal
 
 pub returns : goal.returns
 returns g c =
-    told_counted g.S.Store c.self.inside.conn c.get_entry.new.conn (λ t row. row ≡ entry_at (c.args.contract, c.args.entry.now) t) c.self.view_is c.told.ensures.same c.told.ensures.kept c.told.ensures.counted c.told.ensures.cause c.get_entry.ensures
+    told_counted g.S.Store c.self.inside.conn c.get_entry-found.new.conn (λ t row. row ≡ entry_at (c.args.contract, c.args.entry.now) t) c.self.view_is c.told.ensures.same c.told.ensures.kept c.told.ensures.counted c.told.ensures.cause c.get_entry-found.ensures

@@ -5,4 +5,4 @@ use Rattle.office_store.proofs.shelf.SqlShelfLookups.get_envelope.Goals as goal
 
 pub returns : goal.returns
 returns g c =
-    told_counted g.S.Store c.self.inside.conn c.get_envelope.new.conn (λ t row. row ≡ envelope_at c.args.receipt t) c.self.view_is c.told.ensures.same c.told.ensures.kept c.told.ensures.counted c.told.ensures.cause c.get_envelope.ensures
+    told_counted g.S.Store c.self.inside.conn c.get_envelope-found.new.conn (λ t row. row ≡ envelope_at c.args.receipt t) c.self.view_is c.told.ensures.same c.told.ensures.kept c.told.ensures.counted c.told.ensures.cause c.get_envelope-found.ensures

@@ -5,4 +5,4 @@ use Rattle.office_store.proofs.shelf.SqlShelfLookups.get_line.Goals as goal
 
 pub returns : goal.returns
 returns g c =
-    told_counted g.S.Store c.self.inside.conn c.get_line.new.conn (λ t row. row ≡ line_at c.args.line.now t) c.self.view_is c.told.ensures.same c.told.ensures.kept c.told.ensures.counted c.told.ensures.cause c.get_line.ensures
+    told_counted g.S.Store c.self.inside.conn c.get_line-found.new.conn (λ t row. row ≡ line_at c.args.line.now t) c.self.view_is c.told.ensures.same c.told.ensures.kept c.told.ensures.counted c.told.ensures.cause c.get_line-found.ensures

@@ -5,4 +5,4 @@ use Rattle.office_store.proofs.shelf.SqlShelfLookups.get_lot.Goals as goal
 
 pub returns : goal.returns
 returns g c =
-    told_counted g.S.Store c.self.inside.conn c.get_lot.new.conn (λ t row. row ≡ lot_at (c.args.notice.now, c.args.lot.now) t) c.self.view_is c.told.ensures.same c.told.ensures.kept c.told.ensures.counted c.told.ensures.cause c.get_lot.ensures
+    told_counted g.S.Store c.self.inside.conn c.get_lot-found.new.conn (λ t row. row ≡ lot_at (c.args.notice.now, c.args.lot.now) t) c.self.view_is c.told.ensures.same c.told.ensures.kept c.told.ensures.counted c.told.ensures.cause c.get_lot-found.ensures

@@ -5,4 +5,4 @@ use Rattle.office_store.proofs.shelf.SqlShelfLookups.get_notice.Goals as goal
 
 pub returns : goal.returns
 returns g c =
-    told_counted g.S.Store c.self.inside.conn c.get_notice.new.conn (λ t row. row ≡ notice_at c.args.notice.now t) c.self.view_is c.told.ensures.same c.told.ensures.kept c.told.ensures.counted c.told.ensures.cause c.get_notice.ensures
+    told_counted g.S.Store c.self.inside.conn c.get_notice-found.new.conn (λ t row. row ≡ notice_at c.args.notice.now t) c.self.view_is c.told.ensures.same c.told.ensures.kept c.told.ensures.counted c.told.ensures.cause c.get_notice-found.ensures

@@ -5,4 +5,4 @@ use Rattle.office_store.proofs.shelf.SqlShelfLookups.get_performance.Goals as go
 
 pub returns : goal.returns
 returns g c =
-    told_counted g.S.Store c.self.inside.conn c.get_performance.new.conn (λ t row. row ≡ performance_at c.args.contract t) c.self.view_is c.told.ensures.same c.told.ensures.kept c.told.ensures.counted c.told.ensures.cause c.get_performance.ensures
+    told_counted g.S.Store c.self.inside.conn c.get_performance-found.new.conn (λ t row. row ≡ performance_at c.args.contract t) c.self.view_is c.told.ensures.same c.told.ensures.kept c.told.ensures.counted c.told.ensures.cause c.get_performance-found.ensures

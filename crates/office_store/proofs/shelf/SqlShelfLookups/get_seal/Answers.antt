@@ -5,4 +5,4 @@ use Rattle.office_store.proofs.shelf.SqlShelfLookups.get_seal.Goals as goal
 
 pub returns : goal.returns
 returns g c =
-    told_counted g.S.Store c.self.inside.conn c.get_seal.new.conn (λ t row. row ≡ seal_at c.args.receipt t) c.self.view_is c.told.ensures.same c.told.ensures.kept c.told.ensures.counted c.told.ensures.cause c.get_seal.ensures
+    told_counted g.S.Store c.self.inside.conn c.get_seal-found.new.conn (λ t row. row ≡ seal_at c.args.receipt t) c.self.view_is c.told.ensures.same c.told.ensures.kept c.told.ensures.counted c.told.ensures.cause c.get_seal-found.ensures

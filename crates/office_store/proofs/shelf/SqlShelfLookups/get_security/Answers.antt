@@ -5,4 +5,4 @@ use Rattle.office_store.proofs.shelf.SqlShelfLookups.get_security.Goals as goal
 
 pub returns : goal.returns
 returns g c =
-    told_counted g.S.Store c.self.inside.conn c.get_security.new.conn (λ t row. row ≡ security_at c.args.security t) c.self.view_is c.told.ensures.same c.told.ensures.kept c.told.ensures.counted c.told.ensures.cause c.get_security.ensures
+    told_counted g.S.Store c.self.inside.conn c.get_security-found.new.conn (λ t row. row ≡ security_at c.args.security t) c.self.view_is c.told.ensures.same c.told.ensures.kept c.told.ensures.counted c.told.ensures.cause c.get_security-found.ensures

@@ -5,4 +5,4 @@ use Rattle.office_store.proofs.shelf.SqlShelfLookups.get_tenderer.Goals as goal
 
 pub returns : goal.returns
 returns g c =
-    told_counted g.S.Store c.self.inside.conn c.get_tenderer.new.conn (λ t row. row ≡ tenderer_at c.args.tenderer.now t) c.self.view_is c.told.ensures.same c.told.ensures.kept c.told.ensures.counted c.told.ensures.cause c.get_tenderer.ensures
+    told_counted g.S.Store c.self.inside.conn c.get_tenderer-found.new.conn (λ t row. row ≡ tenderer_at c.args.tenderer.now t) c.self.view_is c.told.ensures.same c.told.ensures.kept c.told.ensures.counted c.told.ensures.cause c.get_tenderer-found.ensures

@@ -5,4 +5,4 @@ use Rattle.office_store.proofs.shelf.SqlShelfLookups.list_envelopes_of_tenderer.
 
 pub returns : goal.returns
 returns g c =
-    told_counted g.S.Store c.self.inside.conn c.list_envelopes_of_tenderer.new.conn (λ t rows. rows.items ≡ envelopes_of_tenderer c.args.notice.now c.args.lot.now c.args.tenderer.now t) c.self.view_is c.told.ensures.same c.told.ensures.kept c.told.ensures.counted c.told.ensures.cause c.list_envelopes_of_tenderer.ensures
+    told_counted g.S.Store c.self.inside.conn c.list_envelopes_of_tenderer-rows.new.conn (λ t rows. rows.items ≡ envelopes_of_tenderer c.args.notice.now c.args.lot.now c.args.tenderer.now t) c.self.view_is c.told.ensures.same c.told.ensures.kept c.told.ensures.counted c.told.ensures.cause c.list_envelopes_of_tenderer-rows.ensures

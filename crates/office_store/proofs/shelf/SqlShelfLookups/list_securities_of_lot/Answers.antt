@@ -5,4 +5,4 @@ use Rattle.office_store.proofs.shelf.SqlShelfLookups.list_securities_of_lot.Goal
 
 pub returns : goal.returns
 returns g c =
-    told_counted g.S.Store c.self.inside.conn c.list_securities_of_lot.new.conn (λ t rows. rows.items ≡ securities_of_lot c.args.notice.now c.args.lot.now t) c.self.view_is c.told.ensures.same c.told.ensures.kept c.told.ensures.counted c.told.ensures.cause c.list_securities_of_lot.ensures
+    told_counted g.S.Store c.self.inside.conn c.list_securities_of_lot-rows.new.conn (λ t rows. rows.items ≡ securities_of_lot c.args.notice.now c.args.lot.now t) c.self.view_is c.told.ensures.same c.told.ensures.kept c.told.ensures.counted c.told.ensures.cause c.list_securities_of_lot-rows.ensures

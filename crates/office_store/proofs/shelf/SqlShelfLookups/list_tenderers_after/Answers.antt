@@ -5,4 +5,4 @@ use Rattle.office_store.proofs.shelf.SqlShelfLookups.list_tenderers_after.Goals 
 
 pub returns : goal.returns
 returns g c =
-    told_counted g.S.Store c.self.inside.conn c.list_tenderers_after.new.conn (λ t rows. rows.items ≡ tenderers_after c.args.after c.args.most t) c.self.view_is c.told.ensures.same c.told.ensures.kept c.told.ensures.counted c.told.ensures.cause c.list_tenderers_after.ensures
+    told_counted g.S.Store c.self.inside.conn c.list_tenderers_after-rows.new.conn (λ t rows. rows.items ≡ tenderers_after c.args.after c.args.most t) c.self.view_is c.told.ensures.same c.told.ensures.kept c.told.ensures.counted c.told.ensures.cause c.list_tenderers_after-rows.ensures
