@@ -5,7 +5,7 @@ use office_base::records::ReleaseRow;
 use office_base::shelf::Shelf;
 use office_values::id::Id;
 use office_values::refusal::Refusal;
-use std::alloc::Global;
+use std::alloc::{AllocError, Global};
 
 /// What isn't copied.
 #[derive(Clone, Copy)]
@@ -28,6 +28,18 @@ fn is_merge(left_out: &LeftOut) -> bool {
     }
 }
 
+fn push_release(
+    puts: &mut Vec<Put>,
+    row: ReleaseRow,
+    left_out: &LeftOut,
+) -> Result<(), AllocError> {
+    if is_left_out(&row, left_out) {
+        return Ok(());
+    }
+    puts.push(Put::Release(row))?;
+    Ok(())
+}
+
 // The releases of the notice, and their merge.
 fn push_releases<H: Shelf>(
     puts: &mut Vec<Put>,
@@ -36,9 +48,7 @@ fn push_releases<H: Shelf>(
     left_out: &LeftOut,
 ) -> Result<(), Refusal> {
     for row in shelf.list_releases_of_notice(notice)? {
-        if !is_left_out(&row, left_out) {
-            puts.push(Put::Release(row))?;
-        }
+        push_release(puts, row, left_out)?;
     }
     if is_merge(left_out) {
         return Ok(());

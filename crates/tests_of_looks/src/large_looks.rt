@@ -2,7 +2,7 @@
 use office_base::counts::{CorrectionCount, TenderLength};
 use office_base::puts::Put;
 use office_base::reading::Reading;
-use office_base::records::{EnvelopeRow, EnvelopeState, LotRow, LotState, NoticeState};
+use office_base::records::{EnvelopeRow, EnvelopeState, LotRow, LotState, NoticeRow, NoticeState};
 use office_base::shelf::Shelf;
 use office_commands::amounts::Estimate;
 use office_commands::command::Caller;
@@ -17,7 +17,6 @@ use office_values::moment::Moment;
 use office_values::money::{Amount, Total};
 use office_values::text::TextLine;
 use std::alloc::Global;
-use std::test::Fail;
 use tests_sql_office::office::in_sql;
 use tests_transcripts::session::{desk_over, played};
 use tests_transcripts::setup::{MONEY, NOTICE, TENDERERS};
@@ -64,25 +63,30 @@ fn lot(alloc: Global, number: u8) -> Option<LotRow> {
     Some(LotRow {
         notice: Id::read(b"N1")?,
         lot: id(b'M', number)?,
-        title: title(alloc)?,
         line: Id::read(b"1000")?,
         estimate: Estimate::read(1)?,
         security: Amount::read(0)?,
-        items: items(alloc)?,
         state: LotState::Undecided,
         reserved: Amount::read(1)?,
+        title: title(alloc)?,
+        items: items(alloc)?,
     })
 }
 
-// The terms of a notice with so many lots behind its own.
-fn terms_of<H: Shelf + Drop>(alloc: Global, shelf: H) -> Option<Vec<u8>> {
-    let mut shelf = played(alloc, shelf, 0, &[MONEY, TENDERERS, NOTICE]).ok()?;
+// So many lots.
+fn lots(alloc: Global) -> Option<Vec<Put>> {
     let mut puts = Vec::new(alloc);
     for number in 0..LOTS {
         puts.push(Put::Lot(lot(alloc, number)?)).ok()?;
     }
-    shelf.apply(puts).ok()?;
+    Some(puts)
+}
+
+// The terms of a notice with these lots behind its own.
+fn terms_of<H: Shelf + Drop>(alloc: Global, shelf: H) -> Option<Vec<u8>> {
     let notice = Id::read(b"N1")?;
+    let mut shelf = played(alloc, shelf, 0, &[MONEY, TENDERERS, NOTICE]).ok()?;
+    shelf.apply(lots(alloc)?).ok()?;
     let mut desk = desk_over(alloc, shelf).ok()?;
     desk.look(&Caller::Public, Query::Terms { notice }).ok()
 }
@@ -159,21 +163,33 @@ fn tender(receipt: u64) -> Option<EnvelopeRow> {
     })
 }
 
-// The evaluation of a notice that was opened, by points of which the price weighs 60, with so many tenders of its lot.
-fn evaluation_of<H: Shelf + Drop>(alloc: Global, shelf: H) -> Option<Vec<u8>> {
-    let mut shelf = played(alloc, shelf, 0, &[MONEY, TENDERERS, NOTICE]).ok()?;
-    let notice = Id::read(b"N1")?;
-    let mut row = shelf.get_notice(&notice).ok()??;
+// The notice, opened, by points of which the price weighs 60.
+fn opened(row: NoticeRow) -> Option<Put> {
+    let weight = Weight::read(60)?;
+    let mut row = row;
     row.state = NoticeState::Opened;
     row.opened = Some(row.deadline);
-    row.weight = Weight::read(60)?;
+    row.weight = weight;
+    Some(Put::Notice(row))
+}
+
+// The notice, and so many tenders of its lot.
+fn opened_with_tenders(alloc: Global, row: NoticeRow) -> Option<Vec<Put>> {
     let mut puts = Vec::new(alloc);
-    puts.push(Put::Notice(row)).ok()?;
+    puts.push(opened(row)?).ok()?;
     for number in 0..TENDERS {
         let tender = tender(number.saturating_add(1))?;
         puts.push(Put::Envelope(tender)).ok()?;
     }
-    shelf.apply(puts).ok()?;
+    Some(puts)
+}
+
+// The evaluation of such a notice.
+fn evaluation_of<H: Shelf + Drop>(alloc: Global, shelf: H) -> Option<Vec<u8>> {
+    let notice = Id::read(b"N1")?;
+    let mut shelf = played(alloc, shelf, 0, &[MONEY, TENDERERS, NOTICE]).ok()?;
+    let row = shelf.get_notice(&notice).ok()??;
+    shelf.apply(opened_with_tenders(alloc, row)?).ok()?;
     let mut desk = desk_over(alloc, shelf).ok()?;
     desk.look(&Caller::Clerk, Query::Evaluation { notice }).ok()
 }
@@ -223,12 +239,8 @@ fn right_in_sql(alloc: Global) -> bool {
 
 // At a second try where the first isn't right: one allocation of a test may be refused.
 #[test]
-fn looks_are_large(rt: HostRuntime) -> Result<(), Fail> {
+fn looks_are_large(rt: HostRuntime) {
     let alloc = rt.alloc();
-    assert!(rt;
-        right_in_memory(alloc) || right_in_memory(alloc),
-        "in memory"
-    );
-    assert!(rt; right_in_sql(alloc) || right_in_sql(alloc), "in SQL");
-    Ok(())
+    assert!(rt; right_in_memory(alloc) || right_in_memory(alloc));
+    assert!(rt; right_in_sql(alloc) || right_in_sql(alloc));
 }

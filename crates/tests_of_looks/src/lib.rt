@@ -1,6 +1,6 @@
-//! What is read of an office where a transcript can't say it: merges that aren't kept or that other hands wrote, releases that are missing or can't be read, the
-//! ledger's rows one at a time, looks at more than a request can bring, what the programs show the public, and what they answer over connections that a test
-//! makes up.
+//! What is read of an office where a transcript can't say it: merges that aren't kept or that other hands wrote, releases that are missing or can't be read,
+//! the ledger's rows one at a time, looks at more than a request can bring, what the programs show the public, and what they answer over connections and
+//! sockets that a test makes up.
 #![tactic(auto)]
 
 #[cfg(test)]
@@ -22,6 +22,7 @@ mod served;
 #[cfg(test)]
 mod showing;
 #[cfg(test)]
+mod sockets;
 #[cfg(test)]
 mod unreadable_texts;
 #[cfg(test)]

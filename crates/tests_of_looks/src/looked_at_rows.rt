@@ -3,7 +3,7 @@ use office_base::counts::TenderLength;
 use office_base::puts::Put;
 use office_base::reading::Reading;
 use office_base::records::{
-    ContractRow, EntryKind, EntryRow, EnvelopeRow, EnvelopeState, NoticeState,
+    ContractRow, EntryKind, EntryRow, EnvelopeRow, EnvelopeState, NoticeRow, NoticeState,
 };
 use office_base::shelf::Shelf;
 use office_commands::amounts::EntryAmount;
@@ -16,7 +16,6 @@ use office_values::moment::Moment;
 use office_values::money::Total;
 use office_values::refusal::Refusal;
 use std::alloc::Global;
-use std::test::Fail;
 use tests_sql_office::office::in_sql;
 use tests_transcripts::session::{desk_over, played};
 use tests_transcripts::setup::{MONEY, NOTICE, TENDERERS};
@@ -51,14 +50,19 @@ fn payment() -> Option<EntryRow> {
     })
 }
 
-// What the clerk is told of a contract over so much, under which 1 was paid.
-fn told_of_contract<H: Shelf + Drop>(alloc: Global, shelf: H, signed: u64) -> Told {
-    let mut shelf = shelf;
+// A contract over so much, under which 1 was paid.
+fn paid_contract(alloc: Global, signed: u64) -> Option<Vec<Put>> {
     let mut puts = Vec::new(alloc);
     puts.push(Put::Contract(contract_over(signed)?)).ok()?;
     puts.push(Put::Entry(payment()?)).ok()?;
-    shelf.apply(puts).ok()?;
+    Some(puts)
+}
+
+// What the clerk is told of it.
+fn told_of_contract<H: Shelf + Drop>(alloc: Global, shelf: H, signed: u64) -> Told {
     let contract = AskedNumber::read(1)?;
+    let mut shelf = shelf;
+    shelf.apply(paid_contract(alloc, signed)?).ok()?;
     let mut desk = desk_over(alloc, shelf).ok()?;
     Some(desk.look(&Caller::Clerk, Query::Contract { contract }))
 }
@@ -82,17 +86,23 @@ fn opened_tender(reading: Option<Reading>) -> Option<EnvelopeRow> {
     })
 }
 
-// What the clerk is told of the evaluation of a notice that was opened, with this tender.
-fn told_of_tender<H: Shelf + Drop>(alloc: Global, shelf: H, reading: Option<Reading>) -> Told {
-    let mut shelf = played(alloc, shelf, 0, &[MONEY, TENDERERS, NOTICE]).ok()?;
-    let notice = Id::read(b"N1")?;
-    let mut row = shelf.get_notice(&notice).ok()??;
+// The notice, opened, with this tender.
+fn opened(alloc: Global, row: NoticeRow, reading: Option<Reading>) -> Option<Vec<Put>> {
+    let mut row = row;
     row.state = NoticeState::Opened;
     row.opened = Some(row.deadline);
     let mut puts = Vec::new(alloc);
     puts.push(Put::Notice(row)).ok()?;
     puts.push(Put::Envelope(opened_tender(reading)?)).ok()?;
-    shelf.apply(puts).ok()?;
+    Some(puts)
+}
+
+// What the clerk is told of the evaluation of such a notice.
+fn told_of_tender<H: Shelf + Drop>(alloc: Global, shelf: H, reading: Option<Reading>) -> Told {
+    let notice = Id::read(b"N1")?;
+    let mut shelf = played(alloc, shelf, 0, &[MONEY, TENDERERS, NOTICE]).ok()?;
+    let row = shelf.get_notice(&notice).ok()??;
+    shelf.apply(opened(alloc, row, reading)?).ok()?;
     let mut desk = desk_over(alloc, shelf).ok()?;
     Some(desk.look(&Caller::Clerk, Query::Evaluation { notice }))
 }
@@ -146,20 +156,10 @@ fn evaluations_in_sql(alloc: Global) -> bool {
 }
 
 #[test]
-fn looked_at_rows(rt: HostRuntime) -> Result<(), Fail> {
+fn looked_at_rows(rt: HostRuntime) {
     let alloc = rt.alloc();
     // At a second try where the first isn't right: one allocation of a test may be refused.
-    assert!(rt;
-        right_in_memory(alloc) || right_in_memory(alloc),
-        "in memory"
-    );
-    assert!(rt;
-        contracts_in_sql(alloc) || contracts_in_sql(alloc),
-        "contracts in SQL"
-    );
-    assert!(rt;
-        evaluations_in_sql(alloc) || evaluations_in_sql(alloc),
-        "evaluations in SQL"
-    );
-    Ok(())
+    assert!(rt; right_in_memory(alloc) || right_in_memory(alloc));
+    assert!(rt; contracts_in_sql(alloc) || contracts_in_sql(alloc));
+    assert!(rt; evaluations_in_sql(alloc) || evaluations_in_sql(alloc));
 }

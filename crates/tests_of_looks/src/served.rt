@@ -1,9 +1,7 @@
 //! Connections of a host that a test makes up: what comes over each, when it comes, and what is written.
 use office_base::shelf::Shelf;
-use office_base::stored::StoredShelf;
 use office_http::office::Office;
 use office_memory::memory::MemoryShelf;
-use office_store::shelf::SqlShelf;
 use office_values::moment::Moment;
 use office_wire::counted::CountedReader;
 use office_wire::fault::RunFault;
@@ -11,13 +9,11 @@ use office_wire::watched::WatchedWriter;
 use procure_config::fault::ProgramFault;
 use procure_programs::connection::{Ended, serve_connection};
 use procure_programs::desk::answer_streams;
-use procure_programs::host::{Host, Network};
-use procure_programs::serving::{serve_at, take_one};
-use sqlite::Alter;
+use procure_programs::host::Host;
+use procure_programs::serving::take_one;
 use std::alloc::{AllocError, Global};
 use std::io;
-use std::io::{Cursor, ErrorKind, Read};
-use std::net::SocketAddrV4;
+use std::io::{Cursor, ErrorKind, Read, Write};
 use std::time::Duration;
 use tests_transcripts::session::desk_over;
 
@@ -58,7 +54,7 @@ impl Host for Scripted {
 }
 
 // 2026-01-05T09:00:00Z.
-const BEGIN: u64 = 1_767_603_600;
+pub(crate) const BEGIN: u64 = 1_767_603_600;
 
 fn host(alloc: Global, came: &'static [Option<&'static [u8]>], second: Option<u64>) -> Scripted {
     Scripted {
@@ -77,77 +73,68 @@ const LOOK: &[u8] = b"GET /lines/1000 HTTP/1.1\r\n\r\n";
 
 const CUT: &[u8] = b"GET /li";
 
-static CAME: [Option<&[u8]>; 4] = [Some(IMPORT), None, Some(LOOK), Some(CUT)];
+pub(crate) static CAME: [Option<&[u8]>; 4] = [Some(IMPORT), None, Some(LOOK), Some(CUT)];
 
 static LATER: [Option<&[u8]>; 1] = [Some(LOOK)];
 
 // What is told over the three that can be taken.
-static TOLD: &[u8] =
+pub(crate) static TOLD: &[u8] =
     b"HTTP/1.1 200 OK\r\nContent-Type: application/json\r\nContent-Length: 55\r\nConnection: close\r\n\r\n{\"batch\":\"B1\",\"moment\":\"2026-01-05T09:00:00Z\",\"rows\":1}HTTP/1.1 200 OK\r\nContent-Type: application/json\r\nContent-Length: 99\r\nConnection: close\r\n\r\n{\"appropriation\":700,\"contracted\":0,\"free\":700,\"line\":\"1000\",\"paid\":0,\"reserved\":0,\"title\":\"Roads\"}HTTP/1.1 400 Bad Request\r\nContent-Type: application/json\r\nContent-Length: 30\r\nConnection: close\r\n\r\n{\"name\":\"BadHead\",\"refusal\":1}";
 
 // What is told over the third.
 static LOOKED: &[u8] =
     b"HTTP/1.1 200 OK\r\nContent-Type: application/json\r\nContent-Length: 99\r\nConnection: close\r\n\r\n{\"appropriation\":700,\"contracted\":0,\"free\":700,\"line\":\"1000\",\"paid\":0,\"reserved\":0,\"title\":\"Roads\"}";
 
-fn office<H: Shelf + Drop>(alloc: Global, shelf: H) -> Result<Office<H>, AllocError> {
+pub(crate) fn office<H: Shelf + Drop>(alloc: Global, shelf: H) -> Result<Office<H>, AllocError> {
     Ok(Office::new(alloc, desk_over(alloc, shelf)?)?)
 }
 
-// Whether each connection that can be taken is answered, at the clock's second, and the other one is passed over.
-fn answers_each<H: Shelf + Drop>(alloc: Global, shelf: H) -> bool {
-    let Ok(mut office) = office(alloc, shelf) else {
-        return false;
-    };
+// Whether the next connection was taken.
+fn next_taken<H: Shelf + Drop>(
+    alloc: Global,
+    host: &mut Scripted,
+    office: &mut Office<H>,
+) -> Option<bool> {
+    take_one(alloc, host, office).ok()
+}
+
+fn answers_in_turn<H: Shelf + Drop>(alloc: Global, office: &mut Office<H>) -> bool {
     let mut host = host(alloc, &CAME, Some(BEGIN));
-    let taken = [
-        matches!(take_one(alloc, &mut host, &mut office), Ok(true)),
-        matches!(take_one(alloc, &mut host, &mut office), Ok(false)),
-        matches!(take_one(alloc, &mut host, &mut office), Ok(true)),
-        matches!(take_one(alloc, &mut host, &mut office), Ok(true)),
-    ];
-    taken == [true; 4] && host.told.as_slice() == TOLD
+    let import = next_taken(alloc, &mut host, office);
+    let none = next_taken(alloc, &mut host, office);
+    let look = next_taken(alloc, &mut host, office);
+    let cut = next_taken(alloc, &mut host, office);
+    let taken = (import, none, look, cut);
+    matches!(taken, (Some(true), Some(false), Some(true), Some(true)))
+        && host.told.as_slice() == TOLD
 }
 
-// Whether nothing is served where the clock can't be read.
-fn needs_a_clock<H: Shelf + Drop>(alloc: Global, shelf: H) -> bool {
-    let Ok(mut office) = office(alloc, shelf) else {
-        return false;
-    };
+fn needs_a_clock<H: Shelf + Drop>(alloc: Global, office: &mut Office<H>) -> bool {
     let mut host = host(alloc, &CAME, None);
-    matches!(
-        &take_one(alloc, &mut host, &mut office),
-        Err(ProgramFault::Input)
-    ) && host.told.is_empty()
+    let taken = take_one(alloc, &mut host, office);
+    matches!(&taken, Err(ProgramFault::Input)) && host.told.is_empty()
 }
 
-#[test]
-fn connections_are_answered_in_turn(rt: HostRuntime) {
-    let alloc = rt.alloc();
-    // At a second try where the first isn't right: one allocation of a test may be refused.
-    assert!(rt;
-        answers_each(alloc, MemoryShelf::new(alloc)) || answers_each(alloc, MemoryShelf::new(alloc))
-    );
+// How serving a connection ends.
+fn ending<H: Shelf + Drop, R: Read + Drop, W: Write>(
+    alloc: Global,
+    office: &mut Office<H>,
+    reader: R,
+    writer: &mut WatchedWriter<W>,
+) -> Result<(), RunFault> {
+    let (_reader, ended) = serve_connection(alloc, office, Moment::EPOCH, reader, writer);
+    ended.result()
 }
 
-#[test]
-fn a_clock_is_needed(rt: HostRuntime) {
-    let alloc = rt.alloc();
-    assert!(rt;
-        needs_a_clock(alloc, MemoryShelf::new(alloc))
-            || needs_a_clock(alloc, MemoryShelf::new(alloc))
-    );
-}
-
-// Whether a writer that takes no more ends its connection and nothing else: its command is done, and the next connection is answered.
-fn ends_alone<H: Shelf + Drop>(alloc: Global, shelf: H) -> bool {
-    let Ok(mut office) = office(alloc, shelf) else {
-        return false;
-    };
+// The command of the connection that ends is done, and the next connection is answered.
+fn ends_alone<H: Shelf + Drop>(alloc: Global, office: &mut Office<H>) -> bool {
     let mut full = WatchedWriter::new(Cursor::new([0u8; 20]));
-    let (_reader, ended) = serve_connection(alloc, &mut office, Moment::EPOCH, IMPORT, &mut full);
+    let ended = ending(alloc, office, IMPORT, &mut full);
     let mut host = host(alloc, &LATER, Some(BEGIN));
-    let is_seen = matches!(take_one(alloc, &mut host, &mut office), Ok(true));
-    matches!(ended.result(), Err(RunFault::Write)) && is_seen && host.told.as_slice() == LOOKED
+    let taken = next_taken(alloc, &mut host, office);
+    matches!(ended, Err(RunFault::Write))
+        && matches!(taken, Some(true))
+        && host.told.as_slice() == LOOKED
 }
 
 /// Gives these bytes, and then fails.
@@ -165,131 +152,92 @@ impl Read for Broken {
     }
 }
 
-// Whether nothing is told where the reader fails inside a request.
-fn tells_nothing<H: Shelf + Drop>(alloc: Global, shelf: H) -> bool {
-    let Ok(mut office) = office(alloc, shelf) else {
-        return false;
-    };
+fn tells_nothing<H: Shelf + Drop>(alloc: Global, office: &mut Office<H>) -> bool {
     let mut written = WatchedWriter::new(Vec::new(alloc));
-    let reader = Broken { rest: CUT };
-    let (_reader, ended) = serve_connection(
-        alloc,
-        &mut office,
-        Moment::EPOCH,
-        reader,
-        &mut written,
-    );
-    matches!(ended.result(), Err(RunFault::Read)) && written.into_inner().is_empty()
+    let ended = ending(alloc, office, Broken { rest: CUT }, &mut written);
+    let told = written.into_inner();
+    matches!(ended, Err(RunFault::Read)) && told.is_empty()
 }
 
-#[test]
-fn a_broken_connection_is_told_nothing(rt: HostRuntime) {
-    let alloc = rt.alloc();
-    assert!(rt;
-        tells_nothing(alloc, MemoryShelf::new(alloc))
-            || tells_nothing(alloc, MemoryShelf::new(alloc))
-    );
-}
+const BLOCK: &[u8] = b"at 2026-01-05T09:00:00Z\nGET /lines/1000 HTTP/1.1\r\n\r\n";
 
-#[test]
-fn a_connection_ends_alone(rt: HostRuntime) {
-    let alloc = rt.alloc();
-    assert!(rt;
-        ends_alone(alloc, MemoryShelf::new(alloc)) || ends_alone(alloc, MemoryShelf::new(alloc))
-    );
-}
-
-const BLOCKS: &[u8] = b"at 2026-01-05T09:00:00Z\nGET /lines/1000 HTTP/1.1\r\n\r\n";
+const FRONT_OF_BLOCK: &[u8] = b"at 2026-0";
 
 static NO_LINE: &[u8] =
     b"HTTP/1.1 404 Not Found\r\nContent-Type: application/json\r\nContent-Length: 43\r\nConnection: close\r\n\r\n{\"name\":\"NoSuch\",\"refusal\":9,\"what\":\"line\"}";
 
-// Whether blocks are answered on an output, and a front of one is a fault of the input.
-fn answers_blocks<H: Shelf + Drop>(alloc: Global, shelf: H) -> bool {
+// What answering these bytes came to.
+fn answered<H: Shelf + Drop>(
+    alloc: Global,
+    office: &mut Office<H>,
+    bytes: &'static [u8],
+    output: &mut WatchedWriter<Vec<u8>>,
+) -> Result<(), ProgramFault> {
+    answer_streams(alloc, office, &mut CountedReader::new(bytes), output)
+}
+
+fn answers_blocks<H: Shelf + Drop>(alloc: Global, office: &mut Office<H>) -> bool {
+    let mut output = WatchedWriter::new(Vec::new(alloc));
+    let is_done = answered(alloc, office, BLOCK, &mut output).is_ok();
+    let cut = answered(alloc, office, FRONT_OF_BLOCK, &mut output);
+    let told = output.into_inner();
+    is_done && matches!(&cut, Err(ProgramFault::Input)) && told.as_slice() == NO_LINE
+}
+
+/// What is tried of an office that is served.
+#[derive(Clone, Copy)]
+enum Tried {
+    /// Each connection that can be taken is answered, at the clock's second, and the other one is passed over.
+    Turns,
+    /// Nothing is served where the clock can't be read.
+    NoClock,
+    /// A writer that takes no more ends its connection and nothing else.
+    FullWriter,
+    /// Nothing is told where the reader fails inside a request.
+    BrokenReader,
+    /// Blocks are answered on an output, and a front of one is a fault of the input.
+    Blocks,
+}
+
+fn is_so<H: Shelf + Drop>(alloc: Global, shelf: H, tried: Tried) -> bool {
     let Ok(mut office) = office(alloc, shelf) else {
         return false;
     };
-    let mut output = WatchedWriter::new(Vec::new(alloc));
-    let is_done = answer_streams(
-        alloc,
-        &mut office,
-        &mut CountedReader::new(BLOCKS),
-        &mut output,
-    )
-    .is_ok();
-    let is_cut = matches!(
-        &answer_streams(
-            alloc,
-            &mut office,
-            &mut CountedReader::new(&BLOCKS[..9]),
-            &mut output
-        ),
-        Err(ProgramFault::Input)
-    );
-    let told = output.into_inner();
-    is_done && is_cut && told.as_slice() == NO_LINE
+    match tried {
+        Tried::Turns => answers_in_turn(alloc, &mut office),
+        Tried::NoClock => needs_a_clock(alloc, &mut office),
+        Tried::FullWriter => ends_alone(alloc, &mut office),
+        Tried::BrokenReader => tells_nothing(alloc, &mut office),
+        Tried::Blocks => answers_blocks(alloc, &mut office),
+    }
+}
+
+// At a second try where the first isn't right: one allocation of a test may be refused.
+fn is_right(alloc: Global, tried: Tried) -> bool {
+    is_so(alloc, MemoryShelf::new(alloc), tried) || is_so(alloc, MemoryShelf::new(alloc), tried)
+}
+
+#[test]
+fn connections_are_answered_in_turn(rt: HostRuntime) {
+    assert!(rt; is_right(rt.alloc(), Tried::Turns));
+}
+
+#[test]
+fn a_clock_is_needed(rt: HostRuntime) {
+    assert!(rt; is_right(rt.alloc(), Tried::NoClock));
+}
+
+#[test]
+fn a_connection_ends_alone(rt: HostRuntime) {
+    assert!(rt; is_right(rt.alloc(), Tried::FullWriter));
+}
+
+#[test]
+fn a_broken_connection_is_told_nothing(rt: HostRuntime) {
+    assert!(rt; is_right(rt.alloc(), Tried::BrokenReader));
 }
 
 #[test]
 fn blocks_are_answered(rt: HostRuntime) {
-    let alloc = rt.alloc();
-    assert!(rt;
-        answers_blocks(alloc, MemoryShelf::new(alloc))
-            || answers_blocks(alloc, MemoryShelf::new(alloc))
-    );
-}
-
-/// Where one port is free.
-#[derive(Drop)]
-struct Ports {
-    alloc: Global,
-    free: u16,
-}
-
-impl Network for Ports {
-    type Opened = Scripted;
-
-    ghost binds = { λ _ _ _. Unit {0} };
-
-    fn bind(&self, address: SocketAddrV4) -> Option<Scripted> {
-        if address.ip().octets() != [127, 0, 0, 1] || address.port() != self.free {
-            return None;
-        }
-        Some(host(self.alloc, &CAME, Some(BEGIN)))
-    }
-}
-
-// Whether an office is served at a free port of the computer itself, and none that is taken.
-fn serves_at_a_port<H: StoredShelf + Drop>(alloc: Global, shelf: H) -> bool {
-    let Ok(mut office) = office(alloc, shelf) else {
-        return false;
-    };
-    let ports = Ports { alloc, free: 8083 };
-    let is_refused = matches!(
-        &serve_at(alloc, &ports, &mut office, 8084, 1),
-        Err(ProgramFault::Input)
-    );
-    let is_served = serve_at(alloc, &ports, &mut office, 8083, 2).is_ok();
-    // The import came at that port.
-    let mut host = host(alloc, &LATER, Some(BEGIN));
-    let is_seen = matches!(take_one(alloc, &mut host, &mut office), Ok(true));
-    is_refused && is_served && is_seen && host.told.as_slice() == LOOKED
-}
-
-// Generic in the store, so that what stands over any shelf is not compared again at this one.
-fn serves_over<A: Alter + Drop>(alloc: Global, shelf: SqlShelf<A>) -> bool {
-    serves_at_a_port(alloc, shelf)
-}
-
-fn serves_in_sql(alloc: Global) -> bool {
-    match SqlShelf::create(alloc) {
-        Ok(shelf) => serves_over(alloc, shelf),
-        Err(_) => false,
-    }
-}
-
-#[test]
-fn ports_are_served(rt: HostRuntime) {
-    let alloc = rt.alloc();
-    assert!(rt; serves_in_sql(alloc) || serves_in_sql(alloc));
+    assert!(rt; is_right(rt.alloc(), Tried::Blocks));
 }

@@ -51,10 +51,18 @@ fn is_right(alloc: Global, text: &str) -> bool {
         || matches!(isnt_shown(alloc, MemoryShelf::new(alloc), text), Ok(true))
 }
 
+static NO_OBJECTS: [&str; 6] = ["", "1", "[]", "{\"a\":1", "{} {}", "{\"a\":1e999}"];
+
+fn are_right(alloc: Global, texts: &[&str]) -> bool {
+    for text in texts {
+        if !is_right(alloc, text) {
+            return false;
+        }
+    }
+    true
+}
+
 #[test]
 fn texts_that_are_no_objects_are_not_shown(rt: HostRuntime) {
-    let alloc = rt.alloc();
-    for text in ["", "1", "[]", "{\"a\":1", "{} {}", "{\"a\":1e999}"] {
-        assert!(rt; is_right(alloc, text));
-    }
+    assert!(rt; are_right(rt.alloc(), &NO_OBJECTS));
 }

@@ -83,8 +83,18 @@ fn isnt_begun_anew<H: Shelf + Drop>(alloc: Global, shelf: H, text: &str) -> Resu
     Ok(true)
 }
 
-fn isnt_begun_anew_in_sql(alloc: Global, text: &str) -> Result<bool, Wrong> {
-    isnt_begun_anew(alloc, in_sql(alloc).ok_or(Wrong::Unopened)?, text)
+fn isnt_begun_anew_in_sql(alloc: Global, text: &str) -> bool {
+    match in_sql(alloc) {
+        Some(office) => matches!(isnt_begun_anew(alloc, office, text), Ok(true)),
+        None => false,
+    }
+}
+
+fn isnt_begun_anew_in_memory(alloc: Global, text: &str) -> bool {
+    matches!(
+        isnt_begun_anew(alloc, MemoryShelf::new(alloc), text),
+        Ok(true)
+    )
 }
 
 // Whether a merge with its names in no order is carried on to this one.
@@ -97,43 +107,47 @@ fn carries_on<H: Shelf + Drop>(alloc: Global, shelf: H) -> Result<bool, Wrong> {
     }
 }
 
-fn carries_on_in_sql(alloc: Global) -> Result<bool, Wrong> {
-    carries_on(alloc, in_sql(alloc).ok_or(Wrong::Unopened)?)
+fn carries_on_in_sql(alloc: Global) -> bool {
+    match in_sql(alloc) {
+        Some(office) => matches!(carries_on(alloc, office), Ok(true)),
+        None => false,
+    }
 }
 
 // At a second try where the first isn't right: one allocation of a test may be refused.
 fn is_right_in_memory(alloc: Global, text: &str) -> bool {
-    matches!(
-        isnt_begun_anew(alloc, MemoryShelf::new(alloc), text),
-        Ok(true)
-    ) || matches!(
-        isnt_begun_anew(alloc, MemoryShelf::new(alloc), text),
-        Ok(true)
-    )
+    isnt_begun_anew_in_memory(alloc, text) || isnt_begun_anew_in_memory(alloc, text)
 }
 
 fn is_right_in_sql(alloc: Global, text: &str) -> bool {
-    matches!(isnt_begun_anew_in_sql(alloc, text), Ok(true))
-        || matches!(isnt_begun_anew_in_sql(alloc, text), Ok(true))
+    isnt_begun_anew_in_sql(alloc, text) || isnt_begun_anew_in_sql(alloc, text)
+}
+
+static NO_OBJECTS: [&str; 6] = ["5", "[]", "null", " [{}]", r#""{}""#, "{"];
+
+fn are_right_in_memory(alloc: Global, texts: &[&str]) -> bool {
+    for text in texts {
+        if !is_right_in_memory(alloc, text) {
+            return false;
+        }
+    }
+    true
 }
 
 #[test]
 fn merges_that_are_no_objects_are_not_begun_anew(rt: HostRuntime) {
     let alloc = rt.alloc();
-    for text in ["5", "[]", "null", " [{}]", r#""{}""#, "{"] {
-        assert!(rt; is_right_in_memory(alloc, text));
-    }
+    assert!(rt; are_right_in_memory(alloc, &NO_OBJECTS));
     assert!(rt; is_right_in_sql(alloc, "5"));
+}
+
+fn carries_on_in_memory(alloc: Global) -> bool {
+    matches!(carries_on(alloc, MemoryShelf::new(alloc)), Ok(true))
 }
 
 #[test]
 fn merges_out_of_order_are_carried_on(rt: HostRuntime) {
     let alloc = rt.alloc();
-    let in_memory = carries_on(alloc, MemoryShelf::new(alloc));
-    assert!(rt;
-        matches!(in_memory, Ok(true))
-            || matches!(carries_on(alloc, MemoryShelf::new(alloc)), Ok(true))
-    );
-    let in_sql = carries_on_in_sql(alloc);
-    assert!(rt; matches!(in_sql, Ok(true)) || matches!(carries_on_in_sql(alloc), Ok(true)));
+    assert!(rt; carries_on_in_memory(alloc) || carries_on_in_memory(alloc));
+    assert!(rt; carries_on_in_sql(alloc) || carries_on_in_sql(alloc));
 }

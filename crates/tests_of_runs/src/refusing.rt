@@ -16,42 +16,38 @@ fn numbers_in(words: &[String]) -> Option<Numbers> {
     })
 }
 
-// What was found by the store's name; None where there is no such store.
-fn found_in(
-    rt: &HostRuntime,
-    store: &str,
-    blocks: &str,
-    numbers: Numbers,
-) -> Option<Result<Found, (u64, Fault)>> {
-    match store {
-        "memory" => Some(try_all(rt, &InMemory, blocks, numbers)),
-        "sql" => Some(try_all(rt, &InSql, blocks, numbers)),
-        _ => None,
-    }
+fn tell_words(rt: &HostRuntime, number: u64, words: &str) -> io::Result<()> {
+    println!(rt; "{number}: {words}")
 }
 
 // Prints what is wrong where the allocation of this number was refused.
 fn tell_fault(rt: &HostRuntime, number: u64, fault: &Fault) -> io::Result<()> {
     match fault {
         Fault::Played(wrong) => println!(rt; "{number}: {wrong}"),
-        Fault::NoOffice => println!(rt; "{number}: no office, or a request that can't be read"),
+        Fault::NoOffice => tell_words(rt, number, "no office, or a request that can't be read"),
         Fault::Answer(told) => {
             let told = String::from_utf8_lossy(rt.alloc(), told.as_slice())?;
             println!(rt; "{number}: the request is answered by {told}")
         }
-        Fault::Changed => println!(rt; "{number}: Unavailable, and a row was changed"),
-        Fault::Rows => println!(rt; "{number}: answered as is written, and the rows are others"),
+        Fault::Changed => tell_words(rt, number, "Unavailable, and a row was changed"),
+        Fault::Rows => tell_words(
+            rt,
+            number,
+            "answered as is written, and the rows are others",
+        ),
     }
 }
 
 // Prints what was found. Whether all is as it must be.
 fn tell(rt: &HostRuntime, found: Result<Found, (u64, Fault)>) -> io::Result<bool> {
     match found {
-        Ok(found) => {
-            println!(rt;
-                "{} answered, {} unavailable",
-                found.answered, found.unavailable
-            )?;
+        Ok(
+            Found {
+                answered,
+                unavailable,
+            },
+        ) => {
+            println!(rt; "{answered} answered, {unavailable} unavailable")?;
             Ok(true)
         }
         Err((number, fault)) => {
@@ -61,24 +57,22 @@ fn tell(rt: &HostRuntime, found: Result<Found, (u64, Fault)>) -> io::Result<bool
     }
 }
 
+fn tell_form(rt: &HostRuntime) -> io::Result<bool> {
+    println!(rt; "refuse memory FIRST STEP COUNT FILE, or sql in its place")?;
+    Ok(false)
+}
+
 /// Tries what these words say. Whether all is as it must be.
 pub(crate) fn refuse(rt: &HostRuntime, words: &[String]) -> io::Result<bool> {
     let (Some(store), Some(numbers), Some(file)) = (words.get(1), numbers_in(words), words.get(5))
     else {
-        println!(rt; "refuse STORE FIRST STEP COUNT FILE")?;
-        return Ok(false);
+        return tell_form(rt);
     };
     let text = fs::read_to_string(rt, file.as_str())?;
-    match found_in(
-        rt,
-        store.as_str(),
-        text.as_str().trim_matches("\n"),
-        numbers,
-    ) {
-        Some(found) => tell(rt, found),
-        None => {
-            println!(rt; "{store}: no such store")?;
-            Ok(false)
-        }
+    let blocks = text.as_str().trim_matches("\n");
+    match store.as_str() {
+        "memory" => tell(rt, try_all(rt, &InMemory, blocks, numbers)),
+        "sql" => tell(rt, try_all(rt, &InSql, blocks, numbers)),
+        _ => tell_form(rt),
     }
 }

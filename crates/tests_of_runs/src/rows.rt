@@ -1,304 +1,175 @@
-//! All rows of an office as bytes, a line for each: so that what an office holds is compared record by record.
-use office_base::reading::Reading;
+//! All rows of an office as bytes, so that what an office holds is compared record by record. A record stands there as its row of SQL values, which no other
+//! record has (`office_tables`).
 use office_base::records::{
-    AwardRow, BatchRow, ClockRow, CompiledRow, ContractRow, EntryRow, EnvelopeRow, LateRow,
-    LineRow, LotRow, NoticeRow, PerformanceRow, ReleaseRow, SealRow, SecurityRow, TendererRow,
+    AwardRow, BatchRow, CompiledRow, ContractRow, EntryRow, EnvelopeRow, LateRow, LineRow, LotRow,
+    NoticeRow, PerformanceRow, ReleaseRow, SealRow, SecurityRow, TendererRow,
 };
 use office_base::shelf::Lookups;
-use office_commands::contract::How;
-use office_values::given::asked;
+use office_tables::items::items_text;
+use office_tables::tables::awards::award_values;
+use office_tables::tables::batches::batch_values;
+use office_tables::tables::compiled::compiled_values;
+use office_tables::tables::contracts::contract_values;
+use office_tables::tables::entries::entry_values;
+use office_tables::tables::envelopes::envelope_values;
+use office_tables::tables::late_rules::late_values;
+use office_tables::tables::lines::line_values;
+use office_tables::tables::lots::lot_values;
+use office_tables::tables::notices::notice_values;
+use office_tables::tables::office::clock_values;
+use office_tables::tables::performances::performance_values;
+use office_tables::tables::releases::release_values;
+use office_tables::tables::seals::seal_values;
+use office_tables::tables::securities::security_values;
+use office_tables::tables::tenderers::tenderer_values;
+use office_values::given::{AskedNumber, asked};
 use office_values::id::Id;
-use office_values::moment::Moment;
 use office_values::refusal::Refusal;
-use office_values::text::TextLine;
+use sqlite_value::value::ValueRef;
 use std::alloc::{AllocError, Global};
 
-// Lines that are written: the fields of a row, each with a tab behind it.
+// Rows that are written. Each part comes behind a byte for what it is, and its length: so no other rows have the same bytes.
 #[derive(Drop)]
-struct Lines {
+struct RowBytes {
     alloc: Global,
     bytes: Vec<u8>,
 }
 
-impl Lines {
-    fn put(&mut self, field: &[u8]) -> Result<(), AllocError> {
-        self.bytes.extend_from_slice(field)?;
-        self.bytes.extend_from_slice(b"\t")
+// A record that is written as its row.
+trait AsRow {
+    fn append(&self, rows: &mut RowBytes) -> Result<(), AllocError>;
+}
+
+impl RowBytes {
+    fn put(&mut self, kind: u8, part: &[u8]) -> Result<(), AllocError> {
+        self.bytes.push(kind)?;
+        self.bytes.extend_from_slice(&part.len().to_be_bytes())?;
+        self.bytes.extend_from_slice(part)
     }
 
-    fn put_id(&mut self, id: &Id) -> Result<(), AllocError> {
-        self.put(id.as_bytes())
-    }
-
-    fn put_text(&mut self, text: &TextLine) -> Result<(), AllocError> {
-        self.put(text.as_str().as_bytes())
-    }
-
-    fn put_number(&mut self, number: u64) -> Result<(), AllocError> {
-        let text = format!(in self.alloc; "{number}")?;
-        self.put(text.as_bytes())
-    }
-
-    fn put_moment(&mut self, moment: Moment) -> Result<(), AllocError> {
-        self.put(&moment.text())
-    }
-
-    // A number that may be absent.
-    fn put_optional(&mut self, number: Option<u64>) -> Result<(), AllocError> {
-        match number {
-            Some(number) => self.put_number(number),
-            None => self.put(b"-"),
+    fn put_value(&mut self, value: ValueRef<'_>) -> Result<(), AllocError> {
+        match value {
+            ValueRef::Null => self.put(b'-', b""),
+            ValueRef::Int(number) => self.put(b'i', &number.to_be_bytes()),
+            ValueRef::Real(_) => self.put(b'r', b""),
+            ValueRef::Text(text) => self.put(b't', text),
+            ValueRef::Blob(blob) => self.put(b'b', blob),
         }
     }
 
-    fn put_moment_or_none(&mut self, moment: Option<Moment>) -> Result<(), AllocError> {
-        match moment {
-            Some(moment) => self.put_moment(moment),
-            None => self.put(b"-"),
+    // A row of a table.
+    fn put_row(&mut self, table: &[u8], values: &[ValueRef<'_>]) -> Result<(), AllocError> {
+        self.put(b'\n', table)?;
+        for value in values {
+            self.put_value(*value)?;
+        }
+        Ok(())
+    }
+
+    fn put_all<R: AsRow + Drop>(&mut self, rows: Vec<R>) -> Result<(), AllocError> {
+        for row in rows.as_slice() {
+            row.append(self)?;
+        }
+        Ok(())
+    }
+
+    fn put_perhaps<R: AsRow + Drop>(&mut self, row: Option<R>) -> Result<(), AllocError> {
+        match row {
+            Some(row) => row.append(self),
+            None => Ok(()),
         }
     }
+}
 
-    fn put_bool_or_none(&mut self, test: Option<bool>) -> Result<(), AllocError> {
-        match test {
-            Some(true) => self.put(b"true"),
-            Some(false) => self.put(b"false"),
-            None => self.put(b"-"),
-        }
-    }
-
-    fn end(&mut self) -> Result<(), AllocError> {
-        self.bytes.extend_from_slice(b"\n")
+impl AsRow for LineRow {
+    fn append(&self, rows: &mut RowBytes) -> Result<(), AllocError> {
+        rows.put_row(b"lines", &line_values(self))
     }
 }
 
-fn put_line(lines: &mut Lines, row: &LineRow) -> Result<(), AllocError> {
-    lines.put(b"line")?;
-    lines.put_id(&row.line)?;
-    lines.put_text(&row.title)?;
-    lines.put_number(row.appropriation.units())?;
-    lines.put_number(row.free.units())?;
-    lines.end()
-}
-
-fn put_batch(lines: &mut Lines, row: &BatchRow) -> Result<(), AllocError> {
-    lines.put(b"batch")?;
-    lines.put_id(&row.batch)?;
-    lines.put_moment(row.moment)?;
-    lines.put_number(row.rows.get())?;
-    lines.end()
-}
-
-fn put_tenderer(lines: &mut Lines, row: &TendererRow) -> Result<(), AllocError> {
-    lines.put(b"tenderer")?;
-    lines.put_id(&row.tenderer)?;
-    lines.put_text(&row.name)?;
-    lines.put_text(&row.address)?;
-    lines.put(&row.key)?;
-    lines.end()
-}
-
-// What of a notice stays as it was published.
-fn put_published(lines: &mut Lines, row: &NoticeRow) -> Result<(), AllocError> {
-    lines.put_id(&row.notice)?;
-    lines.put_text(&row.title)?;
-    lines.put_moment(row.published)?;
-    lines.put_number(row.validity.get())?;
-    lines.put_number(row.standstill.get())?;
-    lines.put_number(row.weight.get())?;
-    lines.put_number(row.performance.units())
-}
-
-fn put_notice(lines: &mut Lines, row: &NoticeRow) -> Result<(), AllocError> {
-    lines.put(b"notice")?;
-    put_published(lines, row)?;
-    lines.put_moment(row.deadline)?;
-    lines.put_number(row.state as u64)?;
-    lines.put_moment_or_none(row.opened)?;
-    lines.put_number(row.amendments.get())?;
-    lines.put_number(row.releases.get())?;
-    lines.end()
-}
-
-fn put_items(lines: &mut Lines, row: &LotRow) -> Result<(), AllocError> {
-    for item in row.items.as_slice() {
-        lines.put_id(&item.id)?;
-        lines.put_number(item.quantity.get())?;
-        lines.put_text(&item.title)?;
-    }
-    Ok(())
-}
-
-fn put_lot(lines: &mut Lines, row: &LotRow) -> Result<(), AllocError> {
-    lines.put(b"lot")?;
-    lines.put_id(&row.notice)?;
-    lines.put_id(&row.lot)?;
-    lines.put_text(&row.title)?;
-    lines.put_id(&row.line)?;
-    lines.put_number(row.estimate.get())?;
-    lines.put_number(row.security.units())?;
-    put_items(lines, row)?;
-    lines.put_number(row.state as u64)?;
-    lines.put_number(row.reserved.units())?;
-    lines.end()
-}
-
-fn put_price(
-    lines: &mut Lines,
-    stated: u64,
-    corrected: u64,
-    corrections: u64,
-) -> Result<(), AllocError> {
-    lines.put_number(stated)?;
-    lines.put_number(corrected)?;
-    lines.put_number(corrections)
-}
-
-fn put_reading(lines: &mut Lines, reading: &Option<Reading>) -> Result<(), AllocError> {
-    match reading {
-        None => lines.put(b"-"),
-        Some(Reading::Unreadable) => lines.put(b"unreadable"),
-        Some(Reading::Nonconforming) => lines.put(b"nonconforming"),
-        Some(
-            Reading::Priced {
-                stated,
-                corrected,
-                corrections,
-            },
-        ) => put_price(lines, stated.units(), corrected.units(), corrections.get()),
+impl AsRow for BatchRow {
+    fn append(&self, rows: &mut RowBytes) -> Result<(), AllocError> {
+        rows.put_row(b"batches", &batch_values(self))
     }
 }
 
-// What of a tender stays as it was received.
-fn put_received(lines: &mut Lines, row: &EnvelopeRow) -> Result<(), AllocError> {
-    lines.put_number(row.receipt.get())?;
-    lines.put_id(&row.notice)?;
-    lines.put_id(&row.lot)?;
-    lines.put_id(&row.tenderer)?;
-    lines.put_moment(row.moment)?;
-    lines.put_number(row.length.get())?;
-    lines.put(&row.digest)
-}
-
-fn put_envelope(lines: &mut Lines, row: &EnvelopeRow) -> Result<(), AllocError> {
-    lines.put(b"envelope")?;
-    put_received(lines, row)?;
-    lines.put_optional(row.security.map(|number| number.get()))?;
-    lines.put_number(row.state as u64)?;
-    put_reading(lines, &row.reading)?;
-    lines.put_bool_or_none(row.responsive)?;
-    lines.put_optional(row.quality.map(|quality| quality.get()))?;
-    lines.put_bool_or_none(Some(row.failed))?;
-    lines.end()
-}
-
-fn put_seal(lines: &mut Lines, row: &SealRow) -> Result<(), AllocError> {
-    lines.put(b"seal")?;
-    lines.put_number(row.receipt.get())?;
-    lines.put(row.bytes.as_slice())?;
-    lines.end()
-}
-
-fn put_security(lines: &mut Lines, row: &SecurityRow) -> Result<(), AllocError> {
-    lines.put(b"security")?;
-    lines.put_number(row.security.get())?;
-    lines.put_id(&row.tenderer)?;
-    lines.put_id(&row.notice)?;
-    lines.put_id(&row.lot)?;
-    lines.put_id(&row.reference)?;
-    lines.put_number(row.amount.get())?;
-    lines.put_number(row.state as u64)?;
-    lines.end()
-}
-
-fn put_award(lines: &mut Lines, row: &AwardRow) -> Result<(), AllocError> {
-    lines.put(b"award")?;
-    lines.put_number(row.award.get())?;
-    lines.put_id(&row.notice)?;
-    lines.put_id(&row.lot)?;
-    lines.put_number(row.receipt.get())?;
-    lines.put_number(row.price.units())?;
-    lines.put_moment(row.moment)?;
-    lines.put_number(row.state as u64)?;
-    lines.end()
-}
-
-fn put_how(lines: &mut Lines, how: Option<How>) -> Result<(), AllocError> {
-    match how {
-        None => lines.put(b"-"),
-        Some(How::Regular) => lines.put(b"regular"),
-        Some(How::ForDefault) => lines.put(b"default"),
+impl AsRow for TendererRow {
+    fn append(&self, rows: &mut RowBytes) -> Result<(), AllocError> {
+        rows.put_row(b"tenderers", &tenderer_values(self))
     }
 }
 
-fn put_contract(lines: &mut Lines, row: &ContractRow) -> Result<(), AllocError> {
-    lines.put(b"contract")?;
-    lines.put_number(row.contract.get())?;
-    lines.put_id(&row.notice)?;
-    lines.put_id(&row.lot)?;
-    lines.put_id(&row.tenderer)?;
-    lines.put_number(row.signed.units())?;
-    lines.put_moment(row.moment)?;
-    lines.put_moment_or_none(row.ended)?;
-    put_how(lines, row.how)?;
-    lines.put_number(row.released.units())?;
-    lines.end()
-}
-
-fn put_rationale(lines: &mut Lines, rationale: &Option<TextLine>) -> Result<(), AllocError> {
-    match rationale {
-        Some(text) => lines.put_text(text),
-        None => lines.put(b"-"),
+impl AsRow for NoticeRow {
+    fn append(&self, rows: &mut RowBytes) -> Result<(), AllocError> {
+        rows.put_row(b"notices", &notice_values(self))
     }
 }
 
-fn put_entry(lines: &mut Lines, row: &EntryRow) -> Result<(), AllocError> {
-    lines.put(b"entry")?;
-    lines.put_number(row.contract.get())?;
-    lines.put_id(&row.entry)?;
-    lines.put_number(row.kind as u64)?;
-    lines.put_number(row.amount.get())?;
-    lines.put_moment(row.moment)?;
-    put_rationale(lines, &row.rationale)?;
-    lines.end()
+impl AsRow for LotRow {
+    fn append(&self, rows: &mut RowBytes) -> Result<(), AllocError> {
+        let items = items_text(rows.alloc, &self.items)?;
+        rows.put_row(b"lots", &lot_values(self, items.as_slice()))
+    }
 }
 
-fn put_release(lines: &mut Lines, row: &ReleaseRow) -> Result<(), AllocError> {
-    lines.put(b"release")?;
-    lines.put_id(&row.notice)?;
-    lines.put_number(row.seq.get())?;
-    lines.put_moment(row.moment)?;
-    lines.put(row.text.as_str().as_bytes())?;
-    lines.end()
+impl AsRow for EnvelopeRow {
+    fn append(&self, rows: &mut RowBytes) -> Result<(), AllocError> {
+        rows.put_row(b"envelopes", &envelope_values(self))
+    }
 }
 
-fn put_compiled(lines: &mut Lines, row: &CompiledRow) -> Result<(), AllocError> {
-    lines.put(b"compiled")?;
-    lines.put_id(&row.notice)?;
-    lines.put(row.text.as_str().as_bytes())?;
-    lines.end()
+impl AsRow for SealRow {
+    fn append(&self, rows: &mut RowBytes) -> Result<(), AllocError> {
+        rows.put_row(b"seals", &seal_values(self))
+    }
 }
 
-fn put_late(lines: &mut Lines, row: &LateRow) -> Result<(), AllocError> {
-    lines.put(b"late")?;
-    lines.put_id(&row.notice)?;
-    lines.end()
+impl AsRow for SecurityRow {
+    fn append(&self, rows: &mut RowBytes) -> Result<(), AllocError> {
+        rows.put_row(b"securities", &security_values(self))
+    }
 }
 
-fn put_performance(lines: &mut Lines, row: &PerformanceRow) -> Result<(), AllocError> {
-    lines.put(b"performance")?;
-    lines.put_number(row.contract.get())?;
-    lines.put_id(&row.reference)?;
-    lines.put_number(row.amount.get())?;
-    lines.put_number(row.state as u64)?;
-    lines.end()
+impl AsRow for AwardRow {
+    fn append(&self, rows: &mut RowBytes) -> Result<(), AllocError> {
+        rows.put_row(b"awards", &award_values(self))
+    }
 }
 
-fn put_clock(lines: &mut Lines, row: &ClockRow) -> Result<(), AllocError> {
-    lines.put(b"clock")?;
-    lines.put_moment(row.moment)?;
-    lines.put_number(row.receipts.get())?;
-    lines.put_number(row.awards.get())?;
-    lines.end()
+impl AsRow for ContractRow {
+    fn append(&self, rows: &mut RowBytes) -> Result<(), AllocError> {
+        rows.put_row(b"contracts", &contract_values(self))
+    }
+}
+
+impl AsRow for EntryRow {
+    fn append(&self, rows: &mut RowBytes) -> Result<(), AllocError> {
+        rows.put_row(b"entries", &entry_values(self))
+    }
+}
+
+impl AsRow for ReleaseRow {
+    fn append(&self, rows: &mut RowBytes) -> Result<(), AllocError> {
+        rows.put_row(b"releases", &release_values(self))
+    }
+}
+
+impl AsRow for CompiledRow {
+    fn append(&self, rows: &mut RowBytes) -> Result<(), AllocError> {
+        rows.put_row(b"compiled", &compiled_values(self))
+    }
+}
+
+impl AsRow for LateRow {
+    fn append(&self, rows: &mut RowBytes) -> Result<(), AllocError> {
+        rows.put_row(b"late", &late_values(self))
+    }
+}
+
+impl AsRow for PerformanceRow {
+    fn append(&self, rows: &mut RowBytes) -> Result<(), AllocError> {
+        rows.put_row(b"performances", &performance_values(self))
+    }
 }
 
 // The batch that the first line of a block imports.
@@ -307,98 +178,76 @@ fn batch_in(line: &str) -> Option<Id> {
     Id::read(name.as_bytes())
 }
 
-// The batches that these blocks import: no list has them.
-fn put_batches<H: Lookups>(lines: &mut Lines, shelf: &mut H, blocks: &str) -> Result<(), Refusal> {
+fn put_batch_in<H: Lookups>(rows: &mut RowBytes, shelf: &mut H, line: &str) -> Result<(), Refusal> {
+    if let Some(batch) = batch_in(line) {
+        rows.put_perhaps(shelf.get_batch(&batch)?)?;
+    }
+    Ok(())
+}
+
+// The lines, the tenderers, the clock, and the batches that these blocks import: no list has them.
+fn put_office<H: Lookups>(rows: &mut RowBytes, shelf: &mut H, blocks: &str) -> Result<(), Refusal> {
+    rows.put_all(shelf.list_lines()?)?;
+    rows.put_all(shelf.list_tenderers_after(None, u32::MAX)?)?;
+    rows.put_row(b"office", &clock_values(&shelf.get_clock()?))?;
     for line in blocks.lines() {
-        let Some(batch) = batch_in(line) else {
-            continue;
-        };
-        if let Some(row) = shelf.get_batch(&batch)? {
-            put_batch(lines, &row)?;
-        }
+        put_batch_in(rows, shelf, line)?;
     }
     Ok(())
 }
 
-// The lines, the batches, the tenderers and the clock.
-fn put_office<H: Lookups>(lines: &mut Lines, shelf: &mut H, blocks: &str) -> Result<(), Refusal> {
-    for row in shelf.list_lines()? {
-        put_line(lines, &row)?;
+fn put_tenders<H: Lookups>(rows: &mut RowBytes, shelf: &mut H, notice: &Id) -> Result<(), Refusal> {
+    rows.put_all(shelf.list_securities_of_notice(notice)?)?;
+    let tenders = shelf.list_envelopes_of_notice(notice)?;
+    for tender in tenders.as_slice() {
+        rows.put_perhaps(shelf.get_seal(asked(tender.receipt))?)?;
     }
-    put_batches(lines, shelf, blocks)?;
-    for row in shelf.list_tenderers_after(None, u32::MAX)? {
-        put_tenderer(lines, &row)?;
-    }
-    put_clock(lines, &shelf.get_clock()?)?;
+    rows.put_all(tenders)?;
     Ok(())
 }
 
-fn put_tenders<H: Lookups>(lines: &mut Lines, shelf: &mut H, notice: &Id) -> Result<(), Refusal> {
-    for row in shelf.list_envelopes_of_notice(notice)? {
-        put_envelope(lines, &row)?;
-        if let Some(seal) = shelf.get_seal(asked(row.receipt))? {
-            put_seal(lines, &seal)?;
-        }
-    }
-    for row in shelf.list_securities_of_notice(notice)? {
-        put_security(lines, &row)?;
-    }
-    Ok(())
-}
-
-// A contract, its entries and its performance security.
+// The entries of a contract and its performance security.
 fn put_of_contract<H: Lookups>(
-    lines: &mut Lines,
+    rows: &mut RowBytes,
     shelf: &mut H,
-    row: &ContractRow,
+    contract: AskedNumber,
 ) -> Result<(), Refusal> {
-    put_contract(lines, row)?;
-    let number = asked(row.contract);
-    for row in shelf.list_entries_of_contract(number)? {
-        put_entry(lines, &row)?;
-    }
-    if let Some(row) = shelf.get_performance(number)? {
-        put_performance(lines, &row)?;
-    }
+    rows.put_all(shelf.list_entries_of_contract(contract)?)?;
+    rows.put_perhaps(shelf.get_performance(contract)?)?;
     Ok(())
 }
 
-fn put_awards<H: Lookups>(lines: &mut Lines, shelf: &mut H, notice: &Id) -> Result<(), Refusal> {
-    for row in shelf.list_awards_of_notice(notice)? {
-        put_award(lines, &row)?;
+fn put_awards<H: Lookups>(rows: &mut RowBytes, shelf: &mut H, notice: &Id) -> Result<(), Refusal> {
+    rows.put_all(shelf.list_awards_of_notice(notice)?)?;
+    let contracts = shelf.list_contracts_of_notice(notice)?;
+    for contract in contracts.as_slice() {
+        put_of_contract(rows, shelf, asked(contract.contract))?;
     }
-    for row in shelf.list_contracts_of_notice(notice)? {
-        put_of_contract(lines, shelf, &row)?;
-    }
+    rows.put_all(contracts)?;
     Ok(())
 }
 
-// What was published of a notice, and whether its tenders may be withdrawn late.
-fn put_releases<H: Lookups>(lines: &mut Lines, shelf: &mut H, notice: &Id) -> Result<(), Refusal> {
-    for row in shelf.list_releases_of_notice(notice)? {
-        put_release(lines, &row)?;
-    }
-    if let Some(row) = shelf.get_compiled(notice)? {
-        put_compiled(lines, &row)?;
-    }
-    if let Some(row) = shelf.get_late(notice)? {
-        put_late(lines, &row)?;
-    }
-    Ok(())
-}
-
+// The lots of a notice, what was published of it, and whether its tenders may be withdrawn late.
 fn put_of_notice<H: Lookups>(
-    lines: &mut Lines,
+    rows: &mut RowBytes,
     shelf: &mut H,
-    row: &NoticeRow,
+    notice: &Id,
 ) -> Result<(), Refusal> {
-    put_notice(lines, row)?;
-    for row in shelf.list_lots_of_notice(&row.notice)? {
-        put_lot(lines, &row)?;
+    rows.put_all(shelf.list_lots_of_notice(notice)?)?;
+    rows.put_all(shelf.list_releases_of_notice(notice)?)?;
+    rows.put_perhaps(shelf.get_compiled(notice)?)?;
+    rows.put_perhaps(shelf.get_late(notice)?)?;
+    put_tenders(rows, shelf, notice)?;
+    put_awards(rows, shelf, notice)
+}
+
+fn put_notices<H: Lookups>(rows: &mut RowBytes, shelf: &mut H) -> Result<(), Refusal> {
+    let notices = shelf.list_notices_after(None, u32::MAX)?;
+    for notice in notices.as_slice() {
+        put_of_notice(rows, shelf, &notice.notice)?;
     }
-    put_tenders(lines, shelf, &row.notice)?;
-    put_awards(lines, shelf, &row.notice)?;
-    put_releases(lines, shelf, &row.notice)
+    rows.put_all(notices)?;
+    Ok(())
 }
 
 /// All rows of an office to which nothing but these blocks was sent. Batches are asked for by the names that the blocks give them, since no list has them. What
@@ -408,13 +257,11 @@ pub(crate) fn rows_of<H: Lookups>(
     shelf: &mut H,
     blocks: &str,
 ) -> Result<Vec<u8>, Refusal> {
-    let mut lines = Lines {
+    let mut rows = RowBytes {
         alloc,
         bytes: Vec::new(alloc),
     };
-    put_office(&mut lines, shelf, blocks)?;
-    for row in shelf.list_notices_after(None, u32::MAX)? {
-        put_of_notice(&mut lines, shelf, &row)?;
-    }
-    Ok(lines.bytes)
+    put_office(&mut rows, shelf, blocks)?;
+    put_notices(&mut rows, shelf)?;
+    Ok(rows.bytes)
 }

@@ -127,125 +127,80 @@ fn office_behind<M: Maker>(alloc: Global, maker: &M, blocks: &str) -> Result<M::
     Ok(played(alloc, office, 0, &[blocks])?)
 }
 
-// What is answered to the block while the allocation of this number is refused, and the office then.
+// What is answered to the block while whoever refuses does what this line says.
+fn told_by<H: Shelf + Drop>(
+    rt: &HostRuntime,
+    session: &mut Session<H>,
+    block: &Block,
+    line: &str,
+) -> Result<Vec<u8>, Fault> {
+    say(rt, line)?;
+    let answer = session.answer_to(block);
+    say(rt, "enough\n")?;
+    Ok(Vec::from_slice(rt.alloc(), answer.bytes())?)
+}
+
+// What is answered to the block while the allocation of this number is refused, none of number 0, and the office then.
 fn answered_without<H: Shelf + Drop>(
     rt: &HostRuntime,
     shelf: H,
     block: &Block,
     number: u64,
 ) -> Result<(H, Vec<u8>), Fault> {
-    let alloc = rt.alloc();
-    let mut session = Session::new(alloc, shelf, 0)?;
-    let line = format!(in alloc; "refuse {number}\n")?;
-    say(rt, line.as_str())?;
-    let answer = session.answer_to(block);
-    say(rt, "enough\n")?;
-    let told = Vec::from_slice(alloc, answer.bytes())?;
+    let line = format!(in rt.alloc(); "refuse {number}\n")?;
+    let mut session = Session::new(rt.alloc(), shelf, 0)?;
+    let told = told_by(rt, &mut session, block, line.as_str())?;
     Ok((session.into_shelf(), told))
 }
 
-// The office behind the request, where that is answered as is written and leaves the rows that it must.
-fn concluded<H: Shelf + Drop>(
+// A fault where the request isn't answered as is written, or leaves other rows than it must.
+fn conclude<H: Lookups>(
     alloc: Global,
-    shelf: H,
+    shelf: &mut H,
     asked: &Asked<'_>,
     told: Vec<u8>,
-) -> Result<H, Fault> {
+) -> Result<(), Fault> {
     if told.as_slice() != asked.block.response.as_slice() {
         return Err(Fault::Answer(told));
     }
-    let mut shelf = shelf;
-    let rows = rows_in(alloc, &mut shelf, asked.all)?;
+    let rows = rows_in(alloc, shelf, asked.all)?;
     if rows.as_slice() != asked.behind.as_slice() {
         return Err(Fault::Rows);
     }
-    Ok(shelf)
+    Ok(())
 }
 
-// The office behind the same request, with ample memory, where that changed nothing before.
-fn asked_again<H: Shelf + Drop>(alloc: Global, shelf: H, asked: &Asked<'_>) -> Result<H, Fault> {
-    let mut shelf = shelf;
-    let rows = rows_in(alloc, &mut shelf, asked.all)?;
+// A fault where the rows aren't those before the request.
+fn compare<H: Lookups>(alloc: Global, shelf: &mut H, asked: &Asked<'_>) -> Result<(), Fault> {
+    let rows = rows_in(alloc, shelf, asked.all)?;
     if rows.as_slice() != asked.rows.as_slice() {
         return Err(Fault::Changed);
     }
-    let mut session = Session::new(alloc, shelf, 0)?;
-    let answer = session.answer_to(&asked.block);
-    let told = Vec::from_slice(alloc, answer.bytes())?;
-    concluded(alloc, session.into_shelf(), asked, told)
+    Ok(())
 }
 
-// Tries the request once. The office behind it, and whether it was answered `Unavailable`.
-fn tried<H: Shelf + Drop>(
+// Asks once more, with ample memory, where nothing changed before.
+fn ask_again<H: Shelf + Drop>(rt: &HostRuntime, shelf: H, asked: &Asked<'_>) -> Result<(), Fault> {
+    let mut shelf = shelf;
+    compare(rt.alloc(), &mut shelf, asked)?;
+    let (mut shelf, told) = answered_without(rt, shelf, &asked.block, 0)?;
+    conclude(rt.alloc(), &mut shelf, asked, told)
+}
+
+// Tries the request once. Whether it was answered `Unavailable`.
+fn try_over<H: Shelf + Drop>(
     rt: &HostRuntime,
     shelf: H,
     asked: &Asked<'_>,
     number: u64,
-) -> Result<(H, bool), Fault> {
-    let (shelf, told) = answered_without(rt, shelf, &asked.block, number)?;
+) -> Result<bool, Fault> {
+    let (mut shelf, told) = answered_without(rt, shelf, &asked.block, number)?;
     if told.as_slice() == UNAVAILABLE {
-        Ok((asked_again(rt.alloc(), shelf, asked)?, true))
-    } else {
-        Ok((concluded(rt.alloc(), shelf, asked, told)?, false))
+        ask_again(rt, shelf, asked)?;
+        return Ok(true);
     }
-}
-
-// The last of these blocks, and what the office holds before it and behind it. It is sent to an office whose rows weren't read before, as at each trial, so
-// that it takes as much memory.
-fn asked_last<'a, M: Maker>(
-    rt: &HostRuntime,
-    maker: &M,
-    blocks: &'a str,
-) -> Result<Asked<'a>, Fault> {
-    let alloc = rt.alloc();
-    let (before, last) = blocks.rsplit_once("\n\n").unwrap_or(("", blocks));
-    let block = match read(alloc, last) {
-        Ok(block) => block,
-        Err(_) => return Err(Fault::NoOffice),
-    };
-    let mut unasked = office_behind(alloc, maker, before)?;
-    let rows = rows_in(alloc, &mut unasked, blocks)?;
-    let office = office_behind(alloc, maker, before)?;
-    let (mut office, told) = answered_without(rt, office, &block, 0)?;
-    if told.as_slice() != block.response.as_slice() {
-        return Err(Fault::Answer(told));
-    }
-    let behind = rows_in(alloc, &mut office, blocks)?;
-    Ok(Asked {
-        before,
-        all: blocks,
-        block,
-        rows,
-        behind,
-    })
-}
-
-/// Tries the last of these blocks behind the others, with one allocation after another refused, each time over an office that is made anew. What was found, or
-/// the number of the refusal at which something is wrong, and what.
-pub(crate) fn try_all<M: Maker>(
-    rt: &HostRuntime,
-    maker: &M,
-    blocks: &str,
-    numbers: Numbers,
-) -> Result<Found, (u64, Fault)> {
-    let asked = match asked_last(rt, maker, blocks) {
-        Ok(asked) => asked,
-        Err(fault) => return Err((0, fault)),
-    };
-    let mut found = Found {
-        answered: 0,
-        unavailable: 0,
-    };
-    let mut number = numbers.first;
-    for _ in 0..numbers.count {
-        match try_one(rt, maker, &asked, number) {
-            Ok(true) => found.unavailable = found.unavailable.saturating_add(1),
-            Ok(false) => found.answered = found.answered.saturating_add(1),
-            Err(fault) => return Err((number, fault)),
-        }
-        number = number.saturating_add(numbers.step);
-    }
-    Ok(found)
+    conclude(rt.alloc(), &mut shelf, asked, told)?;
+    Ok(false)
 }
 
 // Tries it once, over an office of its own.
@@ -256,6 +211,91 @@ fn try_one<M: Maker>(
     number: u64,
 ) -> Result<bool, Fault> {
     let office = office_behind(rt.alloc(), maker, asked.before)?;
-    let (_office, is_unavailable) = tried(rt, office, asked, number)?;
-    Ok(is_unavailable)
+    try_over(rt, office, asked, number)
+}
+
+// What an office holds behind the blocks before the request.
+fn rows_before<M: Maker>(
+    alloc: Global,
+    maker: &M,
+    before: &str,
+    all: &str,
+) -> Result<Vec<u8>, Fault> {
+    let mut office = office_behind(alloc, maker, before)?;
+    rows_in(alloc, &mut office, all)
+}
+
+// What it holds behind the request, where that is answered as is written. It is sent to an office whose rows weren't read before, as at each trial, so that it
+// takes as much memory.
+fn rows_behind<M: Maker>(
+    rt: &HostRuntime,
+    maker: &M,
+    before: &str,
+    all: &str,
+    block: &Block,
+) -> Result<Vec<u8>, Fault> {
+    let office = office_behind(rt.alloc(), maker, before)?;
+    let (mut office, told) = answered_without(rt, office, block, 0)?;
+    if told.as_slice() != block.response.as_slice() {
+        return Err(Fault::Answer(told));
+    }
+    rows_in(rt.alloc(), &mut office, all)
+}
+
+// The last of these blocks, and what the office holds before it and behind it.
+fn asked_last<'a, M: Maker>(
+    rt: &HostRuntime,
+    maker: &M,
+    blocks: &'a str,
+) -> Result<Asked<'a>, Fault> {
+    let (before, last) = blocks.rsplit_once("\n\n").unwrap_or(("", blocks));
+    let rows = rows_before(rt.alloc(), maker, before, blocks)?;
+    let Ok(block) = read(rt.alloc(), last) else {
+        return Err(Fault::NoOffice);
+    };
+    let behind = rows_behind(rt, maker, before, blocks, &block)?;
+    Ok(Asked {
+        before,
+        all: blocks,
+        block,
+        rows,
+        behind,
+    })
+}
+
+// Tries a request with one allocation after another refused.
+fn try_each<M: Maker>(
+    rt: &HostRuntime,
+    maker: &M,
+    asked: &Asked<'_>,
+    numbers: Numbers,
+) -> Result<Found, (u64, Fault)> {
+    let mut found = Found {
+        answered: 0,
+        unavailable: 0,
+    };
+    let mut number = numbers.first;
+    for _ in 0..numbers.count {
+        match try_one(rt, maker, asked, number) {
+            Ok(true) => found.unavailable = found.unavailable.saturating_add(1),
+            Ok(false) => found.answered = found.answered.saturating_add(1),
+            Err(fault) => return Err((number, fault)),
+        }
+        number = number.saturating_add(numbers.step);
+    }
+    Ok(found)
+}
+
+/// Tries the last of these blocks behind the others, with one allocation after another refused, each time over an office that is made anew. What was found, or
+/// the number of the refusal at which something is wrong, and what.
+pub(crate) fn try_all<M: Maker>(
+    rt: &HostRuntime,
+    maker: &M,
+    blocks: &str,
+    numbers: Numbers,
+) -> Result<Found, (u64, Fault)> {
+    match asked_last(rt, maker, blocks) {
+        Ok(asked) => try_each(rt, maker, &asked, numbers),
+        Err(fault) => Err((0, fault)),
+    }
 }

@@ -1,0 +1,252 @@
+//! Sockets and a clock that a test makes up, below the computer that serves an office: which address is asked for, how long a read and a write may wait, at
+//! which second a connection is answered, and what is written.
+use crate::served::{BEGIN, CAME, TOLD, office};
+use office_base::stored::StoredShelf;
+use office_http::office::Office;
+use office_store::shelf::SqlShelf;
+use procure_config::fault::ProgramFault;
+use procure_programs::host::Computer;
+use procure_programs::serving::serve_at;
+use sqlite::Alter;
+use std::alloc::Global;
+use std::cell::Cell;
+use std::io;
+use std::io::{ErrorKind, Read, Write};
+use std::net::{Ipv4Addr, Net, OpenListener, OpenStream, SocketAddr, SocketAddrV4};
+use std::os::fd::{AsRawFd, RawFd};
+use std::rc::Rc;
+use std::time::{Clock, Duration};
+
+/// What was asked of the sockets, and told over them.
+#[derive(Clone, Copy)]
+struct Seen {
+    /// How many connections were to be taken.
+    taken: usize,
+    /// How often it was asked that a read wait for ten seconds at most.
+    reads: u32,
+    /// How often that of a write.
+    writes: u32,
+    /// How much was written of what is to be told; None once anything else was.
+    told: Option<usize>,
+}
+
+const NOTHING: Seen = Seen {
+    taken: 0,
+    reads: 0,
+    writes: 0,
+    told: Some(0),
+};
+
+// How much was written of what is to be told, behind these bytes too.
+fn told_behind(told: Option<usize>, bytes: &[u8]) -> Option<usize> {
+    let told = told?;
+    let (_, left) = TOLD.split_at_checked(told)?;
+    if left.starts_with(bytes) {
+        Some(told.saturating_add(bytes.len()))
+    } else {
+        None
+    }
+}
+
+// One where it is ten seconds.
+fn one_if_ten(wait: Option<Duration>) -> u32 {
+    match wait {
+        Some(wait) if wait == Duration::from_secs(10) => 1,
+        _ => 0,
+    }
+}
+
+// What comes over the connection that is taken behind so many; None where taking it fails.
+fn came_behind(came: &'static [Option<&'static [u8]>], taken: usize) -> Option<&'static [u8]> {
+    *came.get(taken)?
+}
+
+// What is left of it behind so many bytes.
+fn rest_of(taken: usize, read: usize) -> Option<&'static [u8]> {
+    let (_, rest) = came_behind(&CAME, taken)?.split_at_checked(read)?;
+    Some(rest)
+}
+
+/// A handle of a connection: how many were taken before it, and how much of what comes over it was read. It holds no reference to that: a bound on a type
+/// that holds one isn't covered by the prover's borrow checker.
+#[derive(Drop)]
+struct Stream {
+    number: usize,
+    read: usize,
+    seen: Rc<Cell<Seen>>,
+}
+
+impl Read for Stream {
+    fn read(&mut self, buf: &mut [u8]) -> io::Result<usize> {
+        let Some(mut rest) = rest_of(self.number, self.read) else {
+            return Ok(0);
+        };
+        let count = rest.read(buf)?;
+        self.read = self.read.saturating_add(count);
+        Ok(count)
+    }
+}
+
+impl Write for Stream {
+    fn write(&mut self, buf: &[u8]) -> io::Result<usize> {
+        let mut seen = self.seen.get();
+        seen.told = told_behind(seen.told, buf);
+        self.seen.set(seen);
+        Ok(buf.len())
+    }
+
+    fn flush(&mut self) -> io::Result<()> {
+        Ok(())
+    }
+}
+
+impl OpenStream for Stream {
+    fn set_read_timeout(&self, wait: Option<Duration>) -> io::Result<()> {
+        let mut seen = self.seen.get();
+        seen.reads = seen.reads.saturating_add(one_if_ten(wait));
+        self.seen.set(seen);
+        Ok(())
+    }
+
+    fn set_write_timeout(&self, wait: Option<Duration>) -> io::Result<()> {
+        let mut seen = self.seen.get();
+        seen.writes = seen.writes.saturating_add(one_if_ten(wait));
+        self.seen.set(seen);
+        Ok(())
+    }
+
+    fn try_clone(&self) -> io::Result<Stream> {
+        let seen = self.seen.clone()?;
+        Ok(Stream {
+            number: self.number,
+            read: self.read,
+            seen,
+        })
+    }
+}
+
+impl AsRawFd for Stream {
+    fn as_raw_fd(&self) -> RawFd {
+        3
+    }
+}
+
+/// The sockets of a computer, where one port is free, and its clock, which tells the last billionth of a second. They take the connections themselves.
+#[derive(Drop)]
+struct Sockets {
+    seen: Rc<Cell<Seen>>,
+}
+
+impl OpenListener for Sockets {
+    type Stream = Stream;
+
+    fn accept(&self) -> io::Result<(Stream, SocketAddr)> {
+        let mut seen = self.seen.get();
+        let number = seen.taken;
+        seen.taken = number.saturating_add(1);
+        self.seen.set(seen);
+        if came_behind(&CAME, number).is_none() {
+            return Err(io::Error::from(ErrorKind::ConnectionAborted));
+        }
+        let seen = self.seen.clone()?;
+        let from = SocketAddr::V4(SocketAddrV4::new(Ipv4Addr::LOCALHOST, 1024));
+        let stream = Stream {
+            number,
+            read: 0,
+            seen,
+        };
+        Ok((stream, from))
+    }
+}
+
+impl AsRawFd for Sockets {
+    fn as_raw_fd(&self) -> RawFd {
+        4
+    }
+}
+
+// Whether it is port 8083 of the computer itself.
+fn is_free(address: SocketAddr) -> bool {
+    match address {
+        SocketAddr::V4(address) => {
+            address.ip().octets() == [127, 0, 0, 1] && address.port() == 8083
+        }
+        SocketAddr::V6(_) => false,
+    }
+}
+
+impl Net for Sockets {
+    type Stream = Stream;
+
+    type Listener = Sockets;
+
+    fn bind(&self, address: SocketAddr) -> io::Result<Sockets> {
+        if !is_free(address) {
+            return Err(io::Error::from(ErrorKind::AddrInUse));
+        }
+        let seen = self.seen.clone()?;
+        Ok(Sockets { seen })
+    }
+
+    fn connect(&self, _address: SocketAddr) -> io::Result<Stream> {
+        Err(io::Error::from(ErrorKind::Unsupported))
+    }
+}
+
+impl Clock for Sockets {
+    fn monotonic(&self) -> io::Result<Duration> {
+        Ok(Duration::ZERO)
+    }
+
+    fn since_1970(&self) -> io::Result<Duration> {
+        Ok(Duration::new(BEGIN, 999_999_999))
+    }
+}
+
+// Whether an office is served at the free port, and at none that is taken.
+fn is_served<H: StoredShelf + Drop>(
+    alloc: Global,
+    sockets: &Sockets,
+    office: &mut Office<H>,
+) -> bool {
+    let computer = Computer { network: sockets };
+    let is_refused = matches!(
+        &serve_at(alloc, &computer, office, 8084, 1),
+        Err(ProgramFault::Input)
+    );
+    is_refused && serve_at(alloc, &computer, office, 8083, 4).is_ok()
+}
+
+// Whether it is, and each of its three connections is answered behind what it may wait; the one that can't be taken counts.
+fn serves_at_sockets<H: StoredShelf + Drop>(alloc: Global, shelf: H) -> bool {
+    let Ok(seen) = Rc::new(alloc, Cell::new(NOTHING)) else {
+        return false;
+    };
+    let Ok(mut office) = office(alloc, shelf) else {
+        return false;
+    };
+    let sockets = Sockets { seen };
+    let is_served = is_served(alloc, &sockets, &mut office);
+    let seen = sockets.seen.get();
+    let is_asked = seen.taken == 4 && seen.reads == 3 && seen.writes == 3;
+    is_served && is_asked && seen.told == Some(TOLD.len())
+}
+
+// Generic in the store, so that what stands over any shelf is not compared again at this one.
+fn serves_over<A: Alter + Drop>(alloc: Global, shelf: SqlShelf<A>) -> bool {
+    serves_at_sockets(alloc, shelf)
+}
+
+fn serves_in_sql(alloc: Global) -> bool {
+    match SqlShelf::create(alloc) {
+        Ok(shelf) => serves_over(alloc, shelf),
+        Err(_) => false,
+    }
+}
+
+#[test]
+fn sockets_are_served(rt: HostRuntime) {
+    let alloc = rt.alloc();
+    // At a second try where the first isn't right: one allocation of a test may be refused.
+    assert!(rt; serves_in_sql(alloc) || serves_in_sql(alloc));
+}
