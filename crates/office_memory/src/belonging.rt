@@ -3,7 +3,7 @@ ghost use Rattle.office_values.specs.Ids.{same_id};
 ghost use Rattle.office_base.specs.Tables.{same_number, of_notice};
 
 use crate::child::Child;
-use crate::grouped::Grouping;
+use crate::group_index::{GroupIndex, Grouping};
 use crate::id_bounds::{greatest_id, least_id};
 use office_base::records::{
     AwardRow, ContractRow, EntryRow, EnvelopeRow, LotRow, ReleaseRow, SecurityRow,
@@ -134,3 +134,15 @@ impl Grouping<EnvelopeRow> for ByTenderer {
         (row.notice, row.lot, row.tenderer)
     }
 }
+
+/// Securities are listed by their notice, and by their lot.
+pub type SecurityIndexes = (GroupIndex<SecurityRow, ByNotice>, GroupIndex<SecurityRow, ByLot>);
+
+/// Tenders are listed by their notice, by their lot, and by their lot and tenderer.
+pub type EnvelopeIndexes = (
+    GroupIndex<EnvelopeRow, ByNotice>,
+    (
+        GroupIndex<EnvelopeRow, ByLot>,
+        GroupIndex<EnvelopeRow, ByTenderer>,
+    ),
+);
