@@ -76,7 +76,8 @@ where
     // Adds the key under the group. No key leaves the index, also where memory is wanting.
     fn add(&mut self, group: N::Group, key: R::Key) -> Result<(), AllocError>
         ensures has { OnOk result (has_key N.Group.cmp R.Key.cmp self.new.keys group key ≡ true) }
-        ensures kept { (g : N.Group) (k : R.Key) → has_key N.Group.cmp R.Key.cmp self.old.keys g k ≡ true → has_key N.Group.cmp R.Key.cmp self.new.keys g k ≡ true }
+        ensures kept { (g : N.Group) (k : R.Key) → has_key N.Group.cmp R.Key.cmp self.old.keys g k ≡ true
+            → has_key N.Group.cmp R.Key.cmp self.new.keys g k ≡ true }
         ensures whole { self.new.is_whole ≡ self.old.is_whole }
     {
         if let Some(keys) = self.keys.get_mut(&group) {
