@@ -3,6 +3,7 @@ ghost use Rattle.std.specs.Prelude.{◌≡◌, ◌&&◌, IfOk, OnOk, true, [], �
 ghost use Rattle.std.specs.BTreeSet.{contains};
 ghost use Rattle.office_memory.specs.Inside.GroupIndex.{has_key, HasRows, IsIndexed};
 
+use crate::indexed_table::IndexedTable;
 use crate::indexes::Indexes;
 use keyed_table::known::Known;
 use keyed_table::table::{Replaced, Table};
@@ -139,34 +140,35 @@ where
         Ok(found)
     }
 
-    /// The rows of a group of its table, in the order of their keys. Costs a look-up for each row that is or was of the group; a look at each
-    /// row of the table, once a row was taken back that had never been put.
-    pub fn rows_of_group<'a>(
+    /// The rows of a group in the table whose index it is, in the order of their keys. Costs a look-up for each row that is or was of the
+    /// group; a look at each row of the table, once a row was taken back that had never been put.
+    pub fn rows_of_group<'a, I: Indexes<R>>(
         &self,
         alloc: Global,
-        rows: &'a Table<R>,
+        table: &'a IndexedTable<R, I>,
         group: &N::Group,
     ) -> Result<Vec<&'a R>, AllocError>
-        requires { IsIndexed N.Group.cmp R.Key.cmp N.group_of R.key_of rows.now self.now.keys self.now.is_whole }
-        ensures { IfOk result (λ found. map (λ row. row.now) found.items ≡ filter (λ r. N.Group.eq (N.group_of r) group.now) rows.now) }
+        requires { IsIndexed N.Group.cmp R.Key.cmp N.group_of R.key_of table.now self.now.keys self.now.is_whole }
+        ensures { IfOk result (λ found. map (λ row. row.now) found.items ≡ filter (λ r. N.Group.eq (N.group_of r) group.now) table.now) }
     {
+        let rows = table.rows();
         if !self.is_whole {
             return Self::searched(alloc, rows, group);
         }
         self.indexed(alloc, rows, group)
     }
 
-    /// The rows of a group of its table, copied, in the order of their keys. Costs as `rows_of_group`, and the copies.
-    pub fn copy_of_group(
+    /// The rows of a group in the table whose index it is, copied, in the order of their keys. Costs as `rows_of_group`, and the copies.
+    pub fn copy_of_group<I: Indexes<R>>(
         &self,
         alloc: Global,
-        rows: &Table<R>,
+        table: &IndexedTable<R, I>,
         group: &N::Group,
     ) -> Result<Vec<R>, AllocError>
-        requires { IsIndexed N.Group.cmp R.Key.cmp N.group_of R.key_of rows.now self.now.keys self.now.is_whole }
-        ensures { IfOk result (λ copied. copied.items ≡ filter (λ r. N.Group.eq (N.group_of r) group.now) rows.now) }
+        requires { IsIndexed N.Group.cmp R.Key.cmp N.group_of R.key_of table.now self.now.keys self.now.is_whole }
+        ensures { IfOk result (λ copied. copied.items ≡ filter (λ r. N.Group.eq (N.group_of r) group.now) table.now) }
     {
-        copies(alloc, &self.rows_of_group(alloc, rows, group)?)
+        copies(alloc, &self.rows_of_group(alloc, table, group)?)
     }
 }
 

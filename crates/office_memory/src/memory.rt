@@ -258,8 +258,7 @@ impl Lookups for MemoryShelf {
 
     fn list_lots_of_line(&mut self, line: &Id) -> Result<Vec<LotRow>, ShelfFault> {
         let lots = &self.tables.lots;
-        let by_line = lots.indexes();
-        match by_line.copy_of_group(self.alloc, lots.rows(), line) {
+        match lots.indexes().copy_of_group(self.alloc, lots, line) {
             Ok(rows) => Ok(rows),
             Err(_) => Err(self.refused()),
         }
@@ -268,7 +267,7 @@ impl Lookups for MemoryShelf {
     fn list_envelopes_of_notice(&mut self, notice: &Id) -> Result<Vec<EnvelopeRow>, ShelfFault> {
         let envelopes = &self.tables.envelopes;
         let (by_notice, _) = envelopes.indexes();
-        match by_notice.copy_of_group(self.alloc, envelopes.rows(), notice) {
+        match by_notice.copy_of_group(self.alloc, envelopes, notice) {
             Ok(rows) => Ok(rows),
             Err(_) => Err(self.refused()),
         }
@@ -281,7 +280,7 @@ impl Lookups for MemoryShelf {
     ) -> Result<Vec<EnvelopeRow>, ShelfFault> {
         let envelopes = &self.tables.envelopes;
         let (_, (by_lot, _)) = envelopes.indexes();
-        match by_lot.copy_of_group(self.alloc, envelopes.rows(), &(*notice, *lot)) {
+        match by_lot.copy_of_group(self.alloc, envelopes, &(*notice, *lot)) {
             Ok(rows) => Ok(rows),
             Err(_) => Err(self.refused()),
         }
@@ -296,7 +295,7 @@ impl Lookups for MemoryShelf {
         let owner = (*notice, *lot, *tenderer);
         let envelopes = &self.tables.envelopes;
         let (_, (_, by_tenderer)) = envelopes.indexes();
-        match by_tenderer.copy_of_group(self.alloc, envelopes.rows(), &owner) {
+        match by_tenderer.copy_of_group(self.alloc, envelopes, &owner) {
             Ok(rows) => Ok(rows),
             Err(_) => Err(self.refused()),
         }
@@ -305,7 +304,7 @@ impl Lookups for MemoryShelf {
     fn list_securities_of_notice(&mut self, notice: &Id) -> Result<Vec<SecurityRow>, ShelfFault> {
         let securities = &self.tables.securities;
         let (by_notice, _) = securities.indexes();
-        match by_notice.copy_of_group(self.alloc, securities.rows(), notice) {
+        match by_notice.copy_of_group(self.alloc, securities, notice) {
             Ok(rows) => Ok(rows),
             Err(_) => Err(self.refused()),
         }
@@ -318,7 +317,7 @@ impl Lookups for MemoryShelf {
     ) -> Result<Vec<SecurityRow>, ShelfFault> {
         let securities = &self.tables.securities;
         let (_, by_lot) = securities.indexes();
-        match by_lot.copy_of_group(self.alloc, securities.rows(), &(*notice, *lot)) {
+        match by_lot.copy_of_group(self.alloc, securities, &(*notice, *lot)) {
             Ok(rows) => Ok(rows),
             Err(_) => Err(self.refused()),
         }
@@ -326,8 +325,7 @@ impl Lookups for MemoryShelf {
 
     fn list_awards_of_notice(&mut self, notice: &Id) -> Result<Vec<AwardRow>, ShelfFault> {
         let awards = &self.tables.awards;
-        let by_notice = awards.indexes();
-        match by_notice.copy_of_group(self.alloc, awards.rows(), notice) {
+        match awards.indexes().copy_of_group(self.alloc, awards, notice) {
             Ok(rows) => Ok(rows),
             Err(_) => Err(self.refused()),
         }
@@ -335,8 +333,7 @@ impl Lookups for MemoryShelf {
 
     fn list_contracts_of_notice(&mut self, notice: &Id) -> Result<Vec<ContractRow>, ShelfFault> {
         let contracts = &self.tables.contracts;
-        let by_notice = contracts.indexes();
-        match by_notice.copy_of_group(self.alloc, contracts.rows(), notice) {
+        match contracts.indexes().copy_of_group(self.alloc, contracts, notice) {
             Ok(rows) => Ok(rows),
             Err(_) => Err(self.refused()),
         }

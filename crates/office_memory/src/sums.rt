@@ -53,7 +53,7 @@ fn push_sums(
 {
     let contracts = &tables.contracts;
     let by_notice = contracts.indexes();
-    for contract in by_notice.rows_of_group(alloc, contracts.rows(), &lot.notice)? {
+    for contract in by_notice.rows_of_group(alloc, contracts, &lot.notice)? {
         if contract.lot == lot.lot {
             sums.push(sums_of(&tables.entries, contract))?;
         }
@@ -85,9 +85,8 @@ pub fn amounts_of_line(
 ) -> Result<LineAmounts, AllocError>
     ensures { IfOk result (λ amounts. amounts ≡ amounts_of_line line.now (tables_of tables.now)) }
 {
-    let all_lots = &tables.lots;
-    let by_line = all_lots.indexes();
-    let lots = by_line.rows_of_group(alloc, all_lots.rows(), line)?;
+    let by_line = tables.lots.indexes();
+    let lots = by_line.rows_of_group(alloc, &tables.lots, line)?;
     let reserved = reserved_by(alloc, &lots)?;
     let contracts = sums_under(alloc, tables, lots)?;
     Ok(LineAmounts::from_vecs(reserved, contracts))
