@@ -25,22 +25,3 @@ pub trait Indexes<R: Row + Drop>: Sized + Drop {
     fn go_back(&mut self, replaced: &Replaced<R>)
         ensures { (rows : List R) → covers self.old rows → covers self.new (taken_back R.Key.cmp R.key_of replaced.now rows) };
 }
-
-// Two of them, each of which may be several.
-impl<R: Row + Drop, A: Indexes<R>, B: Indexes<R>> Indexes<R> for (A, B) {
-    ghost covers = { λ both rows. A.covers both.0 rows × B.covers both.1 rows };
-
-    fn new(alloc: Global) -> (A, B) {
-        (A::new(alloc), B::new(alloc))
-    }
-
-    fn add_row(&mut self, row: &R) -> Result<(), AllocError> {
-        self.0.add_row(row)?;
-        self.1.add_row(row)
-    }
-
-    fn go_back(&mut self, replaced: &Replaced<R>) {
-        self.0.go_back(replaced);
-        self.1.go_back(replaced);
-    }
-}

@@ -266,7 +266,7 @@ impl Lookups for MemoryShelf {
 
     fn list_envelopes_of_notice(&mut self, notice: &Id) -> Result<Vec<EnvelopeRow>, ShelfFault> {
         let envelopes = &self.tables.envelopes;
-        let (by_notice, _) = envelopes.indexes();
+        let by_notice = &envelopes.indexes().by_notice;
         match by_notice.copy_of_group(self.alloc, envelopes, notice) {
             Ok(rows) => Ok(rows),
             Err(_) => Err(self.refused()),
@@ -279,7 +279,7 @@ impl Lookups for MemoryShelf {
         lot: &Id,
     ) -> Result<Vec<EnvelopeRow>, ShelfFault> {
         let envelopes = &self.tables.envelopes;
-        let (_, (by_lot, _)) = envelopes.indexes();
+        let by_lot = &envelopes.indexes().by_lot;
         match by_lot.copy_of_group(self.alloc, envelopes, &(*notice, *lot)) {
             Ok(rows) => Ok(rows),
             Err(_) => Err(self.refused()),
@@ -294,7 +294,7 @@ impl Lookups for MemoryShelf {
     ) -> Result<Vec<EnvelopeRow>, ShelfFault> {
         let owner = (*notice, *lot, *tenderer);
         let envelopes = &self.tables.envelopes;
-        let (_, (_, by_tenderer)) = envelopes.indexes();
+        let by_tenderer = &envelopes.indexes().by_tenderer;
         match by_tenderer.copy_of_group(self.alloc, envelopes, &owner) {
             Ok(rows) => Ok(rows),
             Err(_) => Err(self.refused()),
@@ -303,7 +303,7 @@ impl Lookups for MemoryShelf {
 
     fn list_securities_of_notice(&mut self, notice: &Id) -> Result<Vec<SecurityRow>, ShelfFault> {
         let securities = &self.tables.securities;
-        let (by_notice, _) = securities.indexes();
+        let by_notice = &securities.indexes().by_notice;
         match by_notice.copy_of_group(self.alloc, securities, notice) {
             Ok(rows) => Ok(rows),
             Err(_) => Err(self.refused()),
@@ -316,7 +316,7 @@ impl Lookups for MemoryShelf {
         lot: &Id,
     ) -> Result<Vec<SecurityRow>, ShelfFault> {
         let securities = &self.tables.securities;
-        let (_, by_lot) = securities.indexes();
+        let by_lot = &securities.indexes().by_lot;
         match by_lot.copy_of_group(self.alloc, securities, &(*notice, *lot)) {
             Ok(rows) => Ok(rows),
             Err(_) => Err(self.refused()),
@@ -333,7 +333,10 @@ impl Lookups for MemoryShelf {
 
     fn list_contracts_of_notice(&mut self, notice: &Id) -> Result<Vec<ContractRow>, ShelfFault> {
         let contracts = &self.tables.contracts;
-        match contracts.indexes().copy_of_group(self.alloc, contracts, notice) {
+        match contracts
+            .indexes()
+            .copy_of_group(self.alloc, contracts, notice)
+        {
             Ok(rows) => Ok(rows),
             Err(_) => Err(self.refused()),
         }
