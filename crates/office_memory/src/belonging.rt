@@ -146,7 +146,8 @@ pub struct SecurityIndexes {
 }
 
 impl Indexes<SecurityRow> for SecurityIndexes {
-    ghost covers = { λ all rows. ⟦<GroupIndex<SecurityRow, ByNotice> as Indexes<SecurityRow>>⟧.covers all.by_notice rows × ⟦<GroupIndex<SecurityRow, ByLot> as Indexes<SecurityRow>>⟧.covers all.by_lot rows };
+    ghost covers = { λ all rows. ⟦<GroupIndex<SecurityRow, ByNotice> as Indexes<SecurityRow>>⟧.covers all.by_notice rows
+        × ⟦<GroupIndex<SecurityRow, ByLot> as Indexes<SecurityRow>>⟧.covers all.by_lot rows };
 
     fn new(alloc: Global) -> SecurityIndexes {
         SecurityIndexes {
@@ -175,7 +176,9 @@ pub struct EnvelopeIndexes {
 }
 
 impl Indexes<EnvelopeRow> for EnvelopeIndexes {
-    ghost covers = { λ all rows. ⟦<GroupIndex<EnvelopeRow, ByNotice> as Indexes<EnvelopeRow>>⟧.covers all.by_notice rows × ⟦<GroupIndex<EnvelopeRow, ByLot> as Indexes<EnvelopeRow>>⟧.covers all.by_lot rows × ⟦<GroupIndex<EnvelopeRow, ByTenderer> as Indexes<EnvelopeRow>>⟧.covers all.by_tenderer rows };
+    ghost covers = { λ all rows. ⟦<GroupIndex<EnvelopeRow, ByNotice> as Indexes<EnvelopeRow>>⟧.covers all.by_notice rows
+        × ⟦<GroupIndex<EnvelopeRow, ByLot> as Indexes<EnvelopeRow>>⟧.covers all.by_lot rows
+        × ⟦<GroupIndex<EnvelopeRow, ByTenderer> as Indexes<EnvelopeRow>>⟧.covers all.by_tenderer rows };
 
     fn new(alloc: Global) -> EnvelopeIndexes {
         EnvelopeIndexes {
