@@ -1,5 +1,5 @@
 use Rattle.std.proofs.Common.{◌≡◌, filter, map}
-use Rattle.office_memory.proofs.grouped.searched.Given as goal
+use Rattle.office_memory.proofs.group_index.GroupIndex.searched.Given as goal
 
 abbrev pub invariant-loop-boxed : goal.invariant-loop-boxed
 invariant-loop-boxed g l =

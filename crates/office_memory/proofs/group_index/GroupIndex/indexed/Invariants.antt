@@ -1,7 +1,7 @@
 use Rattle.std.proofs.Common.{◌≡◌, ◌++◌, filter, map}
 use Rattle.std.specs.List.{filter_map}
 use Rattle.office_base.specs.Rows.{row_at}
-use Rattle.office_memory.proofs.grouped.indexed.Given as goal
+use Rattle.office_memory.proofs.group_index.GroupIndex.indexed.Given as goal
 
 -- what was found and the rows at the keys that are left are the rows of the group
 abbrev pub invariant-loop-key : goal.invariant-loop-key
