@@ -91,24 +91,24 @@ pub all_indexings : AreIndexings (create_lots_of_line ∷ create_envelopes_of_no
 all_indexings = ((Lots, lots_of_line, indexes_lots_of_line, refl), ((Envelopes, envelopes_of_notice, indexes_envelopes_of_notice, refl), ((Securities, securities_of_notice, indexes_securities_of_notice, refl), ((Awards, awards_of_notice, indexes_awards_of_notice, refl), ((Contracts, contracts_of_notice, indexes_contracts_of_notice, refl), tt)))))
 
 -- its records come back from their rows
-pub come_back : (k : OfficeTable) → ComeBack k
-come_back Lines = record { row = λ x. refl; entry = λ rowid x. refl }
-come_back Batches = record { row = λ x. refl; entry = λ rowid x. refl }
-come_back Tenderers = record { row = λ x. refl; entry = λ rowid x. refl }
-come_back Notices = record { row = notice_back; entry = λ rowid. notice_back }
-come_back Lots = record { row = lot_back; entry = λ rowid. lot_back }
-come_back Envelopes = record { row = envelope_back; entry = λ rowid. envelope_back }
-come_back Seals = record { row = λ x. refl; entry = λ rowid x. refl }
-come_back Securities = record { row = security_back; entry = λ rowid. security_back }
-come_back Awards = record { row = award_back; entry = λ rowid. award_back }
-come_back Contracts = record { row = contract_back; entry = λ rowid. contract_back }
-come_back Entries = record { row = entry_back; entry = λ rowid. entry_back }
-come_back Releases = record { row = λ x. refl; entry = λ rowid x. refl }
-come_back Compiled = record { row = λ x. refl; entry = λ rowid x. refl }
-come_back Office = record { row = λ x. refl; entry = λ rowid x. refl }
-come_back LateRules = record { row = λ x. refl; entry = λ rowid x. refl }
-come_back FormerNotices = former_back
-come_back Performances = record { row = performance_back; entry = λ rowid. performance_back }
+pub all_come_back : (k : OfficeTable) → ComeBack k
+all_come_back Lines = record { row = λ x. refl; entry = λ rowid x. refl }
+all_come_back Batches = record { row = λ x. refl; entry = λ rowid x. refl }
+all_come_back Tenderers = record { row = λ x. refl; entry = λ rowid x. refl }
+all_come_back Notices = record { row = notice_back; entry = λ rowid. notice_back }
+all_come_back Lots = record { row = lot_back; entry = λ rowid. lot_back }
+all_come_back Envelopes = record { row = envelope_back; entry = λ rowid. envelope_back }
+all_come_back Seals = record { row = λ x. refl; entry = λ rowid x. refl }
+all_come_back Securities = record { row = security_back; entry = λ rowid. security_back }
+all_come_back Awards = record { row = award_back; entry = λ rowid. award_back }
+all_come_back Contracts = record { row = contract_back; entry = λ rowid. contract_back }
+all_come_back Entries = record { row = entry_back; entry = λ rowid. entry_back }
+all_come_back Releases = record { row = λ x. refl; entry = λ rowid x. refl }
+all_come_back Compiled = record { row = λ x. refl; entry = λ rowid x. refl }
+all_come_back Office = record { row = λ x. refl; entry = λ rowid x. refl }
+all_come_back LateRules = record { row = λ x. refl; entry = λ rowid x. refl }
+all_come_back FormerNotices = former_back
+all_come_back Performances = record { row = performance_back; entry = λ rowid. performance_back }
 
 -- ---- what each put makes
 

@@ -1,5 +1,5 @@
-use Rattle.office_tables.proofs.Each.{come_back}
+use Rattle.office_tables.proofs.Each.{all_come_back}
 use Rattle.office_tables.proofs.laws.records_come_back.Goals as goal
 
 pub returns : goal.returns
-returns c = come_back
+returns c = all_come_back
