@@ -1,6 +1,6 @@
 -- A row is the list of its columns; and what stands in it isn't read because of one of its parts.
 use Rattle.std.proofs.Common.{◌≡◌, ℕ, zero, suc, ◌<◌, List, [], ◌∷◌, length, get_or, map, Result, Ok, Err, refl, sym, ap, subst, ◌∙◌, arith}
-use Rattle.std.specs.Prelude.{◌≢◌, IfErr}
+use Rattle.std.specs.Prelude.{IfErr}
 use Rattle.std.specs.Result.{IsErrAnd}
 use Rattle.std.specs.List.{AllByRecursion}
 use Rattle.sqlite_value.specs.declared.value.Value.{Value}
@@ -32,12 +32,6 @@ fault_of f Store h = f h
 pub exit : {T : Type 0} (e : ShelfFault) (r : Result T ShelfFault) (P Q : Type 0) → IsErrAnd r (λ y. y ≡ e) → (P → Q) → IsFaultOf P e → IfErr r (IsFaultOf Q)
 exit e (Ok x) P Q same f h = tt
 exit e (Err d) P Q same f h = subst (IsFaultOf Q) (sym same) (fault_of f e h)
-
--- a row of another length is no record's
-pub other_width : {T Y : Type 0} (row_of : Y → Row) (fits : Y → Type 0) (row : Row) (n : ℕ) → ((y : Y) → length (row_of y) ≡ n) → (e : ShelfFault) (r : Result T ShelfFault)
-    → IsErrAnd r (λ y. y ≡ e) → IsFaultOf (length row ≢ n) e → IfErr r (IsFaultOf (IsUnwritten row_of fits row))
-other_width row_of fits row n wide e r same h =
-    exit e r (length row ≢ n) (IsUnwritten row_of fits row) same (λ other. record { none = λ y f is. other (ap length (sym is) ∙ wide y) }) h
 
 -- one of some rows
 one_of : {R : Type 0} (row_of : R → Row) (fits : R → Type 0) (xs : List R) (row : Row) (at : ℕ) → at < length (map row_of xs) → get_or (map row_of xs) at row ≡ row → AllByRecursion fits xs
