@@ -1,9 +1,9 @@
 //! The tables of an office, a file each: its texts, its rows, and the questions for them. What makes them all, and what changes a record of any,
 //! as one statement of a transaction: a change is made, or it is refused and nothing is committed.
-ghost use Rattle.std.specs.Prelude.{◌≡◌, [], ◌∷◌, IsTrue, OnOk, OnErr};
+ghost use Rattle.std.specs.Prelude.{◌≡◌, [], ◌∷◌, IsTrue, OnOk, OnErr, map};
 ghost use Rattle.sqlite.specs.Held.{state};
 ghost use Rattle.sqlite.specs.State.{HasCleanDisk, Survives};
-ghost use Rattle.office_tables.specs.Schema.{all_tables};
+ghost use Rattle.office_tables.specs.Schema.{all_tables, table_of};
 ghost use Rattle.office_tables.specs.Making.{Makes};
 ghost use Rattle.office_tables.specs.Failing.{ErrorHasCause};
 ghost use Rattle.office_tables.specs.Steps.{Puts, Refused};
@@ -61,6 +61,31 @@ pub(crate) fn make_office<S: Alter>(tx: &mut Transaction<'_, S>) -> Result<(), E
             performances::CREATE,
         ],
     )
+}
+
+/// The names of the tables, that of the last that is made first.
+pub fn table_names() -> [&'static [u8]; 17]
+    ensures { map (λ name. name.now) result ≡ map (λ k. (table_of k).name) all_tables }
+{
+    [
+        b"performance",
+        b"notices_2",
+        b"late_rules",
+        b"office",
+        b"compiled",
+        b"releases",
+        b"entries",
+        b"contracts",
+        b"awards",
+        b"securities",
+        b"seals",
+        b"envelopes",
+        b"lots",
+        b"notices",
+        b"tenderers",
+        b"batches",
+        b"lines",
+    ]
 }
 
 /// Ready for changes: the database is open, and its table `office` can be asked.
