@@ -1,5 +1,6 @@
+use Rattle.sqlite.specs.Held.{state}
 use Rattle.office_tables.proofs.ByTable.Awards.{select_get_award}
 use Rattle.office_tables.proofs.tables.awards.get_award.Goals as goal
 
 pub returns : goal.returns
-returns g c = c.ask_first.ensures.told _ (rw c.number_value.ensures (λ before after rows t holds. select_get_award before after rows t holds c.args.award))
+returns g c = c.ask_first.ensures.told _ (rw c.number_value.ensures (λ before after rows t holds. select_get_award (state g.S.Store before) (state g.S.Store after) rows t holds c.args.award))

@@ -1,5 +1,6 @@
+use Rattle.sqlite.specs.Held.{state}
 use Rattle.office_tables.proofs.ByTable.Contracts.{select_get_contract}
 use Rattle.office_tables.proofs.tables.contracts.get_contract.Goals as goal
 
 pub returns : goal.returns
-returns g c = c.ask_first.ensures.told _ (rw c.number_value.ensures (λ before after rows t holds. select_get_contract before after rows t holds c.args.contract))
+returns g c = c.ask_first.ensures.told _ (rw c.number_value.ensures (λ before after rows t holds. select_get_contract (state g.S.Store before) (state g.S.Store after) rows t holds c.args.contract))

@@ -1,5 +1,6 @@
+use Rattle.sqlite.specs.Held.{state}
 use Rattle.office_tables.proofs.ByTable.Envelopes.{select_get_envelope}
 use Rattle.office_tables.proofs.tables.envelopes.get_envelope.Goals as goal
 
 pub returns : goal.returns
-returns g c = c.ask_first.ensures.told _ (rw c.number_value.ensures (λ before after rows t holds. select_get_envelope before after rows t holds c.args.receipt))
+returns g c = c.ask_first.ensures.told _ (rw c.number_value.ensures (λ before after rows t holds. select_get_envelope (state g.S.Store before) (state g.S.Store after) rows t holds c.args.receipt))

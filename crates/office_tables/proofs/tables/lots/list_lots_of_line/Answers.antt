@@ -1,5 +1,6 @@
+use Rattle.sqlite.specs.Held.{state}
 use Rattle.office_tables.proofs.ByTable.Lots.{select_list_lots_of_line}
 use Rattle.office_tables.proofs.tables.lots.list_lots_of_line.Goals as goal
 
 pub returns : goal.returns
-returns g c = c.ask_all.ensures.told _ (rw c.id_value.ensures (λ before after rows t holds. select_list_lots_of_line before after rows t holds c.args.line.now))
+returns g c = c.ask_all.ensures.told _ (rw c.id_value.ensures (λ before after rows t holds. select_list_lots_of_line (state g.S.Store before) (state g.S.Store after) rows t holds c.args.line.now))

@@ -1,5 +1,6 @@
+use Rattle.sqlite.specs.Held.{state}
 use Rattle.office_tables.proofs.ByTable.Notices.{select_get_notice}
 use Rattle.office_tables.proofs.tables.notices.get_notice.Goals as goal
 
 pub returns : goal.returns
-returns g c = c.ask_first.ensures.told _ (rw c.id_value.ensures (λ before after rows t holds. select_get_notice before after rows t holds c.args.notice.now))
+returns g c = c.ask_first.ensures.told _ (rw c.id_value.ensures (λ before after rows t holds. select_get_notice (state g.S.Store before) (state g.S.Store after) rows t holds c.args.notice.now))

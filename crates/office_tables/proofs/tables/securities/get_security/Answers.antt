@@ -1,5 +1,6 @@
+use Rattle.sqlite.specs.Held.{state}
 use Rattle.office_tables.proofs.ByTable.Securities.{select_get_security}
 use Rattle.office_tables.proofs.tables.securities.get_security.Goals as goal
 
 pub returns : goal.returns
-returns g c = c.ask_first.ensures.told _ (rw c.number_value.ensures (λ before after rows t holds. select_get_security before after rows t holds c.args.security))
+returns g c = c.ask_first.ensures.told _ (rw c.number_value.ensures (λ before after rows t holds. select_get_security (state g.S.Store before) (state g.S.Store after) rows t holds c.args.security))

@@ -1,5 +1,6 @@
+use Rattle.sqlite.specs.Held.{state}
 use Rattle.office_tables.proofs.ByTable.Securities.{select_list_securities_of_lot}
 use Rattle.office_tables.proofs.tables.securities.list_securities_of_lot.Goals as goal
 
 pub returns : goal.returns
-returns g c = c.ask_all.ensures.told _ (rw (c.id_value.ensures, c.id_value-2.ensures) (λ before after rows t holds. select_list_securities_of_lot before after rows t holds c.args.notice.now c.args.lot.now))
+returns g c = c.ask_all.ensures.told _ (rw (c.id_value.ensures, c.id_value-2.ensures) (λ before after rows t holds. select_list_securities_of_lot (state g.S.Store before) (state g.S.Store after) rows t holds c.args.notice.now c.args.lot.now))
