@@ -29,7 +29,7 @@ abbrev pub table_names : List (List ℕ)
 table_names =
     codes "lines" ∷ codes "batches" ∷ codes "tenderers" ∷ codes "notices" ∷ codes "lots" ∷ codes "envelopes" ∷ codes "seals"
     ∷ codes "securities" ∷ codes "awards" ∷ codes "contracts" ∷ codes "entries" ∷ codes "releases" ∷ codes "compiled" ∷ codes "office"
-    ∷ codes "late_rules" ∷ codes "notices_2" ∷ codes "performance" ∷ []
+    ∷ codes "late_rules" ∷ codes "notices_2" ∷ codes "performance" ∷ codes "memos" ∷ []
 
 -- a table, an index or a view of the schema has one of them
 abbrev pub takes_a_name : Schema → Bool

@@ -87,7 +87,7 @@ fn any_is_used(schema: &Schema, names: &[&[u8]]) -> bool
 fn takes_a_name(schema: &Schema) -> bool
     ensures { result ≡ takes_a_name schema.now }
 {
-    let names: [&[u8]; 17] = [
+    let names: [&[u8]; 18] = [
         b"lines",
         b"batches",
         b"tenderers",
@@ -105,6 +105,7 @@ fn takes_a_name(schema: &Schema) -> bool
         b"late_rules",
         b"notices_2",
         b"performance",
+        b"memos",
     ];
     any_is_used(schema, names.as_slice())
 }

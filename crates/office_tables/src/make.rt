@@ -11,8 +11,8 @@ ghost use Rattle.office_tables.specs.Steps.{Refused};
 
 use crate::statement::execute_one;
 use crate::tables::{
-    awards, batches, compiled, contracts, entries, envelopes, late_rules, lines, lots, notices,
-    office, performances, releases, seals, securities, tenderers,
+    awards, batches, compiled, contracts, entries, envelopes, late_rules, lines, lots, memos,
+    notices, office, performances, releases, seals, securities, tenderers,
 };
 use office_base::records::ClockRow;
 use office_values::given::LastNumber;
@@ -102,6 +102,7 @@ fn make_office<S: Alter>(tx: &mut Transaction<'_, S>) -> Result<(), Error>
             late_rules::CREATE,
             notices::CREATE,
             performances::CREATE,
+            memos::CREATE,
         ],
     )
 }

@@ -9,6 +9,7 @@ pub mod envelopes;
 pub mod late_rules;
 pub mod lines;
 pub mod lots;
+pub mod memos;
 pub mod notices;
 pub mod office;
 pub mod performances;

@@ -1,12 +1,12 @@
 use Rattle.std.proofs.Common.{◌∷◌, [], List, refl}
 use Rattle.office_tables.specs.Schema.{OfficeTable}
-use Rattle.office_tables.specs.Schema.OfficeTable.{Lines, Batches, Tenderers, FormerNotices, Lots, Envelopes, Seals, Securities, Awards, Contracts, Entries, Releases, Compiled, Office, LateRules, Notices, Performances}
+use Rattle.office_tables.specs.Schema.OfficeTable.{Lines, Batches, Tenderers, FormerNotices, Lots, Envelopes, Seals, Securities, Awards, Contracts, Entries, Releases, Compiled, Office, LateRules, Notices, Performances, Memos}
 use Rattle.office_tables.proofs.make.make_office.Goals as goal
 
 abbrev in_order : List OfficeTable
 in_order =
     Lines ∷ Batches ∷ Tenderers ∷ FormerNotices ∷ Lots ∷ Envelopes ∷ Seals ∷ Securities ∷ Awards ∷ Contracts ∷ Entries ∷ Releases
-    ∷ Compiled ∷ Office ∷ LateRules ∷ Notices ∷ Performances ∷ []
+    ∷ Compiled ∷ Office ∷ LateRules ∷ Notices ∷ Performances ∷ Memos ∷ []
 
 pub returns-clause-made : goal.returns-clause-made
 returns-clause-made g c clean inside = c.make_tables.ensures.made clean inside in_order refl
