@@ -11,9 +11,9 @@ use Rattle.sqlite.specs.State.{State, HasCause, store_error}
 use Rattle.sqlite.specs.declared.error.Error.{Error}
 use Rattle.office_base.specs.Tables.{Tables, after_put, after_puts}
 use Rattle.office_base.specs.declared.puts.Put.{Put}
-use Rattle.office_sql.specs.Failing.{IsExcused, OneIsDeclined, StoreFails, ChangeFails}
-use Rattle.office_sql.specs.Standing.{Holds}
-use Rattle.office_sql.specs.Steps.{MakeAll, Puts, ShowsTables}
+use Rattle.office_tables.specs.Failing.{IsExcused, OneIsDeclined, StoreFails, ChangeFails}
+use Rattle.office_tables.specs.Standing.{Holds}
+use Rattle.office_tables.specs.Steps.{MakeAll, Puts, ShowsTables}
 use Rattle.office_changes.proofs.Steps.{made_then}
 
 pub excused_with : (P Q : Type 0) (e : Error) → IsExcused P e → (P → Q) → IsExcused Q e

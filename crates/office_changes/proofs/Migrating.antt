@@ -16,17 +16,17 @@ use Rattle.office_base.specs.declared.puts.Put.{Put}
 use Rattle.office_base.specs.declared.puts.Put.TheVariants as puts
 use Rattle.office_base.specs.declared.records.ClockRow.{ClockRow}
 use Rattle.office_base.specs.declared.records.NoticeRow.{NoticeRow}
-use Rattle.office_rows.specs.declared.stored.FormerNotice.{FormerNotice}
-use Rattle.office_sql.specs.Apart.{AddsNoReference, LeadsInside}
-use Rattle.office_sql.specs.First.{AreApart, IsMigrated, Begins}
-use Rattle.office_sql.specs.Known.{IsIn}
-use Rattle.office_sql.specs.Schema.{notices as version_two}
-use Rattle.office_sql.specs.Schema.OfficeTable.{Notices}
-use Rattle.office_sql.specs.Standing.{Holds}
-use Rattle.office_sql.specs.Steps.{MakeAll, Puts}
-use Rattle.office_sql.proofs.Childless.{SparesMarked}
-use Rattle.office_sql.proofs.FirstVersion.{first_sorted}
-use Rattle.office_sql.proofs.PutsApart.{notice_apart}
+use Rattle.office_tables.specs.declared.tables.notices.FormerNotice.{FormerNotice}
+use Rattle.office_tables.specs.Apart.{AddsNoReference, LeadsInside}
+use Rattle.office_tables.specs.First.{AreApart, IsMigrated, Begins}
+use Rattle.office_tables.specs.Known.{IsIn}
+use Rattle.office_tables.specs.Tables.Notices.{notices as version_two}
+use Rattle.office_tables.specs.Standing.{Holds}
+use Rattle.office_tables.specs.Steps.{MakeAll, Puts}
+use Rattle.office_tables.specs.Schema.OfficeTable.{Notices}
+use Rattle.office_tables.proofs.Childless.{SparesMarked}
+use Rattle.office_tables.proofs.FirstVersion.{first_sorted}
+use Rattle.office_tables.proofs.PutsApart.{notice_apart}
 use Rattle.office_changes.specs.Migration.{HoldsThese, Becomes, Migrates, LeavesSecond}
 use Rattle.office_changes.proofs.Steps.{goes_then}
 

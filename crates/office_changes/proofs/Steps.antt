@@ -6,8 +6,8 @@ use Rattle.sqlite.specs.Effect.{Database}
 use Rattle.sqlite.specs.State.{State, IsRolledBack, Shows}
 use Rattle.office_base.specs.Tables.{Tables, after_put, after_puts}
 use Rattle.office_base.specs.declared.puts.Put.{Put}
-use Rattle.office_sql.specs.Standing.{Holds}
-use Rattle.office_sql.specs.Steps.{Goes, MakeAll, Puts, Refused, Applied, LeavesPuts}
+use Rattle.office_tables.specs.Standing.{Holds}
+use Rattle.office_tables.specs.Steps.{Goes, MakeAll, Puts, Refused, Applied, LeavesPuts}
 
 pub after_puts-push : (t : Tables) (done : List Put) (p : Put) → after_puts (done ++ p ∷ []) t ≡ after_put p (after_puts done t)
 after_puts-push t [] p = refl

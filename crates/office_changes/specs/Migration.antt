@@ -6,8 +6,8 @@ use Rattle.sqlite.specs.State.{State}
 use Rattle.office_base.specs.Tables.{Tables}
 use Rattle.office_base.specs.declared.records.ClockRow.{ClockRow}
 use Rattle.office_base.specs.declared.records.NoticeRow.{NoticeRow}
-use Rattle.office_sql.specs.First.{HoldsFirst, IsMigrated, has_late}
-use Rattle.office_sql.specs.Steps.{Goes}
+use Rattle.office_tables.specs.First.{HoldsFirst, IsMigrated, has_late}
+use Rattle.office_tables.specs.Steps.{Goes}
 
 -- an office of version 1 stands there, with the table of late withdrawals or without it, and this is its content, with this clock and these notices
 pub record HoldsThese (late : Bool) (clock : ClockRow) (notices : List NoticeRow) (db : Database) (t : Tables) : Type 0 where

@@ -1,42 +1,14 @@
 //! Changes of an office: all of them in one transaction.
-ghost use Rattle.std.specs.Prelude.{◌≡◌, false, [], ◌∷◌, IsTrue, OnOk, OnErr};
+ghost use Rattle.std.specs.Prelude.{◌≡◌, IsTrue, OnOk, OnErr};
 ghost use Rattle.sqlite.specs.Held.{state};
 ghost use Rattle.sqlite.specs.State.{HasCleanDisk, Survives};
-ghost use Rattle.office_sql.specs.Failing.{ErrorHasCause, ChangeHasCause};
-ghost use Rattle.office_sql.specs.Steps.{Puts, Applied, Refused, LeavesPuts};
+ghost use Rattle.office_tables.specs.Failing.{ErrorHasCause, ChangeHasCause};
+ghost use Rattle.office_tables.specs.Steps.{Puts, Applied, Refused, LeavesPuts};
 
 use office_base::puts::Put;
-use office_sql::puts;
+use office_tables::puts::{begin, put_one};
 use sqlite::{Alter, Connection, Error, Transaction};
 use std::alloc::Global;
-
-fn put_one<S: Alter>(alloc: Global, tx: &mut Transaction<'_, S>, put: &Put) -> Result<(), Error>
-    ensures same_reference { tx.new.conn.ghost_name ≡ tx.old.conn.ghost_name }
-    ensures puts { HasCleanDisk (state S.Store tx.new.conn.now) → IsTrue (state S.Store tx.old.conn.now).in_transaction → OnOk result (Puts (state S.Store tx.old.conn.now) (state S.Store tx.new.conn.now) (put.now ∷ [])) }
-    ensures refused { HasCleanDisk (state S.Store tx.new.conn.now) → IsTrue (state S.Store tx.old.conn.now).in_transaction → OnErr result (Refused (state S.Store tx.old.conn.now) (state S.Store tx.new.conn.now)) }
-    ensures failed { ErrorHasCause (state S.Store tx.old.conn.now) (state S.Store tx.new.conn.now) (put.now ∷ []) result }
-    ensures survives { Survives (state S.Store tx.old.conn.now) (state S.Store tx.new.conn.now) (λ _. ⊥) }
-{
-    match put {
-        Put::Line(row) => puts::put_line(tx, row),
-        Put::Batch(row) => puts::put_batch(tx, row),
-        Put::Tenderer(row) => puts::put_tenderer(tx, row),
-        Put::Notice(row) => puts::put_notice(tx, row),
-        Put::Lot(row) => puts::put_lot(alloc, tx, row),
-        Put::Envelope(row) => puts::put_envelope(tx, row),
-        Put::Seal(row) => puts::put_seal(tx, row),
-        Put::DropSeal(receipt) => puts::drop_seal(tx, *receipt),
-        Put::Security(row) => puts::put_security(tx, row),
-        Put::Award(row) => puts::put_award(tx, row),
-        Put::Contract(row) => puts::put_contract(tx, row),
-        Put::Entry(row) => puts::put_entry(tx, row),
-        Put::Release(row) => puts::put_release(tx, row),
-        Put::Compiled(row) => puts::put_compiled(tx, row),
-        Put::Late(row) => puts::put_late(tx, row),
-        Put::Performance(row) => puts::put_performance(tx, row),
-        Put::Clock(row) => puts::put_clock(tx, row),
-    }
-}
 
 // A put says itself whether the store is open; where there is none, it is asked for.
 fn put_all<S: Alter>(alloc: Global, tx: &mut Transaction<'_, S>, puts: &[Put]) -> Result<(), Error>
@@ -48,7 +20,7 @@ fn put_all<S: Alter>(alloc: Global, tx: &mut Transaction<'_, S>, puts: &[Put]) -
     ensures survives { Survives (state S.Store tx.old.conn.now) (state S.Store tx.new.conn.now) (λ _. ⊥) }
 {
     let Some((first, more)) = puts.split_first() else {
-        return puts::begin(tx);
+        return begin(tx);
     };
     put_one(alloc, tx, first)?;
     'puts: for put in more {

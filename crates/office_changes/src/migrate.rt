@@ -2,15 +2,15 @@
 ghost use Rattle.std.specs.Prelude.{◌≡◌, IsTrue, OnOk, OnErr, map};
 ghost use Rattle.sqlite.specs.Held.{state};
 ghost use Rattle.sqlite.specs.State.{HasCleanDisk, Survives};
-ghost use Rattle.office_rows.specs.declared.stored.FormerNotice.{FormerNotice};
-ghost use Rattle.office_sql.specs.Steps.{Puts, Refused};
+ghost use Rattle.office_tables.specs.declared.tables.notices.FormerNotice.{FormerNotice};
+ghost use Rattle.office_tables.specs.Steps.{Puts, Refused};
 ghost use Rattle.office_changes.specs.Migration.{Becomes, Migrates, LeavesSecond};
 
 use office_base::puts::Put;
 use office_base::records::ClockRow;
-use office_rows::stored::FormerNotice;
-use office_sql::first::begin_second;
-use office_sql::puts::{begin, put_notice};
+use office_tables::first::begin_second;
+use office_tables::puts::begin;
+use office_tables::tables::notices::{FormerNotice, put_notice};
 use sqlite::{Alter, Connection, Error, Transaction};
 
 // Puts its notices, as version 2 keeps them.

@@ -3,3 +3,15 @@ pub mod WorkedJoin
 pub mod Taking
 pub mod Listing
 pub mod Inside
+pub mod Select
+pub mod SelectLots
+pub mod Cells
+pub mod Parts
+pub mod Fits
+pub mod Known
+pub mod StatementMeans
+pub mod Shows
+pub mod Standing
+pub mod Reading
+pub mod ReadBack
+pub mod Plain

@@ -1,9 +1,13 @@
-//! The joined ledger: budget lines with their lots, contracts and entries, row by row, and what they add up to.
+//! The joined ledger: budget lines with their lots, contracts and entries, row by row, and what they add up to; and the selects of SQL that
+//! show this join.
 #![tactic(auto)]
 
+pub mod adding;
 pub mod amount_list;
 mod contract_list;
 pub mod examples;
 pub mod joined;
 pub mod ledger_sums;
 mod line_sums;
+pub mod reading;
+pub mod select;

@@ -87,36 +87,30 @@ module _ {G K : Type 0} {S : G → G → Ordering} {R : K → K → Ordering} (s
     has_all [] index next kept h = tt
     has_all (r ∷ rows) index next kept h = (kept (group r) (key r) h.0, has_all rows index next kept h.1)
 
-    -- keys are added to it
-    pub still_indexed : (rows : List X) (index next : KeysOfGroups G K) (is_whole : Bool) → IsIndexed S R group key rows index is_whole
-        → ((q : G) (k : K) → has_key S R index q k ≡ true → has_key S R next q k ≡ true) → IsIndexed S R group key rows next is_whole
-    still_indexed rows index next is_whole h more whole = has_all rows index next more (h whole)
-
-    -- a row that it has is put
-    indexed-put : (r : X) (rows : List X) (index : KeysOfGroups G K) (is_whole now_whole : Bool) → IsIndexed S R group key rows index is_whole
-        → (now_whole ≡ true → (is_whole ≡ true) × (has_key S R index (group r) (key r) ≡ true)) → IsIndexed S R group key (row_put R key rows r) index now_whole
-    indexed-put r rows index is_whole now_whole h has whole =
-        all-put o key (λ x. has_key S R index (group x) (key x) ≡ true) rows r (has whole).1 (h (has whole).0)
-
     -- a key is added to it, and it stays as whole as it was
     pub indexed_with : (rows : List X) (index next : KeysOfGroups G K) (is_whole now_whole : Bool) → IsIndexed S R group key rows index is_whole
         → ((q : G) (k : K) → has_key S R index q k ≡ true → has_key S R next q k ≡ true) → now_whole ≡ is_whole → IsIndexed S R group key rows next now_whole
-    indexed_with rows index next is_whole now_whole h more same whole = still_indexed rows index next is_whole h more (sym same ∙ whole)
+    indexed_with rows index next is_whole now_whole h more same whole = has_all rows index next more (h (sym same ∙ whole))
 
-    -- then its row may be put
+    -- a row that it has is put
+    has_all-put : (r : X) (rows : List X) (index : KeysOfGroups G K) → has_key S R index (group r) (key r) ≡ true → HasRows S R group key rows index
+        → HasRows S R group key (row_put R key rows r) index
+    has_all-put r rows index has h = all-put o key (λ x. has_key S R index (group x) (key x) ≡ true) rows r has h
+
+    -- once its key was added, it may be
     pub ready_for : {Y E : Type 0} (r : X) (index next : KeysOfGroups G K) (is_whole now_whole : Bool) (result : Result Y E)
         → OnOk result (has_key S R next (group r) (key r) ≡ true) → ((q : G) (k : K) → has_key S R index q k ≡ true → has_key S R next q k ≡ true) → now_whole ≡ is_whole
         → OnOk result ((rows : List X) → IsIndexed S R group key rows index is_whole → IsIndexed S R group key (row_put R key rows r) next now_whole)
     ready_for r index next is_whole now_whole (Ok v) has more same =
-        λ rows h. indexed-put r rows next is_whole now_whole (still_indexed rows index next is_whole h more) (λ whole. (sym same ∙ whole, has))
+        λ rows h whole. has_all-put r rows next has (indexed_with rows index next is_whole now_whole h more same whole)
     ready_for r index next is_whole now_whole (Err e) has more same = tt
 
     -- a row that was replaced comes again: it stays whole where it has the row
     pub indexed_again : (r : X) (rows : List X) (index next : KeysOfGroups G K) (is_whole now_whole : Bool) → IsIndexed S R group key rows index is_whole
         → next ≡ index → now_whole ≡ (is_whole && has_key S R index (group r) (key r)) → IsIndexed S R group key (row_put R key rows r) next now_whole
-    indexed_again r rows index next is_whole now_whole h same stays =
-        rw (same, stays)
-        (indexed-put r rows index is_whole (is_whole && has_key S R index (group r) (key r)) h (λ whole. and_parts is_whole (has_key S R index (group r) (key r)) whole))
+    indexed_again r rows index next is_whole now_whole h same stays whole =
+        let has = and_parts is_whole (has_key S R index (group r) (key r)) (sym stays ∙ whole) in
+        rw same (has_all-put r rows index has.1 (h has.0))
 
     -- a row is dropped
     pub indexed_after_drop : (k : K) (rows : List X) (index : KeysOfGroups G K) (is_whole : Bool) → IsIndexed S R group key rows index is_whole

@@ -6,7 +6,7 @@ use Rattle.std.specs.Ordering.{is_eq, eq_by_cmp, ordering_reverse}
 use Rattle.std.specs.declared.cmp.Ordering.{Ordering}
 use Rattle.std.specs.declared.cmp.Ordering.TheVariants.{Less, Equal, Greater}
 use Rattle.office_base.specs.RowLaws.{RowsAreKept}
-use Rattle.office_base.specs.Rows.{by_order, row_put, row_drop, StartsAbove, IsInOrder}
+use Rattle.office_base.specs.Rows.{by_order, row_put, row_drop, IsInOrder}
 use Rattle.office_base.proofs.Orders.{alike_right}
 use Rattle.office_base.proofs.RowLaws.Starts.{tied}
 use Rattle.office_base.proofs.RowLaws.Puts.{put_first}

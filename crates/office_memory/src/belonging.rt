@@ -3,12 +3,15 @@ ghost use Rattle.office_values.specs.Ids.{same_id};
 ghost use Rattle.office_base.specs.Tables.{same_number, of_notice};
 
 use crate::child::Child;
-use crate::grouped::Grouping;
+use crate::group_index::{GroupIndex, Grouping};
 use crate::id_bounds::{greatest_id, least_id};
+use crate::indexes::Indexes;
+use keyed_table::table::Replaced;
 use office_base::records::{
     AwardRow, ContractRow, EntryRow, EnvelopeRow, LotRow, ReleaseRow, SecurityRow,
 };
 use office_values::id::Id;
+use std::alloc::{AllocError, Global};
 
 // Lots belong to their notice by their keys.
 impl Child for LotRow {
@@ -132,5 +135,68 @@ impl Grouping<EnvelopeRow> for ByTenderer {
 
     fn group(row: &EnvelopeRow) -> (Id, Id, Id) {
         (row.notice, row.lot, row.tenderer)
+    }
+}
+
+/// Securities are listed by their notice, and by their lot.
+#[derive(Drop)]
+pub struct SecurityIndexes {
+    pub by_notice: GroupIndex<SecurityRow, ByNotice>,
+    pub by_lot: GroupIndex<SecurityRow, ByLot>,
+}
+
+impl Indexes<SecurityRow> for SecurityIndexes {
+    ghost covers = { λ all rows. ⟦<GroupIndex<SecurityRow, ByNotice> as Indexes<SecurityRow>>⟧.covers all.by_notice rows
+        × ⟦<GroupIndex<SecurityRow, ByLot> as Indexes<SecurityRow>>⟧.covers all.by_lot rows };
+
+    fn new(alloc: Global) -> SecurityIndexes {
+        SecurityIndexes {
+            by_notice: GroupIndex::new(alloc),
+            by_lot: GroupIndex::new(alloc),
+        }
+    }
+
+    fn add_row(&mut self, row: &SecurityRow) -> Result<(), AllocError> {
+        self.by_notice.add_row(row)?;
+        self.by_lot.add_row(row)
+    }
+
+    fn go_back(&mut self, replaced: &Replaced<SecurityRow>) {
+        self.by_notice.go_back(replaced);
+        self.by_lot.go_back(replaced);
+    }
+}
+
+/// Tenders are listed by their notice, by their lot, and by their lot and tenderer.
+#[derive(Drop)]
+pub struct EnvelopeIndexes {
+    pub by_notice: GroupIndex<EnvelopeRow, ByNotice>,
+    pub by_lot: GroupIndex<EnvelopeRow, ByLot>,
+    pub by_tenderer: GroupIndex<EnvelopeRow, ByTenderer>,
+}
+
+impl Indexes<EnvelopeRow> for EnvelopeIndexes {
+    ghost covers = { λ all rows. ⟦<GroupIndex<EnvelopeRow, ByNotice> as Indexes<EnvelopeRow>>⟧.covers all.by_notice rows
+        × ⟦<GroupIndex<EnvelopeRow, ByLot> as Indexes<EnvelopeRow>>⟧.covers all.by_lot rows
+        × ⟦<GroupIndex<EnvelopeRow, ByTenderer> as Indexes<EnvelopeRow>>⟧.covers all.by_tenderer rows };
+
+    fn new(alloc: Global) -> EnvelopeIndexes {
+        EnvelopeIndexes {
+            by_notice: GroupIndex::new(alloc),
+            by_lot: GroupIndex::new(alloc),
+            by_tenderer: GroupIndex::new(alloc),
+        }
+    }
+
+    fn add_row(&mut self, row: &EnvelopeRow) -> Result<(), AllocError> {
+        self.by_notice.add_row(row)?;
+        self.by_lot.add_row(row)?;
+        self.by_tenderer.add_row(row)
+    }
+
+    fn go_back(&mut self, replaced: &Replaced<EnvelopeRow>) {
+        self.by_notice.go_back(replaced);
+        self.by_lot.go_back(replaced);
+        self.by_tenderer.go_back(replaced);
     }
 }

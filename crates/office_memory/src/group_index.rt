@@ -1,17 +1,32 @@
 //! An index of rows by their groups.
-ghost use Rattle.std.specs.Prelude.{◌≡◌, ◌&&◌, IfOk, OnOk, true, [], ◌∷◌};
-ghost use Rattle.std.specs.BTreeMap.{IsEmpty};
+ghost use Rattle.std.specs.Prelude.{◌≡◌, ◌&&◌, IfOk, OnOk, true, [], ◌∷◌, filter, map};
 ghost use Rattle.std.specs.BTreeSet.{contains};
-ghost use Rattle.office_memory.specs.Inside.GroupIndex.{has_key};
+ghost use Rattle.office_memory.specs.Inside.GroupIndex.{has_key, HasRows, IsIndexed};
 
+use crate::indexed_table::IndexedTable;
+use crate::indexes::Indexes;
+use keyed_table::known::Known;
+use keyed_table::table::{Replaced, Table};
+use office_base::row::{Row, copy_of};
 use std::alloc::{AllocError, Global};
 use std::collections::{BTreeMap, BTreeSet};
 
-/// Of each group, the keys of the rows that are or were of it.
+/// What rows are listed by, each with others of its group: a name for it, of which there is no value.
+pub trait Grouping<R: Row> {
+    type Group: Ord + Copy;
+
+    ghost group_of: { R → Self.Group };
+
+    /// The group of a row.
+    fn group(row: &R) -> Self::Group
+        ensures { result ≡ group_of row.now };
+}
+
+/// Of each group, the keys of the rows that are or were of it. A row that was of a group stays there.
 #[derive(Drop)]
-pub struct GroupIndex<G: Ord + Copy, K: Ord + Copy> {
+pub struct GroupIndex<R: Row, N: Grouping<R>> {
     alloc: Global,
-    pub keys: BTreeMap<G, BTreeSet<K>>,
+    pub keys: BTreeMap<N::Group, BTreeSet<R::Key>>,
     /// Whether the index has each row. It has, unless a row was taken back that had never been put.
     pub is_whole: bool,
 }
@@ -34,21 +49,24 @@ fn add_to<K: Ord + Copy>(keys: &mut BTreeSet<K>, key: K) -> Result<(), AllocErro
     Ok(())
 }
 
-impl<G: Ord + Copy, K: Ord + Copy> GroupIndex<G, K> {
-    /// An index without rows. Takes no memory.
-    pub fn new(alloc: Global) -> GroupIndex<G, K>
-        ensures { IsEmpty result.keys }
-    {
-        GroupIndex {
-            alloc,
-            keys: BTreeMap::new(alloc),
-            is_whole: true,
-        }
+// Copies of these rows.
+fn copies<R: Row>(alloc: Global, rows: &[&R]) -> Result<Vec<R>, AllocError>
+    ensures { IfOk result (λ copied. copied.items ≡ map (λ row. row.now) rows.now) }
+{
+    let mut copied = Vec::with_capacity(alloc, rows.len())?;
+    for row in rows {
+        copied.push(copy_of(*row)?)?;
     }
+    Ok(copied)
+}
 
+impl<R: Row + Drop, N: Grouping<R>> GroupIndex<R, N>
+where
+    R::Key: Known,
+{
     // Whether it has the key under the group.
-    fn has(&self, group: &G, key: &K) -> bool
-        ensures { result ≡ has_key G.cmp K.cmp self.now.keys group.now key.now }
+    fn has(&self, group: &N::Group, key: &R::Key) -> bool
+        ensures { result ≡ has_key N.Group.cmp R.Key.cmp self.now.keys group.now key.now }
     {
         match self.keys.get(group) {
             Some(keys) => keys.contains(key),
@@ -56,10 +74,11 @@ impl<G: Ord + Copy, K: Ord + Copy> GroupIndex<G, K> {
         }
     }
 
-    /// Adds the key under the group. No key leaves the index, also where memory is wanting.
-    pub fn add(&mut self, group: G, key: K) -> Result<(), AllocError>
-        ensures has { OnOk result (has_key G.cmp K.cmp self.new.keys group key ≡ true) }
-        ensures kept { (g : G) (k : K) → has_key G.cmp K.cmp self.old.keys g k ≡ true → has_key G.cmp K.cmp self.new.keys g k ≡ true }
+    // Adds the key under the group. No key leaves the index, also where memory is wanting.
+    fn add(&mut self, group: N::Group, key: R::Key) -> Result<(), AllocError>
+        ensures has { OnOk result (has_key N.Group.cmp R.Key.cmp self.new.keys group key ≡ true) }
+        ensures kept { (g : N.Group) (k : R.Key) → has_key N.Group.cmp R.Key.cmp self.old.keys g k ≡ true
+            → has_key N.Group.cmp R.Key.cmp self.new.keys g k ≡ true }
         ensures whole { self.new.is_whole ≡ self.old.is_whole }
     {
         if let Some(keys) = self.keys.get_mut(&group) {
@@ -69,11 +88,116 @@ impl<G: Ord + Copy, K: Ord + Copy> GroupIndex<G, K> {
         Ok(())
     }
 
-    /// It stays whole only where it has the key under the group. Takes no memory.
-    pub fn keep_whole(&mut self, group: &G, key: &K)
+    // It stays whole only where it has the key under the group.
+    fn keep_whole(&mut self, group: &N::Group, key: &R::Key)
         ensures keys { self.new.keys ≡ self.old.keys }
-        ensures whole { self.new.is_whole ≡ (self.old.is_whole && has_key G.cmp K.cmp self.old.keys group.now key.now) }
+        ensures whole { self.new.is_whole ≡ (self.old.is_whole && has_key N.Group.cmp R.Key.cmp self.old.keys group.now key.now) }
     {
         self.is_whole &= self.has(group, key);
+    }
+
+    // The rows of a group, where the index has all rows. Costs a look-up for each key that it has of the group; a row that is gone, or is of
+    // another group now, is passed over.
+    fn indexed<'a>(
+        &self,
+        alloc: Global,
+        rows: &'a Table<R>,
+        group: &N::Group,
+    ) -> Result<Vec<&'a R>, AllocError>
+        requires { HasRows N.Group.cmp R.Key.cmp N.group_of R.key_of rows.now self.now.keys }
+        ensures { IfOk result (λ found. map (λ row. row.now) found.items ≡ filter (λ r. N.Group.eq (N.group_of r) group.now) rows.now) }
+    {
+        rows.keys_rise();
+        let Some(keys) = self.keys.get(group) else {
+            return Ok(Vec::new(alloc));
+        };
+        let mut found = Vec::with_capacity(alloc, keys.len())?;
+        for key in keys {
+            if let Some(row) = rows.get(key) {
+                if N::group(row) == *group {
+                    found.push(row)?;
+                }
+            }
+        }
+        Ok(found)
+    }
+
+    // The rows of a group. Costs a look at each row.
+    fn searched<'a>(
+        alloc: Global,
+        rows: &'a Table<R>,
+        group: &N::Group,
+    ) -> Result<Vec<&'a R>, AllocError>
+        ensures { IfOk result (λ found. map (λ row. row.now) found.items ≡ filter (λ r. N.Group.eq (N.group_of r) group.now) rows.now) }
+    {
+        let mut found = Vec::new(alloc);
+        for boxed in rows.iter() {
+            let row = boxed.get();
+            if N::group(row) == *group {
+                found.push(row)?;
+            }
+        }
+        Ok(found)
+    }
+
+    /// The rows of a group in the table whose index it is, in the order of their keys. Costs a look-up for each row that is or was of the
+    /// group; a look at each row of the table, once a row was taken back that had never been put.
+    pub fn rows_of_group<'a, I: Indexes<R>>(
+        &self,
+        alloc: Global,
+        table: &'a IndexedTable<R, I>,
+        group: &N::Group,
+    ) -> Result<Vec<&'a R>, AllocError>
+        requires { IsIndexed N.Group.cmp R.Key.cmp N.group_of R.key_of table.now self.now.keys self.now.is_whole }
+        ensures { IfOk result (λ found. map (λ row. row.now) found.items ≡ filter (λ r. N.Group.eq (N.group_of r) group.now) table.now) }
+    {
+        let rows = table.rows();
+        if !self.is_whole {
+            return Self::searched(alloc, rows, group);
+        }
+        self.indexed(alloc, rows, group)
+    }
+
+    /// The rows of a group in the table whose index it is, copied, in the order of their keys. Costs as `rows_of_group`, and the copies.
+    pub fn copy_of_group<I: Indexes<R>>(
+        &self,
+        alloc: Global,
+        table: &IndexedTable<R, I>,
+        group: &N::Group,
+    ) -> Result<Vec<R>, AllocError>
+        requires { IsIndexed N.Group.cmp R.Key.cmp N.group_of R.key_of table.now self.now.keys self.now.is_whole }
+        ensures { IfOk result (λ copied. copied.items ≡ filter (λ r. N.Group.eq (N.group_of r) group.now) table.now) }
+    {
+        copies(alloc, &self.rows_of_group(alloc, table, group)?)
+    }
+}
+
+impl<R: Row + Drop, N: Grouping<R>> Indexes<R> for GroupIndex<R, N>
+where
+    R::Key: Known,
+{
+    ghost covers = { λ index rows. IsIndexed N.Group.cmp R.Key.cmp N.group_of R.key_of rows index.keys index.is_whole };
+
+    fn new(alloc: Global) -> GroupIndex<R, N> {
+        GroupIndex {
+            alloc,
+            keys: BTreeMap::new(alloc),
+            is_whole: true,
+        }
+    }
+
+    fn add_row(&mut self, row: &R) -> Result<(), AllocError> {
+        self.add(N::group(row), row.key())
+    }
+
+    // It still has a row that comes again, if that was put; else it isn't whole any more, since to add a row could find no memory.
+    fn go_back(&mut self, replaced: &Replaced<R>) {
+        match &replaced.old {
+            Some(boxed) => {
+                let row = boxed.get();
+                self.keep_whole(&N::group(row), &row.key());
+            }
+            None => {}
+        }
     }
 }

@@ -1,51 +1,49 @@
-//! A table with an index of its rows by their groups.
-ghost use Rattle.std.specs.Prelude.{◌≡◌, IfOk, OnOk, OnErr, [], filter, map};
+//! A table with indexes of its rows.
+ghost use Rattle.std.specs.Prelude.{◌≡◌, IfOk, OnOk, OnErr, []};
 ghost use Rattle.keyed_table.specs.Replacing.{taken_back, CanTakeBack};
 ghost use Rattle.office_base.specs.Rows.{row_put};
 
-use crate::group_index::GroupIndex;
-use crate::grouped::{self, Grouping};
+use crate::indexes::Indexes;
 use keyed_table::known::Known;
 use keyed_table::table::{Replaced, Table};
 use office_base::row::Row;
 use std::alloc::{AllocError, Global};
 use std::marker::Model;
 
-/// A table, and an index of its rows by their groups. A row that was of a group stays in the index with that group.
+/// A table, and its indexes.
 #[derive(Drop)]
-pub struct IndexedTable<R: Row + Drop, N: Grouping<R>>
+pub struct IndexedTable<R: Row + Drop, I: Indexes<R>>
 where
     R::Key: Known,
 {
     rows: Table<R>,
-    index: GroupIndex<N::Group, R::Key>,
+    indexes: I,
 }
 
-impl<R: Row + Drop, N: Grouping<R>> Model for IndexedTable<R, N>
+impl<R: Row + Drop, I: Indexes<R>> Model for IndexedTable<R, I>
 where
     R::Key: Known,
 {
     ghost use Rattle.std.specs.Prelude.{List};
-    ghost use Rattle.office_memory.specs.Inside.GroupIndex.{IsIndexed};
 
     ghost Value = { List R };
 
     ghost view = { λ t. t.rows };
 
-    ghost invariant = { λ t. IsIndexed N.Group.cmp R.Key.cmp N.group_of R.key_of t.rows t.index.keys t.index.is_whole };
+    ghost invariant = { λ t. I.covers t.indexes t.rows };
 }
 
-impl<R: Row + Drop, N: Grouping<R>> IndexedTable<R, N>
+impl<R: Row + Drop, I: Indexes<R>> IndexedTable<R, I>
 where
     R::Key: Known,
 {
     /// A table without rows. Takes no memory.
-    pub fn new(alloc: Global) -> IndexedTable<R, N>
+    pub fn new(alloc: Global) -> IndexedTable<R, I>
         ensures { result ≡ [] }
     {
         IndexedTable {
             rows: Table::new(alloc),
-            index: GroupIndex::new(alloc),
+            indexes: I::new(alloc),
         }
     }
 
@@ -56,19 +54,11 @@ where
         &self.rows
     }
 
-    /// The rows of a group, in the order of their keys. Costs a look-up for each row that is or was of the group; a look at each row of
-    /// the table, once a row was taken back that had never been put.
-    pub fn rows_of_group(&self, alloc: Global, group: &N::Group) -> Result<Vec<&R>, AllocError>
-        ensures { IfOk result (λ found. map (λ row. row.now) found.items ≡ filter (λ r. N.Group.eq (N.group_of r) group.now) self.now) }
+    /// Its indexes.
+    pub fn indexes(&self) -> &I
+        ensures { I.covers result.now self.now }
     {
-        grouped::rows_of_group::<R, N>(alloc, &self.rows, &self.index, group)
-    }
-
-    /// The rows of a group, copied, in the order of their keys. Costs as `rows_of_group`, and the copies.
-    pub fn copy_of_group(&self, alloc: Global, group: &N::Group) -> Result<Vec<R>, AllocError>
-        ensures { IfOk result (λ copied. copied.items ≡ filter (λ r. N.Group.eq (N.group_of r) group.now) self.now) }
-    {
-        grouped::copy_of_group::<R, N>(alloc, &self.rows, &self.index, group)
+        &self.indexes
     }
 
     /// Adds the row, or replaces the one with its key, and tells how to take that back.
@@ -78,7 +68,7 @@ where
         ensures can { IfOk result (λ replaced. CanTakeBack R.Key.cmp R.key_of replaced self.new) }
         ensures kept { OnErr result (self.new ≡ self.old) }
     {
-        grouped::add_row::<R, N>(&mut self.index, &row)?;
+        self.indexes.add_row(&row)?;
         self.rows.put(row)
     }
 
@@ -87,7 +77,7 @@ where
         requires { CanTakeBack R.Key.cmp R.key_of replaced self.old }
         ensures { self.new ≡ taken_back R.Key.cmp R.key_of replaced self.old }
     {
-        grouped::go_back::<R, N>(&mut self.index, &replaced);
+        self.indexes.go_back(&replaced);
         self.rows.take_back(replaced);
     }
 }

@@ -3,12 +3,10 @@
 
 mod belonging;
 pub mod child;
-mod group_index;
-pub mod grouped;
+pub mod group_index;
 mod id_bounds;
 pub mod indexed_table;
-pub mod lot_table;
+pub mod indexes;
 pub mod memory;
-pub mod owned_table;
 mod sums;
 pub mod tables;

@@ -132,8 +132,7 @@ impl Lookups for MemoryShelf {
     }
 
     fn get_envelope(&mut self, receipt: AskedNumber) -> Result<Option<EnvelopeRow>, ShelfFault> {
-        let by_notice = self.tables.envelopes.by_lot().by_group();
-        match by_notice.rows().copy_at(&receipt.get()) {
+        match self.tables.envelopes.rows().copy_at(&receipt.get()) {
             Ok(found) => Ok(found),
             Err(_) => Err(self.refused()),
         }
@@ -147,13 +146,7 @@ impl Lookups for MemoryShelf {
     }
 
     fn get_security(&mut self, security: AskedNumber) -> Result<Option<SecurityRow>, ShelfFault> {
-        match self
-            .tables
-            .securities
-            .by_group()
-            .rows()
-            .copy_at(&security.get())
-        {
+        match self.tables.securities.rows().copy_at(&security.get()) {
             Ok(found) => Ok(found),
             Err(_) => Err(self.refused()),
         }
@@ -264,15 +257,17 @@ impl Lookups for MemoryShelf {
     }
 
     fn list_lots_of_line(&mut self, line: &Id) -> Result<Vec<LotRow>, ShelfFault> {
-        match self.tables.lots.copy_of_group(self.alloc, line) {
+        let lots = &self.tables.lots;
+        match lots.indexes().copy_of_group(self.alloc, lots, line) {
             Ok(rows) => Ok(rows),
             Err(_) => Err(self.refused()),
         }
     }
 
     fn list_envelopes_of_notice(&mut self, notice: &Id) -> Result<Vec<EnvelopeRow>, ShelfFault> {
-        let by_notice = self.tables.envelopes.by_lot().by_group();
-        match by_notice.copy_of_group(self.alloc, notice) {
+        let envelopes = &self.tables.envelopes;
+        let by_notice = &envelopes.indexes().by_notice;
+        match by_notice.copy_of_group(self.alloc, envelopes, notice) {
             Ok(rows) => Ok(rows),
             Err(_) => Err(self.refused()),
         }
@@ -283,8 +278,9 @@ impl Lookups for MemoryShelf {
         notice: &Id,
         lot: &Id,
     ) -> Result<Vec<EnvelopeRow>, ShelfFault> {
-        let by_lot = self.tables.envelopes.by_lot();
-        match by_lot.copy_of_lot(self.alloc, &(*notice, *lot)) {
+        let envelopes = &self.tables.envelopes;
+        let by_lot = &envelopes.indexes().by_lot;
+        match by_lot.copy_of_group(self.alloc, envelopes, &(*notice, *lot)) {
             Ok(rows) => Ok(rows),
             Err(_) => Err(self.refused()),
         }
@@ -297,15 +293,18 @@ impl Lookups for MemoryShelf {
         tenderer: &Id,
     ) -> Result<Vec<EnvelopeRow>, ShelfFault> {
         let owner = (*notice, *lot, *tenderer);
-        match self.tables.envelopes.copy_of_owner(self.alloc, &owner) {
+        let envelopes = &self.tables.envelopes;
+        let by_tenderer = &envelopes.indexes().by_tenderer;
+        match by_tenderer.copy_of_group(self.alloc, envelopes, &owner) {
             Ok(rows) => Ok(rows),
             Err(_) => Err(self.refused()),
         }
     }
 
     fn list_securities_of_notice(&mut self, notice: &Id) -> Result<Vec<SecurityRow>, ShelfFault> {
-        let by_notice = self.tables.securities.by_group();
-        match by_notice.copy_of_group(self.alloc, notice) {
+        let securities = &self.tables.securities;
+        let by_notice = &securities.indexes().by_notice;
+        match by_notice.copy_of_group(self.alloc, securities, notice) {
             Ok(rows) => Ok(rows),
             Err(_) => Err(self.refused()),
         }
@@ -317,21 +316,27 @@ impl Lookups for MemoryShelf {
         lot: &Id,
     ) -> Result<Vec<SecurityRow>, ShelfFault> {
         let securities = &self.tables.securities;
-        match securities.copy_of_lot(self.alloc, &(*notice, *lot)) {
+        let by_lot = &securities.indexes().by_lot;
+        match by_lot.copy_of_group(self.alloc, securities, &(*notice, *lot)) {
             Ok(rows) => Ok(rows),
             Err(_) => Err(self.refused()),
         }
     }
 
     fn list_awards_of_notice(&mut self, notice: &Id) -> Result<Vec<AwardRow>, ShelfFault> {
-        match self.tables.awards.copy_of_group(self.alloc, notice) {
+        let awards = &self.tables.awards;
+        match awards.indexes().copy_of_group(self.alloc, awards, notice) {
             Ok(rows) => Ok(rows),
             Err(_) => Err(self.refused()),
         }
     }
 
     fn list_contracts_of_notice(&mut self, notice: &Id) -> Result<Vec<ContractRow>, ShelfFault> {
-        match self.tables.contracts.copy_of_group(self.alloc, notice) {
+        let contracts = &self.tables.contracts;
+        match contracts
+            .indexes()
+            .copy_of_group(self.alloc, contracts, notice)
+        {
             Ok(rows) => Ok(rows),
             Err(_) => Err(self.refused()),
         }

@@ -51,7 +51,9 @@ fn push_sums(
 ) -> Result<(), AllocError>
     ensures { OnOk result (sums.new.items ≡ sums.old.items ++ map (sums_of (tables_of tables.now).entries) (contracts_of_lot (lot_key lot.now) (tables_of tables.now))) }
 {
-    for contract in tables.contracts.rows_of_group(alloc, &lot.notice)? {
+    let contracts = &tables.contracts;
+    let by_notice = contracts.indexes();
+    for contract in by_notice.rows_of_group(alloc, contracts, &lot.notice)? {
         if contract.lot == lot.lot {
             sums.push(sums_of(&tables.entries, contract))?;
         }
@@ -83,7 +85,8 @@ pub fn amounts_of_line(
 ) -> Result<LineAmounts, AllocError>
     ensures { IfOk result (λ amounts. amounts ≡ amounts_of_line line.now (tables_of tables.now)) }
 {
-    let lots = tables.lots.rows_of_group(alloc, line)?;
+    let by_line = tables.lots.indexes();
+    let lots = by_line.rows_of_group(alloc, &tables.lots, line)?;
     let reserved = reserved_by(alloc, &lots)?;
     let contracts = sums_under(alloc, tables, lots)?;
     Ok(LineAmounts::from_vecs(reserved, contracts))

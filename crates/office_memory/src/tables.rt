@@ -5,10 +5,9 @@ ghost use Rattle.office_base.specs.declared.puts.Put.TheVariants.{Seal};
 ghost use Rattle.office_memory.specs.Inside.Drops.{without_seals};
 ghost use Rattle.office_memory.specs.MemoryTables.{tables_of, after_undo, after_undos, CanUndo, CanUndoAll};
 
-use crate::belonging::{ByLine, ByLot, ByNotice, ByTenderer};
+use crate::belonging::{ByLine, ByNotice, EnvelopeIndexes, SecurityIndexes};
+use crate::group_index::GroupIndex;
 use crate::indexed_table::IndexedTable;
-use crate::lot_table::LotTable;
-use crate::owned_table::OwnedTable;
 use keyed_table::table::{Replaced, Table};
 use office_base::laws::rows_are_kept;
 use office_base::puts::Put;
@@ -29,12 +28,12 @@ pub struct MemoryTables {
     pub batches: Table<BatchRow>,
     pub tenderers: Table<TendererRow>,
     pub notices: Table<NoticeRow>,
-    pub lots: IndexedTable<LotRow, ByLine>,
-    pub envelopes: OwnedTable<EnvelopeRow, ByNotice, ByLot, ByTenderer>,
+    pub lots: IndexedTable<LotRow, GroupIndex<LotRow, ByLine>>,
+    pub envelopes: IndexedTable<EnvelopeRow, EnvelopeIndexes>,
     pub seals: Table<SealRow>,
-    pub securities: LotTable<SecurityRow, ByNotice, ByLot>,
-    pub awards: IndexedTable<AwardRow, ByNotice>,
-    pub contracts: IndexedTable<ContractRow, ByNotice>,
+    pub securities: IndexedTable<SecurityRow, SecurityIndexes>,
+    pub awards: IndexedTable<AwardRow, GroupIndex<AwardRow, ByNotice>>,
+    pub contracts: IndexedTable<ContractRow, GroupIndex<ContractRow, ByNotice>>,
     pub entries: Table<EntryRow>,
     pub releases: Table<ReleaseRow>,
     pub compiled: Table<CompiledRow>,
@@ -88,9 +87,9 @@ pub fn empty(alloc: Global) -> MemoryTables
         tenderers: Table::new(alloc),
         notices: Table::new(alloc),
         lots: IndexedTable::new(alloc),
-        envelopes: OwnedTable::new(alloc),
+        envelopes: IndexedTable::new(alloc),
         seals: Table::new(alloc),
-        securities: LotTable::new(alloc),
+        securities: IndexedTable::new(alloc),
         awards: IndexedTable::new(alloc),
         contracts: IndexedTable::new(alloc),
         entries: Table::new(alloc),

@@ -12,10 +12,10 @@ use Rattle.sqlite_catalog.specs.Listing.{IsGuarded, IsTableRow, automatic}
 use Rattle.sqlite_catalog.proofs.AlterLemmas.{place_has}
 use Rattle.sqlite_catalog.proofs.LayoutLemmas.{zipped_left}
 use Rattle.sqlite.specs.Effect.{Database, IsDatabase}
-use Rattle.office_sql.specs.First.{has_table}
-use Rattle.office_sql.specs.Known.{IsIn, at_tree, key_indexes}
-use Rattle.office_sql.specs.Schema.{OfficeTable, table_of}
-use Rattle.office_sql.specs.Schema.OfficeTable.{Lines, Batches, Tenderers, Notices, Lots, Envelopes, Seals, Securities, Awards, Contracts, Entries, Releases, Compiled, Office, LateRules, FormerNotices, Performances}
+use Rattle.office_tables.specs.First.{has_table}
+use Rattle.office_tables.specs.Known.{IsIn, at_tree, key_indexes}
+use Rattle.office_tables.specs.Schema.{OfficeTable, table_of}
+use Rattle.office_tables.proofs.Each.{each}
 use Rattle.office_store.specs.Forms.{HasForms, ListsForms, StandsAlike, StandsOrLacks, came_later, index_count}
 
 -- ---- a list of one
@@ -44,23 +44,7 @@ abbrev HasKey : Table → Type 0
 HasKey table = ((table.key ≡ None) × (table.uniques ≡ table.primary ∷ [])) ⊎ (table.key ≡ Some 0)
 
 keyed : (k : OfficeTable) → HasKey (table_of k)
-keyed Lines = inl (refl, refl)
-keyed Batches = inl (refl, refl)
-keyed Tenderers = inl (refl, refl)
-keyed Notices = inl (refl, refl)
-keyed Lots = inl (refl, refl)
-keyed Envelopes = inr refl
-keyed Seals = inr refl
-keyed Securities = inr refl
-keyed Awards = inr refl
-keyed Contracts = inr refl
-keyed Entries = inl (refl, refl)
-keyed Releases = inl (refl, refl)
-keyed Compiled = inl (refl, refl)
-keyed Office = inr refl
-keyed LateRules = inl (refl, refl)
-keyed FormerNotices = inl (refl, refl)
-keyed Performances = inr refl
+keyed k = elim (each k).bare.key [ inl index ↦ inl (index.key, index.uniques) | inr rowid ↦ inr rowid.key ]
 
 -- ---- what was found is the table
 

@@ -14,10 +14,10 @@ use Rattle.sqlite.specs.Listing.{understood, listing_schema}
 use Rattle.sqlite.specs.State.{State, Shows, Shown, IsLive}
 use Rattle.sqlite.specs.Steps.{over_memory, IsEmpty}
 use Rattle.office_base.specs.Tables.{no_tables}
-use Rattle.office_sql.specs.Making.{Founds, KeepsOthers}
-use Rattle.office_sql.specs.Standing.{Holds}
-use Rattle.office_sql.specs.Steps.{Refused, ShowsTables}
-use Rattle.office_sql.specs.Version.{get_version, HasNoVersion}
+use Rattle.office_tables.specs.Making.{Founds, KeepsOthers}
+use Rattle.office_tables.specs.Standing.{Holds}
+use Rattle.office_tables.specs.Steps.{Refused, ShowsTables}
+use Rattle.office_tables.specs.Version.{get_version, HasNoVersion}
 use Rattle.office_store.specs.declared.opened.Origin.{Origin}
 use Rattle.office_store.specs.declared.opened.Origin.TheVariants as from
 use Rattle.office_store.specs.Founding.{Founded, LeavesNew, LeavesOffice, IsSoundOpen, is_version_one, is_version_two, Answered, Enters, takes_a_name}

@@ -20,22 +20,23 @@ use Rattle.sqlite.specs.Held.{Held, state}
 use Rattle.office_values.specs.Ids.{id_cmp}
 use Rattle.office_base.specs.Rows.{row_put}
 use Rattle.office_base.specs.Tables.{Tables, IsSorted, line_key, lot_key, lot_cmp, contract_key, entry_key, entry_cmp}
-use Rattle.office_rows.specs.Budget.{line_values, line_by_rowid}
-use Rattle.office_rows.specs.Notices.{lot_values, lot_by_rowid}
-use Rattle.office_rows.specs.Awards.{contract_values, contract_read, entry_values, entry_by_rowid}
-use Rattle.office_sql.specs.Kept.{rows_kept as kept_of, row_behind_rowid, by_rowid, read_by_rowid}
-use Rattle.office_sql.specs.Known.{IsIn, at_tree}
-use Rattle.office_sql.specs.Schema.{table_of}
-use Rattle.office_sql.specs.Schema.OfficeTable.{Lines, Lots, Contracts, Entries}
-use Rattle.office_sql.specs.Standing.{Stand, Holds}
-use Rattle.office_sql.specs.Steps.{IsAsked, ShowsTables}
+use Rattle.office_tables.specs.Tables.Lines.{line_form}
+use Rattle.office_tables.specs.Tables.Lots.{lot_form}
+use Rattle.office_tables.specs.Tables.Contracts.{contract_values, contract_read}
+use Rattle.office_tables.specs.Tables.Entries.{entry_form}
+use Rattle.office_tables.specs.Kept.{rows_kept as kept_of, by_rowid, read_by_rowid, Stand}
+use Rattle.office_tables.specs.Known.{IsIn, at_tree}
+use Rattle.office_tables.specs.Schema.{table_of}
+use Rattle.office_tables.specs.Standing.{Holds}
+use Rattle.office_tables.specs.Steps.{IsAsked, ShowsTables}
+use Rattle.office_tables.specs.Schema.OfficeTable.{Lines, Lots, Contracts, Entries}
 use Rattle.office_ledger.specs.Joins.{joined, joined_lots}
-use Rattle.office_joins.specs.Cells.{joined_cells}
-use Rattle.office_joins.specs.Known.{Holds as HasTable}
-use Rattle.office_joins.specs.Select.{list_joined}
-use Rattle.office_joins.specs.SelectLots.{list_joined_of_line}
-use Rattle.office_joins.specs.Shows.{HoldsJoined, JoinIsShown, LotsAreShown, joined_lot_cells}
-use Rattle.office_joins.specs.Standing.{records_of, StandFor, StoredRowsShow}
+use Rattle.office_ledger.specs.Cells.{joined_cells}
+use Rattle.office_ledger.specs.Known.{Holds as HasTable}
+use Rattle.office_ledger.specs.Select.{list_joined}
+use Rattle.office_ledger.specs.SelectLots.{list_joined_of_line}
+use Rattle.office_ledger.specs.Shows.{HoldsJoined, JoinIsShown, LotsAreShown, joined_lot_cells}
+use Rattle.office_ledger.specs.Standing.{records_of, StandFor, StoredRowsShow}
 
 find_only : (n : ℕ) (x : Table) (xs : List Table) → Has xs x → x.tree ≡ n → ((y : Table) → Has xs y → y.tree ≡ n → y ≡ x) → find (λ t. t.tree == n) xs ≡ Some x
 find_only n x [] there is alone = absurd there
@@ -82,12 +83,12 @@ holds_joined show db t sorted it = record {
     entries = known db.schema (table_of Entries) (it.places Entries) (it.tables Entries);
   };
   sorted = sorted;
-  lines = show.lines (row_behind_rowid line_values) line_by_rowid (λ v x. record { line = refl; appropriation = refl; free = refl }) (db.trees (it.places Lines)) t.lines (stands id_cmp line_key (row_behind_rowid line_values) line_by_rowid (db.trees (it.places Lines)) t.lines (it.stands Lines));
-  lots = show.lots (row_behind_rowid lot_values) lot_by_rowid (λ v x. record { notice = refl; lot = refl; line = refl; reserved = refl }) (db.trees (it.places Lots)) t.lots (stands lot_cmp lot_key (row_behind_rowid lot_values) lot_by_rowid (db.trees (it.places Lots)) t.lots (it.stands Lots));
+  lines = show.lines line_form.stored line_form.back (λ v x. record { line = refl; appropriation = refl; free = refl }) (db.trees (it.places Lines)) t.lines (stands id_cmp line_key line_form.stored line_form.back (db.trees (it.places Lines)) t.lines (it.stands Lines));
+  lots = show.lots lot_form.stored lot_form.back (λ v x. record { notice = refl; lot = refl; line = refl; reserved = refl }) (db.trees (it.places Lots)) t.lots (stands lot_cmp lot_key lot_form.stored lot_form.back (db.trees (it.places Lots)) t.lots (it.stands Lots));
   contracts = show.contracts (by_rowid contract_values) (read_by_rowid contract_read) (λ v x. record { contract = refl; notice = refl; lot = refl; signed = refl; released = refl }) (db.trees (it.places Contracts)) t.contracts
       (stands nat_cmp contract_key (by_rowid contract_values) (read_by_rowid contract_read) (db.trees (it.places Contracts)) t.contracts (it.stands Contracts));
-  entries = show.entries (row_behind_rowid entry_values) entry_by_rowid (λ v x. record { contract = refl; entry = refl; kind = refl; amount = refl }) (db.trees (it.places Entries)) t.entries
-      (stands entry_cmp entry_key (row_behind_rowid entry_values) entry_by_rowid (db.trees (it.places Entries)) t.entries (it.stands Entries));
+  entries = show.entries entry_form.stored entry_form.back (λ v x. record { contract = refl; entry = refl; kind = refl; amount = refl }) (db.trees (it.places Entries)) t.entries
+      (stands entry_cmp entry_key entry_form.stored entry_form.back (db.trees (it.places Entries)) t.entries (it.stands Entries));
 }
 
 module _ {S : Type 0} (g : Ghosts S) (show : StoredRowsShow) (old : Held S) (rows : List Row) (t : Tables) (sorted : IsSorted t) (shows : ShowsTables (state g old) t) where

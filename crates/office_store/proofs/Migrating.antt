@@ -10,10 +10,10 @@ use Rattle.sqlite.specs.State.{State}
 use Rattle.office_base.specs.Tables.{Tables}
 use Rattle.office_base.specs.declared.records.ClockRow.{ClockRow}
 use Rattle.office_base.specs.declared.records.NoticeRow.{NoticeRow}
-use Rattle.office_sql.specs.First.{has_late, HoldsFirst, ShowsFirst, ShowsOffice, IsMigrated}
-use Rattle.office_sql.specs.Steps.{IsAsked, Refused, ShowsTables}
-use Rattle.office_sql.specs.Version.{get_version, one_version, ShowsVersion}
-use Rattle.office_sql.proofs.FirstVersion.{first_version, second_version}
+use Rattle.office_tables.specs.First.{has_late, HoldsFirst, ShowsFirst, ShowsOffice, IsMigrated}
+use Rattle.office_tables.specs.Steps.{IsAsked, Refused, ShowsTables}
+use Rattle.office_tables.specs.Version.{get_version, one_version, ShowsVersion}
+use Rattle.office_tables.proofs.FirstVersion.{first_version, second_version}
 use Rattle.office_changes.specs.Migration.{HoldsThese, Migrates, LeavesSecond}
 use Rattle.office_store.specs.Founding.{Migrated, LeavesMigrated, LeavesReadied, LeavesOffice, IsMadeCurrent, Enters, is_version_one, is_version_two, is_other_version, origin_of}
 use Rattle.office_store.specs.Forms.{HasForms}

@@ -12,12 +12,12 @@ use Rattle.sqlite.specs.declared.error.Error.{Error}
 use Rattle.sqlite.proofs.Callers.{begun_plain}
 use Rattle.office_base.specs.Tables.{Tables, IsSorted}
 use Rattle.office_ledger.specs.Joins.{joined}
-use Rattle.office_sql.specs.Standing.{Holds}
-use Rattle.office_sql.specs.Steps.{Refused, ShowsTables}
-use Rattle.office_joins.specs.Plain.{JoinIsNoWrite, JoinIsPlain}
-use Rattle.office_joins.specs.Select.{list_joined}
-use Rattle.office_joins.specs.Shows.{HoldsJoined}
-use Rattle.office_joins.specs.Standing.{StoredRowsShow}
+use Rattle.office_tables.specs.Standing.{Holds}
+use Rattle.office_tables.specs.Steps.{Refused, ShowsTables}
+use Rattle.office_ledger.specs.Plain.{JoinIsNoWrite, JoinIsPlain}
+use Rattle.office_ledger.specs.Select.{list_joined}
+use Rattle.office_ledger.specs.Shows.{HoldsJoined}
+use Rattle.office_ledger.specs.Standing.{StoredRowsShow}
 use Rattle.office_store.specs.LedgerRows.{HasTaken, KeepsOffice}
 use Rattle.office_store.proofs.Joined.{holds_joined}
 use Rattle.office_store.proofs.Shelves.{still_shows}

@@ -25,9 +25,9 @@ use Rattle.sqlite.specs.declared.file.Leftover.TheVariants as left
 use Rattle.sqlite.proofs.ListingLemmas.{empty_is_sound}
 use Rattle.sqlite.proofs.Theorems.{opens_again}
 use Rattle.office_base.specs.Tables.{Tables}
-use Rattle.office_sql.specs.First.{ShowsOffice, HoldsOffice as HasOffice}
-use Rattle.office_sql.specs.Laws.{TreesTellOneOffice}
-use Rattle.office_sql.specs.Steps.{Refused}
+use Rattle.office_tables.specs.First.{ShowsOffice, HoldsOffice as HasOffice}
+use Rattle.office_tables.specs.Laws.{TreesTellOneOffice}
+use Rattle.office_tables.specs.Steps.{Refused}
 use Rattle.office_store.specs.Founding.{LeavesOffice, IsNoOffice}
 use Rattle.office_store.specs.SqlMeaning.{LeavesNoOther}
 use Rattle.office_store.specs.Reopening.{Found, FilesHoldOffice, HoldStill, IsLeftOf, IsPutDown, IsReason, IsUsableLeft, LeavesFound, MayCommit}

@@ -12,11 +12,11 @@ use Rattle.sqlite_rules.specs.Lists.{Has}
 use Rattle.sqlite_rules.proofs.ListLemmas.{has_found, some_from}
 use Rattle.sqlite.specs.Effect.{Database}
 use Rattle.office_base.specs.Tables.{Tables}
-use Rattle.office_sql.specs.Apart.{LeadsInside}
-use Rattle.office_sql.specs.First.{AreApart, IsMigrated, migrated_tables}
-use Rattle.office_sql.specs.Known.{IsIn, at_tree}
-use Rattle.office_sql.specs.Schema.{OfficeTable, table_of}
-use Rattle.office_sql.specs.Schema.OfficeTable.{FormerNotices, Notices, Office}
+use Rattle.office_tables.specs.Apart.{LeadsInside}
+use Rattle.office_tables.specs.First.{AreApart, IsMigrated, migrated_tables}
+use Rattle.office_tables.specs.Known.{IsIn, at_tree}
+use Rattle.office_tables.specs.Schema.{OfficeTable, table_of}
+use Rattle.office_tables.specs.Schema.OfficeTable.{FormerNotices, Notices, Office}
 use Rattle.office_store.specs.Others.{KeepsRest, is_changed, leads_there, refers_there}
 
 -- ---- tests that fail

@@ -1,21 +1,21 @@
 -- What the calls of the shelf do to what it holds.
-use Rattle.std.proofs.Common.{Ok, Err, ℕ, arith, ◌≡◌, ◌⊎◌, inl, inr, List, refl, sym, subst, IsTrue}
-use Rattle.std.specs.Prelude.{⊤}
+use Rattle.std.proofs.Common.{Ok, Err, Result, ℕ, arith, ◌≡◌, ◌⊎◌, inl, inr, List, refl, sym, subst, IsTrue}
+use Rattle.std.specs.Prelude.{⊤, IfErr}
 use Rattle.sqlite_trees.specs.declared.store.Store.{Ghosts}
 use Rattle.sqlite.specs.Effect.{Database}
 use Rattle.sqlite.specs.Held.{Held, state}
 use Rattle.sqlite.specs.State.{State, HasCleanDisk, IsLive, Survives}
 use Rattle.sqlite.specs.declared.error.Error.{Error}
-use Rattle.office_base.specs.Faults.{one_fault_more, IsFaultOf}
+use Rattle.office_base.specs.Faults.{one_fault_more, count_after, IsFaultOf}
 use Rattle.office_base.specs.Shelves.{Keeps, LooksUp, SumsAnswer, AddsUp, Alters, PutsFail, Changes}
 use Rattle.office_base.specs.Tables.{Tables, IsSorted, after_puts, ChangesKeepOrder}
 use Rattle.office_base.specs.declared.puts.Put.{Put}
 use Rattle.office_base.specs.declared.shelf.ShelfFault.{ShelfFault}
 use Rattle.office_base.specs.declared.shelf.ShelfFault.TheVariants.{NoMemory, Store}
-use Rattle.office_sql.specs.Failing.{fault_of, IsExcused, ChangeFails}
-use Rattle.office_sql.specs.Laws.{TreesTellOneOffice}
-use Rattle.office_sql.specs.Standing.{Holds}
-use Rattle.office_sql.specs.Steps.{Refused, Applied, Leaves, LeavesPuts, ShowsTables, MayLeave}
+use Rattle.office_tables.specs.Failing.{fault_of, IsExcused, ChangeFails}
+use Rattle.office_tables.specs.Laws.{TreesTellOneOffice}
+use Rattle.office_tables.specs.Standing.{Holds}
+use Rattle.office_tables.specs.Steps.{Refused, Applied, Leaves, LeavesPuts, ShowsTables, TellsOnly, MayLeave}
 use Rattle.office_store.specs.SqlMeaning.{sql_meaning, LeavesOffices}
 use Rattle.office_store.specs.LedgerRows.{KeepsOffice}
 use Rattle.office_store.proofs.Once.{schema_once}
@@ -92,7 +92,7 @@ module _ {S : Type 0} (g : Ghosts S) (old new : Held S) where
       subst (λ e. LooksUp (sql_meaning g) e (new, n) (Ok value) right) is
       ((keeps n n kept survives, λ clean t h. got clean t h.0 h.1), record { counted = refl; cause = tt })
 
-  pub looked : {T : Type 0} (entry : Held S × ℕ) (n : ℕ) (value : T) (right : Tables → T → Type 0) → (old, n) ≡ entry
+  looked : {T : Type 0} (entry : Held S × ℕ) (n : ℕ) (value : T) (right : Tables → T → Type 0) → (old, n) ≡ entry
       → (HasCleanDisk (state g new) → Refused (state g old) (state g new)) → Survives (state g old) (state g new) (λ _. ⊥)
       → (HasCleanDisk (state g new) → (t : Tables) → ShowsTables (state g old) t → right t value) → LooksUp (sql_meaning g) entry (new, n) (Ok value) right
   looked entry n value right is kept survives got = looked_sorted entry n value right is kept survives (λ clean t sorted shows. got clean t shows)
@@ -102,6 +102,19 @@ module _ {S : Type 0} (g : Ghosts S) (old new : Held S) where
   unanswered entry after n fault right is same counted cause kept survives =
       subst (λ e. LooksUp (sql_meaning g) e after (Err fault) right) is
       ((subst (λ h. Keeps (sql_meaning g) (old, n) (h, after.1)) (sym same) (keeps n after.1 kept survives), λ clean t h. tt), record { counted = counted; cause = cause })
+
+  -- what the tables tell, with a fault counted
+  recounts : {T : Type 0} (entry after : Held S × ℕ) (n : ℕ) (answer : Result T ShelfFault) (right : Tables → T → Type 0) → (old, n) ≡ entry → after.0 ≡ new → after.1 ≡ count_after answer n
+      → IfErr answer (IsFaultOf ⊤) → TellsOnly g old new answer right → LooksUp (sql_meaning g) entry after answer right
+  recounts entry after n (Ok value) right is same counted cause tells =
+      subst (λ h. LooksUp (sql_meaning g) entry (h, after.1) (Ok value) right) (sym same)
+      (subst (λ m. LooksUp (sql_meaning g) entry (new, m) (Ok value) right) (sym counted) (looked entry n value right is tells.1 tells.2 tells.0))
+  recounts entry after n (Err fault) right is same counted cause tells = unanswered entry after n fault right is same counted cause tells.1 tells.2
+
+  pub told_counted : {T : Type 0} {entry after : Held S × ℕ} {n : ℕ} {answer result : Result T ShelfFault} (right : Tables → T → Type 0) → (old, n) ≡ entry → result ≡ answer → after.0 ≡ new
+      → after.1 ≡ count_after result n → IfErr result (IsFaultOf ⊤) → TellsOnly g old new answer right → LooksUp (sql_meaning g) entry after result right
+  told_counted {entry} {after} {n} {result} right is answered same counted cause tells =
+      recounts entry after n result right is same counted cause (subst (λ r. TellsOnly g old new r right) (sym answered) tells)
 
   -- ---- a call that adds up
 

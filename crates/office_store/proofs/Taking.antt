@@ -9,11 +9,11 @@ use Rattle.sqlite.proofs.Callers.{given_begin}
 use Rattle.office_base.specs.Tables.{Tables}
 use Rattle.office_ledger.specs.Joins.{joined}
 use Rattle.office_ledger.specs.declared.joined.JoinedRow.{JoinedRow}
-use Rattle.office_joins.specs.Cells.{joined_cells}
-use Rattle.office_joins.specs.Reading.{joined_read}
-use Rattle.office_joins.specs.ReadBack.{JoinedRowsComeBack}
-use Rattle.office_joins.specs.Select.{list_joined}
-use Rattle.office_joins.specs.Shows.{HoldsJoined, JoinIsShown, JoinIsBegun}
+use Rattle.office_ledger.specs.Cells.{joined_cells}
+use Rattle.office_ledger.specs.Reading.{joined_read}
+use Rattle.office_ledger.specs.ReadBack.{JoinedRowsComeBack}
+use Rattle.office_ledger.specs.Select.{list_joined}
+use Rattle.office_ledger.specs.Shows.{HoldsJoined, JoinIsShown, JoinIsBegun}
 use Rattle.office_store.specs.LedgerRows.{HasTaken}
 
 push : {X : Type 0} (xs : List X) (x : X) (ys : List X) → (xs ++ x ∷ []) ++ ys ≡ xs ++ x ∷ ys

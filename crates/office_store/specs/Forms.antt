@@ -6,9 +6,9 @@ use Rattle.sqlite_schema.specs.declared.schema.Table.{Table}
 use Rattle.sqlite_schema.specs.Names.{same_name, table_named}
 use Rattle.sqlite_schema.specs.Rules.{guards}
 use Rattle.sqlite_rules.specs.Lists.{Has}
-use Rattle.office_sql.specs.First.{has_table}
-use Rattle.office_sql.specs.Known.{IsIn, at_tree}
-use Rattle.office_sql.specs.Schema.{OfficeTable, table_of}
+use Rattle.office_tables.specs.First.{has_table}
+use Rattle.office_tables.specs.Known.{IsIn, at_tree}
+use Rattle.office_tables.specs.Schema.{OfficeTable, table_of}
 
 -- the tables that came after version 1, or with a later program of it
 abbrev pub later_names : List (List ℕ)

@@ -12,11 +12,11 @@ use Rattle.sqlite.specs.Effect.{Database, IsDatabase}
 use Rattle.sqlite.specs.Held.{Held, state}
 use Rattle.sqlite.specs.State.{State}
 use Rattle.office_base.specs.Tables.{Tables, no_tables}
-use Rattle.office_sql.specs.First.{HoldsFirst, IsMigrated}
-use Rattle.office_sql.specs.Making.{KeepsOthers}
-use Rattle.office_sql.specs.Standing.{Holds}
-use Rattle.office_sql.specs.Steps.{Leaves, Refused, IsAsked}
-use Rattle.office_sql.specs.Version.{get_version, HasNoVersion}
+use Rattle.office_tables.specs.First.{HoldsFirst, IsMigrated}
+use Rattle.office_tables.specs.Making.{KeepsOthers}
+use Rattle.office_tables.specs.Standing.{Holds}
+use Rattle.office_tables.specs.Steps.{Leaves, Refused, IsAsked}
+use Rattle.office_tables.specs.Version.{get_version, HasNoVersion}
 use Rattle.office_store.specs.Forms.{HasForms}
 use Rattle.office_store.specs.Others.{KeepsRest, leads_there}
 use Rattle.office_store.specs.declared.opened.Origin.{Origin}

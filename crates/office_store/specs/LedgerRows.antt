@@ -8,9 +8,9 @@ use Rattle.office_base.specs.Shelves.{Keeps}
 use Rattle.office_base.specs.Tables.{Tables}
 use Rattle.office_ledger.specs.Joins.{joined}
 use Rattle.office_ledger.specs.declared.joined.JoinedRow.{JoinedRow}
-use Rattle.office_joins.specs.Cells.{joined_cells}
-use Rattle.office_joins.specs.Select.{list_joined}
-use Rattle.office_joins.specs.Shows.{HoldsJoined}
+use Rattle.office_ledger.specs.Cells.{joined_cells}
+use Rattle.office_ledger.specs.Select.{list_joined}
+use Rattle.office_ledger.specs.Shows.{HoldsJoined}
 use Rattle.office_store.specs.SqlMeaning.{sql_meaning}
 use Rattle.office_store.specs.declared.ledger_rows.LedgerRows.{LedgerRows}
 

@@ -20,8 +20,8 @@ use Rattle.sqlite.specs.Closing.{HoldsAlone, IsCopied}
 use Rattle.sqlite.specs.declared.file.Leftover.{Leftover}
 use Rattle.sqlite.specs.declared.file.Leftover.TheVariants as left
 use Rattle.office_base.specs.Tables.{Tables, no_tables}
-use Rattle.office_sql.specs.First.{ShowsOffice, HoldsOffice as HasOffice}
-use Rattle.office_sql.specs.Steps.{ShowsTables, MayLeave}
+use Rattle.office_tables.specs.First.{ShowsOffice, HoldsOffice as HasOffice}
+use Rattle.office_tables.specs.Steps.{ShowsTables, MayLeave}
 use Rattle.office_store.specs.Founding.{Enters, IsNoOffice, LeavesOffice}
 use Rattle.office_store.specs.SqlMeaning.{LeavesOffices}
 use Rattle.office_store.specs.declared.found.OpenFault.{OpenFault}

@@ -6,8 +6,8 @@ use Rattle.sqlite.specs.Held.{Held, state}
 use Rattle.sqlite.specs.State.{State, HasCleanDisk}
 use Rattle.office_base.specs.Tables.{Tables, IsSorted}
 use Rattle.office_base.specs.Shelves.{Meaning}
-use Rattle.office_sql.specs.Failing.{ChangeFails}
-use Rattle.office_sql.specs.Steps.{ShowsTables, Leaves, MayLeave}
+use Rattle.office_tables.specs.Failing.{ChangeFails}
+use Rattle.office_tables.specs.Steps.{ShowsTables, Leaves, MayLeave}
 
 -- whatever trees a stop may leave stand for the tables of some office
 abbrev pub LeavesOffices : State → Type 0

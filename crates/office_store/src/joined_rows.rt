@@ -8,10 +8,10 @@ ghost use Rattle.office_ledger.specs.declared.joined.JoinedRow.{JoinedRow as Joi
 ghost use Rattle.office_store.specs.LedgerRows.{HasTaken, TakesOn, KeepsOffice};
 
 use office_base::shelf::ShelfFault;
-use office_joins::reading::{joined_row, joined_rows_come_back};
-use office_joins::select::{join_is_begun, join_is_shown};
 use office_ledger::joined::JoinedRow;
-use office_sql::faults::fault;
+use office_ledger::reading::{joined_row, joined_rows_come_back};
+use office_ledger::select::{join_is_begun, join_is_shown};
+use office_tables::faults::fault;
 use sqlite::{Alter, Rows};
 
 /// The next of the joined rows; None past the last.

@@ -4,16 +4,16 @@ ghost use Rattle.sqlite.specs.Held.{state};
 ghost use Rattle.sqlite.specs.State.{HasCleanDisk, IsUnchanged, Survives};
 ghost use Rattle.office_base.specs.Shelves.{Keeps};
 ghost use Rattle.office_base.specs.Tables.{Tables, IsSorted};
-ghost use Rattle.office_sql.specs.Steps.{Refused, ShowsTables};
+ghost use Rattle.office_tables.specs.Steps.{Refused, ShowsTables};
 ghost use Rattle.office_ledger.specs.declared.joined.JoinedRow.{JoinedRow as Joined};
 ghost use Rattle.office_store.specs.SqlMeaning.{sql_meaning};
 
 use crate::joined_rows::take_row;
 use crate::shelf::SqlShelf;
 use office_base::shelf::ShelfFault;
-use office_joins::select::{join_is_no_write, join_is_plain, list_joined, stored_rows_show};
 use office_ledger::joined::JoinedRow;
-use office_sql::faults::fault;
+use office_ledger::select::{join_is_no_write, join_is_plain, list_joined, stored_rows_show};
+use office_tables::faults::fault;
 use sqlite::{Alter, Connection, Rows};
 
 /// The joined rows of the ledger, in the order of their keys. They may be dropped at any row.

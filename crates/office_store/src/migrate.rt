@@ -2,9 +2,9 @@
 ghost use Rattle.std.specs.Prelude.{◌≡◌, IsTrue, OnOk, OnErr, IfErr, map};
 ghost use Rattle.sqlite.specs.Held.{state};
 ghost use Rattle.sqlite.specs.State.{HasCleanDisk, Survives};
-ghost use Rattle.office_rows.specs.declared.stored.FormerNotice.{FormerNotice};
-ghost use Rattle.office_sql.specs.First.{TellsFirst};
-ghost use Rattle.office_sql.specs.Steps.{Refused};
+ghost use Rattle.office_tables.specs.declared.tables.notices.FormerNotice.{FormerNotice};
+ghost use Rattle.office_tables.specs.First.{TellsFirst};
+ghost use Rattle.office_tables.specs.Steps.{Refused};
 ghost use Rattle.office_store.specs.Founding.{Migrated, LeavesMigrated, IsMadeCurrent, LeavesReadied};
 
 use crate::forms::check_forms;
@@ -13,9 +13,9 @@ use crate::others::leads_there;
 use office_base::records::ClockRow;
 use office_base::shelf::ShelfFault;
 use office_changes::migrate::migrate;
-use office_rows::stored::FormerNotice;
-use office_sql::faults::fault;
-use office_sql::first::{former_clock, former_notices, has_late};
+use office_tables::faults::fault;
+use office_tables::first::{former_clock, former_notices, has_late};
+use office_tables::tables::notices::FormerNotice;
 use sqlite::{Alter, Connection};
 use std::alloc::Global;
 

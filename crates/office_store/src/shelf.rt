@@ -1,8 +1,8 @@
 //! The shelf of an office in SQL.
-ghost use Rattle.std.specs.Prelude.{◌≡◌, ⊤};
+ghost use Rattle.std.specs.Prelude.{◌≡◌, ⊤, IfErr};
 ghost use Rattle.sqlite.specs.Held.{state};
 ghost use Rattle.sqlite.specs.State.{IsLive};
-ghost use Rattle.office_base.specs.Faults.{one_fault_more, IsFaultOf};
+ghost use Rattle.office_base.specs.Faults.{one_fault_more, count_after, IsFaultOf};
 ghost use Rattle.office_store.specs.SqlMeaning.{sql_meaning};
 
 use crate::sums;
@@ -16,9 +16,12 @@ use office_base::records::{
 };
 use office_base::shelf::{Lookups, Shelf, ShelfFault};
 use office_changes::apply::apply_all;
-use office_sql::faults::fault;
-use office_sql::laws::trees_tell_one_office;
-use office_sql::{lists, lookups, pages};
+use office_tables::faults::fault;
+use office_tables::laws::trees_tell_one_office;
+use office_tables::tables::{
+    awards, batches, compiled, contracts, entries, envelopes, late_rules, lines, lots, notices,
+    office, performances, releases, seals, securities, tenderers,
+};
 use office_values::given::AskedNumber;
 use office_values::id::Id;
 use sqlite::{Alter, Connection};
@@ -80,6 +83,19 @@ impl<S: Alter> SqlShelf<S> {
             ShelfFault::Store => ShelfFault::Store,
         }
     }
+
+    // The same answer; a fault is counted.
+    fn told<T>(&mut self, answer: Result<T, ShelfFault>) -> Result<T, ShelfFault>
+        ensures same { result ≡ answer }
+        ensures kept { self.new.0 ≡ self.old.0 }
+        ensures counted { self.new.1 ≡ count_after result self.old.1 }
+        ensures cause { IfErr result (IsFaultOf ⊤) }
+    {
+        match answer {
+            Ok(found) => Ok(found),
+            Err(fault) => Err(self.count(fault)),
+        }
+    }
 }
 
 /// A law: while a store is open, its last commit is sound.
@@ -95,73 +111,53 @@ impl<S: Alter> Lookups for SqlShelf<S> {
     ghost held_sorted = { λ shelf t held. held.0 };
 
     fn get_line(&mut self, line: &Id) -> Result<Option<LineRow>, ShelfFault> {
-        match lookups::get_line(self.alloc, &mut self.conn, line) {
-            Ok(found) => Ok(found),
-            Err(fault) => Err(self.count(fault)),
-        }
+        let found = lines::get_line(self.alloc, &mut self.conn, line);
+        self.told(found)
     }
 
     fn get_batch(&mut self, batch: &Id) -> Result<Option<BatchRow>, ShelfFault> {
-        match lookups::get_batch(self.alloc, &mut self.conn, batch) {
-            Ok(found) => Ok(found),
-            Err(fault) => Err(self.count(fault)),
-        }
+        let found = batches::get_batch(self.alloc, &mut self.conn, batch);
+        self.told(found)
     }
 
     fn get_tenderer(&mut self, tenderer: &Id) -> Result<Option<TendererRow>, ShelfFault> {
-        match lookups::get_tenderer(self.alloc, &mut self.conn, tenderer) {
-            Ok(found) => Ok(found),
-            Err(fault) => Err(self.count(fault)),
-        }
+        let found = tenderers::get_tenderer(self.alloc, &mut self.conn, tenderer);
+        self.told(found)
     }
 
     fn get_notice(&mut self, notice: &Id) -> Result<Option<NoticeRow>, ShelfFault> {
-        match lookups::get_notice(self.alloc, &mut self.conn, notice) {
-            Ok(found) => Ok(found),
-            Err(fault) => Err(self.count(fault)),
-        }
+        let found = notices::get_notice(self.alloc, &mut self.conn, notice);
+        self.told(found)
     }
 
     fn get_lot(&mut self, notice: &Id, lot: &Id) -> Result<Option<LotRow>, ShelfFault> {
-        match lookups::get_lot(self.alloc, &mut self.conn, notice, lot) {
-            Ok(found) => Ok(found),
-            Err(fault) => Err(self.count(fault)),
-        }
+        let found = lots::get_lot(self.alloc, &mut self.conn, notice, lot);
+        self.told(found)
     }
 
     fn get_envelope(&mut self, receipt: AskedNumber) -> Result<Option<EnvelopeRow>, ShelfFault> {
-        match lookups::get_envelope(self.alloc, &mut self.conn, receipt) {
-            Ok(found) => Ok(found),
-            Err(fault) => Err(self.count(fault)),
-        }
+        let found = envelopes::get_envelope(self.alloc, &mut self.conn, receipt);
+        self.told(found)
     }
 
     fn get_seal(&mut self, receipt: AskedNumber) -> Result<Option<SealRow>, ShelfFault> {
-        match lookups::get_seal(self.alloc, &mut self.conn, receipt) {
-            Ok(found) => Ok(found),
-            Err(fault) => Err(self.count(fault)),
-        }
+        let found = seals::get_seal(self.alloc, &mut self.conn, receipt);
+        self.told(found)
     }
 
     fn get_security(&mut self, security: AskedNumber) -> Result<Option<SecurityRow>, ShelfFault> {
-        match lookups::get_security(self.alloc, &mut self.conn, security) {
-            Ok(found) => Ok(found),
-            Err(fault) => Err(self.count(fault)),
-        }
+        let found = securities::get_security(self.alloc, &mut self.conn, security);
+        self.told(found)
     }
 
     fn get_award(&mut self, award: AskedNumber) -> Result<Option<AwardRow>, ShelfFault> {
-        match lookups::get_award(self.alloc, &mut self.conn, award) {
-            Ok(found) => Ok(found),
-            Err(fault) => Err(self.count(fault)),
-        }
+        let found = awards::get_award(self.alloc, &mut self.conn, award);
+        self.told(found)
     }
 
     fn get_contract(&mut self, contract: AskedNumber) -> Result<Option<ContractRow>, ShelfFault> {
-        match lookups::get_contract(self.alloc, &mut self.conn, contract) {
-            Ok(found) => Ok(found),
-            Err(fault) => Err(self.count(fault)),
-        }
+        let found = contracts::get_contract(self.alloc, &mut self.conn, contract);
+        self.told(found)
     }
 
     fn get_entry(
@@ -169,10 +165,8 @@ impl<S: Alter> Lookups for SqlShelf<S> {
         contract: AskedNumber,
         entry: &Id,
     ) -> Result<Option<EntryRow>, ShelfFault> {
-        match lookups::get_entry(self.alloc, &mut self.conn, contract, entry) {
-            Ok(found) => Ok(found),
-            Err(fault) => Err(self.count(fault)),
-        }
+        let found = entries::get_entry(self.alloc, &mut self.conn, contract, entry);
+        self.told(found)
     }
 
     fn get_release(
@@ -180,48 +174,36 @@ impl<S: Alter> Lookups for SqlShelf<S> {
         notice: &Id,
         seq: Sequence,
     ) -> Result<Option<ReleaseRow>, ShelfFault> {
-        match lookups::get_release(self.alloc, &mut self.conn, notice, seq) {
-            Ok(found) => Ok(found),
-            Err(fault) => Err(self.count(fault)),
-        }
+        let found = releases::get_release(self.alloc, &mut self.conn, notice, seq);
+        self.told(found)
     }
 
     fn get_compiled(&mut self, notice: &Id) -> Result<Option<CompiledRow>, ShelfFault> {
-        match lookups::get_compiled(self.alloc, &mut self.conn, notice) {
-            Ok(found) => Ok(found),
-            Err(fault) => Err(self.count(fault)),
-        }
+        let found = compiled::get_compiled(self.alloc, &mut self.conn, notice);
+        self.told(found)
     }
 
     fn get_late(&mut self, notice: &Id) -> Result<Option<LateRow>, ShelfFault> {
-        match lookups::get_late(self.alloc, &mut self.conn, notice) {
-            Ok(found) => Ok(found),
-            Err(fault) => Err(self.count(fault)),
-        }
+        let found = late_rules::get_late(self.alloc, &mut self.conn, notice);
+        self.told(found)
     }
 
     fn get_performance(
         &mut self,
         contract: AskedNumber,
     ) -> Result<Option<PerformanceRow>, ShelfFault> {
-        match lookups::get_performance(self.alloc, &mut self.conn, contract) {
-            Ok(found) => Ok(found),
-            Err(fault) => Err(self.count(fault)),
-        }
+        let found = performances::get_performance(self.alloc, &mut self.conn, contract);
+        self.told(found)
     }
 
     fn get_clock(&mut self) -> Result<ClockRow, ShelfFault> {
-        match lookups::get_clock(self.alloc, &mut self.conn) {
-            Ok(clock) => Ok(clock),
-            Err(fault) => Err(self.count(fault)),
-        }
+        let clock = office::get_clock(self.alloc, &mut self.conn);
+        self.told(clock)
     }
 
     fn list_lines(&mut self) -> Result<Vec<LineRow>, ShelfFault> {
-        match lists::list_lines(self.alloc, &mut self.conn) {
-            Ok(rows) => Ok(rows),
-            Err(fault) => Err(self.count(fault)),
-        }
+        let rows = lines::list_lines(self.alloc, &mut self.conn);
+        self.told(rows)
     }
 
     fn list_notices_after(
@@ -229,10 +211,8 @@ impl<S: Alter> Lookups for SqlShelf<S> {
         after: Option<Id>,
         most: u32,
     ) -> Result<Vec<NoticeRow>, ShelfFault> {
-        match pages::list_notices_after(self.alloc, &mut self.conn, after, most) {
-            Ok(rows) => Ok(rows),
-            Err(fault) => Err(self.count(fault)),
-        }
+        let rows = notices::list_notices_after(self.alloc, &mut self.conn, after, most);
+        self.told(rows)
     }
 
     fn list_tenderers_after(
@@ -240,31 +220,23 @@ impl<S: Alter> Lookups for SqlShelf<S> {
         after: Option<Id>,
         most: u32,
     ) -> Result<Vec<TendererRow>, ShelfFault> {
-        match pages::list_tenderers_after(self.alloc, &mut self.conn, after, most) {
-            Ok(rows) => Ok(rows),
-            Err(fault) => Err(self.count(fault)),
-        }
+        let rows = tenderers::list_tenderers_after(self.alloc, &mut self.conn, after, most);
+        self.told(rows)
     }
 
     fn list_lots_of_notice(&mut self, notice: &Id) -> Result<Vec<LotRow>, ShelfFault> {
-        match lists::list_lots_of_notice(self.alloc, &mut self.conn, notice) {
-            Ok(rows) => Ok(rows),
-            Err(fault) => Err(self.count(fault)),
-        }
+        let rows = lots::list_lots_of_notice(self.alloc, &mut self.conn, notice);
+        self.told(rows)
     }
 
     fn list_lots_of_line(&mut self, line: &Id) -> Result<Vec<LotRow>, ShelfFault> {
-        match lists::list_lots_of_line(self.alloc, &mut self.conn, line) {
-            Ok(rows) => Ok(rows),
-            Err(fault) => Err(self.count(fault)),
-        }
+        let rows = lots::list_lots_of_line(self.alloc, &mut self.conn, line);
+        self.told(rows)
     }
 
     fn list_envelopes_of_notice(&mut self, notice: &Id) -> Result<Vec<EnvelopeRow>, ShelfFault> {
-        match lists::list_envelopes_of_notice(self.alloc, &mut self.conn, notice) {
-            Ok(rows) => Ok(rows),
-            Err(fault) => Err(self.count(fault)),
-        }
+        let rows = envelopes::list_envelopes_of_notice(self.alloc, &mut self.conn, notice);
+        self.told(rows)
     }
 
     fn list_envelopes_of_lot(
@@ -272,10 +244,8 @@ impl<S: Alter> Lookups for SqlShelf<S> {
         notice: &Id,
         lot: &Id,
     ) -> Result<Vec<EnvelopeRow>, ShelfFault> {
-        match lists::list_envelopes_of_lot(self.alloc, &mut self.conn, notice, lot) {
-            Ok(rows) => Ok(rows),
-            Err(fault) => Err(self.count(fault)),
-        }
+        let rows = envelopes::list_envelopes_of_lot(self.alloc, &mut self.conn, notice, lot);
+        self.told(rows)
     }
 
     fn list_envelopes_of_tenderer(
@@ -284,17 +254,19 @@ impl<S: Alter> Lookups for SqlShelf<S> {
         lot: &Id,
         tenderer: &Id,
     ) -> Result<Vec<EnvelopeRow>, ShelfFault> {
-        match lists::list_envelopes_of_tenderer(self.alloc, &mut self.conn, notice, lot, tenderer) {
-            Ok(rows) => Ok(rows),
-            Err(fault) => Err(self.count(fault)),
-        }
+        let rows = envelopes::list_envelopes_of_tenderer(
+            self.alloc,
+            &mut self.conn,
+            notice,
+            lot,
+            tenderer,
+        );
+        self.told(rows)
     }
 
     fn list_securities_of_notice(&mut self, notice: &Id) -> Result<Vec<SecurityRow>, ShelfFault> {
-        match lists::list_securities_of_notice(self.alloc, &mut self.conn, notice) {
-            Ok(rows) => Ok(rows),
-            Err(fault) => Err(self.count(fault)),
-        }
+        let rows = securities::list_securities_of_notice(self.alloc, &mut self.conn, notice);
+        self.told(rows)
     }
 
     fn list_securities_of_lot(
@@ -302,41 +274,31 @@ impl<S: Alter> Lookups for SqlShelf<S> {
         notice: &Id,
         lot: &Id,
     ) -> Result<Vec<SecurityRow>, ShelfFault> {
-        match lists::list_securities_of_lot(self.alloc, &mut self.conn, notice, lot) {
-            Ok(rows) => Ok(rows),
-            Err(fault) => Err(self.count(fault)),
-        }
+        let rows = securities::list_securities_of_lot(self.alloc, &mut self.conn, notice, lot);
+        self.told(rows)
     }
 
     fn list_awards_of_notice(&mut self, notice: &Id) -> Result<Vec<AwardRow>, ShelfFault> {
-        match lists::list_awards_of_notice(self.alloc, &mut self.conn, notice) {
-            Ok(rows) => Ok(rows),
-            Err(fault) => Err(self.count(fault)),
-        }
+        let rows = awards::list_awards_of_notice(self.alloc, &mut self.conn, notice);
+        self.told(rows)
     }
 
     fn list_contracts_of_notice(&mut self, notice: &Id) -> Result<Vec<ContractRow>, ShelfFault> {
-        match lists::list_contracts_of_notice(self.alloc, &mut self.conn, notice) {
-            Ok(rows) => Ok(rows),
-            Err(fault) => Err(self.count(fault)),
-        }
+        let rows = contracts::list_contracts_of_notice(self.alloc, &mut self.conn, notice);
+        self.told(rows)
     }
 
     fn list_entries_of_contract(
         &mut self,
         contract: AskedNumber,
     ) -> Result<Vec<EntryRow>, ShelfFault> {
-        match lists::list_entries_of_contract(self.alloc, &mut self.conn, contract) {
-            Ok(rows) => Ok(rows),
-            Err(fault) => Err(self.count(fault)),
-        }
+        let rows = entries::list_entries_of_contract(self.alloc, &mut self.conn, contract);
+        self.told(rows)
     }
 
     fn list_releases_of_notice(&mut self, notice: &Id) -> Result<Vec<ReleaseRow>, ShelfFault> {
-        match lists::list_releases_of_notice(self.alloc, &mut self.conn, notice) {
-            Ok(rows) => Ok(rows),
-            Err(fault) => Err(self.count(fault)),
-        }
+        let rows = releases::list_releases_of_notice(self.alloc, &mut self.conn, notice);
+        self.told(rows)
     }
 
     fn list_amounts_of_line(&mut self, line: &Id) -> Result<LineAmounts, ShelfFault> {

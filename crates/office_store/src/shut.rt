@@ -4,7 +4,7 @@ ghost use Rattle.sqlite_disk.specs.Disk.{MoreFaults};
 ghost use Rattle.sqlite.specs.Held.{state};
 ghost use Rattle.sqlite.specs.State.{HasCleanDisk, Survives};
 ghost use Rattle.office_base.specs.Shelves.{Keeps, CountsFaults};
-ghost use Rattle.office_sql.specs.Steps.{Refused};
+ghost use Rattle.office_tables.specs.Steps.{Refused};
 ghost use Rattle.office_store.specs.Shutting.{IsTold, told_by};
 ghost use Rattle.office_store.specs.SqlMeaning.{sql_meaning};
 

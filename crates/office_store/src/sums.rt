@@ -4,21 +4,21 @@ ghost use Rattle.sqlite.specs.Held.{state};
 ghost use Rattle.sqlite.specs.State.{HasCleanDisk, Survives};
 ghost use Rattle.office_base.specs.Joined.{LinesFit, amounts_of_line, ledger_of};
 ghost use Rattle.office_base.specs.Tables.{Tables, IsSorted};
-ghost use Rattle.office_sql.specs.Steps.{Refused, ShowsTables};
+ghost use Rattle.office_tables.specs.Steps.{Refused, ShowsTables};
 ghost use Rattle.office_store.specs.LedgerRows.{HasTaken, KeepsOffice};
 
 use crate::joined_rows::take_row;
 use crate::ledger_rows::ready;
 use office_base::ledger::{LedgerRow, LineAmounts};
 use office_base::shelf::ShelfFault;
-use office_joins::adding::amounts_of_rows;
-use office_joins::select::{
+use office_ledger::adding::amounts_of_rows;
+use office_ledger::ledger_sums::LedgerSums;
+use office_ledger::select::{
     join_is_no_write, join_is_plain, list_joined, list_joined_of_line, lots_are_shown,
     stored_rows_show,
 };
-use office_ledger::ledger_sums::LedgerSums;
-use office_sql::ask::ask;
-use office_sql::faults::fault;
+use office_tables::ask::ask;
+use office_tables::faults::fault;
 use office_values::id::Id;
 use sqlite::{Alter, Connection, Rows};
 use sqlite_value::value::ValueRef;

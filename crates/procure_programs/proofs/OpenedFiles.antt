@@ -13,7 +13,7 @@ use Rattle.sqlite.specs.State.{HasCleanDisk}
 use Rattle.office_values.specs.declared.settings.Settings.{Settings}
 use Rattle.office_base.specs.Shelves.{Keeps, Meaning}
 use Rattle.office_base.specs.Tables.{Tables}
-use Rattle.office_sql.specs.Steps.{ShowsTables}
+use Rattle.office_tables.specs.Steps.{ShowsTables}
 use Rattle.office_publications.specs.Keys.{KeysMayChange, SameButKey}
 use Rattle.office_desk.specs.Desks.{DeskOf}
 use Rattle.office_store.specs.Reopening.{FilesHoldOffice, OpensHeld}

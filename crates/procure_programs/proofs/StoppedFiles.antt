@@ -12,7 +12,7 @@ use Rattle.office_base.specs.Tables.{Tables}
 use Rattle.office_machine.specs.Accounts.{TablesAreInOrder}
 use Rattle.office_publications.specs.Publishing.{publishing}
 use Rattle.office_publications.specs.Standing.{IsReached}
-use Rattle.office_sql.specs.Steps.{MayLeave}
+use Rattle.office_tables.specs.Steps.{MayLeave}
 use Rattle.office_store.specs.Reopening.{FilesHoldOffice, IsPutDown, OpensHeld}
 use Rattle.office_store.specs.SqlMeaning.{LeavesNoOther, LeavesShown, sql_meaning}
 use Rattle.office_wire.specs.Runs.{Step, office_left}

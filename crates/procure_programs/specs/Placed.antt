@@ -8,7 +8,7 @@ use Rattle.sqlite.specs.Held.{Held}
 use Rattle.sqlite.specs.Files.{file_state, HoldsDatabase, IsEmpty}
 use Rattle.sqlite.specs.State.{HasCleanDisk}
 use Rattle.office_base.specs.Tables.{no_tables}
-use Rattle.office_sql.specs.Steps.{ShowsTables}
+use Rattle.office_tables.specs.Steps.{ShowsTables}
 
 -- a database that has no table
 abbrev pub HoldNoTable : Image → Type 0

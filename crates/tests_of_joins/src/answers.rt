@@ -2,7 +2,7 @@
 use crate::values::row_of;
 use office_base::records::CompiledRow;
 use office_base::shelf::ShelfFault;
-use office_rows::stored::{all, first};
+use office_tables::stored::{all, first};
 use sqlite::Row;
 use sqlite_value::value::ValueRef::Text;
 use std::alloc::Global;

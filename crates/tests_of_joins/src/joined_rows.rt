@@ -1,7 +1,7 @@
 //! Rows of the selects that show joined rows: those that the selects can show, and those that no office writes.
 use crate::values::row_of;
 use office_base::shelf::ShelfFault;
-use office_joins::reading::{joined_lot, joined_row};
+use office_ledger::reading::{joined_lot, joined_row};
 use sqlite_value::value::ValueRef;
 use sqlite_value::value::ValueRef::{Int, Null, Text};
 use std::alloc::Global;

@@ -1,8 +1,8 @@
 //! Tests of the selects over a store in memory.
 use crate::joined_ledgers::are_amounts;
 use office_base::ledger::LedgerRow;
-use office_joins::adding::{amounts_of_rows, ledger_of_rows};
-use office_joins::select::{list_joined, list_joined_of_line};
+use office_ledger::adding::{amounts_of_rows, ledger_of_rows};
+use office_ledger::select::{list_joined, list_joined_of_line};
 use sqlite::{Connection, MemStore, Row, params};
 use std::alloc::Global;
 

@@ -7,7 +7,9 @@ use office_base::records::{
     PerformanceRow, TendererRow,
 };
 use office_base::shelf::ShelfFault;
-use office_rows::stored::{FormerClock, FormerNotice, Stored};
+use office_tables::stored::Stored;
+use office_tables::tables::notices::FormerNotice;
+use office_tables::tables::office::FormerClock;
 use sqlite_value::value::ValueRef;
 use sqlite_value::value::ValueRef::{Blob, Int, Null, Text};
 use std::alloc::Global;

@@ -7,13 +7,23 @@ use office_base::records::{
     AwardRow, BatchRow, ClockRow, CompiledRow, ContractRow, EntryRow, EnvelopeRow, LineRow, LotRow,
     NoticeRow, PerformanceRow, ReleaseRow, SealRow, SecurityRow, TendererRow,
 };
-use office_rows::items::items_text;
-use office_rows::stored::{FormerClock, FormerNotice, Stored, all};
-use office_rows::values::{
-    award_values, batch_values, clock_values, compiled_values, contract_values, entry_values,
-    envelope_values, line_values, lot_values, notice_values, performance_values, release_values,
-    seal_values, security_values, tenderer_values,
-};
+use office_tables::items::items_text;
+use office_tables::stored::{Stored, all};
+use office_tables::tables::awards::award_values;
+use office_tables::tables::batches::batch_values;
+use office_tables::tables::compiled::compiled_values;
+use office_tables::tables::contracts::contract_values;
+use office_tables::tables::entries::entry_values;
+use office_tables::tables::envelopes::envelope_values;
+use office_tables::tables::lines::line_values;
+use office_tables::tables::lots::lot_values;
+use office_tables::tables::notices::{FormerNotice, notice_values};
+use office_tables::tables::office::{FormerClock, clock_values};
+use office_tables::tables::performances::performance_values;
+use office_tables::tables::releases::release_values;
+use office_tables::tables::seals::seal_values;
+use office_tables::tables::securities::security_values;
+use office_tables::tables::tenderers::tenderer_values;
 use sqlite::Row;
 use sqlite_value::value::ValueRef;
 use sqlite_value::value::ValueRef::{Blob, Int, Null, Text};

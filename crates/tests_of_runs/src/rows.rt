@@ -1,16 +1,27 @@
 //! All rows of an office as bytes, so that what an office holds is compared record by record. A record stands there as its row of SQL values, which no other
-//! record has (`office_rows`).
+//! record has (`office_tables`).
 use office_base::records::{
     AwardRow, BatchRow, CompiledRow, ContractRow, EntryRow, EnvelopeRow, LateRow, LineRow, LotRow,
     NoticeRow, PerformanceRow, ReleaseRow, SealRow, SecurityRow, TendererRow,
 };
 use office_base::shelf::Lookups;
-use office_rows::items::items_text;
-use office_rows::values::{
-    award_values, batch_values, clock_values, compiled_values, contract_values, entry_values,
-    envelope_values, late_values, line_values, lot_values, notice_values, performance_values,
-    release_values, seal_values, security_values, tenderer_values,
-};
+use office_tables::items::items_text;
+use office_tables::tables::awards::award_values;
+use office_tables::tables::batches::batch_values;
+use office_tables::tables::compiled::compiled_values;
+use office_tables::tables::contracts::contract_values;
+use office_tables::tables::entries::entry_values;
+use office_tables::tables::envelopes::envelope_values;
+use office_tables::tables::late_rules::late_values;
+use office_tables::tables::lines::line_values;
+use office_tables::tables::lots::lot_values;
+use office_tables::tables::notices::notice_values;
+use office_tables::tables::office::clock_values;
+use office_tables::tables::performances::performance_values;
+use office_tables::tables::releases::release_values;
+use office_tables::tables::seals::seal_values;
+use office_tables::tables::securities::security_values;
+use office_tables::tables::tenderers::tenderer_values;
 use office_values::given::{AskedNumber, asked};
 use office_values::id::Id;
 use office_values::refusal::Refusal;

@@ -3,9 +3,9 @@ use Rattle.sqlite.specs.Held.{state}
 use Rattle.sqlite.specs.State.{HasCleanDisk, Survives}
 use Rattle.sqlite.proofs.StateLemmas.{survives_then}
 use Rattle.sqlite.proofs.Callers.{survives_begin}
-use Rattle.office_sql.specs.Steps.{Applied, Refused, LeavesPuts}
+use Rattle.office_tables.specs.Steps.{Applied, Refused, LeavesPuts}
+use Rattle.office_tables.specs.Failing.{IsExcused, ChangeFails}
 use Rattle.office_changes.proofs.Steps.{rolled, put_leaves, applies, on_err, on_ok_with, begun_refused}
-use Rattle.office_sql.specs.Failing.{IsExcused, ChangeFails}
 use Rattle.office_changes.proofs.Failing.{if_err_with, same_err, undone_fails, commit_fails}
 use Rattle.office_changes.proofs.apply.apply_all.Goals as goal
 

@@ -4,7 +4,7 @@ use Rattle.std.specs.Prelude.{IfErr}
 use Rattle.sqlite.specs.Held.{state}
 use Rattle.sqlite.specs.State.{HasCleanDisk}
 use Rattle.sqlite.proofs.StateLemmas.{survives_then}
-use Rattle.office_sql.specs.Failing.{IsExcused, StoreFails}
+use Rattle.office_tables.specs.Failing.{IsExcused, StoreFails}
 use Rattle.office_changes.proofs.Steps.{puts_push}
 use Rattle.office_changes.proofs.Failing.{same_err, excused_with, fails_early, fails_later}
 use Rattle.office_changes.proofs.apply.put_all.Goals as goal

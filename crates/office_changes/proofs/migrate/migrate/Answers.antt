@@ -3,8 +3,8 @@ use Rattle.sqlite.specs.Held.{state}
 use Rattle.sqlite.specs.State.{HasCleanDisk, Survives}
 use Rattle.sqlite.proofs.StateLemmas.{survives_then}
 use Rattle.sqlite.proofs.Callers.{survives_begin}
-use Rattle.office_rows.specs.declared.stored.FormerNotice.{FormerNotice}
-use Rattle.office_sql.specs.Steps.{Refused}
+use Rattle.office_tables.specs.declared.tables.notices.FormerNotice.{FormerNotice}
+use Rattle.office_tables.specs.Steps.{Refused}
 use Rattle.office_changes.specs.Migration.{Migrates, LeavesSecond}
 use Rattle.office_changes.proofs.Migrating.{migrates, migrate_leaves}
 use Rattle.office_changes.proofs.Steps.{rolled, on_err, on_ok_with, begun_refused}

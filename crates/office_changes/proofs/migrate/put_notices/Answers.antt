@@ -5,8 +5,8 @@ use Rattle.sqlite.specs.State.{HasCleanDisk}
 use Rattle.sqlite.proofs.StateLemmas.{survives_then}
 use Rattle.office_base.specs.declared.puts.Put.{Put}
 use Rattle.office_base.specs.declared.puts.Put.TheVariants as puts
-use Rattle.office_rows.specs.declared.stored.FormerNotice.{FormerNotice}
-use Rattle.office_sql.specs.Steps.{Puts}
+use Rattle.office_tables.specs.declared.tables.notices.FormerNotice.{FormerNotice}
+use Rattle.office_tables.specs.Steps.{Puts}
 use Rattle.office_changes.proofs.Steps.{puts_push, refused_then, on_err}
 use Rattle.office_changes.proofs.migrate.put_notices.Goals as goal
 

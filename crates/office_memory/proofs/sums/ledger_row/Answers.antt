@@ -1,4 +1,4 @@
-use Rattle.std.proofs.Common.{◌≡◌, ap, ◌∙◌}
+use Rattle.std.proofs.Common.{ap, ◌∙◌}
 use Rattle.office_base.specs.declared.ledger.LineAmounts.{LineAmounts}
 use Rattle.office_memory.specs.MemoryTables.{tables_of}
 use Rattle.office_memory.proofs.AddedUp.{row_found, no_row}

@@ -3,7 +3,7 @@ use Rattle.std.proofs.lemmas.Bool.{eqb-true}
 use Rattle.std.proofs.lemmas.Grind.{common_steps}
 use Rattle.std.proofs.lemmas.Option.{gets}
 use Rattle.sqlite_schema.specs.Names.{table_named}
-use Rattle.office_sql.specs.Known.{at_tree}
+use Rattle.office_tables.specs.Known.{at_tree}
 use Rattle.office_store.proofs.forms.stands.Goals as goal
 
 pub returns : goal.returns

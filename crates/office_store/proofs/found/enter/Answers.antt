@@ -3,8 +3,8 @@ use Rattle.sqlite.specs.Held.{state}
 use Rattle.sqlite.specs.declared.error.Error.TheVariants.{SqlInputError}
 use Rattle.sqlite.specs.State.{HasCleanDisk, IsLive}
 use Rattle.sqlite.proofs.StateLemmas.{survives_then}
-use Rattle.office_sql.specs.Steps.{IsRefusal}
-use Rattle.office_sql.specs.Version.{get_version}
+use Rattle.office_tables.specs.Steps.{IsRefusal}
+use Rattle.office_tables.specs.Version.{get_version}
 use Rattle.office_store.specs.Founding.{Enters, is_version_one, is_other_version, origin_of, takes_a_name, IsMadeCurrent, LeavesReadied, LeavesOffice}
 use Rattle.office_store.proofs.Founding.{sound_after, founded_after, leaves_before, refused_on, shown_is_left}
 use Rattle.office_store.proofs.Migrating.{leaves_readied_before, readied_after, readied_enters, readied_shows, never_other, shown_version}

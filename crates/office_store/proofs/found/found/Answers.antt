@@ -3,7 +3,7 @@ use Rattle.sqlite.specs.Held.{state}
 use Rattle.sqlite.specs.State.{HasCleanDisk, Survives}
 use Rattle.sqlite.proofs.StateLemmas.{survives_then}
 use Rattle.sqlite.proofs.Callers.{survives_begin}
-use Rattle.office_sql.specs.Steps.{Refused}
+use Rattle.office_tables.specs.Steps.{Refused}
 use Rattle.office_store.specs.Founding.{Founded, LeavesNew}
 use Rattle.office_changes.proofs.Steps.{rolled, on_err, on_ok_with, begun_refused}
 use Rattle.office_store.proofs.Founding.{founds, found_leaves}

@@ -1,6 +1,6 @@
 use Rattle.std.proofs.Common.{[]}
 use Rattle.sqlite.specs.Held.{state}
-use Rattle.office_sql.specs.Version.{get_version}
+use Rattle.office_tables.specs.Version.{get_version}
 use Rattle.office_store.proofs.Kept.{unchanged, not_run_kept}
 use Rattle.office_store.proofs.found.still_open.Goals as goal
 

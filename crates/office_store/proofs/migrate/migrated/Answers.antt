@@ -2,8 +2,8 @@ use Rattle.std.proofs.Common.{rules, arith, ◌≡◌, map, IsTrue, false}
 use Rattle.sqlite.specs.Held.{state}
 use Rattle.sqlite.specs.State.{HasCleanDisk}
 use Rattle.sqlite.proofs.StateLemmas.{survives_then}
-use Rattle.office_rows.specs.declared.stored.FormerNotice.{FormerNotice}
-use Rattle.office_sql.specs.First.{has_late}
+use Rattle.office_tables.specs.declared.tables.notices.FormerNotice.{FormerNotice}
+use Rattle.office_tables.specs.First.{has_late}
 use Rattle.office_store.specs.Founding.{LeavesMigrated}
 use Rattle.office_store.proofs.Founding.{refused_on}
 use Rattle.office_store.specs.Others.{leads_there}

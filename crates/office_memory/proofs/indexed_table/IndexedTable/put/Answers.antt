@@ -1,12 +1,10 @@
-use Rattle.office_memory.specs.Inside.GroupIndex.{IsIndexed}
 use Rattle.office_memory.proofs.GroupIndex.{put_or_not}
 use Rattle.office_memory.proofs.indexed_table.IndexedTable.put.Goals as goal
 
 pub invariant_of-self-2 : goal.invariant_of-self-2
 invariant_of-self-2 g c =
-    put_or_not g.R.Key.Ord.cmp g.R.Row.key_of (λ rows. IsIndexed g.N.Group.Ord.cmp g.R.Key.Ord.cmp g.N.Grouping.group_of g.R.Row.key_of rows c.add_row.new.index.keys c.add_row.new.index.is_whole)
-    c.args.row c.self.inside.rows c.put.new.self c.put.result c.put.ensures.rows c.put.ensures.kept
-    (c.in_ok-add_row.ensures.put c.self.inside.rows c.self.invariant) (c.add_row.ensures.kept c.self.inside.rows c.self.invariant)
+    put_or_not g.R.Key.Ord.cmp g.R.Row.key_of (λ rows. g.I.Indexes.covers c.add_row.new.self rows) c.args.row c.self.inside.rows c.put.new.self c.put.result
+    c.put.ensures.rows c.put.ensures.kept (c.in_ok-add_row.ensures.put c.self.inside.rows c.self.invariant) (c.add_row.ensures.kept c.self.inside.rows c.self.invariant)
 
 pub invariant_of-self : goal.invariant_of-self
 invariant_of-self g c = c.add_row.ensures.kept c.self.inside.rows c.self.invariant

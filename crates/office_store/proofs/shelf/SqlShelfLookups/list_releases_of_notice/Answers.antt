@@ -1,13 +1,8 @@
 use Rattle.std.proofs.Common.{◌≡◌}
 use Rattle.office_base.specs.Tables.{releases_of_notice}
-use Rattle.office_store.proofs.Shelves.{looked, unanswered}
+use Rattle.office_store.proofs.Shelves.{told_counted}
 use Rattle.office_store.proofs.shelf.SqlShelfLookups.list_releases_of_notice.Goals as goal
 
-pub returns-in-Ok : goal.returns-in-Ok
-returns-in-Ok g c =
-    looked g.S.Store c.self.inside.conn c.list_releases_of_notice.new.conn c.args.self.now c.self.inside.faults c.in-Ok.rows (λ t rows. rows.items ≡ releases_of_notice c.args.notice.now t) c.self.view_is c.in-Ok.ensures.kept c.in-Ok.ensures.survives c.in-Ok.ensures.got
-
-pub returns-in-Err : goal.returns-in-Err
-returns-in-Err g c =
-    unanswered g.S.Store c.self.inside.conn c.list_releases_of_notice.new.conn c.args.self.now c.count.new.self c.self.inside.faults c.count.result (λ t rows. rows.items ≡ releases_of_notice c.args.notice.now t) c.self.view_is c.count.ensures.kept c.count.ensures.counted c.count.ensures.cause
-    c.in-Err.ensures.kept c.in-Err.ensures.survives
+pub returns : goal.returns
+returns g c =
+    told_counted g.S.Store c.self.inside.conn c.list_releases_of_notice-rows.new.conn (λ t rows. rows.items ≡ releases_of_notice c.args.notice.now t) c.self.view_is c.told.ensures.same c.told.ensures.kept c.told.ensures.counted c.told.ensures.cause c.list_releases_of_notice-rows.ensures

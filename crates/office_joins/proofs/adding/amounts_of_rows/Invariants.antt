@@ -1,7 +1,0 @@
-use Rattle.std.proofs.Common.{map, take}
-use Rattle.office_ledger.specs.Listing.{HasListed}
-use Rattle.office_joins.specs.Reading.{joined_lot_read}
-use Rattle.office_joins.proofs.adding.amounts_of_rows.Given as goal
-
-abbrev pub invariant-rows : goal.invariant-rows
-invariant-rows l = HasListed (map joined_lot_read (take l.row-index l.rows)) l.amounts

@@ -1,5 +1,0 @@
-use Rattle.office_joins.proofs.BackAgain.{lots_come_back}
-use Rattle.office_joins.proofs.reading.joined_lots_come_back.Goals as goal
-
-pub returns : goal.returns
-returns c = lots_come_back

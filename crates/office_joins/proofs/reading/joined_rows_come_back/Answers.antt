@@ -1,5 +1,0 @@
-use Rattle.office_joins.proofs.BackAgain.{rows_come_back}
-use Rattle.office_joins.proofs.reading.joined_rows_come_back.Goals as goal
-
-pub returns : goal.returns
-returns c = rows_come_back

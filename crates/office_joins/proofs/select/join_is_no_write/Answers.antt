@@ -1,5 +1,0 @@
-use Rattle.office_joins.proofs.NoWrite.{join_is_no_write}
-use Rattle.office_joins.proofs.select.join_is_no_write.Goals as goal
-
-pub returns : goal.returns
-returns c schema compiled h = join_is_no_write schema compiled h

@@ -1,5 +1,0 @@
-use Rattle.office_joins.proofs.Joining.{joined_means}
-use Rattle.office_joins.proofs.select.join_is_plain.Goals as goal
-
-pub returns : goal.returns
-returns c schema at four = (joined_means schema at four).plain

@@ -1,6 +1,0 @@
-use Rattle.sqlite.specs.Held.{state}
-use Rattle.office_joins.proofs.Laws.{lots_begun}
-use Rattle.office_joins.proofs.select.lots_are_begun.Goals as goal
-
-pub returns : goal.returns
-returns g c held t line rows was begun = lots_begun (state g.S.Store held) t was line rows begun

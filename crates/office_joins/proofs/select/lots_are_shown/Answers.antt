@@ -1,6 +1,0 @@
-use Rattle.sqlite.specs.Held.{state}
-use Rattle.office_joins.proofs.Laws.{lots_shown}
-use Rattle.office_joins.proofs.select.lots_are_shown.Goals as goal
-
-pub returns : goal.returns
-returns g c old new t line rows was shown = lots_shown (state g.S.Store old) t was line (state g.S.Store new) rows shown

@@ -1,0 +1,72 @@
+-- What the select shows of a connection.
+use Rattle.std.proofs.Common.{◌≡◌, ◌^◌, ℕ, List, [], ◌∷◌, ◌++◌, map, false, refl, subst}
+use Rattle.std.specs.Prelude.{nat_le}
+use Rattle.sqlite_value.specs.declared.value.Value.TheVariants.{Null, Text}
+use Rattle.sqlite_value.specs.Order.{Row}
+use Rattle.sqlite_trees.specs.Tree.{Trees}
+use Rattle.sqlite_sql.specs.Program.{overlay}
+use Rattle.sqlite_schema.specs.declared.command.Command.TheVariants.{Select}
+use Rattle.sqlite.specs.Effect.{Answers, ReadsFirst}
+use Rattle.sqlite.specs.State.{State, Shown, Begins}
+use Rattle.sqlite.proofs.Callers.{reads_as, begins_as}
+use Rattle.office_base.specs.Tables.{Tables}
+use Rattle.office_ledger.specs.Joins.{joined, joined_lots}
+use Rattle.office_ledger.specs.Select.{list_joined, joined_query}
+use Rattle.office_ledger.specs.Cells.{LineCells, LotCells, ContractCells, EntryCells, Show, joined_cells}
+use Rattle.office_ledger.specs.SelectLots.{list_joined_of_line, lots_query}
+use Rattle.office_ledger.specs.Shows.{HoldsJoined, joined_lot_cells}
+use Rattle.office_ledger.proofs.Joining.{joined_means, joined_names}
+use Rattle.office_ledger.proofs.LotsJoining.{lots_mean, lots_names}
+use Rattle.office_ledger.proofs.LotsShown.{shows_lots}
+use Rattle.office_ledger.proofs.Shown.{shows_joined}
+
+-- no table of the statement's own stands before a stored one
+pub stored_is : (db : Trees) (tree : ℕ) → nat_le (2 ^ 31) tree ≡ false → db tree ≡ overlay db [] tree
+stored_is db tree stored = rw stored refl
+
+module _ (s : State) (t : Tables) (was : HoldsJoined s.now t) where
+  abbrev db : Trees
+  db = s.now.trees
+
+  answered : (rows : List Row) → Answers s.now (record { lets = []; body = joined_query was.at }) [] rows → rows ≡ map joined_cells (joined t)
+  answered rows a =
+      shows_joined was.at Null (overlay db []) t was.sorted [] rows
+      (subst (λ r. Show LineCells r t.lines) (stored_is db was.at.lines was.four.lines.stored) was.lines)
+      (subst (λ r. Show LotCells r t.lots) (stored_is db was.at.lots was.four.lots.stored) was.lots)
+      (subst (λ r. Show ContractCells r t.contracts) (stored_is db was.at.contracts was.four.contracts.stored) was.contracts)
+      (subst (λ r. Show EntryCells r t.entries) (stored_is db was.at.entries was.four.entries.stored) was.entries)
+      (a.answer Null)
+
+  pub join_shown : (new : State) (rows : List Row) → Shown list_joined [] s new rows → rows ≡ map joined_cells (joined t)
+  join_shown new rows h =
+      let means = joined_means s.now.schema was.at was.four in
+      answered rows (reads_as list_joined [] s new s.now.schema refl (Select (record { lets = []; body = joined_query was.at }) (joined_names s.now.schema was.at was.four)) means.is means.plain means.unlisted rows h)
+
+  pub join_begun : (rows : List Row) → Begins list_joined [] s rows → (rest : List Row) × (rows ++ rest ≡ map joined_cells (joined t))
+  join_begun rows h =
+      let means = joined_means s.now.schema was.at was.four in
+      let first : ReadsFirst (Select (record { lets = []; body = joined_query was.at }) (joined_names s.now.schema was.at was.four)) s.now [] rows =
+      begins_as list_joined [] s s s.now.schema refl (Select (record { lets = []; body = joined_query was.at }) (joined_names s.now.schema was.at was.four)) means.is means.plain means.unlisted rows h in
+      (first.1.0, answered (rows ++ first.1.0) (record { typed = first.0; answer = first.1.1 }))
+
+  module _ (line : List ℕ) where
+    lots_answered : (rows : List Row) → Answers s.now (record { lets = []; body = lots_query was.at }) (Text line ∷ []) rows → rows ≡ map joined_lot_cells (joined_lots line t)
+    lots_answered rows a =
+        shows_lots was.at Null (overlay db []) t was.sorted line rows
+        (subst (λ r. Show LotCells r t.lots) (stored_is db was.at.lots was.four.lots.stored) was.lots)
+        (subst (λ r. Show ContractCells r t.contracts) (stored_is db was.at.contracts was.four.contracts.stored) was.contracts)
+        (subst (λ r. Show EntryCells r t.entries) (stored_is db was.at.entries was.four.entries.stored) was.entries)
+        (a.answer Null)
+
+    pub lots_shown : (new : State) (rows : List Row) → Shown list_joined_of_line (Text line ∷ []) s new rows → rows ≡ map joined_lot_cells (joined_lots line t)
+    lots_shown new rows h =
+        let means = lots_mean s.now.schema was.at was.four in
+        lots_answered rows
+        (reads_as list_joined_of_line (Text line ∷ []) s new s.now.schema refl (Select (record { lets = []; body = lots_query was.at }) (lots_names s.now.schema was.at was.four)) means.is means.plain means.unlisted rows h)
+
+    pub lots_begun : (rows : List Row) → Begins list_joined_of_line (Text line ∷ []) s rows → (rest : List Row) × (rows ++ rest ≡ map joined_lot_cells (joined_lots line t))
+    lots_begun rows h =
+        let means = lots_mean s.now.schema was.at was.four in
+        let first : ReadsFirst (Select (record { lets = []; body = lots_query was.at }) (lots_names s.now.schema was.at was.four)) s.now (Text line ∷ []) rows =
+        begins_as list_joined_of_line (Text line ∷ []) s s s.now.schema refl (Select (record { lets = []; body = lots_query was.at }) (lots_names s.now.schema was.at was.four)) means.is means.plain means.unlisted rows h in
+        (first.1.0, lots_answered (rows ++ first.1.0) (record { typed = first.0; answer = first.1.1 }))

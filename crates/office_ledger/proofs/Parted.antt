@@ -1,0 +1,19 @@
+-- Why what is joined isn't read, where it may be absent.
+use Rattle.std.proofs.Common.{◌≡◌, Bool, false, Option, None, Some, Result, sym, ◌∙◌, true≢false}
+use Rattle.std.specs.Prelude.{IfErr, IfSome, IsTrue, ◌↔◌}
+use Rattle.std.specs.Result.{IsErrAnd}
+use Rattle.sqlite_value.specs.Order.{Row}
+use Rattle.office_base.specs.declared.shelf.ShelfFault.{ShelfFault}
+use Rattle.office_base.specs.Faults.{IsFaultOf}
+use Rattle.office_tables.specs.Unwritten.{IsUnwritten}
+use Rattle.office_tables.proofs.Exactly.{exit}
+
+neither : {Y : Type 0} (cells : Option Y → Row) (fits : Y → Type 0) (row : Row) → (cells None ≡ row → ⊥) → IsUnwritten (λ y. cells (Some y)) fits row → (o : Option Y) → IfSome o fits → cells o ≡ row → ⊥
+neither cells fits row none h None f e = none e
+neither cells fits row none h (Some y) f e = h.none y f e
+
+-- it isn't absent, and it isn't written so
+pub not_read : {T Y : Type 0} (cells : Option Y → Row) (fits : Y → Type 0) (row : Row) (absent : Bool) → (IsTrue absent ↔ (cells None ≡ row)) → absent ≡ false → (e : ShelfFault) (r : Result T ShelfFault)
+    → IsErrAnd r (λ y. y ≡ e) → IsFaultOf (IsUnwritten (λ y. cells (Some y)) fits row) e → IfErr r (IsFaultOf (IsUnwritten cells (λ o. IfSome o fits) row))
+not_read cells fits row absent tested there e r same h =
+    exit e r (IsUnwritten (λ y. cells (Some y)) fits row) (IsUnwritten cells (λ o. IfSome o fits) row) same (λ h. record { none = neither cells fits row (λ is. true≢false (sym (tested.1 is) ∙ there)) h }) h

@@ -1,0 +1,37 @@
+-- The select shows the join, in the order of its keys.
+use Rattle.std.proofs.Common.{◌≡◌, List, [], ◌∷◌, map, refl, sym, ap, ◌∙◌, Less}
+use Rattle.std.proofs.lemmas.List.Sorted.{IsPermutation-sym, IsPermutation-trans}
+use Rattle.sqlite_trees.proofs.ListLemmas.{IsPermutation-same}
+use Rattle.sqlite_trees.specs.Tree.{Trees, IsAscending}
+use Rattle.sqlite_keyed.proofs.ListLemmas.{ascending-map}
+use Rattle.sqlite_keyed.proofs.SortLemmas.{sorted_unique}
+use Rattle.sqlite_sql.proofs.QueryLemmas.{output_cmp_total}
+use Rattle.sqlite_value.specs.declared.value.Value.{Value}
+use Rattle.sqlite_value.specs.Order.{Row}
+use Rattle.sqlite_sql.specs.Query.{Output, IsAnswerAs, output, output_cmp, matches_as}
+use Rattle.office_base.specs.Tables.{Tables, IsSorted}
+use Rattle.office_ledger.specs.Joins.{joined}
+use Rattle.office_ledger.specs.Select.{Trees4, joined_query}
+use Rattle.office_ledger.specs.Cells.{LineCells, LotCells, ContractCells, EntryCells, Show, joined_cells}
+use Rattle.office_ledger.proofs.Ascending.{joined_rises}
+use Rattle.office_ledger.proofs.Matched.{out, matched}
+
+map-map : {X Y Z : Type 0} (f : Y → Z) (g : X → Y) (xs : List X) → map f (map g xs) ≡ map (λ x. f (g x)) xs
+map-map f g [] = refl
+map-map f g (x ∷ xs) = ap (λ l. f (g x) ∷ l) (map-map f g xs)
+
+module _ (at : Trees4) (lost : Value) (db : Trees) (t : Tables) (sorted : IsSorted t) (params : Row) (rows : List Row)
+    (lines : Show LineCells (db at.lines) t.lines) (lots : Show LotCells (db at.lots) t.lots) (contracts : Show ContractCells (db at.contracts) t.contracts) (entries : Show EntryCells (db at.entries) t.entries)
+    (a : IsAnswerAs lost (joined_query at) db params rows) where
+  rising : IsAscending (λ x y. output_cmp (joined_query at) x y ≡ Less) (map out (joined t))
+  rising = ascending-map (λ x y. output_cmp (joined_query at) x y ≡ Less) out (joined t) (joined_rises t sorted)
+
+  kept_is : a.kept ≡ map (output (joined_query at)) (matches_as lost db [] (joined_query at).from (params ∷ []))
+  kept_is = a.distinct ∙ ap (map (output (joined_query at))) a.grouped
+
+  ordered_is : a.ordered ≡ map out (joined t)
+  ordered_is = sorted_unique (output_cmp (joined_query at)) (output_cmp_total (joined_query at)) (map out (joined t)) a.ordered rising
+      (IsPermutation-trans _ _ _ (IsPermutation-sym _ _ (matched at lost db t params lines lots contracts entries)) (IsPermutation-trans _ _ _ (IsPermutation-same _ _ (sym kept_is)) a.same)) a.sorted
+
+  pub shows_joined : rows ≡ map joined_cells (joined t)
+  shows_joined = a.shown ∙ ap (map (λ (o : Output). o.1)) ordered_is ∙ map-map (λ (o : Output). o.1) out (joined t)

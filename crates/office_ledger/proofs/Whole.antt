@@ -1,0 +1,163 @@
+-- A SELECT over several known tables that are joined, whatever else the schema has.
+use Rattle.std.proofs.Common.{◌≡◌, ◌∷◌, [], ◌++◌, ◌+◌, List, Ok, None, false, true, Bool, ℕ, negsuc, suc, map, Option}
+use Rattle.sqlite_value.specs.declared.keys.Collation.{Collation}
+use Rattle.sqlite_value.specs.declared.keys.Key.{Key}
+use Rattle.sqlite_value.specs.declared.value.Value.TheVariants.{Int}
+use Rattle.sqlite_sql.specs.Term.{Term, lit}
+use Rattle.sqlite_schema.specs.declared.schema.Schema.{Schema}
+use Rattle.sqlite_schema.specs.declared.command.Command.{Command}
+use Rattle.sqlite_schema.specs.declared.command.Command.TheVariants as command
+use Rattle.sqlite_schema.specs.declared.program.Program.{Program}
+use Rattle.sqlite_ast.specs.declared.Core.{Core, out-Core}
+use Rattle.sqlite_ast.specs.declared.Select.{Select, out-Select}
+use Rattle.sqlite_ast.specs.declared.Sort.{Sort}
+use Rattle.sqlite_ast.specs.declared.Statement.TheVariants as written
+use Rattle.sqlite_syntax.specs.declared.statement.Parsed.{Parsed}
+use Rattle.sqlite_draft.specs.declared.join.Step.{Step}
+use Rattle.sqlite_draft.specs.declared.query.Draft.{Draft}
+use Rattle.sqlite_draft.specs.Join.{chain}
+use Rattle.sqlite_resolve.specs.declared.state.State.{State}
+use Rattle.sqlite_resolve.specs.declared.state.Carried.{Carried}
+use Rattle.sqlite_resolve.specs.declared.scope.Bound.{Bound}
+use Rattle.sqlite_resolve.specs.declared.scope.Output.{Output}
+use Rattle.sqlite_resolve.specs.declared.body.Body.{Body}
+use Rattle.sqlite_resolve.specs.declared.select.Clauses.{Clauses}
+use Rattle.sqlite_resolve.specs.declared.compiled.Compiled.{Compiled}
+use Rattle.sqlite_resolve.specs.Scope.{Name, Context}
+use Rattle.sqlite_resolve.specs.Terms.{number}
+use Rattle.sqlite_resolve.specs.Lowering.{nothing, fresh, max_budget}
+use Rattle.sqlite_resolve.specs.Expr.{lower}
+use Rattle.sqlite_resolve.specs.Body as body
+use Rattle.sqlite_resolve.specs.Order as order
+use Rattle.sqlite_resolve.specs.Select as select
+use Rattle.sqlite_resolve.specs.Program as program
+use Rattle.sqlite_resolve.specs.Compile.{first, compiled, planned, meaning, timed, returning, read, small}
+use Rattle.sqlite_resolve.specs.Compile as compile
+use Rattle.office_ledger.proofs.Qualified.{at_budget}
+
+-- a scope of these tables
+abbrev pub among : Schema → List Bound → List Output → Bool → Bool → Context
+among schema bounds shown may_aggregate may_alias = record { schema = schema; levels = record { tables = bounds; shown = shown } ∷ []; may_aggregate = may_aggregate; may_alias = may_alias }
+
+module _ (schema : Schema) (core : Core) (bounds : List Bound) (n : ℕ) (steps : List Step) (shown : List Output) (filter : List Term) (by_order : List Sort) (keys : List (Term × Key)) (b₁ b₂ b₃ b₄ : ℕ) (l₁ l₂ l₃ l₄ : Carried)
+    (bounds_are : body.bounds schema (out-Core core).from (fresh 1 max_budget) ≡ Ok (bounds, at_budget n max_budget nothing))
+    (outputs_are : body.outputs lower (among schema bounds [] true true) bounds (out-Core core).shown (at_budget n max_budget nothing) ≡ Ok (shown, at_budget n b₁ l₁))
+    (joins_are : body.joins lower (among schema bounds shown false true) bounds (out-Core core).from (at_budget n b₁ l₁) ≡ Ok (record { steps = steps; filter = [] }, at_budget n b₂ l₂))
+    (filter_is : body.tests lower (among schema bounds shown false true) [] (out-Core core).filter (at_budget n b₂ l₂) ≡ Ok (filter, at_budget n b₃ l₃))
+    (sorts_are : order.sorts lower (among schema bounds shown false true) shown by_order (at_budget n b₃ l₃) ≡ Ok (keys, at_budget n b₄ l₄))
+    (ungrouped : (out-Core core).group ≡ []) (unhaving : (out-Core core).having ≡ None) (undistinct : (out-Core core).distinct ≡ false) where
+  abbrev no_limit : Term
+  no_limit = lit (Int (negsuc 0))
+
+  abbrev whole_body : Body
+  whole_body = record { level = record { tables = bounds; shown = shown }; steps = steps; filter = filter }
+
+  matching_is : body.matching lower (select.outermost schema) (record { tables = bounds; shown = shown }) core (at_budget n b₁ l₁) ≡ Ok (record { steps = steps; filter = filter }, at_budget n b₃ l₃)
+  unfolding body.matching
+  matching_is = rw (joins_are, filter_is)
+
+  body_is : body.body lower (select.outermost schema) core (fresh 1 max_budget) ≡ Ok (whole_body, at_budget n b₃ l₃)
+  unfolding body.body body.result
+  body_is = rw (bounds_are, outputs_are, matching_is)
+
+  having_is : (s : State) → select.having (among schema bounds shown false true) (out-Core core).having s ≡ Ok ([], s)
+  unfolding select.having body.tests
+  having_is s = rw unhaving
+
+  keys_are : (s : State) → order.keys lower (among schema bounds shown false true) shown (out-Core core).group s ≡ Ok (([], []), s)
+  unfolding order.keys
+  keys_are s = rw ungrouped
+
+  abbrev clauses : Clauses
+  clauses = record { body = whole_body; is_grouped = false; keys = []; collations = []; having = []; order = keys }
+
+  parts_are : select.parts schema core by_order (fresh 1 max_budget) ≡ Ok (clauses, at_budget n b₄ l₄)
+  unfolding select.parts
+  parts_are = rw (body_is, keys_are (at_budget n b₃ l₃), ungrouped, having_is (at_budget n b₃ l₃), sorts_are)
+
+  abbrev pub draft : List Step → Draft
+  draft steps = record {
+    from = chain steps;
+    filter = filter;
+    group = None;
+    project = map (λ (o : Output). o.term) shown;
+    distinct = false;
+    collations = [];
+    order = keys;
+    limit = no_limit;
+    offset = number 0;
+  }
+
+  abbrev pub answer : Draft × List Name × List (Option Collation)
+  answer = (draft (steps ++ []), map (λ (o : Output). o.name) shown, map (λ (o : Output). o.carried.collation) shown)
+
+  pub named_is : select.named schema core by_order (no_limit, number 0) ≡ Ok answer
+  unfolding select.named select.assembled select.ungrouped
+  named_is = rw (parts_are, undistinct)
+
+  -- no view, no part of a compound and no table of WITH comes into it
+  module _ (s : Select) (core_is : (out-Select s).first ≡ core) (order_is : (out-Select s).order ≡ by_order) (unlet : (out-Select s).with ≡ []) (uncompound : (out-Select s).others ≡ [])
+      (unlimited : (out-Select s).limit ≡ None) (unoffset : (out-Select s).offset ≡ None)
+      (sources_are : (query : Schema → Select → program.Building program.Shown) → program.sources query schema (out-Core core).from [] ≡ Ok (schema, [])) where
+    pages : select.paging schema s ≡ Ok (no_limit, number 0)
+    unfolding select.paging select.constant_or
+    pages = rw (unlimited, unoffset)
+
+    viewed : (query : Schema → Select → program.Building program.Shown) (d : ℕ) → program.viewing query schema core by_order (no_limit, number 0) (suc d) schema [] ≡ Ok ((answer, schema), [])
+    unfolding program.viewing
+    viewed query d = rw named_is
+
+    alone_is : (query : Schema → Select → program.Building program.Shown) → program.alone query schema core by_order (no_limit, number 0) [] ≡ Ok (answer, [])
+    unfolding program.alone program.single
+    alone_is query = rw (sources_are query, viewed query 63)
+
+    whole_is : (query : Schema → Select → program.Building program.Shown) → program.whole query schema s [] ≡ Ok (answer, [])
+    unfolding program.whole
+    whole_is query = rw (pages, uncompound, core_is, order_is, alone_is query)
+
+    level_is : (query : Schema → Select → program.Building program.Shown) → program.level query schema s [] ≡ Ok (answer, [])
+    unfolding program.level program.with
+    level_is query = rw (unlet, whole_is query)
+
+    to_is : (d : ℕ) → program.query_to (suc d) schema s [] ≡ Ok (answer, [])
+    unfolding program.query_to
+    to_is d = level_is (program.query_to d)
+
+    query_is : program.query schema s ≡ Ok (answer, [])
+    unfolding program.query
+    query_is = to_is 15
+
+    module _ (text : List ℕ) (p : Parsed) (q : Program) (first_is : first text ≡ Ok p) (statement_is : p.statement ≡ written.Select s) (untimed : p.formats ≡ []) (program_is : program.program schema [] (draft (steps ++ [])) ≡ Ok q) where
+      abbrev meant : Command
+      meant = command.Select q (map (λ (o : Output). o.name) shown)
+
+      abbrev pub result : Compiled
+      result = record { command = meant; returning = None; names = p.names; formats = []; start = p.start; end = p.end; tail = p.tail }
+
+      reads : read schema s ≡ Ok meant
+      unfolding read
+      reads = rw (query_is, program_is)
+
+      commands : compile.command schema [] (small p.names + 0) p.statement ≡ Ok meant
+      unfolding compile.command
+      commands = rw (statement_is, reads)
+
+      times : timed schema p.formats p.statement ≡ []
+      unfolding timed
+      times = rw (statement_is, untimed)
+
+      shows_none : returning schema (small p.names + 0) p.statement ≡ Ok None
+      unfolding returning
+      shows_none = rw statement_is
+
+      means : meaning schema p (small p.names + 0) ≡ Ok (meant, None)
+      unfolding meaning
+      means = rw (shows_none, untimed, commands)
+
+      plans : planned schema p ≡ Ok ([], (meant, None))
+      unfolding planned
+      plans = rw (times, means)
+
+      pub compiles : compiled schema text ≡ Ok result
+      unfolding compiled
+      compiles = rw (first_is, plans)

@@ -1,4 +1,0 @@
-pub mod Exactly
-pub mod ItemLemmas
-pub mod ItemReading
-pub mod RowsBack

@@ -1,7 +1,0 @@
-use Rattle.std.proofs.Common.{◌≡◌, take}
-use Rattle.std.specs.List.{AllByRecursion}
-use Rattle.office_rows.specs.ItemTexts.{items_text, IsItem}
-use Rattle.office_rows.proofs.items.items_text.Given as goal
-
-abbrev pub invariant-items : goal.invariant-items
-invariant-items l = (l.out.items ≡ items_text (take l.item-index l.item-items)) × AllByRecursion IsItem (take l.item-index l.item-items)

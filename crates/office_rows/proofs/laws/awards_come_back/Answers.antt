@@ -1,5 +1,0 @@
-use Rattle.office_rows.proofs.RowsBack.{award_back}
-use Rattle.office_rows.proofs.laws.awards_come_back.Goals as goal
-
-pub returns : goal.returns
-returns c = record { row = award_back; entry = λ rowid. award_back }

@@ -1,5 +1,0 @@
-use Rattle.office_rows.proofs.RowsBack.{envelope_back}
-use Rattle.office_rows.proofs.laws.envelopes_come_back.Goals as goal
-
-pub returns : goal.returns
-returns c = record { row = envelope_back; entry = λ rowid. envelope_back }

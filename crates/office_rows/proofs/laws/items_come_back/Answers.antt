@@ -1,5 +1,0 @@
-use Rattle.office_rows.proofs.ItemLemmas.{items_back}
-use Rattle.office_rows.proofs.laws.items_come_back.Goals as goal
-
-pub returns : goal.returns
-returns c = items_back

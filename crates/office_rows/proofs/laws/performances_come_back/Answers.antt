@@ -1,5 +1,0 @@
-use Rattle.office_rows.proofs.RowsBack.{performance_back}
-use Rattle.office_rows.proofs.laws.performances_come_back.Goals as goal
-
-pub returns : goal.returns
-returns c = record { row = performance_back; entry = λ rowid. performance_back }

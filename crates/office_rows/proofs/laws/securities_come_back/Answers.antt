@@ -1,5 +1,0 @@
-use Rattle.office_rows.proofs.RowsBack.{security_back}
-use Rattle.office_rows.proofs.laws.securities_come_back.Goals as goal
-
-pub returns : goal.returns
-returns c = record { row = security_back; entry = λ rowid. security_back }

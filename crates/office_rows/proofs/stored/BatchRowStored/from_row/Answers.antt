@@ -1,8 +1,0 @@
-use Rattle.std.proofs.Common.{refl}
-use Rattle.office_rows.specs.Budget.{batch_values}
-use Rattle.office_rows.specs.Ranges.{BatchFits}
-use Rattle.office_rows.proofs.Exactly.{other_width}
-use Rattle.office_rows.proofs.stored.BatchRowStored.from_row.Goals as goal
-
-pub returns-in_err-has_columns-clause-cause : goal.returns-in_err-has_columns-clause-cause
-returns-in_err-has_columns-clause-cause c = other_width batch_values BatchFits c.args.row.now 3 (λ x. refl) _ c.from_residual.result c.from_residual.ensures.1 c.in_err-has_columns.ensures.cause

@@ -1,8 +1,0 @@
-use Rattle.std.proofs.Common.{refl}
-use Rattle.office_rows.specs.Releases.{compiled_values}
-use Rattle.office_rows.specs.Ranges.{CompiledFits}
-use Rattle.office_rows.proofs.Exactly.{other_width}
-use Rattle.office_rows.proofs.stored.CompiledRowStored.from_row.Goals as goal
-
-pub returns-in_err-has_columns-clause-cause : goal.returns-in_err-has_columns-clause-cause
-returns-in_err-has_columns-clause-cause c = other_width compiled_values CompiledFits c.args.row.now 2 (λ x. refl) _ c.from_residual.result c.from_residual.ensures.1 c.in_err-has_columns.ensures.cause

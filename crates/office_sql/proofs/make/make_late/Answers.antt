@@ -1,6 +1,0 @@
-use Rattle.office_sql.specs.Schema.OfficeTable.{LateRules}
-use Rattle.office_sql.proofs.CreateFacts.{creates_late_rules}
-use Rattle.office_sql.proofs.make.make_late.Goals as goal
-
-pub returns-clause-made : goal.returns-clause-made
-returns-clause-made g c clean inside = c.make_table.ensures.made clean inside LateRules creates_late_rules

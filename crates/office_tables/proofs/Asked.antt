@@ -1,0 +1,83 @@
+-- An answer over the last commit is one over the tables that it holds.
+use Rattle.std.proofs.Common.{◌≡◌, ◌⊎◌, inl, inr, ℕ, List, [], ◌∷◌, map, slice_get, Option, Some, ap, Result, Ok, Err, true, IsTrue, sym, subst, ◌∙◌}
+use Rattle.std.specs.Prelude.{IfOk, IfErr, OnOk, option_map}
+use Rattle.sqlite_value.specs.Order.{Row}
+use Rattle.sqlite_trees.specs.declared.store.Store.{Ghosts}
+use Rattle.sqlite.specs.Effect.{Database}
+use Rattle.sqlite.specs.Held.{Held, state}
+use Rattle.sqlite.specs.declared.error.Error.{Error}
+use Rattle.sqlite.specs.State.{State, HasCleanDisk, Shown, FailsToQuery, IsTooLate}
+use Rattle.office_base.specs.Faults.{IsFaultOf}
+use Rattle.office_base.specs.declared.shelf.ShelfFault.{ShelfFault}
+use Rattle.office_base.specs.Tables.{Tables}
+use Rattle.office_tables.specs.Failing.{IsUnread}
+use Rattle.office_tables.specs.Standing.{Holds}
+use Rattle.office_tables.specs.Steps.{IsAsked, IsRefusal, ShowsTables, Tells}
+
+pub asked : {S : Type 0} (g : Ghosts S) (sql : List ℕ) (params : Row) (old : Held S) (rows : List Row) (t : Tables) (Q : Type 0) → IsAsked g sql params old rows → ShowsTables (state g old) t
+    → ((before after : State) → Holds before.now t → Shown sql params before after rows → Q) → Q
+asked g sql params old rows t Q h shows use_it =
+    use_it (state g (record old { in_transaction = true })) (state g h.after) (subst (λ d. Holds d t) (sym h.settled) (shows h.was_open)) h.shown
+
+-- the first of one row
+pub only_one : {X Y : Type 0} (read : Y → X) (rows : List Y) (x : X) → map read rows ≡ x ∷ [] → option_map read (slice_get rows 0) ≡ Some x
+only_one read [] x h = absurd (cc)
+only_one read (r ∷ rows) x h = let same : read r ≡ x = cc in ap Some same
+
+-- what was found is what was told
+pub same_found : {A E : Type 0} (r : Result A E) (found : Option A) (x : A) → IfOk r (λ a. found ≡ Some a) → found ≡ Some x → IfOk r (λ a. a ≡ x)
+same_found (Ok a) found x h e = let same : Some a ≡ Some x = sym h ∙ e in cc
+same_found (Err e) found x h k = tt
+
+pub asks : {S A E : Type 0} (g : Ghosts S) (sql : List ℕ) (params : Row) (old mid : Held S) (rows_of : A → List Row) (r : Result A E)
+    → (IsTrue (state g old).is_open → (state g old).now ≡ (state g old).committed)
+    → IfOk r (λ a. Shown sql params (state g (record old { in_transaction = true })) (state g mid) (rows_of a)) → OnOk r (IsTrue (state g old).is_open)
+    → IfOk r (λ a. IsAsked g sql params old (rows_of a))
+asks g sql params old mid rows_of (Ok a) settled shown opened = record { was_open = opened; settled = settled opened; after = mid; shown = shown }
+asks g sql params old mid rows_of (Err e) settled shown opened = tt
+
+pub refusals : {S A : Type 0} (g : Ghosts S) (sql : List ℕ) (params : Row) (old mid : Held S) (r : Result A Error)
+    → IfErr r (λ e. FailsToQuery sql params (state g (record old { in_transaction = true })) (state g mid) e ⊎ IsTooLate sql params (state g (record old { in_transaction = true })) (state g mid) e)
+    → IfErr r (IsRefusal g sql params old)
+refusals g sql params old mid (Ok a) h = tt
+refusals g sql params old mid (Err e) h = inl (mid, h)
+
+-- what was found in the rows of an answer is right, where the rows are
+pub told : {S A E : Type 0} (g : Ghosts S) (sql : List ℕ) (params : Row) (old : Held S) (r : Result A E) (From : A → List Row → Type 0) (t : Tables) (Right : A → Type 0)
+    → IfOk r (λ a. (rows : List Row) × IsAsked g sql params old rows × From a rows) → ShowsTables (state g old) t
+    → ((before after : State) (rows : List Row) (a : A) → Holds before.now t → Shown sql params before after rows → From a rows → Right a) → IfOk r Right
+told g sql params old (Ok a) From t Right h shows right = asked g sql params old h.0 t (Right a) h.1 shows (λ before after holds shown. right before after h.0 a holds shown h.2)
+told g sql params old (Err e) From t Right h shows right = tt
+
+-- the record that was found is the one that was asked for, and so are all records that were found
+pub tells_one : {S X E : Type 0} (g : Ghosts S) (sql : List ℕ) (params : Row) (old new : Held S) (r : Result (Option X) E) (read : Row → X) (there : Tables → Option X)
+    → (HasCleanDisk (state g new) → IfOk r (λ found. (rows : List Row) × IsAsked g sql params old rows × (found ≡ option_map read (slice_get rows 0))))
+    → ((before after : State) (rows : List Row) (t : Tables) → Holds before.now t → Shown sql params before after rows → option_map read (slice_get rows 0) ≡ there t) → Tells g old new r (λ t found. found ≡ there t)
+tells_one g sql params old new r read there asked shown clean t shows =
+    told g sql params old r (λ found rows. found ≡ option_map read (slice_get rows 0)) t (λ found. found ≡ there t) (asked clean) shows (λ before after rows found holds of from. from ∙ shown before after rows t holds of)
+
+pub tells_all : {S A X E : Type 0} (g : Ghosts S) (sql : List ℕ) (params : Row) (old new : Held S) (r : Result A E) (items : A → List X) (read : Row → X) (there : Tables → List X)
+    → (HasCleanDisk (state g new) → IfOk r (λ found. (rows : List Row) × IsAsked g sql params old rows × (items found ≡ map read rows)))
+    → ((before after : State) (rows : List Row) (t : Tables) → Holds before.now t → Shown sql params before after rows → map read rows ≡ there t) → Tells g old new r (λ t found. items found ≡ there t)
+tells_all g sql params old new r items read there asked shown clean t shows =
+    told g sql params old r (λ found rows. items found ≡ map read rows) t (λ found. items found ≡ there t) (asked clean) shows (λ before after rows found holds of from. from ∙ shown before after rows t holds of)
+
+-- what was found in the rows that were asked for
+pub from_rows : {S A E : Type 0} (g : Ghosts S) (sql : List ℕ) (params : Row) (old : Held S) (rows : List Row) (r : Result A E) (From : A → List Row → Type 0)
+    → IsAsked g sql params old rows → IfOk r (λ a. From a rows) → IfOk r (λ a. (rows : List Row) × IsAsked g sql params old rows × From a rows)
+from_rows g sql params old rows (Ok a) From h found = (rows, h, found)
+from_rows g sql params old rows (Err e) From h found = tt
+
+-- why the rows that were asked for aren't read
+pub rows_unread : {S A : Type 0} (g : Ghosts S) (sql : List ℕ) (params : Row) (old : Held S) (rows : List Row) (r : Result A ShelfFault) (unwritten : List Row → Type 0)
+    → IsAsked g sql params old rows → IfErr r (IsFaultOf (unwritten rows)) → IfErr r (IsUnread g sql params old unwritten)
+rows_unread g sql params old rows (Ok a) unwritten h why = tt
+rows_unread g sql params old rows (Err e) unwritten h why = inr (rows, h, why)
+
+-- the same of what else the last commit holds
+pub told_of : {S A E : Type 0} (P : Database → Type 0) (g : Ghosts S) (sql : List ℕ) (params : Row) (old : Held S) (r : Result A E) (From : A → List Row → Type 0) (Right : A → Type 0)
+    → IfOk r (λ a. (rows : List Row) × IsAsked g sql params old rows × From a rows) → (IsTrue (state g old).is_open → P (state g old).committed)
+    → ((before after : State) (rows : List Row) (a : A) → P before.now → Shown sql params before after rows → From a rows → Right a) → IfOk r Right
+told_of P g sql params old (Ok a) From Right h shows right =
+    right (state g (record old { in_transaction = true })) (state g h.1.after) h.0 a (subst P (sym h.1.settled) (shows h.1.was_open)) h.1.shown h.2
+told_of P g sql params old (Err e) From Right h shows right = tt

@@ -1,0 +1,16 @@
+pub mod Lines
+pub mod Batches
+pub mod Tenderers
+pub mod Notices
+pub mod Lots
+pub mod Envelopes
+pub mod Seals
+pub mod Securities
+pub mod Awards
+pub mod Contracts
+pub mod Entries
+pub mod Releases
+pub mod Compiled
+pub mod Office
+pub mod LateRules
+pub mod Performances

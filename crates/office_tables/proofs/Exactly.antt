@@ -1,0 +1,53 @@
+-- A row is the list of its columns; and what stands in it isn't read because of one of its parts.
+use Rattle.std.proofs.Common.{◌≡◌, ℕ, zero, suc, ◌<◌, List, [], ◌∷◌, length, get_or, map, Result, Ok, Err, refl, sym, ap, subst, ◌∙◌, arith}
+use Rattle.std.specs.Prelude.{IfErr}
+use Rattle.std.specs.Result.{IsErrAnd}
+use Rattle.std.specs.List.{AllByRecursion}
+use Rattle.sqlite_value.specs.declared.value.Value.{Value}
+use Rattle.sqlite_value.specs.Order.{Row, column}
+use Rattle.office_base.specs.declared.shelf.ShelfFault.{ShelfFault}
+use Rattle.office_base.specs.declared.shelf.ShelfFault.TheVariants.{NoMemory, Store}
+use Rattle.office_base.specs.Faults.{IsFaultOf}
+use Rattle.office_tables.specs.Values.{columns_from}
+use Rattle.office_tables.specs.Unwritten.{IsUnwritten}
+
+shifted : (v : Value) (r : Row) (at n : ℕ) → columns_from (v ∷ r) (suc at) n ≡ columns_from r at n
+shifted v r at zero = refl
+shifted v r at (suc n) = ap (λ t. column r at ∷ t) (shifted v r (suc at) n)
+
+all_columns : (r : Row) → columns_from r 0 (length r) ≡ r
+all_columns [] = refl
+all_columns (v ∷ r) = ap (λ t. v ∷ t) (shifted v r 0 (length r) ∙ all_columns r)
+
+-- a row of so many columns is the list of them
+pub columns_are : (r : Row) (n : ℕ) → length r ≡ n → columns_from r 0 n ≡ r
+columns_are r n e = subst (λ m. columns_from r 0 m ≡ r) e (all_columns r)
+
+-- a fault for the one reason is one for the other
+pub fault_of : {P Q : Type 0} → (P → Q) → (fault : ShelfFault) → IsFaultOf P fault → IsFaultOf Q fault
+fault_of f NoMemory h = tt
+fault_of f Store h = f h
+
+-- what the exit of a `?` says of a fault
+pub exit : {T : Type 0} (e : ShelfFault) (r : Result T ShelfFault) (P Q : Type 0) → IsErrAnd r (λ y. y ≡ e) → (P → Q) → IsFaultOf P e → IfErr r (IsFaultOf Q)
+exit e (Ok x) P Q same f h = tt
+exit e (Err d) P Q same f h = subst (IsFaultOf Q) (sym same) (fault_of f e h)
+
+-- a row of another length is no record's
+pub other_width : {T Y : Type 0} (row_of : Y → Row) (fits : Y → Type 0) (row : Row) (n : ℕ) → ((y : Y) → length (row_of y) ≡ n) → (e : ShelfFault) (r : Result T ShelfFault)
+    → IsErrAnd r (λ y. y ≡ e) → IsFaultOf (IsUnwritten (λ (r : Row). r) (λ r. length r ≡ n) row) e → IfErr r (IsFaultOf (IsUnwritten row_of fits row))
+other_width row_of fits row n wide e r same h =
+    exit e r (IsUnwritten (λ (r : Row). r) (λ r. length r ≡ n) row) (IsUnwritten row_of fits row) same (λ h. record { none = λ y f is. h.none (row_of y) (wide y) is }) h
+
+-- one of some rows
+one_of : {R : Type 0} (row_of : R → Row) (fits : R → Type 0) (xs : List R) (row : Row) (at : ℕ) → at < length (map row_of xs) → get_or (map row_of xs) at row ≡ row → AllByRecursion fits xs
+    → (x : R) × fits x × (row_of x ≡ row)
+one_of row_of fits [] row at within is f = absurd (omega (arith, within))
+one_of row_of fits (x ∷ xs) row zero within is f = (x, f.0, is)
+one_of row_of fits (x ∷ xs) row (suc at) within is f = one_of row_of fits xs row at (omega (arith, within)) is f.1
+
+-- where one of the rows is no record's, all of them aren't records'
+pub one_unwritten : {R : Type 0} (row_of : R → Row) (fits : R → Type 0) (rows : List Row) (row : Row) (at : ℕ) → at < length rows → get_or rows at row ≡ row
+    → IsUnwritten row_of fits row → IsUnwritten (map row_of) (AllByRecursion fits) rows
+one_unwritten row_of fits rows row at within is h =
+    record { none = λ xs f e. let x = one_of row_of fits xs row at (subst (λ l. at < length l) (sym e) within) (subst (λ l. get_or l at row ≡ row) (sym e) is) f in h.none x.0 x.1 x.2 }

@@ -1,0 +1,47 @@
+-- The empty office, once its tables are made.
+use Rattle.std.proofs.Common.{◌≡◌, ◌≢◌, ℕ, [], Ok, refl, sym, ap, subst, ◌∙◌}
+use Rattle.sqlite.specs.Effect.{Database}
+use Rattle.sqlite.specs.State.{State, Executes}
+use Rattle.office_base.specs.Rows.{row_put}
+use Rattle.office_base.specs.Tables.{no_tables}
+use Rattle.office_base.specs.declared.records.ClockRow.{ClockRow}
+use Rattle.office_tables.specs.Tables.Office.{clock_values, upsert_office, clock_form}
+use Rattle.office_tables.specs.Schema.{all_tables}
+use Rattle.office_tables.specs.Known.{Places, HasTables}
+use Rattle.office_tables.specs.Standing.{Stands, Holds}
+use Rattle.office_tables.specs.Making.{AreMade, KeepsOthers, AreNew}
+use Rattle.office_tables.specs.Forms.{RowsStand}
+use Rattle.sqlite_schema.specs.declared.schema.Schema.{Schema}
+use Rattle.sqlite_schema.specs.declared.schema.Table.{Table}
+use Rattle.sqlite_rules.specs.Lists.{Has}
+use Rattle.sqlite_rules.proofs.ListLemmas.{all_has}
+use Rattle.office_tables.proofs.Writes.{puts_row, puts_others}
+use Rattle.office_tables.proofs.ByTable.Office.{clock_shape, clock_put}
+use Rattle.office_tables.proofs.Each.{bare, found, nothing, stands_empty}
+use Rattle.office_tables.specs.Schema.OfficeTable.{Office}
+use Rattle.office_tables.proofs.TableTools.{put_means}
+
+-- the row is put into a table of the office, so that all others stay
+pub first_others : (start : Database) (old new : State) (x : ClockRow) (count : ℕ) → KeepsOthers start old.now → AreNew start all_tables → AreMade all_tables old.now → Executes upsert_office (clock_values x) old new (Ok count)
+    → KeepsOthers start new.now
+first_others start old new x count kept fresh was h t there =
+    let places : Places = λ k. (found k was.each).0 in
+    let tables : HasTables old.now.schema places = λ k. (found k was.each).1 in
+    let same = puts_others Office bare clock_form clock_shape clock_put.stored old new places tables upsert_office x count (put_means clock_put old.now.schema (places Office) (tables Office)) (found Office was.each).2 h in
+    let now = kept t there in
+    let apart : t.tree ≢ places Office = λ e. fresh.1.1.1.0 t there (ap (λ (u : Table). u.name) ((tables Office).alone t now.0 e)) in
+    (subst (λ (s : Schema). Has s.tables t) (sym same.0) now.0, all_has (λ (u : Table). u.tree ≢ places Office → new.now.trees u.tree ≡ old.now.trees u.tree) old.now.schema.tables t same.1 now.0 apart ∙ now.1)
+
+pub founds : (old new : State) (x : ClockRow) (count : ℕ) → AreMade all_tables old.now → Executes upsert_office (clock_values x) old new (Ok count) → Holds new.now (record no_tables { clock = x })
+unfolding row_put
+founds old new x count was h =
+    let places : Places = λ k. (found k was.each).0 in
+    let tables : HasTables old.now.schema places = λ k. (found k was.each).1 in
+    let empty : RowsStand clock_form (old.now.trees (places Office)) [] = nothing (found Office was.each).2 in
+    let done = puts_row Office bare clock_form clock_shape clock_put.stored old new places tables upsert_office x count [] (put_means clock_put old.now.schema (places Office) (tables Office)) (λ v. refl) empty h in
+    record {
+      sound = done.sound;
+      places = places;
+      tables = subst (λ s. HasTables s places) (sym done.schema) tables;
+      stands = subst (λ rows. Stands rows (record no_tables { clock = x })) (sym done.rows) (stands_empty (λ j. old.now.trees (places j)) (new.now.trees (places Office)) x (λ k. (found k was.each).2) done.stand);
+    }

@@ -1,0 +1,41 @@
+-- A database that held an office holds it after a change of one table.
+use Rattle.std.proofs.Common.{true, List, [], ◌∷◌, refl, sym, subst, IsTrue}
+use Rattle.std.specs.declared.cmp.Ordering.{Ordering}
+use Rattle.sqlite_value.specs.declared.value.Value.{Value}
+use Rattle.sqlite_value.specs.Order.{Row}
+use Rattle.sqlite.specs.Effect.{Database}
+use Rattle.sqlite.specs.State.{State, IsUnchanged, Shows}
+use Rattle.office_base.specs.Tables.{Tables, after_put}
+use Rattle.office_base.specs.declared.puts.Put.{Put}
+use Rattle.office_tables.specs.Schema.{OfficeTable}
+use Rattle.office_tables.specs.Known.{HasTables}
+use Rattle.office_tables.specs.Kept.{Stand}
+use Rattle.office_tables.specs.Standing.{Stands, Holds}
+use Rattle.office_tables.specs.Steps.{Goes, MakesOne, Puts}
+use Rattle.office_tables.proofs.Writes.{IsPut}
+use Rattle.office_tables.proofs.Writes.{with_rows}
+
+pub holds_put : (k : OfficeTable) {K X : Type 0} (R : K → K → Ordering) (key : X → K) (form : Value → X → Row) (decode : Row → X) (old new : Database) (t after : Tables) (was : Holds old t) (xs : List X)
+    → IsPut k R key form decode old new was.places xs → (Stand R key form decode (new.trees (was.places k)) xs → Stands (with_rows (λ j. old.trees (was.places j)) k (new.trees (was.places k))) after)
+    → Holds new after
+holds_put k R key form decode old new t after was xs it all = record {
+  sound = it.sound;
+  places = was.places;
+  tables = subst (λ s. HasTables s was.places) (sym it.schema) was.tables;
+  stands = subst (λ rows. Stands rows after) (sym it.rows) (all it.stand);
+}
+
+pub goes_on : (old new : State) → Shows old new new.now old.committed true → Goes old new
+goes_on old new h = record { mode = subst IsTrue (sym h.mode) refl; was_open = h.was_open; is_open = h.is_open; committed = h.committed_is }
+
+pub goes_with : (old new : State) (put : Put) → Shows old new new.now old.committed true → ((t : Tables) → Holds old.now t → MakesOne old.step_limit put old.now new.now)
+    → ((t : Tables) → Holds old.now t → Holds new.now (after_put put t)) → Puts old new (put ∷ [])
+goes_with old new put shows made tables = record { goes = goes_on old new shows; made = λ t was. (new.now, made t was, refl); tables = tables }
+
+-- nothing is put
+pub puts_none : (a b : State) → IsTrue a.in_transaction → IsUnchanged a b → Puts a b []
+puts_none a b inside h = record {
+  goes = record { mode = subst IsTrue (sym h.0.mode) inside; was_open = h.0.was_open; is_open = h.0.is_open; committed = h.0.committed_is };
+  made = λ t holds. h.0.now_is;
+  tables = λ t holds. subst (λ d. Holds d t) (sym h.0.now_is) holds;
+}

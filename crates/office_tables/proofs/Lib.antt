@@ -1,0 +1,43 @@
+pub mod Exactly
+pub mod ItemLemmas
+pub mod ItemReading
+pub mod RowsBack
+mod Sorted
+mod KeptRows
+pub mod Childless
+mod Upserted
+mod RowsPut
+mod Selected
+mod RowsDropped
+mod Meanings
+mod Made
+mod LoweredColumns
+mod Whole
+mod Simple
+mod Selecting
+mod Asking
+mod Deletes
+mod Drops
+mod Asked
+mod Reading
+mod Cells
+mod Keyed
+mod Upserts
+mod Renewed
+mod Writes
+mod Held
+mod TableTools
+mod ByTable
+pub mod Each
+pub mod PutsApart
+mod Stepping
+mod CreateTexts
+mod Grown
+mod Makes
+mod Founds
+mod MakingSteps
+mod Emptied
+pub mod FirstVersion
+mod Told
+mod Versions
+mod Failing

@@ -1,0 +1,75 @@
+-- What a select leaves of a connection, and what its rows give.
+use Rattle.std.specs.Prelude.{OnOk, OnErr, IfOk, IfErr}
+use Rattle.std.proofs.Common.{◌≡◌, ◌⊎◌, inl, inr, ℕ, List, [], ◌∷◌, Option, Some, None, Ok, Err, Result, true, IsTrue, slice_get, refl, ◌∙◌}
+use Rattle.sqlite_value.specs.Order.{Row}
+use Rattle.sqlite_rules.specs.Lists.{Has}
+use Rattle.sqlite_resolve.specs.declared.compiled.Compiled.{Compiled}
+use Rattle.sqlite.specs.declared.error.Error.{Error}
+use Rattle.sqlite.specs.State.{State, IsUnchanged, IsRolledBack, IsNotRun, IsTooLate, FailsToQuery, FailsToShow, Shown, ShowsRows}
+use Rattle.sqlite_schema.specs.declared.command.Returning.{Returning}
+use Rattle.office_tables.specs.Steps.{Refused}
+
+pub unchanged : (old new : State) → IsUnchanged old new → Refused old new
+unchanged old new same = record { was_open = λ _. same.0.was_open; committed = λ _. same.0.committed_is }
+
+back : (old new : State) → IsRolledBack old new → Refused old new
+back old new b = record { was_open = b.was_open; committed = λ o. (b.undone o).1 }
+
+-- in a transaction nothing is committed, whatever the text is
+module _ (sql : List ℕ) (params : Row) (old new : State) (inside : IsTrue old.in_transaction) where
+  written : (rows : List Row) (returning : Option Returning) (c : Compiled) (full : Row) → ShowsRows old new sql c full rows returning → IsTrue old.is_open × Refused old new
+  written rows None c full it = (it.3.0.was_open, unchanged old new it.3)
+  written rows (Some what) c full it =
+      let w = it.1 in
+      (w.shown.was_open, record { was_open = λ _. w.shown.was_open; committed = λ _. w.shown.committed_is ∙ rw inside })
+
+  pub shown_kept : (rows : List Row) → Shown sql params old new rows → IsTrue old.is_open × Refused old new
+  unfolding Shown
+  shown_kept rows h = written rows h.0.returning h.0 _ h.2
+
+  refused_row : (e : Error) (returning : Option Returning) (c : Compiled) (full : Row) → FailsToShow old new sql c full e returning → Refused old new
+  refused_row e None c full it = unchanged old new it.3
+  refused_row e (Some what) c full (inl it) = unchanged old new it.1
+  refused_row e (Some what) c full (inr it) = back old new it.3
+
+  pub query_kept : (e : Error) → FailsToQuery sql params old new e ⊎ IsTooLate sql params old new e → Refused old new
+  unfolding FailsToQuery IsNotRun
+  query_kept e (inl (inl (inl none))) = unchanged old new none.1
+  query_kept e (inl (inl (inr failed))) = back old new failed.3
+  query_kept e (inl (inr h)) = refused_row e h.0.returning h.0 _ h.2
+  query_kept e (inr late) = unchanged old new late.5
+
+  pub result_kept : {X : Type 0} (rows_of : X → List Row) (r : Result X Error) → IfOk r (λ x. Shown sql params old new (rows_of x)) → IfErr r (λ e. FailsToQuery sql params old new e ⊎ IsTooLate sql params old new e) → Refused old new
+  result_kept rows_of (Ok x) ok err = (shown_kept (rows_of x) ok).1
+  result_kept rows_of (Err e) ok err = query_kept e err
+
+pub refused_back : (a b c : State) → Refused a b → IsRolledBack b c → Refused a c
+refused_back a b c first last = record { was_open = λ o. first.was_open (last.was_open o); committed = λ o. (last.undone o).1 ∙ first.committed (last.was_open o) }
+
+pub begun_kept : (old new : State) → Refused (record old { in_transaction = true }) new → Refused old new
+begun_kept old new h = record { was_open = h.was_open; committed = h.committed }
+
+pub first_has : {X : Type 0} (xs : List X) (x : X) → slice_get xs 0 ≡ Some x → Has xs x
+first_has [] x h = absurd (cc)
+first_has (y ∷ xs) x h = inl (cc)
+
+pub first_none : {X : Type 0} (xs : List X) → slice_get xs 0 ≡ None → xs ≡ []
+first_none [] h = refl
+first_none (y ∷ xs) h = absurd (cc)
+
+pub if_ok_with : {A E : Type 0} (r : Result A E) (P Q : A → Type 0) → IfOk r P → ((a : A) → P a → Q a) → IfOk r Q
+if_ok_with (Ok a) P Q h f = f a h
+if_ok_with (Err e) P Q h f = tt
+
+pub if_ok_on : {A E : Type 0} (r : Result A E) (P : A → Type 0) (Q : Type 0) → IfOk r P → ((a : A) → P a → Q) → OnOk r Q
+if_ok_on (Ok a) P Q h f = f a h
+if_ok_on (Err e) P Q h f = tt
+
+pub if_err_on : {A E : Type 0} (r : Result A E) (P : E → Type 0) (Q : Type 0) → IfErr r P → ((e : E) → P e → Q) → OnErr r Q
+if_err_on (Ok a) P Q h f = tt
+if_err_on (Err e) P Q h f = f e h
+
+pub not_run_kept : (sql : List ℕ) (params : Row) (old new : State) (e : Error) → IsNotRun old new sql params e → Refused old new
+unfolding IsNotRun
+not_run_kept sql params old new e (inl none) = unchanged old new none.1
+not_run_kept sql params old new e (inr failed) = back old new failed.3

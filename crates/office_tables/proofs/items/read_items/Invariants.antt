@@ -1,0 +1,10 @@
+use Rattle.std.proofs.Common.{◌≡◌, ◌++◌, length}
+use Rattle.std.specs.List.{AllByRecursion}
+use Rattle.office_tables.specs.ItemTexts.{items_text, IsItem}
+use Rattle.office_tables.proofs.items.read_items.Given as goal
+
+abbrev pub invariant-items : goal.invariant-items
+invariant-items l = (items_text l.found.items ++ l.rest ≡ l.text) × AllByRecursion IsItem l.found.items
+
+abbrev pub decreases-items : goal.decreases-items
+decreases-items l = length l.rest

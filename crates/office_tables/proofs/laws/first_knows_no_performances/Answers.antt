@@ -1,0 +1,5 @@
+use Rattle.office_tables.proofs.FirstVersion.{no_performances}
+use Rattle.office_tables.proofs.laws.first_knows_no_performances.Goals as goal
+
+pub returns : goal.returns
+returns c = no_performances

@@ -1,0 +1,13 @@
+use Rattle.std.proofs.Common.{refl, [], ◌∷◌, ◌∙◌}
+use Rattle.office_tables.specs.Tables.Notices.{former_values, NoticeFits}
+use Rattle.office_tables.specs.declared.tables.notices.FormerNotice.{FormerNotice}
+use Rattle.office_tables.proofs.Exactly.{columns_are, other_width}
+use Rattle.office_tables.proofs.tables.notices.FormerNoticeStored.from_row.Goals as goal
+
+pub returns-in_err-has_columns-clause-cause : goal.returns-in_err-has_columns-clause-cause
+returns-in_err-has_columns-clause-cause c = other_width (λ (x : FormerNotice). former_values x.row) (λ x. NoticeFits x.row) c.args.row.now 11 (λ x. refl) _ c.from_residual.result c.from_residual.ensures.1 c.in_err-has_columns.ensures.cause
+
+pub returns-clause-exact : goal.returns-clause-exact
+returns-clause-exact c =
+    (λ i. c.in_ok-id_at.ensures.exact i ∷ c.in_ok-line_at.ensures.exact i ∷ c.in_ok-moment_at.ensures.exact i ∷ c.in_ok-moment_at-2.ensures.exact i ∷ c.in_ok-bounded_at.ensures.exact i ∷ c.in_ok-bounded_at-2.ensures.exact i ∷ c.in_ok-bounded_at-3.ensures.exact i ∷ c.in_ok-notice_state_at.ensures.exact i ∷ c.in_ok-perhaps_moment_at.ensures.exact i ∷ c.in_ok-bounded_at-4.ensures.exact i ∷ c.in_ok-bounded_at-5.ensures.exact i ∷ [])
+    ∙ columns_are c.args.row.now 11 c.in_ok-has_columns.ensures.exact

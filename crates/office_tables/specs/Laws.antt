@@ -1,0 +1,20 @@
+-- Laws of databases that hold an office.
+use Rattle.std.specs.Prelude.{◌≡◌, []}
+use Rattle.std.specs.List.{AllByRecursion}
+use Rattle.sqlite.specs.Effect.{Database}
+use Rattle.office_base.specs.Tables.{Tables}
+use Rattle.office_tables.specs.First.{HoldsFirst}
+use Rattle.office_tables.specs.Standing.{Holds}
+
+-- of the same trees no two contents are told
+abbrev pub TreesTellOneOffice : Type 0
+TreesTellOneOffice = (d e : Database) (t u : Tables) → Holds d t → Holds e u → d.trees ≡ e.trees → t ≡ u
+
+-- no notice asks for a performance security, and there is none
+pub record KnowsNoPerformances (t : Tables) : Type 0 where
+  pub notices : AllByRecursion (λ n. n.performance ≡ 0) t.notices
+  pub securities : t.performances ≡ []
+
+-- so it is in an office of version 1
+abbrev pub FirstKnowsNoPerformances : Type 0
+FirstKnowsNoPerformances = (db : Database) (t : Tables) → HoldsFirst db t → KnowsNoPerformances t

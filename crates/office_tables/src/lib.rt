@@ -1,0 +1,19 @@
+//! The tables of an office in SQL: its records as rows, and back; each look-up and each change of a record as a statement. Nothing is assumed
+//! of other tables in the database.
+#![tactic(auto)]
+
+pub mod ask;
+pub mod columns;
+pub mod faults;
+pub mod first;
+pub mod items;
+pub mod laws;
+pub mod make;
+pub mod puts;
+mod readings;
+mod statement;
+pub mod stored;
+pub mod tables;
+mod values;
+pub mod version;
+pub mod words;

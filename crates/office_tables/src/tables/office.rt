@@ -1,0 +1,105 @@
+//! The clock, and that of earlier programs: the texts of its table, its row, and the question for it.
+ghost use Rattle.std.specs.Prelude.{◌≡◌, Some, IfOk};
+ghost use Rattle.sqlite.specs.Values.{bound};
+ghost use Rattle.office_tables.specs.Steps.{TellsOnly};
+ghost use Rattle.office_tables.specs.Tables.Office.{clock_values, clock_read, ClockFits, clock_values_of};
+
+use crate::ask::ask_first;
+use crate::columns::{bounded_at, has_columns, moment_at, version_at};
+use crate::stored::Stored;
+use crate::values::signed;
+use office_base::records::ClockRow;
+use office_base::shelf::ShelfFault;
+use sqlite::{Alter, Connection, Row};
+use sqlite_value::value::ValueRef;
+use std::alloc::Global;
+
+/// The text that makes the table.
+pub(crate) const CREATE: &str =
+    "CREATE TABLE office (version INTEGER NOT NULL PRIMARY KEY CHECK (version BETWEEN 1 AND 2147483647), moment INTEGER NOT NULL CHECK (moment BETWEEN 0 AND 4102444799), receipts INTEGER NOT NULL CHECK (receipts BETWEEN 0 AND 1000000000), awards INTEGER NOT NULL CHECK (awards BETWEEN 0 AND 1000000000)) STRICT";
+
+/// The text that puts one.
+pub(crate) const PUT: &str =
+    "INSERT INTO office (version, moment, receipts, awards) VALUES (?1, ?2, ?3, ?4) ON CONFLICT (version) DO UPDATE SET moment = ?2, receipts = ?3, awards = ?4";
+
+/// The values of the office's one row: the version of its tables, which is 2, and the clock.
+pub fn clock_values(row: &ClockRow) -> [ValueRef<'static>; 4]
+    ensures row { bound result ≡ clock_values row.now }
+    ensures fits { ClockFits row.now }
+{
+    [
+        ValueRef::Int(2),
+        ValueRef::Int(signed(row.moment.second())),
+        ValueRef::Int(signed(row.receipts.get())),
+        ValueRef::Int(signed(row.awards.get())),
+    ]
+}
+
+impl Stored for ClockRow {
+    ghost read = { clock_read };
+
+    ghost row_of = { clock_values };
+
+    ghost fits = { ClockFits };
+
+    fn from_row(_alloc: Global, row: &Row) -> Result<ClockRow, ShelfFault> {
+        has_columns(row, 4)?;
+        version_at(row, 0, 2)?;
+        Ok(ClockRow {
+            moment: moment_at(row, 1)?,
+            receipts: bounded_at(row, 2)?,
+            awards: bounded_at(row, 3)?,
+        })
+    }
+}
+
+/// The clock as an earlier program kept it, behind version 1.
+#[derive(Clone, Copy)]
+pub struct FormerClock {
+    pub row: ClockRow,
+}
+
+impl Stored for FormerClock {
+    ghost read = { λ r. record { row = clock_read r } };
+
+    ghost row_of = { λ x. clock_values_of 1 x.row };
+
+    ghost fits = { λ x. ClockFits x.row };
+
+    fn from_row(_alloc: Global, row: &Row) -> Result<FormerClock, ShelfFault> {
+        has_columns(row, 4)?;
+        version_at(row, 0, 1)?;
+        Ok(FormerClock {
+            row: ClockRow {
+                moment: moment_at(row, 1)?,
+                receipts: bounded_at(row, 2)?,
+                awards: bounded_at(row, 3)?,
+            },
+        })
+    }
+}
+
+// The clock of the office's one row.
+fn clock_of(found: Option<ClockRow>) -> Result<ClockRow, ShelfFault>
+    ensures { IfOk result (λ clock. found ≡ Some clock) }
+{
+    match found {
+        Some(clock) => Ok(clock),
+        None => Err(ShelfFault::Store),
+    }
+}
+
+/// The clock.
+pub fn get_clock<S: Alter>(alloc: Global, conn: &mut Connection<S>) -> Result<ClockRow, ShelfFault>
+    ensures { TellsOnly S.Store conn.old conn.new result (λ t clock. clock ≡ t.clock) }
+{
+    match ask_first(
+        alloc,
+        conn,
+        "SELECT version, moment, receipts, awards FROM office",
+        &[],
+    ) {
+        Ok(found) => clock_of(found),
+        Err(fault) => Err(fault),
+    }
+}

@@ -1,0 +1,90 @@
+//! Releases: the texts of their table, their rows, and the questions for them.
+ghost use Rattle.std.specs.Prelude.{◌≡◌};
+ghost use Rattle.sqlite.specs.Values.{bound};
+ghost use Rattle.office_base.specs.Tables.{release_at, releases_of_notice};
+ghost use Rattle.office_tables.specs.Steps.{TellsOnly};
+ghost use Rattle.office_tables.specs.Tables.Releases.{release_values, release_read, ReleaseFits};
+
+use crate::ask::{ask_all, ask_first};
+use crate::columns::{bounded_at, has_columns, id_at, json_at, moment_at};
+use crate::stored::Stored;
+use crate::values::{id_value, sequence_value, signed};
+use office_base::counts::Sequence;
+use office_base::records::ReleaseRow;
+use office_base::shelf::ShelfFault;
+use office_values::id::Id;
+use sqlite::{Alter, Connection, Row};
+use sqlite_value::value::ValueRef;
+use std::alloc::Global;
+
+/// The text that makes the table.
+pub(crate) const CREATE: &str =
+    "CREATE TABLE releases (notice TEXT NOT NULL CHECK (length(notice) BETWEEN 1 AND 32), seq INTEGER NOT NULL CHECK (seq BETWEEN 1 AND 9999), moment INTEGER NOT NULL CHECK (moment BETWEEN 0 AND 4102444799), text TEXT NOT NULL, PRIMARY KEY (notice, seq)) STRICT";
+
+/// The text that puts one.
+pub(crate) const PUT: &str =
+    "INSERT INTO releases (notice, seq, moment, text) VALUES (?1, ?2, ?3, ?4) ON CONFLICT (notice, seq) DO UPDATE SET moment = ?3, text = ?4";
+
+/// The values of a release.
+pub fn release_values(row: &ReleaseRow) -> [ValueRef<'_>; 4]
+    ensures row { bound result ≡ release_values row.now }
+    ensures fits { ReleaseFits row.now }
+{
+    [
+        ValueRef::Text(row.notice.as_bytes()),
+        ValueRef::Int(signed(row.seq.get())),
+        ValueRef::Int(signed(row.moment.second())),
+        ValueRef::Text(row.text.as_str().as_bytes()),
+    ]
+}
+
+impl Stored for ReleaseRow {
+    ghost read = { release_read };
+
+    ghost row_of = { release_values };
+
+    ghost fits = { ReleaseFits };
+
+    fn from_row(alloc: Global, row: &Row) -> Result<ReleaseRow, ShelfFault> {
+        has_columns(row, 4)?;
+        Ok(ReleaseRow {
+            notice: id_at(row, 0)?,
+            seq: bounded_at(row, 1)?,
+            moment: moment_at(row, 2)?,
+            text: json_at(alloc, row, 3)?,
+        })
+    }
+}
+
+/// The release of this notice at this place.
+pub fn get_release<S: Alter>(
+    alloc: Global,
+    conn: &mut Connection<S>,
+    notice: &Id,
+    seq: Sequence,
+) -> Result<Option<ReleaseRow>, ShelfFault>
+    ensures { TellsOnly S.Store conn.old conn.new result (λ t row. row ≡ release_at (notice.now, seq) t) }
+{
+    ask_first(
+        alloc,
+        conn,
+        "SELECT notice, seq, moment, text FROM releases WHERE notice = ?1 AND seq = ?2",
+        &[id_value(notice), sequence_value(seq)],
+    )
+}
+
+/// The releases of a notice, in their sequence.
+pub fn list_releases_of_notice<S: Alter>(
+    alloc: Global,
+    conn: &mut Connection<S>,
+    notice: &Id,
+) -> Result<Vec<ReleaseRow>, ShelfFault>
+    ensures { TellsOnly S.Store conn.old conn.new result (λ t rows. rows.items ≡ releases_of_notice notice.now t) }
+{
+    ask_all(
+        alloc,
+        conn,
+        "SELECT notice, seq, moment, text FROM releases WHERE notice = ?1 ORDER BY notice, seq",
+        &[id_value(notice)],
+    )
+}
