@@ -9,7 +9,7 @@ ghost use Rattle.office_changes.specs.Migration.{Becomes, Migrates, LeavesSecond
 use office_base::puts::Put;
 use office_base::records::ClockRow;
 use office_tables::first::begin_second;
-use office_tables::puts::begin;
+use office_tables::tables::begin;
 use office_tables::tables::notices::{FormerNotice, put_notice};
 use sqlite::{Alter, Connection, Error, Transaction};
 

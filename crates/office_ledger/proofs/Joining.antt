@@ -37,8 +37,9 @@ use Rattle.office_ledger.specs.Select.{Trees4, equals, list_joined, of_the_line,
 use Rattle.office_ledger.specs.StatementMeans.{StatementMeans}
 use Rattle.office_tables.specs.Forms.{column_of}
 use Rattle.office_ledger.specs.Known.{HoldsFour}
-use Rattle.office_ledger.proofs.Qualified.{Pick, Finds, AllFound, at_budget, plainly, shown_of, sort_of, equals_e, both_e, outputs_are, sorts_are, equal_is, and_is, outputs_of, keys_of}
+use Rattle.office_ledger.proofs.Qualified.{Pick, Finds, AllFound, at_budget, plainly, shown_of, sort_of, equals_e, outputs_are, sorts_are, equal_is, and_is, outputs_of, keys_of}
 use Rattle.office_ledger.proofs.Scoped.{four_bounds, line_of_four, lot_of_four, contract_of_four, contract_key_of_four, entry_of_four}
+use Rattle.office_ledger.proofs.JoinedColumns.{lot_notice, lot_lot, lot_line, contract_contract, contract_notice, contract_lot, entry_contract, lot_picks, lot_sorts, on_lot, on_contract, FindsLots, finds_lots}
 use Rattle.office_ledger.proofs.Sources.{source_of, out_source, parsed_in, bound_is, source_is, left_joined, first_joined, joined_by, means_by}
 use Rattle.office_ledger.proofs.Whole.{among, compiles}
 
@@ -46,15 +47,6 @@ use Rattle.office_ledger.proofs.Whole.{among, compiles}
 
 abbrev line_pick : List ℕ → ℕ → Column → Pick
 line_pick text k c = record { table = codes "lines"; text = text; slot = 1; place = k; row = suc k; column = c }
-
-abbrev lot_pick : List ℕ → ℕ → Column → Pick
-lot_pick text k c = record { table = codes "lots"; text = text; slot = 2; place = k; row = suc k; column = c }
-
-abbrev contract_pick : List ℕ → ℕ → Column → Pick
-contract_pick text k c = record { table = codes "contracts"; text = text; slot = 3; place = k; row = suc k; column = c }
-
-abbrev entry_pick : List ℕ → ℕ → Column → Pick
-entry_pick text k c = record { table = codes "entries"; text = text; slot = 4; place = k; row = suc k; column = c }
 
 abbrev line_line : Pick
 line_line = line_pick (codes "lines.line") 0 (column_of (codes "line") Text true)
@@ -65,64 +57,19 @@ line_appropriation = line_pick (codes "lines.appropriation") 2 (column_of (codes
 abbrev line_free : Pick
 line_free = line_pick (codes "lines.free") 3 (column_of (codes "free") Integer true)
 
-abbrev lot_notice : Pick
-lot_notice = lot_pick (codes "lots.notice") 0 (column_of (codes "notice") Text true)
-
-abbrev lot_lot : Pick
-lot_lot = lot_pick (codes "lots.lot") 1 (column_of (codes "lot") Text true)
-
-abbrev lot_line : Pick
-lot_line = lot_pick (codes "lots.line") 3 (column_of (codes "line") Text true)
-
-abbrev lot_reserved : Pick
-lot_reserved = lot_pick (codes "lots.reserved") 8 (column_of (codes "reserved") Integer true)
-
-abbrev contract_contract : Pick
-contract_contract = record { table = codes "contracts"; text = codes "contracts.contract"; slot = 3; place = 0; row = 0; column = column_of (codes "contract") Integer true }
-
-abbrev contract_notice : Pick
-contract_notice = contract_pick (codes "contracts.notice") 1 (column_of (codes "notice") Text true)
-
-abbrev contract_lot : Pick
-contract_lot = contract_pick (codes "contracts.lot") 2 (column_of (codes "lot") Text true)
-
-abbrev contract_signed : Pick
-contract_signed = contract_pick (codes "contracts.signed") 4 (column_of (codes "signed") Integer true)
-
-abbrev contract_released : Pick
-contract_released = contract_pick (codes "contracts.released") 8 (column_of (codes "released") Integer true)
-
-abbrev entry_contract : Pick
-entry_contract = entry_pick (codes "entries.contract") 0 (column_of (codes "contract") Integer true)
-
-abbrev entry_entry : Pick
-entry_entry = entry_pick (codes "entries.entry") 1 (column_of (codes "entry") Text true)
-
-abbrev entry_kind : Pick
-entry_kind = entry_pick (codes "entries.kind") 2 (column_of (codes "kind") Text true)
-
-abbrev entry_amount : Pick
-entry_amount = entry_pick (codes "entries.amount") 3 (column_of (codes "amount") Integer true)
-
 abbrev picks : List Pick
-picks = line_line ∷ line_appropriation ∷ line_free ∷ lot_notice ∷ lot_lot ∷ lot_reserved ∷ contract_contract ∷ contract_signed ∷ contract_released ∷ entry_entry ∷ entry_kind ∷ entry_amount ∷ []
+picks = line_line ∷ line_appropriation ∷ line_free ∷ lot_picks 2
 
 abbrev sorts : List Pick
-sorts = line_line ∷ lot_notice ∷ lot_lot ∷ contract_contract ∷ entry_entry ∷ []
+sorts = line_line ∷ lot_sorts 2
 
 -- ---- as the text is written
 
 abbrev on_line : Expr
-on_line = equals_e lot_line line_line
-
-abbrev on_lot : Expr
-on_lot = both_e (equals_e contract_notice lot_notice) (equals_e contract_lot lot_lot)
-
-abbrev on_contract : Expr
-on_contract = equals_e entry_contract contract_contract
+on_line = equals_e (lot_line 2) line_line
 
 abbrev sources : List Source
-sources = source_of false (codes "lines") None ∷ source_of true (codes "lots") (Some on_line) ∷ source_of true (codes "contracts") (Some on_lot) ∷ source_of true (codes "entries") (Some on_contract) ∷ []
+sources = source_of false (codes "lines") None ∷ source_of true (codes "lots") (Some on_line) ∷ source_of true (codes "contracts") (Some (on_lot 2)) ∷ source_of true (codes "entries") (Some (on_contract 2)) ∷ []
 
 abbrev core_of : Core
 core_of = roll-Core (record { distinct = false; shown = map shown_of picks; from = sources; filter = None; group = []; having = None })
@@ -162,19 +109,19 @@ module _ (schema : Schema) (at : Trees4) (four : HoldsFour schema at) where
   s2 : out-Source (source_of true (codes "lots") (Some on_line)) ≡ record { is_left = true; origin = origin.Table (codes "lots"); alias = None; on = Some on_line; using = [] }
   s2 = out_source true (codes "lots") (Some on_line)
 
-  s3 : out-Source (source_of true (codes "contracts") (Some on_lot)) ≡ record { is_left = true; origin = origin.Table (codes "contracts"); alias = None; on = Some on_lot; using = [] }
-  s3 = out_source true (codes "contracts") (Some on_lot)
+  s3 : out-Source (source_of true (codes "contracts") (Some (on_lot 2))) ≡ record { is_left = true; origin = origin.Table (codes "contracts"); alias = None; on = Some (on_lot 2); using = [] }
+  s3 = out_source true (codes "contracts") (Some (on_lot 2))
 
-  s4 : out-Source (source_of true (codes "entries") (Some on_contract)) ≡ record { is_left = true; origin = origin.Table (codes "entries"); alias = None; on = Some on_contract; using = [] }
-  s4 = out_source true (codes "entries") (Some on_contract)
+  s4 : out-Source (source_of true (codes "entries") (Some (on_contract 2))) ≡ record { is_left = true; origin = origin.Table (codes "entries"); alias = None; on = Some (on_contract 2); using = [] }
+  s4 = out_source true (codes "entries") (Some (on_contract 2))
 
   bounds_are : body.bounds schema sources (fresh 1 max_budget) ≡ Ok (bs, at_budget 5 max_budget nothing)
   unfolding body.bounds
   bounds_are = rw (
     bound_is schema (source_of false (codes "lines") None) (codes "lines") false None s1 four.lines.place 1 max_budget nothing four.lines.named refl,
     bound_is schema (source_of true (codes "lots") (Some on_line)) (codes "lots") true (Some on_line) s2 four.lots.place 2 max_budget nothing four.lots.named refl,
-    bound_is schema (source_of true (codes "contracts") (Some on_lot)) (codes "contracts") true (Some on_lot) s3 four.contracts.place 3 max_budget nothing four.contracts.named refl,
-    bound_is schema (source_of true (codes "entries") (Some on_contract)) (codes "entries") true (Some on_contract) s4 four.entries.place 4 max_budget nothing four.entries.named refl,
+    bound_is schema (source_of true (codes "contracts") (Some (on_lot 2))) (codes "contracts") true (Some (on_lot 2)) s3 four.contracts.place 3 max_budget nothing four.contracts.named refl,
+    bound_is schema (source_of true (codes "entries") (Some (on_contract 2))) (codes "entries") true (Some (on_contract 2)) s4 four.entries.place 4 max_budget nothing four.entries.named refl,
   )
 
   sources_are : (query : Schema → Select → program.Building program.Shown) → program.sources query schema sources [] ≡ Ok (schema, [])
@@ -182,8 +129,8 @@ module _ (schema : Schema) (at : Trees4) (four : HoldsFour schema at) where
   sources_are query = rw (
     source_is schema (source_of false (codes "lines") None) (codes "lines") false None s1 query schema 1,
     source_is schema (source_of true (codes "lots") (Some on_line)) (codes "lots") true (Some on_line) s2 query schema 2,
-    source_is schema (source_of true (codes "contracts") (Some on_lot)) (codes "contracts") true (Some on_lot) s3 query schema 3,
-    source_is schema (source_of true (codes "entries") (Some on_contract)) (codes "entries") true (Some on_contract) s4 query schema 4,
+    source_is schema (source_of true (codes "contracts") (Some (on_lot 2))) (codes "contracts") true (Some (on_lot 2)) s3 query schema 3,
+    source_is schema (source_of true (codes "entries") (Some (on_contract 2))) (codes "entries") true (Some (on_contract 2)) s4 query schema 4,
   )
 
   -- ---- the columns, in each scope
@@ -204,63 +151,14 @@ module _ (schema : Schema) (at : Trees4) (four : HoldsFour schema at) where
     unfolding same_name
     f_line_free = line_of_four schema at four shown may alias (codes "lines.free") 3 (column_of (codes "free") Integer true) (refl, refl, refl)
 
-    f_lot_notice : Finds cx lot_notice
-    unfolding same_name
-    f_lot_notice = lot_of_four schema at four shown may alias (codes "lots.notice") 0 (column_of (codes "notice") Text true) (refl, refl, refl)
-
-    f_lot_lot : Finds cx lot_lot
-    unfolding same_name
-    f_lot_lot = lot_of_four schema at four shown may alias (codes "lots.lot") 1 (column_of (codes "lot") Text true) (refl, refl, refl)
-
-    f_lot_line : Finds cx lot_line
-    unfolding same_name
-    f_lot_line = lot_of_four schema at four shown may alias (codes "lots.line") 3 (column_of (codes "line") Text true) (refl, refl, refl)
-
-    f_lot_reserved : Finds cx lot_reserved
-    unfolding same_name
-    f_lot_reserved = lot_of_four schema at four shown may alias (codes "lots.reserved") 8 (column_of (codes "reserved") Integer true) (refl, refl, refl)
-
-    f_contract_contract : Finds cx contract_contract
-    unfolding same_name
-    f_contract_contract = contract_key_of_four schema at four shown may alias (codes "contracts.contract") 0 (column_of (codes "contract") Integer true) refl refl (refl, refl, refl)
-
-    f_contract_notice : Finds cx contract_notice
-    unfolding same_name
-    f_contract_notice = contract_of_four schema at four shown may alias (codes "contracts.notice") 1 (column_of (codes "notice") Text true) refl (refl, refl, refl)
-
-    f_contract_lot : Finds cx contract_lot
-    unfolding same_name
-    f_contract_lot = contract_of_four schema at four shown may alias (codes "contracts.lot") 2 (column_of (codes "lot") Text true) refl (refl, refl, refl)
-
-    f_contract_signed : Finds cx contract_signed
-    unfolding same_name
-    f_contract_signed = contract_of_four schema at four shown may alias (codes "contracts.signed") 4 (column_of (codes "signed") Integer true) refl (refl, refl, refl)
-
-    f_contract_released : Finds cx contract_released
-    unfolding same_name
-    f_contract_released = contract_of_four schema at four shown may alias (codes "contracts.released") 8 (column_of (codes "released") Integer true) refl (refl, refl, refl)
-
-    f_entry_contract : Finds cx entry_contract
-    unfolding same_name
-    f_entry_contract = entry_of_four schema at four shown may alias (codes "entries.contract") 0 (column_of (codes "contract") Integer true) (refl, refl, refl)
-
-    f_entry_entry : Finds cx entry_entry
-    unfolding same_name
-    f_entry_entry = entry_of_four schema at four shown may alias (codes "entries.entry") 1 (column_of (codes "entry") Text true) (refl, refl, refl)
-
-    f_entry_kind : Finds cx entry_kind
-    unfolding same_name
-    f_entry_kind = entry_of_four schema at four shown may alias (codes "entries.kind") 2 (column_of (codes "kind") Text true) (refl, refl, refl)
-
-    f_entry_amount : Finds cx entry_amount
-    unfolding same_name
-    f_entry_amount = entry_of_four schema at four shown may alias (codes "entries.amount") 3 (column_of (codes "amount") Integer true) (refl, refl, refl)
+    lots_found : FindsLots 2 cx
+    lots_found = finds_lots 2 cx (lot_of_four schema at four shown may alias) (contract_of_four schema at four shown may alias) (contract_key_of_four schema at four shown may alias) (entry_of_four schema at four shown may alias)
 
     picks_found : AllFound cx max_budget picks
-    picks_found = (f_line_line, refl, (f_line_appropriation, refl, (f_line_free, refl, (f_lot_notice, refl, (f_lot_lot, refl, (f_lot_reserved, refl, (f_contract_contract, refl, (f_contract_signed, refl, (f_contract_released, refl, (f_entry_entry, refl, (f_entry_kind, refl, (f_entry_amount, refl, tt))))))))))))
+    picks_found = (f_line_line, refl, (f_line_appropriation, refl, (f_line_free, refl, (lots_found.notice, refl, (lots_found.lot, refl, (lots_found.reserved, refl, (lots_found.contract, refl, (lots_found.signed, refl, (lots_found.released, refl, (lots_found.entry, refl, (lots_found.kind, refl, (lots_found.amount, refl, tt))))))))))))
 
     sorts_found : AllFound cx 99975 sorts
-    sorts_found = (f_line_line, refl, (f_lot_notice, refl, (f_lot_lot, refl, (f_contract_contract, refl, (f_entry_entry, refl, tt)))))
+    sorts_found = (f_line_line, refl, (lots_found.notice, refl, (lots_found.lot, refl, (lots_found.contract, refl, (lots_found.entry, refl, tt)))))
 
   abbrev outs : List Output
   outs = outputs_of (scope [] true true) [] picks
@@ -283,16 +181,16 @@ module _ (schema : Schema) (at : Trees4) (four : HoldsFour schema at) where
   on_scope = scope outs false false
 
   line_lowers : lower on_scope on_line (at_budget 5 99988 plainly) ≡ Ok (equals (col 2 4) (col 1 1), at_budget 5 99985 nothing)
-  line_lowers = equal_is on_scope lot_line line_line (f_lot_line outs false false) (f_line_line outs false false) refl 698 5 99988 plainly refl refl refl
+  line_lowers = equal_is on_scope (lot_line 2) line_line (lots_found outs false false).line (f_line_line outs false false) refl 698 5 99988 plainly refl refl refl
 
-  lot_lowers : lower on_scope on_lot (at_budget 5 99985 nothing) ≡ Ok (op2 And (equals (col 3 2) (col 2 1)) (equals (col 3 3) (col 2 2)), at_budget 5 99978 nothing)
+  lot_lowers : lower on_scope (on_lot 2) (at_budget 5 99985 nothing) ≡ Ok (op2 And (equals (col 3 2) (col 2 1)) (equals (col 3 3) (col 2 2)), at_budget 5 99978 nothing)
   lot_lowers =
-      and_is on_scope (equals_e contract_notice lot_notice) (equals_e contract_lot lot_lot) _ _ 5 99985 99981 99978 nothing nothing nothing refl 699
-      (equal_is on_scope contract_notice lot_notice (f_contract_notice outs false false) (f_lot_notice outs false false) refl 697 5 99984 nothing refl refl refl)
-      (equal_is on_scope contract_lot lot_lot (f_contract_lot outs false false) (f_lot_lot outs false false) refl 697 5 99981 nothing refl refl refl)
+      and_is on_scope (equals_e (contract_notice 2) (lot_notice 2)) (equals_e (contract_lot 2) (lot_lot 2)) _ _ 5 99985 99981 99978 nothing nothing nothing refl 699
+      (equal_is on_scope (contract_notice 2) (lot_notice 2) (lots_found outs false false).of_notice (lots_found outs false false).notice refl 697 5 99984 nothing refl refl refl)
+      (equal_is on_scope (contract_lot 2) (lot_lot 2) (lots_found outs false false).of_lot (lots_found outs false false).lot refl 697 5 99981 nothing refl refl refl)
 
-  contract_lowers : lower on_scope on_contract (at_budget 5 99978 nothing) ≡ Ok (equals (col 4 1) (col 3 0), at_budget 5 99975 nothing)
-  contract_lowers = equal_is on_scope entry_contract contract_contract (f_entry_contract outs false false) (f_contract_contract outs false false) refl 698 5 99978 nothing refl refl refl
+  contract_lowers : lower on_scope (on_contract 2) (at_budget 5 99978 nothing) ≡ Ok (equals (col 4 1) (col 3 0), at_budget 5 99975 nothing)
+  contract_lowers = equal_is on_scope (entry_contract 2) (contract_contract 2) (lots_found outs false false).of_contract (lots_found outs false false).contract refl 698 5 99978 nothing refl refl refl
 
   abbrev inner_scope : Context
   inner_scope = scope outs false true
@@ -307,10 +205,10 @@ module _ (schema : Schema) (at : Trees4) (four : HoldsFour schema at) where
     first_joined schema bs outs (codes "lines") four.lines.place 1 four.lines.table (at_budget 5 99988 plainly) four.lines.found,
     joined_by schema bs outs (record { steps = Inner four.lines.table.tree ∷ []; filter = [] }) (codes "lots") four.lots.place 2 on_line four.lots.table (at_budget 5 99988 plainly) _ four.lots.found
         (left_joined schema bs outs (record { steps = Inner four.lines.table.tree ∷ []; filter = [] }) four.lots.table.tree 2 on_line _ _ _ line_lowers refl),
-    joined_by schema bs outs (record { steps = Inner four.lines.table.tree ∷ Left four.lots.table.tree of_the_line ∷ []; filter = [] }) (codes "contracts") four.contracts.place 3 on_lot four.contracts.table (at_budget 5 99985 nothing) _ four.contracts.found
-        (left_joined schema bs outs (record { steps = Inner four.lines.table.tree ∷ Left four.lots.table.tree of_the_line ∷ []; filter = [] }) four.contracts.table.tree 3 on_lot _ _ _ lot_lowers refl),
-    joined_by schema bs outs (record { steps = Inner four.lines.table.tree ∷ Left four.lots.table.tree of_the_line ∷ Left four.contracts.table.tree of_the_lot ∷ []; filter = [] }) (codes "entries") four.entries.place 4 on_contract four.entries.table (at_budget 5 99978 nothing) _ four.entries.found
-        (left_joined schema bs outs (record { steps = Inner four.lines.table.tree ∷ Left four.lots.table.tree of_the_line ∷ Left four.contracts.table.tree of_the_lot ∷ []; filter = [] }) four.entries.table.tree 4 on_contract _ _ _ contract_lowers refl),
+    joined_by schema bs outs (record { steps = Inner four.lines.table.tree ∷ Left four.lots.table.tree of_the_line ∷ []; filter = [] }) (codes "contracts") four.contracts.place 3 (on_lot 2) four.contracts.table (at_budget 5 99985 nothing) _ four.contracts.found
+        (left_joined schema bs outs (record { steps = Inner four.lines.table.tree ∷ Left four.lots.table.tree of_the_line ∷ []; filter = [] }) four.contracts.table.tree 3 (on_lot 2) _ _ _ lot_lowers refl),
+    joined_by schema bs outs (record { steps = Inner four.lines.table.tree ∷ Left four.lots.table.tree of_the_line ∷ Left four.contracts.table.tree of_the_lot ∷ []; filter = [] }) (codes "entries") four.entries.place 4 (on_contract 2) four.entries.table (at_budget 5 99978 nothing) _ four.entries.found
+        (left_joined schema bs outs (record { steps = Inner four.lines.table.tree ∷ Left four.lots.table.tree of_the_line ∷ Left four.contracts.table.tree of_the_lot ∷ []; filter = [] }) four.entries.table.tree 4 (on_contract 2) _ _ _ contract_lowers refl),
   )
 
   -- ---- the whole text

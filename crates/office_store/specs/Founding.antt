@@ -1,5 +1,5 @@
 -- What an opening finds in a database, and what it makes there.
-use Rattle.std.specs.Prelude.{◌≡◌, ◌⊎◌, ◌&&◌, ℕ, Bool, true, false, not, nat_eq, pos, IsTrue, List, [], ◌∷◌, codes}
+use Rattle.std.specs.Prelude.{◌≡◌, ◌⊎◌, ◌&&◌, Bool, true, false, not, nat_eq, pos, IsTrue, List, [], ◌∷◌, codes}
 use Rattle.std.specs.List.{list_any}
 use Rattle.sqlite_value.specs.declared.value.Value.TheVariants.{Int}
 use Rattle.sqlite_value.specs.Order.{Row}
@@ -14,6 +14,7 @@ use Rattle.sqlite.specs.State.{State}
 use Rattle.office_base.specs.Tables.{Tables, no_tables}
 use Rattle.office_tables.specs.First.{HoldsFirst, IsMigrated}
 use Rattle.office_tables.specs.Making.{KeepsOthers}
+use Rattle.office_tables.specs.Schema.{table_of, all_tables}
 use Rattle.office_tables.specs.Standing.{Holds}
 use Rattle.office_tables.specs.Steps.{Leaves, Refused, IsAsked}
 use Rattle.office_tables.specs.Version.{get_version, HasNoVersion}
@@ -22,16 +23,9 @@ use Rattle.office_store.specs.Others.{KeepsRest, leads_there}
 use Rattle.office_store.specs.declared.opened.Origin.{Origin}
 use Rattle.office_store.specs.declared.opened.Origin.TheVariants as from
 
--- the names of the office's tables; those of indexes are none
-abbrev pub table_names : List (List ℕ)
-table_names =
-    codes "lines" ∷ codes "batches" ∷ codes "tenderers" ∷ codes "notices" ∷ codes "lots" ∷ codes "envelopes" ∷ codes "seals"
-    ∷ codes "securities" ∷ codes "awards" ∷ codes "contracts" ∷ codes "entries" ∷ codes "releases" ∷ codes "compiled" ∷ codes "office"
-    ∷ codes "late_rules" ∷ codes "notices_2" ∷ codes "performance" ∷ []
-
--- a table, an index or a view of the schema has one of them
+-- a table, an index or a view of the schema has the name of a table of the office's; those of its indexes are none
 abbrev pub takes_a_name : Schema → Bool
-takes_a_name schema = list_any (is_used schema) table_names
+takes_a_name schema = list_any (λ k. is_used schema (table_of k).name) all_tables
 
 -- a table `office` has its first column for a rowid
 abbrev pub has_rowids : Schema → Bool

@@ -15,6 +15,7 @@ use crate::opened::Origin;
 use office_base::shelf::ShelfFault;
 use office_tables::faults::fault;
 use office_tables::make::make;
+use office_tables::tables::table_names;
 use office_tables::version::ask_version;
 use sqlite::{Alter, Connection, Error, ErrorCode, Row};
 use sqlite_catalog::layout::is_used;
@@ -84,26 +85,8 @@ fn any_is_used(schema: &Schema, names: &[&[u8]]) -> bool
 fn takes_a_name(schema: &Schema) -> bool
     ensures { result ≡ takes_a_name schema.now }
 {
-    let names: [&[u8]; 17] = [
-        b"lines",
-        b"batches",
-        b"tenderers",
-        b"notices",
-        b"lots",
-        b"envelopes",
-        b"seals",
-        b"securities",
-        b"awards",
-        b"contracts",
-        b"entries",
-        b"releases",
-        b"compiled",
-        b"office",
-        b"late_rules",
-        b"notices_2",
-        b"performance",
-    ];
-    any_is_used(schema, names.as_slice())
+    let names = table_names();
+    any_is_used(schema, &names)
 }
 
 fn is_version_one(rows: &[Row]) -> bool

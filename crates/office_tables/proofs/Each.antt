@@ -16,7 +16,7 @@ use Rattle.office_tables.specs.Forms.{Form, RowsStand}
 use Rattle.office_tables.specs.Kept.{Stand}
 use Rattle.office_tables.specs.Known.{IsIn, Places, HasTables}
 use Rattle.office_tables.specs.Making.{AreIndexings}
-use Rattle.office_tables.specs.Schema.{OfficeTable, table_of, all_tables, StandFor, statement_of, values_of_put, IsReadBack}
+use Rattle.office_tables.specs.Schema.{OfficeTable, table_of, all_tables, StandFor, ComeBack, statement_of, values_of_put, IsReadBack}
 use Rattle.office_tables.specs.Standing.{Stands}
 use Rattle.office_tables.specs.Steps.{Puts}
 use Rattle.office_tables.specs.Tables.Lines.{line_form}
@@ -41,7 +41,7 @@ use Rattle.office_tables.proofs.Drops.{drops_row}
 use Rattle.office_tables.proofs.Held.{holds_put, goes_with}
 use Rattle.office_tables.proofs.Made.{is_change, shows, made_of}
 use Rattle.office_tables.proofs.Meanings.{StatementMeans, IsOne}
-use Rattle.office_tables.proofs.RowsBack.{notice_back, lot_back, envelope_back, security_back, award_back, contract_back, entry_back, performance_back}
+use Rattle.office_tables.proofs.RowsBack.{notice_back, former_back, lot_back, envelope_back, security_back, award_back, contract_back, entry_back, performance_back}
 use Rattle.office_tables.proofs.Upserts.{Shape}
 use Rattle.office_tables.proofs.Writes.{IsBare, puts_row, with_rows}
 use Rattle.office_tables.proofs.ByTable.Lines.{lines_made, line_shape, line_put, after_line}
@@ -89,6 +89,26 @@ bare k = (each k).bare
 -- each text of an index makes it
 pub all_indexings : AreIndexings (create_lots_of_line ∷ create_envelopes_of_notice ∷ create_securities_of_notice ∷ create_awards_of_notice ∷ create_contracts_of_notice ∷ [])
 all_indexings = ((Lots, lots_of_line, indexes_lots_of_line, refl), ((Envelopes, envelopes_of_notice, indexes_envelopes_of_notice, refl), ((Securities, securities_of_notice, indexes_securities_of_notice, refl), ((Awards, awards_of_notice, indexes_awards_of_notice, refl), ((Contracts, contracts_of_notice, indexes_contracts_of_notice, refl), tt)))))
+
+-- its records come back from their rows
+pub all_come_back : (k : OfficeTable) → ComeBack k
+all_come_back Lines = record { row = λ x. refl; entry = λ rowid x. refl }
+all_come_back Batches = record { row = λ x. refl; entry = λ rowid x. refl }
+all_come_back Tenderers = record { row = λ x. refl; entry = λ rowid x. refl }
+all_come_back Notices = record { row = notice_back; entry = λ rowid. notice_back }
+all_come_back Lots = record { row = lot_back; entry = λ rowid. lot_back }
+all_come_back Envelopes = record { row = envelope_back; entry = λ rowid. envelope_back }
+all_come_back Seals = record { row = λ x. refl; entry = λ rowid x. refl }
+all_come_back Securities = record { row = security_back; entry = λ rowid. security_back }
+all_come_back Awards = record { row = award_back; entry = λ rowid. award_back }
+all_come_back Contracts = record { row = contract_back; entry = λ rowid. contract_back }
+all_come_back Entries = record { row = entry_back; entry = λ rowid. entry_back }
+all_come_back Releases = record { row = λ x. refl; entry = λ rowid x. refl }
+all_come_back Compiled = record { row = λ x. refl; entry = λ rowid x. refl }
+all_come_back Office = record { row = λ x. refl; entry = λ rowid x. refl }
+all_come_back LateRules = record { row = λ x. refl; entry = λ rowid x. refl }
+all_come_back FormerNotices = former_back
+all_come_back Performances = record { row = performance_back; entry = λ rowid. performance_back }
 
 -- ---- what each put makes
 

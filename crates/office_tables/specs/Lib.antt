@@ -7,8 +7,8 @@ pub mod Ranges
 pub mod Kept
 pub mod Forms
 pub mod Tables
-pub mod Schema
 pub mod ComesBack
+pub mod Schema
 pub mod Apart
 pub mod Known
 pub mod Standing

@@ -9,7 +9,6 @@ pub mod first;
 pub mod items;
 pub mod laws;
 pub mod make;
-pub mod puts;
 mod readings;
 mod statement;
 pub mod stored;

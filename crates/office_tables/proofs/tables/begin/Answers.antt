@@ -3,7 +3,7 @@ use Rattle.sqlite.specs.Held.{state}
 use Rattle.office_tables.proofs.Failing.{same_err, begin_fails}
 use Rattle.office_tables.proofs.Reading.{not_run_kept}
 use Rattle.office_tables.proofs.Stepping.{on_err}
-use Rattle.office_tables.proofs.puts.begin.Goals as goal
+use Rattle.office_tables.proofs.tables.begin.Goals as goal
 
 pub returns-in_err-_ready-clause-refused : goal.returns-in_err-_ready-clause-refused
 returns-in_err-_ready-clause-refused g c clean =

@@ -1,6 +1,6 @@
 use Rattle.std.proofs.Common.{refl, sym}
 use Rattle.office_base.specs.declared.puts.Put.TheVariants as put
-use Rattle.office_tables.proofs.puts.put_one.Goals as goal
+use Rattle.office_tables.proofs.tables.put_one.Goals as goal
 
 pub returns-in-Line-clause-puts : goal.returns-in-Line-clause-puts
 returns-in-Line-clause-puts g c clean inside = rw c.in-Line.is (c.put_row.ensures.puts clean inside (put.Line c.in-Line.row) (record { text = refl; values = sym c.line_values.ensures.row; back = tt }))
