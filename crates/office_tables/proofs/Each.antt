@@ -1,11 +1,15 @@
 -- Each table of an office, and each change.
-use Rattle.std.proofs.Common.{◌≡◌, List, ℕ, [], ◌∷◌, Ok, length, pos, true, false, refl, sym, subst, ◌∙◌}
-use Rattle.std.specs.List.{AllByRecursion}
+use Rattle.std.proofs.Common.{◌≡◌, List, ℕ, [], ◌∷◌, Ok, Some, length, slice_get, pos, true, false, refl, sym, subst, ◌∙◌}
+use Rattle.std.specs.Prelude.{bytes_eq}
+use Rattle.std.specs.List.{AllByRecursion, position_or_len}
 use Rattle.std.specs.declared.cmp.Ordering.{Ordering}
 use Rattle.sqlite_value.specs.declared.value.Value.{Value}
 use Rattle.sqlite_value.specs.declared.value.Value.TheVariants.{Int}
 use Rattle.sqlite_value.specs.Order.{Row}
 use Rattle.sqlite_schema.specs.declared.command.Command.{Command}
+use Rattle.sqlite_rules.specs.Lists.{Has}
+use Rattle.sqlite_rules.proofs.ListLemmas.{all_has}
+use Rattle.sqlite_catalog.proofs.AlterLemmas.{place_has}
 use Rattle.sqlite.specs.Effect.{Database}
 use Rattle.sqlite.specs.State.{State, Executes, ExecutesInside}
 use Rattle.office_base.specs.Tables.{Tables, no_tables, after_put}
@@ -191,25 +195,20 @@ known old places tables (put.Clock x) = known_by old places tables Office clock_
 abbrev pub Found : Database → OfficeTable → Type 0
 Found db k = (n : ℕ) × IsIn db.schema (table_of k) n × (db.trees n ≡ [])
 
--- each table is among those that were made
+-- each table is one of all, at the place of its name
+abbrev place_of : OfficeTable → ℕ
+place_of k = position_or_len (λ (j : OfficeTable). bytes_eq (table_of j).name (table_of k).name) all_tables
+
+at_place : (k : OfficeTable) → slice_get all_tables (place_of k) ≡ Some k
+at_place Lines = refl
+at_place k = refl
+
+pub listed : (k : OfficeTable) → Has all_tables k
+listed k = place_has all_tables (place_of k) k (at_place k)
+
+-- and so of those that were made
 pub found : {db : Database} (k : OfficeTable) → AllByRecursion (Found db) all_tables → Found db k
-found Lines all = all.1.1.1.1.1.1.1.1.1.1.1.1.1.1.1.1.0
-found Batches all = all.1.1.1.1.1.1.1.1.1.1.1.1.1.1.1.0
-found Tenderers all = all.1.1.1.1.1.1.1.1.1.1.1.1.1.1.0
-found Notices all = all.1.0
-found Lots all = all.1.1.1.1.1.1.1.1.1.1.1.1.0
-found Envelopes all = all.1.1.1.1.1.1.1.1.1.1.1.0
-found Seals all = all.1.1.1.1.1.1.1.1.1.1.0
-found Securities all = all.1.1.1.1.1.1.1.1.1.0
-found Awards all = all.1.1.1.1.1.1.1.1.0
-found Contracts all = all.1.1.1.1.1.1.1.0
-found Entries all = all.1.1.1.1.1.1.0
-found Releases all = all.1.1.1.1.1.0
-found Compiled all = all.1.1.1.1.0
-found Office all = all.1.1.1.0
-found LateRules all = all.1.1.0
-found FormerNotices all = all.1.1.1.1.1.1.1.1.1.1.1.1.1.0
-found Performances all = all.0
+found {db} k all = all_has (Found db) all_tables k all (listed k)
 
 -- no rows stand for no records
 pub nothing : {K X : Type 0} {R : K → K → Ordering} {key : X → K} {form : Value → X → Row} {decode : Row → X} {rows : List Row} → rows ≡ [] → Stand R key form decode rows []
@@ -218,23 +217,9 @@ nothing {R} {key} {form} {decode} e = subst (λ r. Stand R key form decode r [])
 -- the clock's row among empty tables
 pub stands_empty : (rows : OfficeTable → List Row) (changed : List Row) (x : ClockRow) → ((k : OfficeTable) → rows k ≡ []) → StandFor Office changed (record no_tables { clock = x })
     → Stands (with_rows rows Office changed) (record no_tables { clock = x })
-stands_empty rows changed x empty stand Lines = nothing (empty Lines)
-stands_empty rows changed x empty stand Batches = nothing (empty Batches)
-stands_empty rows changed x empty stand Tenderers = nothing (empty Tenderers)
-stands_empty rows changed x empty stand Notices = nothing (empty Notices)
-stands_empty rows changed x empty stand Lots = nothing (empty Lots)
-stands_empty rows changed x empty stand Envelopes = nothing (empty Envelopes)
-stands_empty rows changed x empty stand Seals = nothing (empty Seals)
-stands_empty rows changed x empty stand Securities = nothing (empty Securities)
-stands_empty rows changed x empty stand Awards = nothing (empty Awards)
-stands_empty rows changed x empty stand Contracts = nothing (empty Contracts)
-stands_empty rows changed x empty stand Entries = nothing (empty Entries)
-stands_empty rows changed x empty stand Releases = nothing (empty Releases)
-stands_empty rows changed x empty stand Compiled = nothing (empty Compiled)
 stands_empty rows changed x empty stand Office = stand
-stands_empty rows changed x empty stand LateRules = nothing (empty LateRules)
 stands_empty rows changed x empty stand FormerNotices = empty FormerNotices
-stands_empty rows changed x empty stand Performances = nothing (empty Performances)
+stands_empty rows changed x empty stand k = nothing (empty k)
 
 same : {K X : Type 0} {R : K → K → Ordering} {key : X → K} {form : Value → X → Row} {decode : Row → X} {rows : List Row} {xs ys : List X} → Stand R key form decode rows xs → Stand R key form decode rows ys → xs ≡ ys
 same a b = sym a.is ∙ b.is

@@ -37,7 +37,8 @@ mod Makes
 mod Founds
 mod MakingSteps
 mod Emptied
-pub mod FirstVersion
+mod LaterTables
+pub mod EarlierEditions
 mod Told
 mod Versions
 mod Failing

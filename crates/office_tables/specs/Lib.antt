@@ -15,6 +15,7 @@ pub mod Standing
 pub mod Steps
 pub mod Failing
 pub mod Making
-pub mod First
+pub mod Editions
+pub mod Earlier
 pub mod Laws
 pub mod Version

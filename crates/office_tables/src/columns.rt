@@ -1,5 +1,5 @@
 //! One column of a row. What no office writes there is a fault of the store.
-ghost use Rattle.std.specs.Prelude.{◌≡◌, ◌≢◌, ℕ, ◌≤◌, ◌↔◌, List, [], ◌∷◌, length, IsTrue, IsUtf8, IfOk, IfErr, IfSome, option_map};
+ghost use Rattle.std.specs.Prelude.{◌≡◌, ◌≢◌, ℕ, ◌<◌, ◌≤◌, ◌↔◌, List, [], ◌∷◌, length, IsTrue, IsUtf8, IfOk, IfErr, IfSome, option_map};
 ghost use Rattle.sqlite_value.specs.Value.{owned};
 ghost use Rattle.sqlite_value.specs.declared.value.Value.TheVariants.{Null, Text, Blob};
 ghost use Rattle.sqlite_value.specs.Order.{column};
@@ -272,6 +272,19 @@ pub(crate) fn version_at(row: &Row, at: usize, version: u64) -> Result<(), Shelf
 {
     if number_at(row, at)? == version {
         Ok(())
+    } else {
+        Err(ShelfFault::Store)
+    }
+}
+
+// A version of the office's tables before this one.
+pub(crate) fn earlier_at(row: &Row, at: usize, version: u64) -> Result<u64, ShelfFault>
+    ensures exact { IfOk result (λ earlier. whole earlier ≡ column row.now at) }
+    ensures cause { IfErr result (IsFaultOf (IsUnwritten whole (λ n. n < version) (column row.now at))) }
+{
+    let earlier = number_at(row, at)?;
+    if earlier < version {
+        Ok(earlier)
     } else {
         Err(ShelfFault::Store)
     }

@@ -4,8 +4,9 @@
 
 pub mod ask;
 pub mod columns;
+pub mod earlier;
+pub mod editions;
 pub mod faults;
-pub mod first;
 pub mod items;
 pub mod laws;
 pub mod make;

@@ -6,7 +6,7 @@ ghost use Rattle.sqlite.specs.State.{HasCleanDisk, Survives};
 ghost use Rattle.office_tables.specs.Schema.{all_tables, table_of};
 ghost use Rattle.office_tables.specs.Making.{Makes};
 ghost use Rattle.office_tables.specs.Failing.{ErrorHasCause};
-ghost use Rattle.office_tables.specs.Steps.{Puts, Refused};
+ghost use Rattle.office_tables.specs.Steps.{Goes, Puts, Refused};
 
 pub mod awards;
 pub mod batches;
@@ -93,6 +93,7 @@ pub fn begin<S: Alter>(tx: &mut Transaction<'_, S>) -> Result<(), Error>
     ensures same_reference { tx.new.conn.ghost_name ≡ tx.old.conn.ghost_name }
     ensures puts { HasCleanDisk (state S.Store tx.new.conn.now) → IsTrue (state S.Store tx.old.conn.now).in_transaction → OnOk result (Puts (state S.Store tx.old.conn.now) (state S.Store tx.new.conn.now) []) }
     ensures refused { HasCleanDisk (state S.Store tx.new.conn.now) → OnErr result (Refused (state S.Store tx.old.conn.now) (state S.Store tx.new.conn.now)) }
+    ensures still { HasCleanDisk (state S.Store tx.new.conn.now) → IsTrue (state S.Store tx.old.conn.now).in_transaction → OnOk result (Goes (state S.Store tx.old.conn.now) (state S.Store tx.new.conn.now) × ((state S.Store tx.new.conn.now).now ≡ (state S.Store tx.old.conn.now).now)) }
     ensures failed { ErrorHasCause (state S.Store tx.old.conn.now) (state S.Store tx.new.conn.now) [] result }
     ensures survives { Survives (state S.Store tx.old.conn.now) (state S.Store tx.new.conn.now) (λ _. ⊥) }
 {
