@@ -34,13 +34,13 @@ use Rattle.sqlite_resolve.specs.Compile.{first, compiled, returning}
 use Rattle.sqlite_typing.specs.Types.{accepts_program}
 use Rattle.sqlite_tied.specs.Compute.{everything}
 use Rattle.office_ledger.specs.Select.{Trees4, equals, list_joined, of_the_line, of_the_lot, of_the_contract, joined_query}
-use Rattle.office_ledger.specs.StatementMeans.{StatementMeans}
 use Rattle.office_tables.specs.Forms.{column_of}
+use Rattle.office_tables.proofs.Meanings.{StatementMeans, parsed_in, means_by}
 use Rattle.office_ledger.specs.Known.{HoldsFour}
 use Rattle.office_ledger.proofs.Qualified.{Pick, Finds, AllFound, at_budget, plainly, shown_of, sort_of, equals_e, outputs_are, sorts_are, equal_is, and_is, outputs_of, keys_of}
 use Rattle.office_ledger.proofs.Scoped.{four_bounds, line_of_four, lot_of_four, contract_of_four, contract_key_of_four, entry_of_four}
 use Rattle.office_ledger.proofs.JoinedColumns.{lot_notice, lot_lot, lot_line, contract_contract, contract_notice, contract_lot, entry_contract, lot_picks, lot_sorts, on_lot, on_contract, FindsLots, finds_lots}
-use Rattle.office_ledger.proofs.Sources.{source_of, out_source, parsed_in, bound_is, source_is, left_joined, first_joined, joined_by, means_by}
+use Rattle.office_ledger.proofs.Sources.{source_of, out_source, bound_is, source_is, left_joined, first_joined, joined_by}
 use Rattle.office_ledger.proofs.Whole.{among, compiles}
 
 -- ---- the columns that the text names
@@ -78,15 +78,15 @@ abbrev written_select : Select
 written_select = roll-Select (record { with = []; first = core_of; others = []; order = map sort_of sorts; limit = None; offset = None })
 
 pub parses : first list_joined ≡ Ok (parsed_in (first list_joined))
-unfolding everything
+unfolding everything parsed_in
 parses = refl
 
 statement_is : (parsed_in (first list_joined)).statement ≡ written.Select written_select
-unfolding everything
+unfolding everything parsed_in
 statement_is = refl
 
 untimed : (parsed_in (first list_joined)).formats ≡ []
-unfolding everything
+unfolding everything parsed_in
 untimed = refl
 
 -- a SELECT has no RETURNING

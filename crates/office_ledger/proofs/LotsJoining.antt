@@ -30,14 +30,14 @@ use Rattle.sqlite_sql.specs.Query.{Query}
 use Rattle.sqlite_resolve.specs.Compile.{first, compiled}
 use Rattle.sqlite_typing.specs.Types.{accepts_program}
 use Rattle.sqlite_tied.specs.Compute.{everything}
+use Rattle.office_tables.proofs.Meanings.{StatementMeans, parsed_in, means_by}
 use Rattle.office_ledger.specs.Select.{Trees4, equals}
 use Rattle.office_ledger.specs.SelectLots.{list_joined_of_line, is_of_line, of_its_lot, of_its_contract, lots_query}
-use Rattle.office_ledger.specs.StatementMeans.{StatementMeans}
 use Rattle.office_ledger.specs.Known.{HoldsFour}
 use Rattle.office_ledger.proofs.Qualified.{Pick, AllFound, at_budget, plainly, shown_of, sort_of, equals_e, outputs_are, sorts_are, equal_is, and_is, given_e, given_is, outputs_of, keys_of}
 use Rattle.office_ledger.proofs.Scoped.{three_bounds, lot_of_three, contract_of_three, contract_key_of_three, entry_of_three}
 use Rattle.office_ledger.proofs.JoinedColumns.{lot_notice, lot_lot, lot_line, contract_contract, contract_notice, contract_lot, entry_contract, lot_picks, lot_sorts, on_lot, on_contract, FindsLots, finds_lots}
-use Rattle.office_ledger.proofs.Sources.{source_of, out_source, parsed_in, bound_is, source_is, left_joined, first_joined, joined_by, means_by}
+use Rattle.office_ledger.proofs.Sources.{source_of, out_source, bound_is, source_is, left_joined, first_joined, joined_by}
 use Rattle.office_ledger.proofs.Whole.{among, compiles}
 
 -- ---- the columns that the text names
@@ -63,15 +63,15 @@ abbrev written_select : Select
 written_select = roll-Select (record { with = []; first = core_of; others = []; order = map sort_of sorts; limit = None; offset = None })
 
 parses : first list_joined_of_line ≡ Ok (parsed_in (first list_joined_of_line))
-unfolding everything
+unfolding everything parsed_in
 parses = refl
 
 statement_is : (parsed_in (first list_joined_of_line)).statement ≡ written.Select written_select
-unfolding everything
+unfolding everything parsed_in
 statement_is = refl
 
 untimed : (parsed_in (first list_joined_of_line)).formats ≡ []
-unfolding everything
+unfolding everything parsed_in
 untimed = refl
 
 -- ---- in a schema that has the tables

@@ -11,9 +11,9 @@ use Rattle.sqlite_resolve.specs.Scope.{Name}
 use Rattle.sqlite_resolve.specs.Compile.{first, compiled, planned, meaning, timed, returning, small, with_command}
 use Rattle.sqlite_resolve.specs.Compile as compile
 use Rattle.sqlite.specs.Listing.{understood, listing_schema, misses_table, if_select, is_select}
+use Rattle.office_tables.proofs.Meanings.{parsed_in}
 use Rattle.office_ledger.specs.Plain.{JoinIsNoWrite}
 use Rattle.office_ledger.specs.Select.{list_joined}
-use Rattle.office_ledger.proofs.Sources.{parsed_in}
 use Rattle.office_ledger.proofs.Joining.{parses, returns_none}
 
 no_answer : {x : CompileError} {c : Compiled} → ◌≡◌ {A = Checked Compiled} (Err x) (Ok c) → ⊥
