@@ -1,14 +1,11 @@
 -- A database that holds an office holds the tables that are joined.
 use Rattle.std.specs.Prelude.{map}
-use Rattle.std.proofs.Common.{◌≡◌, ◌⊎◌, inl, inr, ℕ, Bool, true, false, cond, find, ◌==◌, List, [], ◌∷◌, Some, refl, sym, ap, subst, ◌∙◌, true≢false}
-use Rattle.std.proofs.lemmas.Bool.{eqb-true, eq-eqb}
+use Rattle.std.proofs.Common.{◌≡◌, ℕ, true, List, [], ◌∷◌, refl, sym, subst}
 use Rattle.sqlite_value.specs.declared.value.Value.TheVariants.{Text}
 use Rattle.sqlite_value.specs.Order.{Row}
 use Rattle.sqlite_trees.specs.declared.store.Store.{Ghosts}
-use Rattle.sqlite_rules.specs.Lists.{Has}
 use Rattle.sqlite_schema.specs.declared.schema.Schema.{Schema}
 use Rattle.sqlite_schema.specs.declared.schema.Table.{Table}
-use Rattle.sqlite_catalog.proofs.AlterLemmas.{place_has}
 use Rattle.sqlite.specs.Effect.{Database}
 use Rattle.sqlite.specs.Held.{Held, state}
 use Rattle.office_base.specs.Tables.{Tables, IsSorted}
@@ -22,6 +19,7 @@ use Rattle.office_tables.specs.Schema.{table_of}
 use Rattle.office_tables.specs.Standing.{Holds}
 use Rattle.office_tables.specs.Steps.{IsAsked, ShowsTables}
 use Rattle.office_tables.specs.Schema.OfficeTable.{Lines, Lots, Contracts, Entries}
+use Rattle.office_tables.proofs.Selecting.{found_by_tree}
 use Rattle.office_ledger.specs.Joins.{joined, joined_lots}
 use Rattle.office_ledger.specs.Cells.{joined_cells}
 use Rattle.office_ledger.specs.Known.{Holds as HasTable}
@@ -29,15 +27,6 @@ use Rattle.office_ledger.specs.Select.{list_joined}
 use Rattle.office_ledger.specs.SelectLots.{list_joined_of_line}
 use Rattle.office_ledger.specs.Shows.{HoldsJoined, JoinIsShown, LotsAreShown, joined_lot_cells}
 use Rattle.office_ledger.specs.Standing.{StoredRowsShow}
-
-find_only : (n : ℕ) (x : Table) (xs : List Table) → Has xs x → x.tree ≡ n → ((y : Table) → Has xs y → y.tree ≡ n → y ≡ x) → find (λ t. t.tree == n) xs ≡ Some x
-find_only n x [] there is alone = absurd there
-find_only n x (y ∷ ys) there is alone = by (y.tree == n) refl there (λ more. find_only n x ys more is (λ z h. alone z (inr h)))
-  where
-    by : (b : Bool) → (y.tree == n) ≡ b → (x ≡ y) ⊎ Has ys x → (Has ys x → find (λ t. t.tree == n) ys ≡ Some x) → cond b (Some y) (find (λ t. t.tree == n) ys) ≡ Some x
-    by true e h rest = ap Some (alone y (inl refl) (eqb-true y.tree n e))
-    by false e (inl same) rest = absurd (true≢false (sym (eq-eqb y.tree n (ap (λ (t : Table). t.tree) (sym same) ∙ is)) ∙ e))
-    by false e (inr more) rest = rest more
 
 known : (schema : Schema) (table : Table) (n : ℕ) → IsIn schema table n → HasTable schema table.name table.columns table.key n
 known schema table n it = record {
@@ -48,7 +37,7 @@ known schema table n it = record {
   columns_are = refl;
   key_is = refl;
   tree_is = refl;
-  alone = find_only n (at_tree table n) schema.tables (place_has schema.tables it.place (at_tree table n) it.found) refl it.alone;
+  alone = found_by_tree schema table n it;
   stored = it.stored;
 }
 
