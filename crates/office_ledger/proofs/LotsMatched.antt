@@ -8,6 +8,8 @@ use Rattle.sqlite_trees.specs.Tree.{Trees}
 use Rattle.sqlite_value.specs.declared.value.Value.{Value}
 use Rattle.sqlite_value.specs.declared.value.Value.TheVariants.{Null, Text}
 use Rattle.sqlite_value.specs.Order.{Row, column}
+use Rattle.sqlite_value.specs.declared.keys.Collation.TheVariants.{Binary}
+use Rattle.sqlite_schema.specs.Rules.{equal}
 use Rattle.sqlite_sql.specs.Term.{Term, Env, holds}
 use Rattle.sqlite_sql.specs.Query.{Join, Output, matches_as, output, or_nulls, left, end}
 use Rattle.office_values.specs.Ids.{same_id}
@@ -15,6 +17,7 @@ use Rattle.office_base.specs.Tables.{Tables, same_number, lot_key, of_line, lots
 use Rattle.office_base.specs.declared.records.LotRow.{LotRow}
 use Rattle.office_base.specs.declared.records.ContractRow.{ContractRow}
 use Rattle.office_base.specs.declared.records.EntryRow.{EntryRow}
+use Rattle.office_tables.proofs.Cells.{text_tested, number_tested, and_true}
 use Rattle.office_ledger.specs.Joins.{or_none, entry_part, with_entry, with_contract, joined_contract, joined_lot, joined_lots}
 use Rattle.office_ledger.specs.declared.joined.JoinedLot.{JoinedLot}
 use Rattle.office_ledger.specs.declared.joined.JoinedContract.{JoinedContract}
@@ -23,7 +26,7 @@ use Rattle.office_ledger.specs.Select.{Trees4}
 use Rattle.office_ledger.specs.SelectLots.{is_of_line, of_its_lot, of_its_contract, lots_from, lots_query}
 use Rattle.office_ledger.specs.Cells as cells
 use Rattle.office_ledger.specs.Cells.{LotCells, ContractCells, EntryCells, Show, lot_cells}
-use Rattle.office_ledger.proofs.Cells.{equal_values, text_tested, number_tested, number_null, and_true}
+use Rattle.office_ledger.proofs.Cells.{number_null}
 use Rattle.office_ledger.proofs.Levels.{first_level, level, no_level}
 use Rattle.office_ledger.proofs.Nested.{full-or_none, nested, last, map-map}
 
@@ -96,8 +99,8 @@ module _ (at : Trees4) (lost : Value) (db : Trees) (t : Tables) (line : List ℕ
   from2 = left at.contracts of_its_lot from3
 
   module _ (r1 : Row) (x : LotRow) (c1 : LotCells r1 x) where
-    line_tested : (equal_values (column r1 4) (Text line) && true) ≡ of_line line x
-    line_tested = and_true (equal_values (column r1 4) (Text line)) ∙ ap (λ v. equal_values v (Text line)) c1.line ∙ text_tested x.line line
+    line_tested : (equal Binary (column r1 4) (Text line) && true) ≡ of_line line x
+    line_tested = and_true (equal Binary (column r1 4) (Text line)) ∙ ap (λ v. equal Binary v (Text line)) c1.line ∙ text_tested x.line line
 
     -- a lot of another line
     module _ (other : of_line line x ≡ false) where
@@ -122,7 +125,7 @@ module _ (at : Trees4) (lost : Value) (db : Trees) (t : Tables) (line : List ℕ
       no_contract =
           stepped at.entries of_its_contract end (params ∷ r1 ∷ [] ∷ [])
           ∙ no_level EntryCells (λ r. puts_out end (params ∷ r1 ∷ [] ∷ r ∷ [])) (tests of_its_contract (params ∷ r1 ∷ [] ∷ []))
-          (λ r e h. ap (λ v. equal_values v Null && true) h.contract ∙ ap (λ b. b && true) (number_null e.contract)) (db at.entries) t.entries entries
+          (λ r e h. ap (λ v. equal Binary v Null && true) h.contract ∙ ap (λ b. b && true) (number_null e.contract)) (db at.entries) t.entries entries
           ∙ alone
 
       module _ (r2 : Row) (c : ContractRow) (c2 : ContractCells r2 c) where
@@ -139,14 +142,14 @@ module _ (at : Trees4) (lost : Value) (db : Trees) (t : Tables) (line : List ℕ
         one_contract = IsPermutation-trans _ _ _
             (IsPermutation-same _ _ (stepped at.entries of_its_contract end (params ∷ r1 ∷ r2 ∷ [])))
             (level EntryCells (λ r. puts_out end (params ∷ r1 ∷ r2 ∷ r ∷ [])) (tests of_its_contract (params ∷ r1 ∷ r2 ∷ [])) (λ (e : EntryRow). same_number e.contract c.contract) (with_last t line x c)
-            (λ r e h. and_true (equal_values (column r 1) (column r2 0)) ∙ ap₂ equal_values h.contract c2.contract ∙ number_tested e.contract c.contract)
+            (λ r e h. and_true (equal Binary (column r 1) (column r2 0)) ∙ ap₂ (equal Binary) h.contract c2.contract ∙ number_tested e.contract c.contract)
             (λ r e h. IsPermutation-same _ _ (one_entry r e h)) (IsPermutation-same _ _ contract_alone) (db at.entries) t.entries entries)
 
       one_lot : IsPermutation (puts_out from2 (params ∷ r1 ∷ [])) (with_lot t line x)
       one_lot = IsPermutation-trans _ _ _
           (IsPermutation-same _ _ (stepped at.contracts of_its_lot from3 (params ∷ r1 ∷ [])))
           (level ContractCells (λ r. puts_out from3 (params ∷ r1 ∷ r ∷ [])) (tests of_its_lot (params ∷ r1 ∷ [])) (λ (c : ContractRow). same_id c.notice x.notice && same_id c.lot x.lot) (with_contracts t line x)
-          (λ r c h. ap₂ ◌&&◌ (ap₂ equal_values h.notice c1.notice ∙ text_tested c.notice x.notice) (and_true (equal_values (column r 3) (column r1 2)) ∙ ap₂ equal_values h.lot c1.lot ∙ text_tested c.lot x.lot))
+          (λ r c h. ap₂ ◌&&◌ (ap₂ (equal Binary) h.notice c1.notice ∙ text_tested c.notice x.notice) (and_true (equal Binary (column r 3) (column r1 2)) ∙ ap₂ (equal Binary) h.lot c1.lot ∙ text_tested c.lot x.lot))
           one_contract (IsPermutation-same _ _ no_contract) (db at.contracts) t.contracts contracts)
 
     any_lot : IsPermutation (puts_out from2 (params ∷ r1 ∷ [])) (if_of_line t line x)
