@@ -5,8 +5,7 @@ use Rattle.std.specs.List.Sorted.{IsPermutation}
 use Rattle.std.proofs.lemmas.Bool.{cases_Bool}
 use Rattle.std.proofs.lemmas.List.Sorted.{IsPermutation-refl, IsPermutation-trans, IsPermutation-cons, IsPermutation-append_comm, IsPermutation-append_left}
 use Rattle.std.specs.Cmp.{tied_itself}
-use Rattle.std.specs.FinMap.{IsAntisymmetric, nat_cmp-IsAntisymmetric, slice_cmp-IsAntisymmetric}
-use Rattle.std.proofs.lemmas.Map.Lookups.{exact_pairs}
+use Rattle.std.specs.FinMap.{IsAntisymmetric, nat_cmp-IsAntisymmetric}
 use Rattle.std.specs.Ordering.{is_eq, nat_cmp}
 use Rattle.sqlite_value.specs.declared.value.Value.{Value}
 use Rattle.sqlite_value.specs.Order.{Row, value_cmp}
@@ -17,15 +16,12 @@ use Rattle.sqlite_rules.specs.Lists.{Has}
 use Rattle.sqlite_rules.proofs.ListLemmas.{all_has, all_from}
 use Rattle.office_values.specs.Ids.{id_cmp}
 use Rattle.office_base.specs.Rows.{by_order, row_put}
+use Rattle.office_base.proofs.Orders.{equal_from_test}
+use Rattle.office_base.proofs.ExactKeys.{ids_exact, lots_exact, entries_exact}
 use Rattle.office_base.specs.Tables.{lot_cmp, entry_cmp, line_key, lot_key, contract_key, entry_key}
 use Rattle.office_tables.specs.Kept.{rows_kept}
 use Rattle.office_ledger.specs.Cells.{LineCells, LotCells, ContractCells, EntryCells, Paired}
 use Rattle.office_ledger.specs.Standing.{ShowsBy, StoredRowsShow}
-
-equal_is : (o : Ordering) → is_eq o ≡ true → o ≡ Equal
-equal_is Less h = absurd (true≢false (sym h))
-equal_is Equal h = refl
-equal_is Greater h = absurd (true≢false (sym h))
 
 less_differs : (a b : Row) → value_cmp (rowid a) (rowid b) ≡ Less → a ≡ b → ⊥
 less_differs a b l e = let t = tied_itself value_cmp_total (rowid b) in let m = ap (λ z. value_cmp (rowid z) (rowid b)) e in cc
@@ -59,7 +55,7 @@ module _ {K X : Type 0} (R : K → K → Ordering) (same : IsAntisymmetric R) (k
     shuffled [] up one = IsPermutation-refl []
     shuffled (r ∷ rows) up one =
         let apart : AllByRecursion (λ y. Differs (decode r) (decode y)) rows = all_from _ rows (λ y h. elim (cases_Bool (is_eq (R (key (decode r)) (key (decode y))))) [
-          | inl tie ↦ absurd (less_differs r y (all_has _ rows y up.0 h) (one r y (inl refl) (inr h) (same (key (decode r)) (key (decode y)) (equal_is _ tie))))
+          | inl tie ↦ absurd (less_differs r y (all_has _ rows y up.0 h) (one r y (inl refl) (inr h) (same (key (decode r)) (key (decode y)) (equal_from_test _ tie))))
           | inr differs ↦ differs
         ]) in
         IsPermutation-trans (decode r ∷ map decode rows) (decode r ∷ rows_kept R key form decode rows) (row_put R key (rows_kept R key form decode rows) (decode r))
@@ -78,13 +74,10 @@ module _ {K X : Type 0} (R : K → K → Ordering) (same : IsAntisymmetric R) (k
     same = subst (IsPermutation (map decode rows)) h.is (shuffled form decode rows h.kept.rising h.kept.one);
   }
 
-ids_exact : IsAntisymmetric id_cmp
-ids_exact = slice_cmp-IsAntisymmetric nat_cmp-IsAntisymmetric
-
 pub stored_rows_show : StoredRowsShow
 stored_rows_show = record {
   lines = stored_show id_cmp ids_exact line_key LineCells;
-  lots = stored_show lot_cmp (exact_pairs id_cmp id_cmp ids_exact ids_exact) lot_key LotCells;
+  lots = stored_show lot_cmp lots_exact lot_key LotCells;
   contracts = stored_show nat_cmp nat_cmp-IsAntisymmetric contract_key ContractCells;
-  entries = stored_show entry_cmp (exact_pairs nat_cmp id_cmp nat_cmp-IsAntisymmetric ids_exact) entry_key EntryCells;
+  entries = stored_show entry_cmp entries_exact entry_key EntryCells;
 }
