@@ -3,7 +3,7 @@ use Rattle.std.proofs.Common.{◌≡◌, ℕ, Bool, true, false, cond, ◌&&◌,
 use Rattle.std.specs.List.{list_all}
 use Rattle.std.specs.List.Sorted.{IsPermutation}
 use Rattle.std.proofs.lemmas.List.Sorted.{IsPermutation-trans}
-use Rattle.sqlite_trees.proofs.ListLemmas.{IsPermutation-same, map-flat_map, flat_map_same_on}
+use Rattle.sqlite_trees.proofs.ListLemmas.{IsPermutation-same, map-map, map-flat_map, flat_map_none, flat_map_same_on}
 use Rattle.sqlite_trees.specs.Tree.{Trees}
 use Rattle.sqlite_value.specs.declared.value.Value.{Value}
 use Rattle.sqlite_value.specs.declared.value.Value.TheVariants.{Null, Text}
@@ -28,7 +28,7 @@ use Rattle.office_ledger.specs.Cells as cells
 use Rattle.office_ledger.specs.Cells.{LotCells, ContractCells, EntryCells, Show, lot_cells}
 use Rattle.office_ledger.proofs.Cells.{number_null}
 use Rattle.office_ledger.proofs.Levels.{first_level, level, no_level}
-use Rattle.office_ledger.proofs.Nested.{full-or_none, nested, last, map-map}
+use Rattle.office_ledger.proofs.Nested.{full-or_none, nested, last}
 
 -- a joined lot as the select puts it out: what it is sorted by, and what it shows
 abbrev pub out : JoinedLot → Output
@@ -74,10 +74,6 @@ module _ (t : Tables) (line : List ℕ) where
   choices : flat_map if_of_line t.lots ≡ map out (joined_lots line t)
   choices = passing t.lots ∙ flat_map_same_on with_lot (λ x. map out (joined_lot t x)) lot_is (lots_of_line line t) ∙ sym (map-flat_map out (joined_lot t) (lots_of_line line t))
 
-flat_map-none : {X Y : Type 0} (f : X → List Y) (xs : List X) → ((x : X) → f x ≡ []) → flat_map f xs ≡ []
-flat_map-none f [] h = refl
-flat_map-none f (x ∷ xs) h = ap (λ l. l ++ flat_map f xs) (h x) ∙ flat_map-none f xs h
-
 module _ (at : Trees4) (lost : Value) (db : Trees) (t : Tables) (line : List ℕ)
     (lots : Show LotCells (db at.lots) t.lots) (contracts : Show ContractCells (db at.contracts) t.contracts) (entries : Show EntryCells (db at.entries) t.entries) where
   abbrev params : Row
@@ -108,10 +104,10 @@ module _ (at : Trees4) (lost : Value) (db : Trees) (t : Tables) (line : List ℕ
       nothing_ends r2 r3 = ap (λ b. map (output (lots_query at)) (cond b ((params ∷ r1 ∷ r2 ∷ r3 ∷ []) ∷ []) [])) (line_tested ∙ other)
 
       nothing_follows : (r2 : Row) → puts_out from3 (params ∷ r1 ∷ r2 ∷ []) ≡ []
-      nothing_follows r2 = stepped at.entries of_its_contract end (params ∷ r1 ∷ r2 ∷ []) ∙ flat_map-none (λ r. puts_out end (params ∷ r1 ∷ r2 ∷ r ∷ [])) _ (nothing_ends r2)
+      nothing_follows r2 = stepped at.entries of_its_contract end (params ∷ r1 ∷ r2 ∷ []) ∙ flat_map_none (λ r. puts_out end (params ∷ r1 ∷ r2 ∷ r ∷ [])) (nothing_ends r2) _
 
       nothing : puts_out from2 (params ∷ r1 ∷ []) ≡ []
-      nothing = stepped at.contracts of_its_lot from3 (params ∷ r1 ∷ []) ∙ flat_map-none (λ r. puts_out from3 (params ∷ r1 ∷ r ∷ [])) _ nothing_follows
+      nothing = stepped at.contracts of_its_lot from3 (params ∷ r1 ∷ []) ∙ flat_map_none (λ r. puts_out from3 (params ∷ r1 ∷ r ∷ [])) nothing_follows _
 
     -- a lot of this line
     module _ (own : of_line line x ≡ true) where

@@ -1,7 +1,8 @@
 -- The join of lists, level by level, as the nested choices that SQL makes.
 use Rattle.std.specs.Prelude.{◌≡◌, List, [], ◌∷◌, ◌++◌, map, flat_map, Option, Some, None, option_map}
 use Rattle.std.proofs.Common.{refl, sym, ap, ◌∙◌}
-use Rattle.sqlite_trees.proofs.ListLemmas.{map-flat_map, flat_map_same_on}
+use Rattle.std.proofs.lemmas.List.{append-nil}
+use Rattle.sqlite_trees.proofs.ListLemmas.{map-map, map-flat_map, flat_map-map, flat_map_same_on}
 use Rattle.office_base.specs.Tables.{Tables, lot_key, lots_of_line, contracts_of_lot, entries_of_contract}
 use Rattle.office_base.specs.declared.records.LineRow.{LineRow}
 use Rattle.office_base.specs.declared.records.LotRow.{LotRow}
@@ -12,7 +13,6 @@ use Rattle.office_ledger.specs.declared.joined.JoinedRow.{JoinedRow}
 use Rattle.office_ledger.specs.declared.joined.JoinedLot.{JoinedLot}
 use Rattle.office_ledger.specs.declared.joined.JoinedContract.{JoinedContract}
 use Rattle.office_ledger.specs.declared.joined.JoinedEntry.{JoinedEntry}
-use Rattle.office_ledger.proofs.Levels.{append_none, flat_map-map}
 
 -- a list that isn't empty
 abbrev pub IsFull : {X : Type 0} → List X → Type 0
@@ -31,15 +31,11 @@ or_none-full : {X : Type 0} (xs : List X) → IsFull xs → or_none xs ≡ map S
 or_none-full [] h = absurd h
 or_none-full (x ∷ xs) h = refl
 
-pub map-map : {X Y Z : Type 0} (f : Y → Z) (g : X → Y) (xs : List X) → map f (map g xs) ≡ map (λ x. f (g x)) xs
-map-map f g [] = refl
-map-map f g (x ∷ xs) = ap (λ l. f (g x) ∷ l) (map-map f g xs)
-
 -- the choices of one level: none, or one after another
 pub nested : {X Y Z : Type 0} (k : Option Y → Z) (rows : X → List Y) → ((x : X) → IsFull (rows x)) → (choose : Option X → List Z)
     → choose None ≡ k None ∷ [] → ((x : X) → choose (Some x) ≡ map (λ y. k (Some y)) (rows x)) → (xs : List X)
     → flat_map choose (or_none xs) ≡ map k (or_none (flat_map rows xs))
-nested k rows full choose none some [] = append_none (choose None) ∙ none
+nested k rows full choose none some [] = append-nil (choose None) ∙ none
 nested k rows full choose none some (x ∷ xs) =
     flat_map-map choose Some (x ∷ xs)
     ∙ flat_map_same_on (λ x. choose (Some x)) (λ x. map (λ y. k (Some y)) (rows x)) some (x ∷ xs)
