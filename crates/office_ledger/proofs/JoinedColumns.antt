@@ -7,8 +7,9 @@ use Rattle.sqlite_resolve.specs.Scope.{Name, Context}
 use Rattle.sqlite_resolve.specs.Compare.{of_declared}
 use Rattle.sqlite_resolve.specs.declared.compare.Affinity.TheVariants as affinity
 use Rattle.office_tables.specs.Forms.{text_column, number_column}
+use Rattle.office_tables.proofs.Simple.{both_e}
 use Rattle.office_ledger.specs.Known.{lot_columns, contract_columns, entry_columns}
-use Rattle.office_ledger.proofs.Qualified.{Pick, Finds, equals_e, both_e}
+use Rattle.office_ledger.proofs.Qualified.{Pick, Finds, equals_e}
 use Rattle.office_ledger.proofs.Scoped.{Has}
 
 -- a column that is no rowid
