@@ -20,12 +20,10 @@ use Rattle.office_tables.specs.Standing.{Holds}
 use Rattle.office_tables.specs.Steps.{IsAsked, ShowsTables}
 use Rattle.office_tables.specs.Schema.OfficeTable.{Lines, Lots, Contracts, Entries}
 use Rattle.office_tables.proofs.Selecting.{found_by_tree}
-use Rattle.office_ledger.specs.Joins.{joined, joined_lots}
-use Rattle.office_ledger.specs.Cells.{joined_cells}
+use Rattle.office_ledger.specs.Joins.{joined_lots}
 use Rattle.office_ledger.specs.Known.{Holds as HasTable}
-use Rattle.office_ledger.specs.Select.{list_joined}
 use Rattle.office_ledger.specs.SelectLots.{list_joined_of_line}
-use Rattle.office_ledger.specs.Shows.{HoldsJoined, JoinIsShown, LotsAreShown, joined_lot_cells}
+use Rattle.office_ledger.specs.Shows.{HoldsJoined, LotsAreShown, joined_lot_cells}
 use Rattle.office_ledger.specs.Standing.{StoredRowsShow}
 
 known : (schema : Schema) (table : Table) (n : ℕ) → IsIn schema table n → HasTable schema table.name table.columns table.key n
@@ -60,9 +58,6 @@ holds_joined show db t sorted it = record {
 module _ {S : Type 0} (g : Ghosts S) (show : StoredRowsShow) (old : Held S) (rows : List Row) (t : Tables) (sorted : IsSorted t) (shows : ShowsTables (state g old) t) where
   held : (sql : List ℕ) (params : Row) → IsAsked g sql params old rows → HoldsJoined (state g (record old { in_transaction = true })).now t
   held sql params it = holds_joined show (state g old).now t sorted (subst (λ d. Holds d t) (sym it.settled) (shows it.was_open))
-
-  pub asked_joined : JoinIsShown g → IsAsked g list_joined [] old rows → rows ≡ map joined_cells (joined t)
-  asked_joined law it = law (record old { in_transaction = true }) it.after t rows (held list_joined [] it) it.shown
 
   pub asked_lots : LotsAreShown g → (line : List ℕ) → IsAsked g list_joined_of_line (Text line ∷ []) old rows → rows ≡ map joined_lot_cells (joined_lots line t)
   asked_lots law line it = law (record old { in_transaction = true }) it.after t line rows (held list_joined_of_line (Text line ∷ []) it) it.shown
