@@ -39,7 +39,7 @@ use Rattle.office_tables.specs.Tables.Compiled.{compiled_form}
 use Rattle.office_tables.specs.Tables.Office.{clock_form}
 use Rattle.office_tables.specs.Tables.LateRules.{late_form}
 use Rattle.office_tables.specs.Tables.Performances.{performance_form}
-use Rattle.office_tables.specs.Schema.OfficeTable.{Lines, Batches, Tenderers, Notices, Lots, Envelopes, Seals, Securities, Awards, Contracts, Entries, Releases, Compiled, Office, LateRules, FormerNotices, Performances}
+use Rattle.office_tables.specs.Schema.OfficeTable.{Lines, Batches, Tenderers, Notices, Lots, Envelopes, Seals, Securities, Awards, Contracts, Entries, Releases, Compiled, Office, LateRules, FormerNotices, Performances, Memos}
 use Rattle.office_tables.proofs.Cells.{and_true, number_tested, same_number_is}
 use Rattle.office_tables.proofs.Drops.{drops_row}
 use Rattle.office_tables.proofs.Held.{holds_put, goes_with}
@@ -63,6 +63,7 @@ use Rattle.office_tables.proofs.ByTable.Releases.{releases_made, release_shape, 
 use Rattle.office_tables.proofs.ByTable.Compiled.{compiled_made, compiled_shape, compiled_put, after_compiled}
 use Rattle.office_tables.proofs.ByTable.Office.{office_made, clock_shape, clock_put, after_clock}
 use Rattle.office_tables.proofs.ByTable.LateRules.{late_rules_made, late_shape, late_put, after_late}
+use Rattle.office_tables.proofs.ByTable.Memos.{memos_made}
 use Rattle.office_tables.proofs.ByTable.Performances.{performances_made, performance_shape, performance_put, after_performance}
 use Rattle.office_tables.proofs.TableTools.{IsOfficeTable, IsPutOf, StaysBeside, put_means}
 
@@ -86,6 +87,7 @@ each Office = office_made
 each LateRules = late_rules_made
 each FormerNotices = former_notices_made
 each Performances = performances_made
+each Memos = memos_made
 
 pub bare : (k : OfficeTable) → IsBare (table_of k)
 bare k = (each k).bare
@@ -113,6 +115,7 @@ all_come_back Office = record { row = λ x. refl; entry = λ rowid x. refl }
 all_come_back LateRules = record { row = λ x. refl; entry = λ rowid x. refl }
 all_come_back FormerNotices = former_back
 all_come_back Performances = record { row = performance_back; entry = λ rowid. performance_back }
+all_come_back Memos = tt
 
 -- ---- what each put makes
 
@@ -219,6 +222,7 @@ pub stands_empty : (rows : OfficeTable → List Row) (changed : List Row) (x : C
     → Stands (with_rows rows Office changed) (record no_tables { clock = x })
 stands_empty rows changed x empty stand Office = stand
 stands_empty rows changed x empty stand FormerNotices = empty FormerNotices
+stands_empty rows changed x empty stand Memos = empty Memos
 stands_empty rows changed x empty stand k = nothing (empty k)
 
 same : {K X : Type 0} {R : K → K → Ordering} {key : X → K} {form : Value → X → Row} {decode : Row → X} {rows : List Row} {xs ys : List X} → Stand R key form decode rows xs → Stand R key form decode rows ys → xs ≡ ys

@@ -5,7 +5,7 @@ use Rattle.sqlite_schema.specs.declared.schema.Schema.{Schema}
 use Rattle.sqlite_schema.specs.Names.{same_name, table_named}
 use Rattle.office_tables.specs.Making.{onto}
 use Rattle.office_tables.specs.Schema.{OfficeTable, table_of, create_of, all_tables}
-use Rattle.office_tables.specs.Schema.OfficeTable.{Notices, LateRules, Performances}
+use Rattle.office_tables.specs.Schema.OfficeTable.{Notices, LateRules, Performances, Memos}
 use Rattle.office_tables.specs.Tables.LateRules.{late_rules}
 
 -- The edition that a table came with; those of edition 0 were there from the beginning.
@@ -13,6 +13,7 @@ abbrev pub came_with : OfficeTable → ℕ
 came_with LateRules = 1
 came_with Notices = 2
 came_with Performances = 2
+came_with Memos = 3
 came_with k = 0
 
 -- an office of this edition lacks the table

@@ -24,6 +24,7 @@ use Rattle.office_tables.specs.Tables.Releases.{releases, create_releases, upser
 use Rattle.office_tables.specs.Tables.Compiled.{compiled, create_compiled, upsert_compiled, compiled_values, compiled_form}
 use Rattle.office_tables.specs.Tables.Office.{office, create_office, upsert_office, clock_values, clock_form}
 use Rattle.office_tables.specs.Tables.LateRules.{late_rules, create_late_rules, upsert_late_rules, late_values, late_form}
+use Rattle.office_tables.specs.Tables.Memos.{memos, create_memos}
 use Rattle.office_tables.specs.Tables.Performances.{performance, create_performance, upsert_performance, performance_values, performance_form}
 
 -- the name of a table of the office
@@ -45,6 +46,7 @@ pub data OfficeTable : Type 0 where
   LateRules : OfficeTable
   FormerNotices : OfficeTable
   Performances : OfficeTable
+  Memos : OfficeTable
 
 abbrev pub table_of : OfficeTable → Table
 table_of Lines = lines
@@ -64,6 +66,7 @@ table_of Office = office
 table_of LateRules = late_rules
 table_of FormerNotices = former_notices
 table_of Performances = performance
+table_of Memos = memos
 
 -- the text that makes it
 abbrev pub create_of : OfficeTable → List ℕ
@@ -84,11 +87,12 @@ create_of Office = create_office
 create_of LateRules = create_late_rules
 create_of FormerNotices = create_former_notices
 create_of Performances = create_performance
+create_of Memos = create_memos
 
 -- all of them, the last that is made first
 abbrev pub all_tables : List OfficeTable
 all_tables =
-    Performances ∷ Notices ∷ LateRules ∷ Office ∷ Compiled ∷ Releases ∷ Entries ∷ Contracts ∷ Awards ∷ Securities ∷ Seals ∷ Envelopes ∷ Lots ∷ FormerNotices
+    Memos ∷ Performances ∷ Notices ∷ LateRules ∷ Office ∷ Compiled ∷ Releases ∷ Entries ∷ Contracts ∷ Awards ∷ Securities ∷ Seals ∷ Envelopes ∷ Lots ∷ FormerNotices
     ∷ Tenderers ∷ Batches ∷ Lines ∷ []
 
 -- the rows of a table stand for its part of an office's content; the clock stands in the one row of `office`
@@ -110,6 +114,7 @@ StandFor Office rows t = RowsStand clock_form rows (t.clock ∷ [])
 StandFor LateRules rows t = RowsStand late_form rows t.late_rules
 StandFor FormerNotices rows t = rows ≡ []
 StandFor Performances rows t = RowsStand performance_form rows t.performances
+StandFor Memos rows t = rows ≡ []
 
 -- its records come back from their rows
 abbrev pub ComeBack : OfficeTable → Type 0
@@ -130,6 +135,7 @@ ComeBack Office = ComesBack clock_form
 ComeBack LateRules = ComesBack late_form
 ComeBack FormerNotices = FormerComesBack
 ComeBack Performances = ComesBack performance_form
+ComeBack Memos = ⊤
 
 -- and so of each table
 abbrev pub RecordsComeBack : Type 0

@@ -13,4 +13,5 @@ pub mod Releases
 pub mod Compiled
 pub mod Office
 pub mod LateRules
+pub mod Memos
 pub mod Performances

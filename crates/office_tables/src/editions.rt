@@ -13,7 +13,7 @@ ghost use Rattle.office_tables.specs.Steps.{Refused};
 
 use crate::make::make_table;
 use crate::tables::begin;
-use crate::tables::{late_rules, notices, performances};
+use crate::tables::{late_rules, memos, notices, performances};
 use sqlite::{Alter, Error, Transaction};
 use sqlite_schema::names::same_name;
 use sqlite_schema::schema::Schema;
@@ -23,10 +23,11 @@ use sqlite_schema::schema::Schema;
 struct Later(u64, &'static str, &'static str);
 
 // In the order in which they are made.
-const LATER: [Later; 3] = [
+const LATER: [Later; 4] = [
     Later(1, "late_rules", late_rules::CREATE),
     Later(2, "notices_2", notices::CREATE),
     Later(2, "performance", performances::CREATE),
+    Later(3, "memos", memos::CREATE),
 ];
 
 /// Whether the table of late withdrawals is there.

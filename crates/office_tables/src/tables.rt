@@ -17,6 +17,7 @@ pub mod envelopes;
 pub mod late_rules;
 pub mod lines;
 pub mod lots;
+pub mod memos;
 pub mod notices;
 pub mod office;
 pub mod performances;
@@ -59,15 +60,17 @@ pub(crate) fn make_office<S: Alter>(tx: &mut Transaction<'_, S>) -> Result<(), E
             late_rules::CREATE,
             notices::CREATE,
             performances::CREATE,
+            memos::CREATE,
         ],
     )
 }
 
 /// The names of the tables, that of the last that is made first.
-pub fn table_names() -> [&'static [u8]; 17]
+pub fn table_names() -> [&'static [u8]; 18]
     ensures { map (λ name. name.now) result ≡ map (λ k. (table_of k).name) all_tables }
 {
     [
+        b"memos",
         b"performance",
         b"notices_2",
         b"late_rules",

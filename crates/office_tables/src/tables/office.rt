@@ -17,7 +17,7 @@ use sqlite_value::value::ValueRef;
 use std::alloc::Global;
 
 /// The version of the tables that this program makes.
-pub const VERSION: u64 = 2;
+pub const VERSION: u64 = 3;
 
 /// The text that makes the table.
 pub(crate) const CREATE: &str =
