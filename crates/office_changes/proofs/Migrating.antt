@@ -1,5 +1,5 @@
 -- The notices that stood in `notices`, put one after another, are those that the office had there; what others have beside them stays.
-use Rattle.std.proofs.Common.{◌≡◌, inl, inr, ℕ, Option, Bool, true, false, List, [], ◌∷◌, ◌++◌, map, append-nil, refl, sym, ap, subst, subst₂, ◌∙◌, IsTrue, Ordering, Less, Greater}
+use Rattle.std.proofs.Common.{◌≡◌, ℕ, Option, Bool, true, false, List, [], ◌∷◌, ◌++◌, map, append-nil, refl, sym, ap, subst, subst₂, ◌∙◌, IsTrue, Ordering, Less, Greater}
 use Rattle.std.proofs.lemmas.List.{append_assoc}
 use Rattle.std.specs.Cmp.{IsTotalOrder}
 use Rattle.std.specs.Cmp.Lexicographic.{nat_list_cmp_total}

@@ -1,14 +1,23 @@
--- The columns of lots, contracts and entries that the selects name, by the slot of the lots: contracts have the next one, entries the one behind it.
-use Rattle.std.proofs.Common.{◌≡◌, ◌∷◌, [], List, Some, true, false, ℕ, suc, codes, refl}
+-- The columns of lots, contracts and entries that the selects name, and how these are joined, by the slot of the lots: contracts have the next one, entries the one behind it.
+use Rattle.std.proofs.Common.{◌≡◌, ◌-◌, nat_lt, ◌∷◌, [], List, Some, Ok, true, false, ℕ, suc, codes, refl}
+use Rattle.sqlite_sql.specs.Term.{Term, col, op2}
+use Rattle.sqlite_sql.specs.declared.ops.BinaryOp.TheVariants.{And}
+use Rattle.sqlite_schema.specs.declared.schema.Schema.{Schema}
 use Rattle.sqlite_schema.specs.declared.schema.Column.{Column}
 use Rattle.sqlite_schema.specs.Names.{same_name, is_key}
 use Rattle.sqlite_ast.specs.declared.Expr.{Expr}
+use Rattle.sqlite_resolve.specs.declared.state.Carried.{Carried}
 use Rattle.sqlite_resolve.specs.Scope.{Name, Context}
+use Rattle.sqlite_resolve.specs.Lowering.{nothing}
+use Rattle.sqlite_resolve.specs.Expr.{lower}
 use Rattle.sqlite_resolve.specs.Compare.{of_declared}
 use Rattle.sqlite_resolve.specs.declared.compare.Affinity.TheVariants as affinity
 use Rattle.office_tables.specs.Forms.{text_column, number_column}
-use Rattle.office_ledger.specs.Known.{lot_columns, contract_columns, entry_columns}
-use Rattle.office_ledger.proofs.Qualified.{Pick, Finds, equals_e, both_e}
+use Rattle.office_tables.proofs.Simple.{both_e}
+use Rattle.office_ledger.specs.Select.{Trees4, equals}
+use Rattle.office_ledger.specs.Known.{HoldsFour, lot_columns, contract_columns, entry_columns}
+use Rattle.office_ledger.proofs.Qualified.{Pick, Finds, at_budget, equals_e, equal_is, and_is}
+use Rattle.office_ledger.proofs.JoinedSelect.{Joint, known_by}
 use Rattle.office_ledger.proofs.Scoped.{Has}
 
 -- a column that is no rowid
@@ -73,6 +82,18 @@ module _ (n : ℕ) where
   abbrev pub on_contract : Expr
   on_contract = equals_e entry_contract contract_contract
 
+  -- what these are read as
+  abbrev pub lot_test : Term
+  lot_test = op2 And (equals (col (suc n) 2) (col n 1)) (equals (col (suc n) 3) (col n 2))
+
+  abbrev pub contract_test : Term
+  contract_test = equals (col (suc (suc n)) 1) (col (suc n) 0)
+
+  -- contracts and entries are joined, and that leaves so much of the budget
+  abbrev pub lot_joints : (schema : Schema) (at : Trees4) → HoldsFour schema at → ℕ → ℕ → List (Joint schema)
+  lot_joints schema at four b c =
+      record { known = known_by four.contracts; on = on_lot; test = lot_test; left = b } ∷ record { known = known_by four.entries; on = on_contract; test = contract_test; left = c } ∷ []
+
   -- a scope finds each of them
   pub record FindsLots (cx : Context) : Type 0 where
     pub notice : Finds cx lot_notice
@@ -109,3 +130,15 @@ module _ (n : ℕ) where
     kind = of_entries (codes "entries.kind") 2 (text_column (codes "kind")) (refl, refl, refl);
     amount = of_entries (codes "entries.amount") 3 (number_column (codes "amount")) (refl, refl, refl);
   }
+
+  -- both are read
+  module _ (cx : Context) (found : FindsLots cx) (next b : ℕ) (l : Carried) where
+    pub lot_lowers : nat_lt 1 b ≡ true → nat_lt 1 (b - 1) ≡ true → nat_lt 1 (b - 1 - 1) ≡ true → nat_lt 1 (b - 1 - 1 - 1) ≡ true → nat_lt 1 (b - 1 - 1 - 1 - 1) ≡ true → nat_lt 1 (b - 1 - 1 - 1 - 1 - 1) ≡ true → nat_lt 1 (b - 1 - 1 - 1 - 1 - 1 - 1) ≡ true
+        → lower cx on_lot (at_budget next b l) ≡ Ok (lot_test, at_budget next (b - 1 - 1 - 1 - 1 - 1 - 1 - 1) nothing)
+    lot_lowers one two three four five six seven =
+        and_is cx (equals_e contract_notice lot_notice) (equals_e contract_lot lot_lot) _ _ next b (b - 1 - 1 - 1 - 1) (b - 1 - 1 - 1 - 1 - 1 - 1 - 1) l nothing nothing one 699
+        (equal_is cx contract_notice lot_notice found.of_notice found.notice refl 697 next (b - 1) nothing two three four)
+        (equal_is cx contract_lot lot_lot found.of_lot found.lot refl 697 next (b - 1 - 1 - 1 - 1) nothing five six seven)
+
+    pub contract_lowers : nat_lt 1 b ≡ true → nat_lt 1 (b - 1) ≡ true → nat_lt 1 (b - 1 - 1) ≡ true → lower cx on_contract (at_budget next b l) ≡ Ok (contract_test, at_budget next (b - 1 - 1 - 1) nothing)
+    contract_lowers one two three = equal_is cx entry_contract contract_contract found.of_contract found.contract refl 698 next b l one two three

@@ -54,11 +54,11 @@ abbrev is_theirs : Bool → (OfficeTable → ℕ) → ℕ → Bool
 is_theirs had place n = (n == place Office) || (had && ((n == place FormerNotices) || (n == place Notices)))
 
 which : (had : Bool) (place : OfficeTable → ℕ) (n : ℕ) → is_theirs had place n ≡ true → (k : OfficeTable) × Has (changed_where had) k × (n ≡ place k)
-which true place n h = elim (or_cases _ _ h) [
+which true place n h = elim (or_cases (n == place Office) ((n == place FormerNotices) || (n == place Notices)) h) [
   | inl clock ↦ (Office, inl refl, eqb-true _ _ clock)
-  | inr rest ↦ elim (or_cases _ _ rest) [ inl former ↦ (FormerNotices, inr (inl refl), eqb-true _ _ former) | inr notices ↦ (Notices, inr (inr (inl refl)), eqb-true _ _ notices) ]
+  | inr rest ↦ elim (or_cases (n == place FormerNotices) (n == place Notices) rest) [ inl former ↦ (FormerNotices, inr (inl refl), eqb-true _ _ former) | inr notices ↦ (Notices, inr (inr (inl refl)), eqb-true _ _ notices) ]
 ]
-which false place n h = elim (or_cases _ _ h) [ inl clock ↦ (Office, inl refl, eqb-true _ _ clock) | inr none ↦ absurd (true≢false (sym none)) ]
+which false place n h = elim (or_cases (n == place Office) false h) [ inl clock ↦ (Office, inl refl, eqb-true _ _ clock) | inr none ↦ absurd (true≢false (sym none)) ]
 
 theirs : (had : Bool) (place : OfficeTable → ℕ) (k : OfficeTable) → Has (changed_where had) k → is_theirs had place (place k) ≡ true
 theirs true place k (inl e) = or_left _ _ (eq-eqb _ _ (ap place e))

@@ -98,8 +98,8 @@ origin_of false = from.Found
 abbrev pub LeavesReadied : ℕ → State → Trees → Type 0
 LeavesReadied edition old trees = IsTrue (nat_lt edition this_version) × LeavesMigrated edition old trees
 
--- what an opening may commit: the whole of an empty office, where nothing answered and no name of a table was taken; or, where one of an earlier edition stood, the
--- whole of an office that was migrated
+-- what an opening may commit: the whole of an empty office, where nothing answered and no name of a table was taken; or, where one of an earlier edition
+-- stood, the whole of an office that was migrated
 abbrev pub LeavesOffice : {S : Type 0} → Ghosts S → Held S → Trees → Type 0
 LeavesOffice g old trees =
     (IsTrue (state g old).is_open × HasNoVersion g old × (takes_a_name old.schema ≡ false) × Leaves no_tables trees)

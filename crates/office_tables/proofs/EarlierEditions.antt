@@ -229,7 +229,7 @@ cleared {S} g false from to p notices tables sound none same =
     record {
       schema = ap (λ (h : Held S). (state g h).now.schema) same;
       sound = subst (λ (h : Held S). IsDatabase (state g h).now) (sym same) sound;
-      rows = ap (λ (h : Held S) (j : OfficeTable). (state g h).now.trees (p j)) same ∙ changed (state g from).now.schema p tables db db FormerNotices (λ j other. refl)
+      rows = ap {B = OfficeTable → List Row} (λ (h : Held S) (j : OfficeTable). (state g h).now.trees (p j)) same ∙ changed (state g from).now.schema p tables db db FormerNotices (λ j other. refl)
           ∙ ap (with_rows (λ j. db (p j)) FormerNotices) none;
       apart = λ marked inside out u there is_marked. ap (λ (h : Held S). (state g h).now.trees u.tree) same;
     }

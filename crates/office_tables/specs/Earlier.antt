@@ -132,8 +132,8 @@ pub record Renews {S : Type 0} (g : Ghosts S) (edition : ℕ) (clock : ClockRow)
   pub freed : (count : ℕ) × ExecutesInside 0 drop_version [] (state g first) (state g second) (Ok count)
   pub put : (count : ℕ) × ExecutesInside 0 upsert_office (clock_values clock) (state g second) (state g new) (Ok count)
 
--- the transaction goes on, nothing is committed, and of an office of this edition with this clock there is one as this program makes it, to which the notices that
--- stood in `notices` are still to come
+-- the transaction goes on, nothing is committed, and of an office of this edition with this clock there is one as this program makes it, to which the notices
+-- that stood in `notices` are still to come
 pub record Begins (edition : ℕ) (clock : ClockRow) (old new : State) : Type 0 where
   pub goes : Goes old new
   pub tables : (t : Tables) → HoldsEdition edition old.now t → t.clock ≡ clock → IsMigrated edition (besides_former edition t) old.now new.now

@@ -186,7 +186,7 @@ abbrev pub IsReadBack : Put → Type 0
 IsReadBack (put.Lot row) = items_in_text (items_text row.items) ≡ row.items
 IsReadBack p = ⊤
 
--- its statement has this text and these values
+-- the statement of the put has this text and these values, and what is put is read back
 pub record IsStatementOf (p : Put) (sql : List ℕ) (params : Row) : Type 0 where
   pub text : statement_of p ≡ sql
   pub values : values_of_put p ≡ params

@@ -34,7 +34,7 @@ pub record Refused (old new : State) : Type 0 where
   pub was_open : IsTrue new.is_open → IsTrue old.is_open
   pub committed : IsTrue new.is_open → new.committed ≡ old.committed
 
--- it is; the last commit is as before, and a stop leaves nothing that it didn't leave before
+-- the answer is right for each content that the last commit held; that commit is as before, and a stop leaves nothing that it didn't leave before
 abbrev pub TellsOnly : {S T E : Type 0} → Ghosts S → Held S → Held S → Result T E → (Tables → T → Type 0) → Type 0
 TellsOnly g old new result right = Tells g old new result right × (HasCleanDisk (state g new) → Refused (state g old) (state g new)) × Survives (state g old) (state g new) (λ _. ⊥)
 

@@ -12,8 +12,7 @@ ghost use Rattle.office_tables.specs.Schema.{OfficeTable, table_of};
 ghost use Rattle.office_tables.specs.Steps.{Refused};
 
 use crate::make::make_table;
-use crate::tables::begin;
-use crate::tables::{late_rules, memos, notices, performances};
+use crate::tables::{begin, late_rules, memos, notices, performances};
 use sqlite::{Alter, Error, Transaction};
 use sqlite_schema::names::same_name;
 use sqlite_schema::schema::Schema;

@@ -1,4 +1,4 @@
--- The clock: what is shown of their table, of the text that puts one, and of each question.
+-- The clock: what is shown of its table, of the text that puts it, and of its question.
 use Rattle.office_tables.proofs.TableTools.{◌≡◌, ◌∷◌, [], List, ℕ, pos, None, codes, refl, true, map, range_with_len, IsTotalOrder, IsAntisymmetric, Int, first_key, Row, same_name, Schema, Select, alone, chosen, first_found, max_budget, first, everything, State, Shown, row_put, Tables, number_column, IsIn, at_tree, Holds, cast_null, cast_int, numbers_equal, one_true, numbered, StatementMeans, IsOne, parsed_in, names_of, outputs_of, Has, no_test, select, columns_of, left, IsSelect, selects_mean, found_by_tree, lists, shows_rows, Shape, at_rowid, columns_in, rows_in, clause_in, IsStored, ReadsTable, creates_it, IsOfficeTable, IsPutText, IsPutOf, StaysBeside}
 use Rattle.office_base.specs.declared.puts.Put.TheVariants as put
 use Rattle.office_base.specs.declared.records.ClockRow.{ClockRow}

@@ -1,4 +1,4 @@
-use Rattle.std.proofs.Common.{rules, arith, ◌≡◌, ◌∙◌, ap, refl, sym, subst, inl, inr, [], true, false, IsTrue}
+use Rattle.std.proofs.Common.{rules, arith, ◌≡◌, refl, sym, subst, inl, inr, [], true, false, IsTrue}
 use Rattle.std.specs.Prelude.{nat_lt}
 use Rattle.sqlite.specs.Held.{state}
 use Rattle.sqlite.specs.declared.error.Error.TheVariants.{SqlInputError}
