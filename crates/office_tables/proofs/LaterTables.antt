@@ -70,6 +70,7 @@ later_more edition a b c line left one same (done, k ∷ rest, lines, all, made)
     taken j (inl h) = inl (inr h)
     taken j (inr (inl is)) = inl (inl is)
     taken j (inr (inr h)) = inr h
+
     passed : nat_lt edition line.0 ≡ false → later_line k ≡ line → (j : OfficeTable) → lacks_table edition j ≡ true → Has done j ⊎ ((j ≡ k) ⊎ Has rest j) → Has done j ⊎ Has rest j
     passed there here j lacks (inl h) = inl h
     passed there here j lacks (inr (inl is)) = absurd (true≢false (sym lacks ∙ ap (lacks_table edition) is ∙ ap (λ (l : LaterLine). nat_lt edition l.0) here ∙ there))

@@ -101,11 +101,7 @@ fn put_version<S: Alter>(tx: &mut Transaction<'_, S>, clock: &ClockRow) -> Resul
 }
 
 // The notices in `notices` and the version are dropped, and this program's version is put with the clock.
-fn renew<S: Alter>(
-    tx: &mut Transaction<'_, S>,
-    edition: u64,
-    clock: &ClockRow,
-) -> Result<(), Error>
+fn renew<S: Alter>(tx: &mut Transaction<'_, S>, edition: u64, clock: &ClockRow) -> Result<(), Error>
     ensures same_reference { tx.new.conn.ghost_name ≡ tx.old.conn.ghost_name }
     ensures renewed { HasCleanDisk (state S.Store tx.new.conn.now) → IsTrue (state S.Store tx.old.conn.now).in_transaction → OnOk result (Renews S.Store edition clock.now tx.old.conn.now tx.new.conn.now) }
     ensures refused { HasCleanDisk (state S.Store tx.new.conn.now) → IsTrue (state S.Store tx.old.conn.now).in_transaction → OnErr result (Refused (state S.Store tx.old.conn.now) (state S.Store tx.new.conn.now)) }

@@ -104,10 +104,7 @@ fn make_among<S: Alter>(
 }
 
 // Makes the tables that an office of this edition lacks.
-pub(crate) fn make_later<S: Alter>(
-    tx: &mut Transaction<'_, S>,
-    edition: u64,
-) -> Result<(), Error>
+pub(crate) fn make_later<S: Alter>(tx: &mut Transaction<'_, S>, edition: u64) -> Result<(), Error>
     ensures same_reference { tx.new.conn.ghost_name ≡ tx.old.conn.ghost_name }
     ensures made { HasCleanDisk (state S.Store tx.new.conn.now) → IsTrue (state S.Store tx.old.conn.now).in_transaction → OnOk result (MakesMissing edition (state S.Store tx.old.conn.now) (state S.Store tx.new.conn.now)) }
     ensures refused { HasCleanDisk (state S.Store tx.new.conn.now) → IsTrue (state S.Store tx.old.conn.now).in_transaction → OnErr result (Refused (state S.Store tx.old.conn.now) (state S.Store tx.new.conn.now)) }
