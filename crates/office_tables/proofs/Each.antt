@@ -19,7 +19,6 @@ use Rattle.office_base.specs.declared.records.ClockRow.{ClockRow}
 use Rattle.office_tables.specs.Forms.{Form, RowsStand}
 use Rattle.office_tables.specs.Kept.{Stand}
 use Rattle.office_tables.specs.Known.{IsIn, Places, HasTables}
-use Rattle.office_tables.specs.Making.{AreIndexings}
 use Rattle.office_tables.specs.Schema.{OfficeTable, table_of, all_tables, StandFor, ComeBack, statement_of, values_of_put, IsReadBack}
 use Rattle.office_tables.specs.Standing.{Stands}
 use Rattle.office_tables.specs.Steps.{Puts}
@@ -27,12 +26,12 @@ use Rattle.office_tables.specs.Tables.Lines.{line_form}
 use Rattle.office_tables.specs.Tables.Batches.{batch_form}
 use Rattle.office_tables.specs.Tables.Tenderers.{tenderer_form}
 use Rattle.office_tables.specs.Tables.Notices.{notice_form}
-use Rattle.office_tables.specs.Tables.Lots.{lot_form, create_lots_of_line, lots_of_line}
-use Rattle.office_tables.specs.Tables.Envelopes.{envelope_form, create_envelopes_of_notice, envelopes_of_notice}
+use Rattle.office_tables.specs.Tables.Lots.{lot_form}
+use Rattle.office_tables.specs.Tables.Envelopes.{envelope_form}
 use Rattle.office_tables.specs.Tables.Seals.{delete_seal, seal_form}
-use Rattle.office_tables.specs.Tables.Securities.{security_form, create_securities_of_notice, securities_of_notice}
-use Rattle.office_tables.specs.Tables.Awards.{award_form, create_awards_of_notice, awards_of_notice}
-use Rattle.office_tables.specs.Tables.Contracts.{contract_form, create_contracts_of_notice, contracts_of_notice}
+use Rattle.office_tables.specs.Tables.Securities.{security_form}
+use Rattle.office_tables.specs.Tables.Awards.{award_form}
+use Rattle.office_tables.specs.Tables.Contracts.{contract_form}
 use Rattle.office_tables.specs.Tables.Entries.{entry_form}
 use Rattle.office_tables.specs.Tables.Releases.{release_form}
 use Rattle.office_tables.specs.Tables.Compiled.{compiled_form}
@@ -52,12 +51,12 @@ use Rattle.office_tables.proofs.ByTable.Lines.{lines_made, line_shape, line_put,
 use Rattle.office_tables.proofs.ByTable.Batches.{batches_made, batch_shape, batch_put, after_batch}
 use Rattle.office_tables.proofs.ByTable.Tenderers.{tenderers_made, tenderer_shape, tenderer_put, after_tenderer}
 use Rattle.office_tables.proofs.ByTable.Notices.{notices_made, former_notices_made, notice_shape, notice_put, after_notice}
-use Rattle.office_tables.proofs.ByTable.Lots.{lots_made, lot_shape, lot_put, after_lot, indexes_lots_of_line}
-use Rattle.office_tables.proofs.ByTable.Envelopes.{envelopes_made, envelope_shape, envelope_put, after_envelope, indexes_envelopes_of_notice}
+use Rattle.office_tables.proofs.ByTable.Lots.{lots_made, lot_shape, lot_put, after_lot}
+use Rattle.office_tables.proofs.ByTable.Envelopes.{envelopes_made, envelope_shape, envelope_put, after_envelope}
 use Rattle.office_tables.proofs.ByTable.Seals.{seals_made, seal_shape, seal_put, after_seal, drop_seal_one, drop_seal_means, after_drop}
-use Rattle.office_tables.proofs.ByTable.Securities.{securities_made, security_shape, security_put, after_security, indexes_securities_of_notice}
-use Rattle.office_tables.proofs.ByTable.Awards.{awards_made, award_shape, award_put, after_award, indexes_awards_of_notice}
-use Rattle.office_tables.proofs.ByTable.Contracts.{contracts_made, contract_shape, contract_put, after_contract, indexes_contracts_of_notice}
+use Rattle.office_tables.proofs.ByTable.Securities.{securities_made, security_shape, security_put, after_security}
+use Rattle.office_tables.proofs.ByTable.Awards.{awards_made, award_shape, award_put, after_award}
+use Rattle.office_tables.proofs.ByTable.Contracts.{contracts_made, contract_shape, contract_put, after_contract}
 use Rattle.office_tables.proofs.ByTable.Entries.{entries_made, entry_shape, entry_put, after_entry}
 use Rattle.office_tables.proofs.ByTable.Releases.{releases_made, release_shape, release_put, after_release}
 use Rattle.office_tables.proofs.ByTable.Compiled.{compiled_made, compiled_shape, compiled_put, after_compiled}
@@ -91,10 +90,6 @@ each Memos = memos_made
 
 pub bare : (k : OfficeTable) → IsBare (table_of k)
 bare k = (each k).bare
-
--- each text of an index makes it
-pub all_indexings : AreIndexings (create_lots_of_line ∷ create_envelopes_of_notice ∷ create_securities_of_notice ∷ create_awards_of_notice ∷ create_contracts_of_notice ∷ [])
-all_indexings = ((Lots, lots_of_line, indexes_lots_of_line, refl), ((Envelopes, envelopes_of_notice, indexes_envelopes_of_notice, refl), ((Securities, securities_of_notice, indexes_securities_of_notice, refl), ((Awards, awards_of_notice, indexes_awards_of_notice, refl), ((Contracts, contracts_of_notice, indexes_contracts_of_notice, refl), tt)))))
 
 -- its records come back from their rows
 pub all_come_back : (k : OfficeTable) → ComeBack k
