@@ -19,9 +19,7 @@ fn refers_there(edition: u64, table: &Table) -> bool
     ensures { result ≡ refers_there edition table.now }
 {
     let references = table.references.as_slice();
-    references
-        .iter()
-        .any(|reference| is_changed(edition, reference.parent.as_slice()))
+    references.iter().any(|reference| is_changed(edition, reference.parent.as_slice()))
 }
 
 // Whether the word stands somewhere in the text, in either case.
