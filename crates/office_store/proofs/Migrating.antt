@@ -1,6 +1,6 @@
 -- An office of an earlier edition becomes one as this program makes it as it is opened.
-use Rattle.std.proofs.Common.{◌≡◌, inl, inr, ℕ, zero, suc, ◌-◌, Bool, true, false, List, [], refl, sym, ap, subst, ◌∙◌, IsTrue, true≢false, arith}
-use Rattle.std.specs.Prelude.{not, ◌&&◌, nat_lt, nat_le}
+use Rattle.std.proofs.Common.{◌≡◌, inl, inr, ℕ, zero, suc, Bool, true, false, List, [], refl, sym, ap, subst, ◌∙◌, IsTrue, true≢false, arith}
+use Rattle.std.specs.Prelude.{not, ◌&&◌, cond, nat_lt, nat_le}
 use Rattle.std.proofs.lemmas.Bool.{and_from, and_parts, leb-true, le-leb, lt-ltb, ltb-false, ltb-true, not-false}
 use Rattle.sqlite_value.specs.Order.{Row}
 use Rattle.sqlite_trees.specs.Tree.{Trees}
@@ -139,9 +139,9 @@ module _ {S : Type 0} (g : Ghosts S) (old : Held S) (rows : List Row) (one : (n 
     ]
 
 -- where this program knows the version, and the edition isn't earlier, it is this program's
-not_earlier : (version : ℕ) (late : Bool) → nat_le version this_version ≡ true → nat_lt (edition_of version late) this_version ≡ false → edition_of version late ≡ this_version
-not_earlier version true known later = omega (arith, leb-true version this_version known, ltb-false version this_version later)
-not_earlier version false known later = omega (arith, leb-true version this_version known, ltb-false (version - 1) this_version later)
+not_earlier : (first : Bool) (version : ℕ) → nat_le version this_version ≡ true → nat_lt (cond first 0 version) this_version ≡ false → cond first 0 version ≡ this_version
+not_earlier true version known later = absurd (true≢false later)
+not_earlier false version known later = omega (arith, leb-true version this_version known, ltb-false version this_version later)
 
 -- what answered was one that this program knows
 pub readied_enters : {S : Type 0} (g : Ghosts S) (old new : Held S) (rows : List Row) → IsAsked g get_version [] old rows → is_other_version rows ≡ false
@@ -152,7 +152,7 @@ readied_enters g old new rows asked known edition is false later it =
     let both = not-false (nat_lt 0 (version_in rows) && nat_le (version_in rows) this_version) known in
     let low = (and_parts (nat_lt 0 (version_in rows)) (nat_le (version_in rows) this_version) both).1 in
     let same : edition_of (version_in rows) (has_late old.schema) ≡ this_version =
-    not_earlier (version_in rows) (has_late old.schema) low (ap (λ e. nat_lt e this_version) is ∙ later) in
+    not_earlier (not (has_late old.schema) && nat_lt (version_in rows) 2) (version_in rows) low (ap (λ e. nat_lt e this_version) is ∙ later) in
     ((rows, asked, known, same), subst (λ e. IsMadeCurrent false e (state g old) (state g new)) (sym is ∙ same) it)
 
 -- an office that stands there has one of them

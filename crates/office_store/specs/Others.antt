@@ -16,7 +16,7 @@ use Rattle.office_tables.specs.Tables.Office.{office}
 abbrev pub is_changed_where : Bool → List ℕ → Bool
 is_changed_where had name = same_name office.name name || (had && (same_name former_notices.name name || same_name notices.name name))
 
--- one from this edition does
+-- a migration from this edition changes the rows of the table of this name
 abbrev pub is_changed : ℕ → List ℕ → Bool
 is_changed edition name = is_changed_where (had_former edition) name
 

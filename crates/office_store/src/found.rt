@@ -20,7 +20,7 @@ use office_tables::make::make;
 use office_tables::tables::office::VERSION;
 use office_tables::tables::table_names;
 use office_tables::version::ask_version;
-use sqlite::{Alter, Connection, Error, ErrorCode, Row};
+use sqlite::{Alter, Connection, Error, Row};
 use sqlite_catalog::layout::is_used;
 use sqlite_schema::names::same_name;
 use sqlite_schema::schema::Schema;

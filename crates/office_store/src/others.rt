@@ -4,6 +4,7 @@ ghost use Rattle.std.specs.List.{list_any};
 ghost use Rattle.sqlite_catalog.specs.Listing.{mentions};
 ghost use Rattle.office_store.specs.Others.{is_changed, leads_there, refers_there, shows_there};
 
+use office_tables::editions::had_former;
 use sqlite_schema::names::same_name;
 use sqlite_schema::schema::{Schema, Table, View};
 
@@ -12,7 +13,7 @@ fn is_changed(edition: u64, name: &[u8]) -> bool
     ensures { result ≡ is_changed edition name.now }
 {
     same_name(b"office", name)
-        || (edition < 2 && (same_name(b"notices", name) || same_name(b"notices_2", name)))
+        || (had_former(edition) && (same_name(b"notices", name) || same_name(b"notices_2", name)))
 }
 
 fn refers_there(edition: u64, table: &Table) -> bool
@@ -45,7 +46,7 @@ fn shows_there(edition: u64, view: &View) -> bool
         return false;
     }
     let sql = view.sql.as_slice();
-    mentions(b"office", sql) || (edition < 2 && mentions(b"notices", sql))
+    mentions(b"office", sql) || (had_former(edition) && mentions(b"notices", sql))
 }
 
 fn some_refer(edition: u64, tables: &[Table]) -> bool

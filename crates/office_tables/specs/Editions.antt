@@ -1,5 +1,5 @@
 -- The editions of an office's tables: which tables came with each, and the version that stands in its row.
-use Rattle.std.specs.Prelude.{◌&&◌, ◌-◌, ℕ, zero, suc, Bool, cond, List, [], filter, nat_lt, is_some}
+use Rattle.std.specs.Prelude.{◌&&◌, ℕ, zero, suc, Bool, cond, not, List, [], filter, nat_lt, is_some}
 use Rattle.std.specs.List.{list_any}
 use Rattle.sqlite_schema.specs.declared.schema.Schema.{Schema}
 use Rattle.sqlite_schema.specs.Names.{same_name, table_named}
@@ -24,15 +24,15 @@ abbrev pub version_of : ℕ → ℕ
 version_of zero = 1
 version_of (suc edition) = suc edition
 
--- so the edition is told by the version and by whether that table is there
+-- so the edition is told by the version and by whether that table is there; later versions tell it by themselves
 abbrev pub edition_of : ℕ → Bool → ℕ
-edition_of version has_late = cond has_late version (version - 1)
+edition_of version has_late = cond (not has_late && nat_lt version 2) 0 version
 
 -- the schema has a table of this name
 abbrev pub has_table : Schema → List ℕ → Bool
 has_table schema name = is_some (table_named schema name)
 
--- it has that of late withdrawals
+-- the schema has the table of late withdrawals
 abbrev pub has_late : Schema → Bool
 has_late schema = has_table schema late_rules.name
 

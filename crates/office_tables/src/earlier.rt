@@ -9,7 +9,7 @@ ghost use Rattle.office_tables.specs.declared.tables.office.FormerClock.{FormerC
 ghost use Rattle.office_tables.specs.declared.tables.notices.FormerNotice.{FormerNotice};
 
 use crate::ask::{ask_all, ask_first};
-use crate::editions::make_later;
+use crate::editions::{had_former, make_later};
 use crate::statement::execute_one;
 use crate::tables::notices::FormerNotice;
 use crate::tables::office;
@@ -73,7 +73,7 @@ fn drop_notices<S: Alter>(tx: &mut Transaction<'_, S>, edition: u64) -> Result<(
     ensures refused { HasCleanDisk (state S.Store tx.new.conn.now) → IsTrue (state S.Store tx.old.conn.now).in_transaction → OnErr result (Refused (state S.Store tx.old.conn.now) (state S.Store tx.new.conn.now)) }
     ensures survives { Survives (state S.Store tx.old.conn.now) (state S.Store tx.new.conn.now) (λ _. ⊥) }
 {
-    if edition < 2 {
+    if had_former(edition) {
         execute_one(tx, "DELETE FROM notices", &[])
     } else {
         Ok(())
@@ -113,7 +113,7 @@ fn renew<S: Alter>(tx: &mut Transaction<'_, S>, edition: u64, clock: &ClockRow) 
 }
 
 /// Of an office of this edition with this clock makes one as this program does, to which the notices that stood in `notices` are still to be put: it
-/// makes the tables that lack, and drops those notices and the version. Where it is refused nothing is committed.
+/// makes the tables that lack, drops those notices and the version, and puts this program's version with the clock. Where it is refused nothing is committed.
 pub fn begin_current<S: Alter>(
     tx: &mut Transaction<'_, S>,
     edition: u64,

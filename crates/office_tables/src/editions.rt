@@ -5,7 +5,7 @@ ghost use Rattle.sqlite_schema.specs.Names.{same_name};
 ghost use Rattle.sqlite_rules.specs.Lists.{Has};
 ghost use Rattle.sqlite.specs.Held.{state};
 ghost use Rattle.sqlite.specs.State.{HasCleanDisk, Survives};
-ghost use Rattle.office_tables.specs.Earlier.{MakesMissing};
+ghost use Rattle.office_tables.specs.Earlier.{MakesMissing, had_former};
 ghost use Rattle.office_tables.specs.Editions.{edition_of, lacks_table, has_late, later_line, came_later};
 ghost use Rattle.office_tables.specs.Making.{IsCreate, Makes};
 ghost use Rattle.office_tables.specs.Schema.{OfficeTable, table_of};
@@ -39,11 +39,18 @@ pub fn has_late(schema: &Schema) -> bool
 pub fn edition_of(version: u64, knows_late: bool) -> u64
     ensures { result ≡ edition_of version knows_late }
 {
-    if knows_late {
-        version
+    if !knows_late && version < 2 {
+        0
     } else {
-        version.saturating_sub(1)
+        version
     }
+}
+
+/// Whether an office of this edition has its notices in `notices`.
+pub fn had_former(edition: u64) -> bool
+    ensures { result ≡ had_former edition }
+{
+    edition < 2
 }
 
 fn is_named(edition: u64, table: &Later, name: &[u8]) -> bool

@@ -1,4 +1,4 @@
-//! The tables of an office, a file each: its texts, its rows, the questions for them, and the put, where it is more than a statement. What makes
+//! The tables of an office, a file each: its texts, its rows, the questions for them, and the put of a notice, which a migration calls. What makes
 //! them all, and what changes a record of any, as one statement of a transaction: a change is made, or it is refused and nothing is committed.
 ghost use Rattle.std.specs.Prelude.{◌≡◌, [], ◌∷◌, IsTrue, OnOk, OnErr, map};
 ghost use Rattle.sqlite.specs.Held.{state};

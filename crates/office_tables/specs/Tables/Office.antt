@@ -1,4 +1,4 @@
--- The clock, as a table of one record: the text that makes the table, its columns, the text that puts one, and its row: the key, then the other fields.
+-- The clock, as a table of one record: the text that makes the table, its columns, the text that puts one, and its row: the version, then the fields.
 use Rattle.std.specs.Prelude.{◌≤◌, ◌^◌, ℕ, List, [], ◌∷◌, codes, pos}
 use Rattle.std.specs.declared.cmp.Ordering.{Ordering}
 use Rattle.std.specs.declared.cmp.Ordering.TheVariants.{Equal}
