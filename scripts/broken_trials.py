@@ -153,13 +153,13 @@ def merge_gone(name: str) -> str:
 
 
 def of_releases(name: str, is_long: bool) -> list[tuple[str, ...]]:
-    """Of a notice's releases: with more than two of them, also of some. What is published goes on from their number and from their merge, and from all of them
+    """Of a notice's releases: with more than two of them, also of some. What is published goes on from the last one and from their merge, and from all of them
     where that isn't kept."""
     second, last = " AND seq = 2", f" AND seq = (SELECT max(seq) FROM releases WHERE notice = '{name}')"
     found = [("all releases", releases_gone(name)), ("all releases and the merge", releases_gone(name) + merge_gone(name)),
              ("the merge", merge_gone(name), ANEW), ("the merge that isn't JSON", f"UPDATE compiled SET text = '{{{{' WHERE notice = '{name}';")]
     if is_long:
-        found += [("a release in the middle", releases_gone(name, second), MAY), ("the last release", releases_gone(name, last), MAY),
+        found += [("a release in the middle", releases_gone(name, second), MAY), ("the last release", releases_gone(name, last)),
                   ("a release in the middle and the merge", releases_gone(name, second) + merge_gone(name)),
                   ("the last release and the merge", releases_gone(name, last) + merge_gone(name))]
     return found

@@ -1,10 +1,11 @@
--- The notices of an office of version 1, put one after another, are those that it had; what others have beside them stays.
-use Rattle.std.proofs.Common.{◌≡◌, inl, inr, ℕ, Option, Bool, true, false, List, [], ◌∷◌, ◌++◌, map, append-nil, refl, sym, ap, subst, subst₂, ◌∙◌, IsTrue, Ordering, Less, Greater}
+-- The notices that stood in `notices`, put one after another, are those that the office had there; what others have beside them stays.
+use Rattle.std.proofs.Common.{◌≡◌, ℕ, Option, Bool, true, false, List, [], ◌∷◌, ◌++◌, map, append-nil, refl, sym, ap, subst, subst₂, ◌∙◌, IsTrue, Ordering, Less, Greater}
 use Rattle.std.proofs.lemmas.List.{append_assoc}
 use Rattle.std.specs.Cmp.{IsTotalOrder}
 use Rattle.std.specs.Cmp.Lexicographic.{nat_list_cmp_total}
 use Rattle.std.specs.Ordering.{ordering_reverse}
 use Rattle.sqlite_schema.specs.declared.schema.Schema.{Schema}
+use Rattle.sqlite_schema.specs.declared.schema.Table.{Table}
 use Rattle.sqlite_rules.specs.Lists.{Has}
 use Rattle.sqlite_trees.specs.Tree.{Trees}
 use Rattle.sqlite.specs.Effect.{Database}
@@ -18,16 +19,16 @@ use Rattle.office_base.specs.declared.records.ClockRow.{ClockRow}
 use Rattle.office_base.specs.declared.records.NoticeRow.{NoticeRow}
 use Rattle.office_tables.specs.declared.tables.notices.FormerNotice.{FormerNotice}
 use Rattle.office_tables.specs.Apart.{AddsNoReference, LeadsInside}
-use Rattle.office_tables.specs.First.{AreApart, IsMigrated, Begins}
+use Rattle.office_tables.specs.Earlier.{AreApart, Begins, IsMigrated, besides_former, former_part, had_former, other_part}
 use Rattle.office_tables.specs.Known.{IsIn}
 use Rattle.office_tables.specs.Tables.Notices.{notices as version_two}
 use Rattle.office_tables.specs.Standing.{Holds}
 use Rattle.office_tables.specs.Steps.{MakeAll, Puts}
 use Rattle.office_tables.specs.Schema.OfficeTable.{Notices}
 use Rattle.office_tables.proofs.Childless.{SparesMarked}
-use Rattle.office_tables.proofs.FirstVersion.{first_sorted}
+use Rattle.office_tables.proofs.EarlierEditions.{former_sorted, notices_change}
 use Rattle.office_tables.proofs.PutsApart.{notice_apart}
-use Rattle.office_changes.specs.Migration.{HoldsThese, Becomes, Migrates, LeavesSecond}
+use Rattle.office_changes.specs.Migration.{HoldsThese, Becomes, Migrates, LeavesCurrent}
 use Rattle.office_changes.proofs.Steps.{goes_then}
 
 -- ---- a row above all others goes to the end
@@ -61,6 +62,13 @@ refilled done (x ∷ more) t h =
     ∙ refilled (done ++ x.row ∷ []) more t (subst (IsInOrder id_cmp notice_key) (sym moved) h)
     ∙ ap (λ l. record t { notices = l }) moved
 
+-- where an edition had its notices there; else there are none to put
+refilled_where : (had : Bool) (notices : List FormerNotice) (t : Tables) → map row_of notices ≡ former_part had t.notices → IsInOrder id_cmp notice_key (former_part had t.notices)
+    → after_puts (map put_of notices) (record t { notices = other_part had t.notices }) ≡ t
+refilled_where true notices t same h = refilled [] notices t (subst (IsInOrder id_cmp notice_key) (sym same) h) ∙ ap (λ l. record t { notices = l }) same
+refilled_where false [] t same h = refl
+refilled_where false (x ∷ notices) t same h = absurd (cc)
+
 -- ---- tables apart keep their rows
 
 puts_apart : (limit : Option ℕ) (notices : List FormerNotice) (first last : Database) (n : ℕ) → IsIn first.schema version_two n → MakeAll limit (map put_of notices) first last
@@ -78,44 +86,54 @@ puts_apart limit (x ∷ more) first last n at (second, made, rest) =
           ∙ one.1 marked inside out t there is_marked,
     )
 
+spared_where : (had : Bool) (limit : Option ℕ) (notices : List FormerNotice) (first last : Database) (n : ℕ) (rows : List NoticeRow) → map row_of notices ≡ former_part had rows → IsIn first.schema version_two n
+    → MakeAll limit (map put_of notices) first last → (marked : ℕ → Bool) → LeadsInside first.schema marked → (had ≡ true → marked n ≡ false) → (u : Table) → Has first.schema.tables u → marked u.tree ≡ true
+    → last.trees u.tree ≡ first.trees u.tree
+spared_where true limit notices first last n rows same at made marked inside out u there is_marked = (puts_apart limit notices first last n at made).1 marked inside (out refl) u there is_marked
+spared_where false limit [] first last n rows same at made marked inside out u there is_marked = ap (λ (d : Database). d.trees u.tree) made
+spared_where false limit (x ∷ notices) first last n rows same at made marked inside out u there is_marked = absurd (cc)
+
 -- ---- the whole transaction
 
-module _ (late : Bool) (clock : ClockRow) (notices : List FormerNotice) where
-  pub becomes : (old first mid : State) → Begins late clock old first → Puts first mid (map put_of notices) → Becomes late clock (map row_of notices) old mid
+module _ (edition : ℕ) (clock : ClockRow) (notices : List FormerNotice) where
+  pub becomes : (old first mid : State) → Begins edition clock old first → Puts first mid (map put_of notices) → Becomes edition clock (map row_of notices) old mid
   becomes old first mid begun put = record {
     goes = goes_then old first mid begun.goes put.goes;
     tables = λ t was.
-        let blank = begun.tables t was.held was.late_is was.clock_is in
-        let start = record t { notices = [] } in
-        let sorted = subst (IsInOrder id_cmp notice_key) was.notices_are (first_sorted old.now t was.held) in
+        let had = had_former edition in
+        let blank = begun.tables t was.held was.clock_is in
+        let start = besides_former edition t in
+        let same = sym was.notices_are in
         let at = blank.held.tables Notices in
         let n = blank.held.places Notices in
-        let kept = puts_apart first.step_limit notices first.now mid.now n at (put.made start blank.held) in
+        let made = put.made start blank.held in
+        let schema = (puts_apart first.step_limit notices first.now mid.now n at made).0 in
         record {
-          held = subst (Holds mid.now) (refilled [] notices t sorted ∙ ap (λ l. record t { notices = l }) (sym was.notices_are)) (put.tables start blank.held);
+          held = subst (Holds mid.now) (refilled_where had notices t same (former_sorted edition old.now t was.held)) (put.tables start blank.held);
           others = λ u stood.
               let one = blank.others u stood in (
-                subst (λ (s : Schema). Has s.tables u) (sym kept.0) one.0,
+                subst (λ (s : Schema). Has s.tables u) (sym schema) one.0,
                 λ marked apart is_marked.
-                    let before : AreApart first.now.schema marked = subst (λ s. AreApart s marked) kept.0 apart in
-                    kept.1 marked before.inside (before.others Notices (inr (inr (inl refl))) n at) u one.0 is_marked ∙ one.1 marked before is_marked,
+                    let before : AreApart edition first.now.schema marked = subst (λ s. AreApart edition s marked) schema apart in
+                    spared_where had first.step_limit notices first.now mid.now n t.notices same at made marked before.inside (λ is. before.others Notices (notices_change had is) n at) u one.0 is_marked
+                    ∙ one.1 marked before is_marked,
               );
-          added = subst (AddsNoReference old.now.schema) (sym kept.0) blank.added;
+          added = subst (AddsNoReference old.now.schema) (sym schema) blank.added;
         };
   }
 
-  module _ (old mid : State) (settled : IsTrue old.is_open → old.now ≡ old.committed) (it : Becomes late clock (map row_of notices) (record old { in_transaction = true }) mid) where
-    from_commit : (t : Tables) → HoldsThese late clock (map row_of notices) old.committed t → HoldsThese late clock (map row_of notices) old.now t
-    from_commit t = subst (λ d. HoldsThese late clock (map row_of notices) d t) (sym (settled it.goes.was_open))
+  module _ (old mid : State) (settled : IsTrue old.is_open → old.now ≡ old.committed) (it : Becomes edition clock (map row_of notices) (record old { in_transaction = true }) mid) where
+    from_commit : (t : Tables) → HoldsThese edition clock (map row_of notices) old.committed t → HoldsThese edition clock (map row_of notices) old.now t
+    from_commit t = subst (λ d. HoldsThese edition clock (map row_of notices) d t) (sym (settled it.goes.was_open))
 
     pub migrates : (new : State) → Shows mid new mid.now mid.now false → (IsTrue new.is_open → (db : Trees) → new.may_leave db → db ≡ new.committed.trees)
-        → Migrates late clock (map row_of notices) old new
+        → Migrates edition clock (map row_of notices) old new
     migrates new shows only = record {
       was_open = it.goes.was_open;
       is_open = shows.is_open;
-      tables = λ t was. subst₂ (IsMigrated t) (settled it.goes.was_open) (sym shows.committed_is) (it.tables t (from_commit t was));
+      tables = λ t was. subst₂ (IsMigrated edition t) (settled it.goes.was_open) (sym shows.committed_is) (it.tables t (from_commit t was));
       only = only shows.is_open;
     }
 
-    pub migrate_leaves : (db : Trees) → db ≡ mid.now.trees → LeavesSecond late clock (map row_of notices) old db
-    migrate_leaves db is = (it.goes.was_open, λ t was. (mid.now, is, subst (λ d. IsMigrated t d mid.now) (settled it.goes.was_open) (it.tables t (from_commit t was))))
+    pub migrate_leaves : (db : Trees) → db ≡ mid.now.trees → LeavesCurrent edition clock (map row_of notices) old db
+    migrate_leaves db is = (it.goes.was_open, λ t was. (mid.now, is, subst (λ d. IsMigrated edition t d mid.now) (settled it.goes.was_open) (it.tables t (from_commit t was))))

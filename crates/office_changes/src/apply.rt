@@ -6,7 +6,7 @@ ghost use Rattle.office_tables.specs.Failing.{ErrorHasCause, ChangeHasCause};
 ghost use Rattle.office_tables.specs.Steps.{Puts, Applied, Refused, LeavesPuts};
 
 use office_base::puts::Put;
-use office_tables::puts::{begin, put_one};
+use office_tables::tables::{begin, put_one};
 use sqlite::{Alter, Connection, Error, Transaction};
 use std::alloc::Global;
 

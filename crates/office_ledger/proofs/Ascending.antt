@@ -1,29 +1,30 @@
 -- The rows of a join rise by their keys.
-use Rattle.std.specs.Prelude.{◌≡◌, ℕ, pos, List, [], ◌∷◌, map, flat_map, filter, Option, Some, Bool, true, false, cond}
-use Rattle.std.proofs.Common.{refl, sym, ap, ap₂, ◌∙◌, arith, true≢false}
-use Rattle.std.proofs.lemmas.Bool.Decides.{nat_tests}
+use Rattle.std.specs.Prelude.{◌≡◌, ℕ, pos, List, [], ◌∷◌, map, flat_map, Option, Some, true}
+use Rattle.std.proofs.Common.{refl, sym, ap, ap₂, ◌∙◌}
 use Rattle.std.specs.List.{AllByRecursion}
-use Rattle.std.specs.Ordering.{nat_cmp, int_cmp, is_eq, ordering_then}
+use Rattle.std.specs.Ordering.{nat_cmp, ordering_then}
 use Rattle.std.specs.FinMap.{nat_cmp-IsAntisymmetric}
 use Rattle.std.specs.declared.cmp.Ordering.{Ordering}
 use Rattle.std.specs.declared.cmp.Ordering.TheVariants.{Less, Equal, Greater}
 use Rattle.std.specs.Cmp.{IsTotalOrder, tied_itself, nat_cmp_total}
 use Rattle.std.specs.Cmp.Lexicographic.{nat_list_cmp_total}
-use Rattle.std.proofs.lemmas.Cmp.{on_total, then_total}
+use Rattle.std.proofs.lemmas.List.Elements.{filter_passes, recursion_from_All}
 use Rattle.sqlite_trees.specs.Tree.{IsAscending}
 use Rattle.sqlite_keyed.proofs.ListLemmas.{all-append, ascending-append, ascending-map, ascending-filter, ascending_weaker}
 use Rattle.sqlite_value.specs.declared.value.Value.TheVariants.{Int, Text}
 use Rattle.sqlite_value.specs.Order.{value_cmp}
-use Rattle.sqlite_value.proofs.OrderLemmas.{value_cmp-Text, value_cmp-Int}
+use Rattle.sqlite_value.proofs.OrderLemmas.{value_cmp-Text}
 use Rattle.office_values.specs.Ids.{id_cmp}
 use Rattle.office_base.specs.Rows.{IsInOrder}
 use Rattle.office_base.proofs.RowLaws.Starts.{all_above}
+use Rattle.office_base.proofs.Orders.{equal_from_test, lots_total, entries_total}
 use Rattle.office_base.specs.Tables.{Tables, IsSorted, line_key, contract_key, entry_key, entry_cmp, lot_cmp, lots_of_line, contracts_of_lot, entries_of_contract}
 use Rattle.office_base.specs.Tables as tables
 use Rattle.office_base.specs.declared.records.LineRow.{LineRow}
 use Rattle.office_base.specs.declared.records.LotRow.{LotRow}
 use Rattle.office_base.specs.declared.records.ContractRow.{ContractRow}
 use Rattle.office_base.specs.declared.records.EntryRow.{EntryRow}
+use Rattle.office_tables.proofs.Cells.{numbers_cmp}
 use Rattle.office_ledger.specs.Joins.{or_none, entry_part, with_entry, with_contract, with_lot, joined_contract, joined_lots, joined}
 use Rattle.office_ledger.specs.declared.joined.JoinedRow.{JoinedRow}
 use Rattle.office_ledger.specs.declared.joined.JoinedLot.{JoinedLot}
@@ -83,12 +84,6 @@ then_assoc Less b c = refl
 then_assoc Equal b c = refl
 then_assoc Greater b c = refl
 
-as_numbers : (a b : ℕ) → int_cmp (pos a) (pos b) ≡ nat_cmp a b
-as_numbers a b = grind (arith, nat_tests)
-
-numbers_cmp : (a b : ℕ) → value_cmp (Int (pos a)) (Int (pos b)) ≡ nat_cmp a b
-numbers_cmp a b = value_cmp-Int (pos a) (pos b) ∙ as_numbers a b
-
 abbrev pub entry_order : Option JoinedEntry → Option JoinedEntry → Ordering
 entry_order o p = ordering_then (value_cmp (perhaps (λ (e : JoinedEntry). Text e.entry) o) (perhaps (λ (e : JoinedEntry). Text e.entry) p)) Equal
 
@@ -113,23 +108,8 @@ module _ {X : Type 0} (P : X → Type 0) (R S : X → X → Type 0) (f : (a b : 
   ascending_on [] ps up = tt
   ascending_on (x ∷ xs) ps up = (all_on x ps.0 xs ps.1 up.0, ascending_on xs ps.1 up.1)
 
-all_pass : {X : Type 0} (p : X → Bool) (xs : List X) → AllByRecursion (λ x. p x ≡ true) (filter p xs)
-all_pass p [] = tt
-all_pass p (x ∷ xs) = elim (p x) as (λ b. p x ≡ b → AllByRecursion (λ x. p x ≡ true) (cond b (x ∷ filter p xs) (filter p xs))) [ true ↦ λ e. (e, all_pass p xs) | false ↦ λ e. all_pass p xs ] refl
-
 same_number_is : (a c : ℕ) → tables.same_number a c ≡ true → a ≡ c
-same_number_is a c h = nat_cmp-IsAntisymmetric a c (tie (nat_cmp a c) h)
-  where
-    tie : (o : Ordering) → is_eq o ≡ true → o ≡ Equal
-    tie Less h = absurd (true≢false (sym h))
-    tie Equal h = refl
-    tie Greater h = absurd (true≢false (sym h))
-
-lots_total : IsTotalOrder lot_cmp
-lots_total = then_total (on_total (λ (k : List ℕ × List ℕ). k.0) nat_list_cmp_total) (on_total (λ (k : List ℕ × List ℕ). k.1) nat_list_cmp_total)
-
-entries_total : IsTotalOrder entry_cmp
-entries_total = then_total (on_total (λ (k : ℕ × List ℕ). k.0) nat_cmp_total) (on_total (λ (k : ℕ × List ℕ). k.1) nat_list_cmp_total)
+same_number_is a c h = nat_cmp-IsAntisymmetric a c (equal_from_test (nat_cmp a c) h)
 
 module _ (t : Tables) (sorted : IsSorted t) where
   -- the entries of a contract, by their identifiers
@@ -146,7 +126,8 @@ module _ (t : Tables) (sorted : IsSorted t) where
   entries_rise c =
       ascending-map (λ a b. entry_order (Some a) (Some b) ≡ Less) entry_part (entries_of_contract c.contract t)
       (ascending_on (λ (e : EntryRow). tables.same_number e.contract c.contract ≡ true) (λ a b. entry_cmp (entry_key a) (entry_key b) ≡ Less) EntryBelow (of_one c.contract)
-      (entries_of_contract c.contract t) (all_pass (λ (e : EntryRow). tables.same_number e.contract c.contract) t.entries)
+      (entries_of_contract c.contract t)
+      (recursion_from_All (λ (e : EntryRow). tables.same_number e.contract c.contract ≡ true) (entries_of_contract c.contract t) (filter_passes (λ (e : EntryRow). tables.same_number e.contract c.contract) t.entries))
       (ascending-filter (λ a b. entry_cmp (entry_key a) (entry_key b) ≡ Less) (λ (e : EntryRow). tables.same_number e.contract c.contract) t.entries (rises entries_total entry_key t.entries sorted.entries)))
 
   contracts_rise : (x : LotRow) → IsAscending (λ a b. contract_order (Some a) (Some b) ≡ Less) (flat_map (joined_contract t) (contracts_of_lot (tables.lot_key x) t))

@@ -1,190 +1,79 @@
--- The select's text compiles to its query, in any schema that has the four tables.
-use Rattle.std.proofs.Common.{◌≡◌, negsuc, ◌∷◌, [], ◌++◌, List, Some, None, Ok, Bool, true, false, ℕ, suc, codes, refl, sym, ap, subst, ◌∙◌, map}
-use Rattle.sqlite_value.specs.declared.keys.Key.{Key}
-use Rattle.sqlite_sql.specs.Term.{Term, lit, col, op2}
-use Rattle.sqlite_value.specs.declared.value.Value.TheVariants.{Int}
-use Rattle.sqlite_draft.specs.declared.query.Draft.{Draft}
-use Rattle.sqlite_draft.specs.Join.{chain}
-use Rattle.sqlite_resolve.specs.Terms.{number}
-use Rattle.sqlite_sql.specs.declared.ops.BinaryOp.TheVariants.{And}
+-- The select of the ledger means its query, in any schema that has the four tables.
+use Rattle.std.proofs.Common.{◌≡◌, ◌∷◌, [], List, Some, None, Ok, Bool, true, false, ℕ, suc, codes, refl, sym, subst}
+use Rattle.sqlite_sql.specs.Term.{col}
+use Rattle.sqlite_sql.specs.Query.{Query}
 use Rattle.sqlite_schema.specs.declared.schema.Schema.{Schema}
 use Rattle.sqlite_schema.specs.declared.schema.Column.{Column}
 use Rattle.sqlite_schema.specs.declared.schema.Kind.TheVariants.{Integer, Text}
 use Rattle.sqlite_schema.specs.declared.command.Command.TheVariants as command
 use Rattle.sqlite_schema.specs.Names.{same_name}
-use Rattle.sqlite_ast.specs.declared.Origin.TheVariants as origin
 use Rattle.sqlite_ast.specs.declared.Expr.{Expr}
-use Rattle.sqlite_ast.specs.declared.Source.{Source, out-Source}
-use Rattle.sqlite_ast.specs.declared.Core.{Core, out-Core, roll-Core, out-roll-Core}
-use Rattle.sqlite_ast.specs.declared.Select.{Select, out-Select, roll-Select, out-roll-Select}
-use Rattle.sqlite_ast.specs.declared.Statement.TheVariants as written
-use Rattle.sqlite_draft.specs.declared.join.Step.{Step}
-use Rattle.sqlite_draft.specs.declared.join.Step.TheVariants.{Inner, Left}
-use Rattle.sqlite_resolve.specs.declared.scope.Bound.{Bound}
+use Rattle.sqlite_ast.specs.declared.Source.{Source}
 use Rattle.sqlite_resolve.specs.declared.scope.Output.{Output}
-use Rattle.sqlite_resolve.specs.declared.compiled.Compiled.{Compiled}
 use Rattle.sqlite_resolve.specs.Scope.{Name, Context}
-use Rattle.sqlite_resolve.specs.Lowering.{nothing, fresh, max_budget}
+use Rattle.sqlite_resolve.specs.Lowering.{nothing, max_budget}
 use Rattle.sqlite_resolve.specs.Expr.{lower}
 use Rattle.sqlite_resolve.specs.Body as body
-use Rattle.sqlite_resolve.specs.Order as order
-use Rattle.sqlite_resolve.specs.Program as program
-use Rattle.sqlite_sql.specs.Query.{Query}
-use Rattle.sqlite_resolve.specs.Compile.{first, compiled, returning}
+use Rattle.sqlite_resolve.specs.Compile.{first, returning}
 use Rattle.sqlite_typing.specs.Types.{accepts_program}
 use Rattle.sqlite_tied.specs.Compute.{everything}
-use Rattle.office_ledger.specs.Select.{Trees4, equals, list_joined, of_the_line, of_the_lot, of_the_contract, joined_query}
-use Rattle.office_ledger.specs.StatementMeans.{StatementMeans}
 use Rattle.office_tables.specs.Forms.{column_of}
+use Rattle.office_tables.proofs.Meanings.{StatementMeans, parsed_in}
+use Rattle.office_ledger.specs.Select.{Trees4, equals, list_joined, joined_query}
 use Rattle.office_ledger.specs.Known.{HoldsFour}
-use Rattle.office_ledger.proofs.Qualified.{Pick, Finds, AllFound, at_budget, plainly, shown_of, sort_of, equals_e, both_e, outputs_are, sorts_are, equal_is, and_is, outputs_of, keys_of}
+use Rattle.office_ledger.proofs.Qualified.{Pick, Finds, AllFound, at_budget, plainly, equals_e, equal_is, outputs_of}
 use Rattle.office_ledger.proofs.Scoped.{four_bounds, line_of_four, lot_of_four, contract_of_four, contract_key_of_four, entry_of_four}
-use Rattle.office_ledger.proofs.Sources.{source_of, out_source, parsed_in, bound_is, source_is, left_joined, first_joined, joined_by, means_by}
-use Rattle.office_ledger.proofs.Whole.{among, compiles}
+use Rattle.office_ledger.proofs.Sources.{source_of}
+use Rattle.office_ledger.proofs.Whole.{among}
+use Rattle.office_ledger.proofs.JoinedSelect.{IsWritten, KnownTable, Joint, known_by, IsRead, query, means}
+use Rattle.office_ledger.proofs.JoinedColumns.{lot_line, lot_picks, lot_sorts, on_lot, on_contract, lot_joints, FindsLots, finds_lots, lot_lowers, contract_lowers}
 
 -- ---- the columns that the text names
 
-abbrev line_pick : List ℕ → ℕ → Column → Pick
+abbrev pub line_pick : List ℕ → ℕ → Column → Pick
 line_pick text k c = record { table = codes "lines"; text = text; slot = 1; place = k; row = suc k; column = c }
 
-abbrev lot_pick : List ℕ → ℕ → Column → Pick
-lot_pick text k c = record { table = codes "lots"; text = text; slot = 2; place = k; row = suc k; column = c }
-
-abbrev contract_pick : List ℕ → ℕ → Column → Pick
-contract_pick text k c = record { table = codes "contracts"; text = text; slot = 3; place = k; row = suc k; column = c }
-
-abbrev entry_pick : List ℕ → ℕ → Column → Pick
-entry_pick text k c = record { table = codes "entries"; text = text; slot = 4; place = k; row = suc k; column = c }
-
-abbrev line_line : Pick
+abbrev pub line_line : Pick
 line_line = line_pick (codes "lines.line") 0 (column_of (codes "line") Text true)
 
-abbrev line_appropriation : Pick
+abbrev pub line_appropriation : Pick
 line_appropriation = line_pick (codes "lines.appropriation") 2 (column_of (codes "appropriation") Integer true)
 
-abbrev line_free : Pick
+abbrev pub line_free : Pick
 line_free = line_pick (codes "lines.free") 3 (column_of (codes "free") Integer true)
 
-abbrev lot_notice : Pick
-lot_notice = lot_pick (codes "lots.notice") 0 (column_of (codes "notice") Text true)
+abbrev pub picks : List Pick
+picks = line_line ∷ line_appropriation ∷ line_free ∷ lot_picks 2
 
-abbrev lot_lot : Pick
-lot_lot = lot_pick (codes "lots.lot") 1 (column_of (codes "lot") Text true)
-
-abbrev lot_line : Pick
-lot_line = lot_pick (codes "lots.line") 3 (column_of (codes "line") Text true)
-
-abbrev lot_reserved : Pick
-lot_reserved = lot_pick (codes "lots.reserved") 8 (column_of (codes "reserved") Integer true)
-
-abbrev contract_contract : Pick
-contract_contract = record { table = codes "contracts"; text = codes "contracts.contract"; slot = 3; place = 0; row = 0; column = column_of (codes "contract") Integer true }
-
-abbrev contract_notice : Pick
-contract_notice = contract_pick (codes "contracts.notice") 1 (column_of (codes "notice") Text true)
-
-abbrev contract_lot : Pick
-contract_lot = contract_pick (codes "contracts.lot") 2 (column_of (codes "lot") Text true)
-
-abbrev contract_signed : Pick
-contract_signed = contract_pick (codes "contracts.signed") 4 (column_of (codes "signed") Integer true)
-
-abbrev contract_released : Pick
-contract_released = contract_pick (codes "contracts.released") 8 (column_of (codes "released") Integer true)
-
-abbrev entry_contract : Pick
-entry_contract = entry_pick (codes "entries.contract") 0 (column_of (codes "contract") Integer true)
-
-abbrev entry_entry : Pick
-entry_entry = entry_pick (codes "entries.entry") 1 (column_of (codes "entry") Text true)
-
-abbrev entry_kind : Pick
-entry_kind = entry_pick (codes "entries.kind") 2 (column_of (codes "kind") Text true)
-
-abbrev entry_amount : Pick
-entry_amount = entry_pick (codes "entries.amount") 3 (column_of (codes "amount") Integer true)
-
-abbrev picks : List Pick
-picks = line_line ∷ line_appropriation ∷ line_free ∷ lot_notice ∷ lot_lot ∷ lot_reserved ∷ contract_contract ∷ contract_signed ∷ contract_released ∷ entry_entry ∷ entry_kind ∷ entry_amount ∷ []
-
-abbrev sorts : List Pick
-sorts = line_line ∷ lot_notice ∷ lot_lot ∷ contract_contract ∷ entry_entry ∷ []
+abbrev pub sorts : List Pick
+sorts = line_line ∷ lot_sorts 2
 
 -- ---- as the text is written
 
-abbrev on_line : Expr
-on_line = equals_e lot_line line_line
+abbrev pub on_line : Expr
+on_line = equals_e (lot_line 2) line_line
 
-abbrev on_lot : Expr
-on_lot = both_e (equals_e contract_notice lot_notice) (equals_e contract_lot lot_lot)
+abbrev pub sources : List Source
+sources = source_of false (codes "lines") None ∷ source_of true (codes "lots") (Some on_line) ∷ source_of true (codes "contracts") (Some (on_lot 2)) ∷ source_of true (codes "entries") (Some (on_contract 2)) ∷ []
 
-abbrev on_contract : Expr
-on_contract = equals_e entry_contract contract_contract
-
-abbrev sources : List Source
-sources = source_of false (codes "lines") None ∷ source_of true (codes "lots") (Some on_line) ∷ source_of true (codes "contracts") (Some on_lot) ∷ source_of true (codes "entries") (Some on_contract) ∷ []
-
-abbrev core_of : Core
-core_of = roll-Core (record { distinct = false; shown = map shown_of picks; from = sources; filter = None; group = []; having = None })
-
-abbrev written_select : Select
-written_select = roll-Select (record { with = []; first = core_of; others = []; order = map sort_of sorts; limit = None; offset = None })
-
-pub parses : first list_joined ≡ Ok (parsed_in (first list_joined))
-unfolding everything
-parses = refl
-
-statement_is : (parsed_in (first list_joined)).statement ≡ written.Select written_select
-unfolding everything
-statement_is = refl
-
-untimed : (parsed_in (first list_joined)).formats ≡ []
-unfolding everything
-untimed = refl
+pub joined_written : IsWritten list_joined sources picks sorts None
+unfolding everything parsed_in
+joined_written = record { is = refl; statement = refl; formats = refl }
 
 -- a SELECT has no RETURNING
 pub returns_none : (schema : Schema) (base : ℕ) → returning schema base (parsed_in (first list_joined)).statement ≡ Ok None
 unfolding returning
-returns_none schema base = rw statement_is
+returns_none schema base = rw joined_written.statement
+
+abbrev pub joined_names : List Name
+joined_names =
+    codes "line" ∷ codes "appropriation" ∷ codes "free" ∷ codes "notice" ∷ codes "lot" ∷ codes "reserved" ∷ codes "contract" ∷ codes "signed" ∷ codes "released" ∷ codes "entry" ∷ codes "kind" ∷ codes "amount" ∷ []
 
 -- ---- in a schema that has the four tables
 
 module _ (schema : Schema) (at : Trees4) (four : HoldsFour schema at) where
-  abbrev bs : List Bound
-  bs = four_bounds schema at four
-
   abbrev scope : List Output → Bool → Bool → Context
-  scope = among schema bs
-
-  s1 : out-Source (source_of false (codes "lines") None) ≡ record { is_left = false; origin = origin.Table (codes "lines"); alias = None; on = None; using = [] }
-  s1 = out_source false (codes "lines") None
-
-  s2 : out-Source (source_of true (codes "lots") (Some on_line)) ≡ record { is_left = true; origin = origin.Table (codes "lots"); alias = None; on = Some on_line; using = [] }
-  s2 = out_source true (codes "lots") (Some on_line)
-
-  s3 : out-Source (source_of true (codes "contracts") (Some on_lot)) ≡ record { is_left = true; origin = origin.Table (codes "contracts"); alias = None; on = Some on_lot; using = [] }
-  s3 = out_source true (codes "contracts") (Some on_lot)
-
-  s4 : out-Source (source_of true (codes "entries") (Some on_contract)) ≡ record { is_left = true; origin = origin.Table (codes "entries"); alias = None; on = Some on_contract; using = [] }
-  s4 = out_source true (codes "entries") (Some on_contract)
-
-  bounds_are : body.bounds schema sources (fresh 1 max_budget) ≡ Ok (bs, at_budget 5 max_budget nothing)
-  unfolding body.bounds
-  bounds_are = rw (
-    bound_is schema (source_of false (codes "lines") None) (codes "lines") false None s1 four.lines.place 1 max_budget nothing four.lines.named refl,
-    bound_is schema (source_of true (codes "lots") (Some on_line)) (codes "lots") true (Some on_line) s2 four.lots.place 2 max_budget nothing four.lots.named refl,
-    bound_is schema (source_of true (codes "contracts") (Some on_lot)) (codes "contracts") true (Some on_lot) s3 four.contracts.place 3 max_budget nothing four.contracts.named refl,
-    bound_is schema (source_of true (codes "entries") (Some on_contract)) (codes "entries") true (Some on_contract) s4 four.entries.place 4 max_budget nothing four.entries.named refl,
-  )
-
-  sources_are : (query : Schema → Select → program.Building program.Shown) → program.sources query schema sources [] ≡ Ok (schema, [])
-  unfolding program.sources
-  sources_are query = rw (
-    source_is schema (source_of false (codes "lines") None) (codes "lines") false None s1 query schema 1,
-    source_is schema (source_of true (codes "lots") (Some on_line)) (codes "lots") true (Some on_line) s2 query schema 2,
-    source_is schema (source_of true (codes "contracts") (Some on_lot)) (codes "contracts") true (Some on_lot) s3 query schema 3,
-    source_is schema (source_of true (codes "entries") (Some on_contract)) (codes "entries") true (Some on_contract) s4 query schema 4,
-  )
+  scope = among schema (four_bounds schema at four)
 
   -- ---- the columns, in each scope
 
@@ -204,168 +93,56 @@ module _ (schema : Schema) (at : Trees4) (four : HoldsFour schema at) where
     unfolding same_name
     f_line_free = line_of_four schema at four shown may alias (codes "lines.free") 3 (column_of (codes "free") Integer true) (refl, refl, refl)
 
-    f_lot_notice : Finds cx lot_notice
-    unfolding same_name
-    f_lot_notice = lot_of_four schema at four shown may alias (codes "lots.notice") 0 (column_of (codes "notice") Text true) (refl, refl, refl)
-
-    f_lot_lot : Finds cx lot_lot
-    unfolding same_name
-    f_lot_lot = lot_of_four schema at four shown may alias (codes "lots.lot") 1 (column_of (codes "lot") Text true) (refl, refl, refl)
-
-    f_lot_line : Finds cx lot_line
-    unfolding same_name
-    f_lot_line = lot_of_four schema at four shown may alias (codes "lots.line") 3 (column_of (codes "line") Text true) (refl, refl, refl)
-
-    f_lot_reserved : Finds cx lot_reserved
-    unfolding same_name
-    f_lot_reserved = lot_of_four schema at four shown may alias (codes "lots.reserved") 8 (column_of (codes "reserved") Integer true) (refl, refl, refl)
-
-    f_contract_contract : Finds cx contract_contract
-    unfolding same_name
-    f_contract_contract = contract_key_of_four schema at four shown may alias (codes "contracts.contract") 0 (column_of (codes "contract") Integer true) refl refl (refl, refl, refl)
-
-    f_contract_notice : Finds cx contract_notice
-    unfolding same_name
-    f_contract_notice = contract_of_four schema at four shown may alias (codes "contracts.notice") 1 (column_of (codes "notice") Text true) refl (refl, refl, refl)
-
-    f_contract_lot : Finds cx contract_lot
-    unfolding same_name
-    f_contract_lot = contract_of_four schema at four shown may alias (codes "contracts.lot") 2 (column_of (codes "lot") Text true) refl (refl, refl, refl)
-
-    f_contract_signed : Finds cx contract_signed
-    unfolding same_name
-    f_contract_signed = contract_of_four schema at four shown may alias (codes "contracts.signed") 4 (column_of (codes "signed") Integer true) refl (refl, refl, refl)
-
-    f_contract_released : Finds cx contract_released
-    unfolding same_name
-    f_contract_released = contract_of_four schema at four shown may alias (codes "contracts.released") 8 (column_of (codes "released") Integer true) refl (refl, refl, refl)
-
-    f_entry_contract : Finds cx entry_contract
-    unfolding same_name
-    f_entry_contract = entry_of_four schema at four shown may alias (codes "entries.contract") 0 (column_of (codes "contract") Integer true) (refl, refl, refl)
-
-    f_entry_entry : Finds cx entry_entry
-    unfolding same_name
-    f_entry_entry = entry_of_four schema at four shown may alias (codes "entries.entry") 1 (column_of (codes "entry") Text true) (refl, refl, refl)
-
-    f_entry_kind : Finds cx entry_kind
-    unfolding same_name
-    f_entry_kind = entry_of_four schema at four shown may alias (codes "entries.kind") 2 (column_of (codes "kind") Text true) (refl, refl, refl)
-
-    f_entry_amount : Finds cx entry_amount
-    unfolding same_name
-    f_entry_amount = entry_of_four schema at four shown may alias (codes "entries.amount") 3 (column_of (codes "amount") Integer true) (refl, refl, refl)
+    lots_found : FindsLots 2 cx
+    lots_found = finds_lots 2 cx (lot_of_four schema at four shown may alias) (contract_of_four schema at four shown may alias) (contract_key_of_four schema at four shown may alias) (entry_of_four schema at four shown may alias)
 
     picks_found : AllFound cx max_budget picks
-    picks_found = (f_line_line, refl, (f_line_appropriation, refl, (f_line_free, refl, (f_lot_notice, refl, (f_lot_lot, refl, (f_lot_reserved, refl, (f_contract_contract, refl, (f_contract_signed, refl, (f_contract_released, refl, (f_entry_entry, refl, (f_entry_kind, refl, (f_entry_amount, refl, tt))))))))))))
+    picks_found = (f_line_line, refl, (f_line_appropriation, refl, (f_line_free, refl, (lots_found.notice, refl, (lots_found.lot, refl, (lots_found.reserved, refl, (lots_found.contract, refl, (lots_found.signed, refl, (lots_found.released, refl, (lots_found.entry, refl, (lots_found.kind, refl, (lots_found.amount, refl, tt))))))))))))
 
     sorts_found : AllFound cx 99975 sorts
-    sorts_found = (f_line_line, refl, (f_lot_notice, refl, (f_lot_lot, refl, (f_contract_contract, refl, (f_entry_entry, refl, tt)))))
+    sorts_found = (f_line_line, refl, (lots_found.notice, refl, (lots_found.lot, refl, (lots_found.contract, refl, (lots_found.entry, refl, tt)))))
 
   abbrev outs : List Output
   outs = outputs_of (scope [] true true) [] picks
 
-  abbrev keys : List (Term × Key)
-  keys = keys_of (scope outs false true) [] sorts
+  -- ---- the lots of a line; in ON a name is no alias
 
-  outputs_is : body.outputs lower (scope [] true true) bs (map shown_of picks) (at_budget 5 max_budget nothing) ≡ Ok (outs, at_budget 5 99988 plainly)
-  unfolding body.outputs
-  outputs_is = outputs_are (scope [] true true) bs [] picks 5 max_budget nothing (picks_found [] true true)
-
-  sorts_is : order.sorts lower (scope outs false true) outs (map sort_of sorts) (at_budget 5 99975 nothing) ≡ Ok (keys, at_budget 5 99970 plainly)
-  unfolding order.sorts
-  sorts_is = sorts_are (scope outs false true) outs [] sorts 5 99975 nothing (sorts_found outs false true) (refl, (refl, (refl, (refl, (refl, tt)))))
-
-  -- ---- the joins, one after another
-
-  -- in ON a name is no alias
   abbrev on_scope : Context
   on_scope = scope outs false false
 
   line_lowers : lower on_scope on_line (at_budget 5 99988 plainly) ≡ Ok (equals (col 2 4) (col 1 1), at_budget 5 99985 nothing)
-  line_lowers = equal_is on_scope lot_line line_line (f_lot_line outs false false) (f_line_line outs false false) refl 698 5 99988 plainly refl refl refl
+  line_lowers = equal_is on_scope (lot_line 2) line_line (lots_found outs false false).line (f_line_line outs false false) refl 698 5 99988 plainly refl refl refl
 
-  lot_lowers : lower on_scope on_lot (at_budget 5 99985 nothing) ≡ Ok (op2 And (equals (col 3 2) (col 2 1)) (equals (col 3 3) (col 2 2)), at_budget 5 99978 nothing)
-  lot_lowers =
-      and_is on_scope (equals_e contract_notice lot_notice) (equals_e contract_lot lot_lot) _ _ 5 99985 99981 99978 nothing nothing nothing refl 699
-      (equal_is on_scope contract_notice lot_notice (f_contract_notice outs false false) (f_lot_notice outs false false) refl 697 5 99984 nothing refl refl refl)
-      (equal_is on_scope contract_lot lot_lot (f_contract_lot outs false false) (f_lot_lot outs false false) refl 697 5 99981 nothing refl refl refl)
-
-  contract_lowers : lower on_scope on_contract (at_budget 5 99978 nothing) ≡ Ok (equals (col 4 1) (col 3 0), at_budget 5 99975 nothing)
-  contract_lowers = equal_is on_scope entry_contract contract_contract (f_entry_contract outs false false) (f_contract_contract outs false false) refl 698 5 99978 nothing refl refl refl
-
-  abbrev inner_scope : Context
-  inner_scope = scope outs false true
-
-  abbrev steps : List Step
-  steps = Inner four.lines.table.tree ∷ Left four.lots.table.tree of_the_line ∷ Left four.contracts.table.tree of_the_lot ∷ Left four.entries.table.tree of_the_contract ∷ []
-
-  joins_are : body.joins lower inner_scope bs sources (at_budget 5 99988 plainly) ≡ Ok (record { steps = steps; filter = [] }, at_budget 5 99975 nothing)
-  unfolding body.joins
-  joins_are = rw (
-    s1,
-    first_joined schema bs outs (codes "lines") four.lines.place 1 four.lines.table (at_budget 5 99988 plainly) four.lines.found,
-    joined_by schema bs outs (record { steps = Inner four.lines.table.tree ∷ []; filter = [] }) (codes "lots") four.lots.place 2 on_line four.lots.table (at_budget 5 99988 plainly) _ four.lots.found
-        (left_joined schema bs outs (record { steps = Inner four.lines.table.tree ∷ []; filter = [] }) four.lots.table.tree 2 on_line _ _ _ line_lowers refl),
-    joined_by schema bs outs (record { steps = Inner four.lines.table.tree ∷ Left four.lots.table.tree of_the_line ∷ []; filter = [] }) (codes "contracts") four.contracts.place 3 on_lot four.contracts.table (at_budget 5 99985 nothing) _ four.contracts.found
-        (left_joined schema bs outs (record { steps = Inner four.lines.table.tree ∷ Left four.lots.table.tree of_the_line ∷ []; filter = [] }) four.contracts.table.tree 3 on_lot _ _ _ lot_lowers refl),
-    joined_by schema bs outs (record { steps = Inner four.lines.table.tree ∷ Left four.lots.table.tree of_the_line ∷ Left four.contracts.table.tree of_the_lot ∷ []; filter = [] }) (codes "entries") four.entries.place 4 on_contract four.entries.table (at_budget 5 99978 nothing) _ four.entries.found
-        (left_joined schema bs outs (record { steps = Inner four.lines.table.tree ∷ Left four.lots.table.tree of_the_line ∷ Left four.contracts.table.tree of_the_lot ∷ []; filter = [] }) four.entries.table.tree 4 on_contract _ _ _ contract_lowers refl),
-  )
-
-  -- ---- the whole text
-
-  core_is : out-Core core_of ≡ record { distinct = false; shown = map shown_of picks; from = sources; filter = None; group = []; having = None }
-  core_is = out-roll-Core (record { distinct = false; shown = map shown_of picks; from = sources; filter = None; group = []; having = None })
-
-  select_is : out-Select written_select ≡ record { with = []; first = core_of; others = []; order = map sort_of sorts; limit = None; offset = None }
-  select_is = out-roll-Select (record { with = []; first = core_of; others = []; order = map sort_of sorts; limit = None; offset = None })
-
-  abbrev pub query : Query
-  query = joined_query (record { lines = four.lines.table.tree; lots = four.lots.table.tree; contracts = four.contracts.table.tree; entries = four.entries.table.tree })
-
-  abbrev pub names : List Name
-  names = map (λ (o : Output). o.name) outs
-
-  abbrev pub means_select : Compiled
-  means_select =
-      let p = parsed_in (first list_joined) in
-      record { command = command.Select (record { lets = []; body = query }) names; returning = None; names = p.names; formats = []; start = p.start; end = p.end; tail = p.tail }
-
-  abbrev draft_is : Draft
-  draft_is = record {
-    from = chain (steps ++ []);
-    filter = [];
-    group = None;
-    project = map (λ (o : Output). o.term) outs;
-    distinct = false;
-    collations = [];
-    order = keys;
-    limit = lit (Int (negsuc 0));
-    offset = number 0;
-  }
-
-  programs : accepts_program schema [] query [] ≡ true → program.program schema [] draft_is ≡ Ok (record { lets = []; body = query })
-  unfolding program.program
-  programs h = rw h
-
-  untested : body.tests lower (among schema bs outs false true) [] None (at_budget 5 99975 nothing) ≡ Ok ([], at_budget 5 99975 nothing)
+  untested : body.tests lower (scope outs false true) [] None (at_budget 5 99975 nothing) ≡ Ok ([], at_budget 5 99975 nothing)
   unfolding body.tests
   untested = refl
 
-  pub joined_compiles : accepts_program schema [] query [] ≡ true → compiled schema list_joined ≡ Ok means_select
-  joined_compiles accepted =
-      compiles schema core_of bs 5 steps outs [] (map sort_of sorts) keys 99988 99975 99975 99970 plainly nothing nothing plainly
-      (ap (λ c. body.bounds schema c.from (fresh 1 max_budget)) core_is ∙ bounds_are)
-      (ap (λ c. body.outputs lower (among schema bs [] true true) bs c.shown (at_budget 5 max_budget nothing)) core_is ∙ outputs_is)
-      (ap (λ c. body.joins lower (among schema bs outs false true) bs c.from (at_budget 5 99988 plainly)) core_is ∙ joins_are)
-      (ap (λ c. body.tests lower (among schema bs outs false true) [] c.filter (at_budget 5 99975 nothing)) core_is ∙ untested)
-      sorts_is (ap (λ c. c.group) core_is) (ap (λ c. c.having) core_is) (ap (λ c. c.distinct) core_is)
-      written_select (ap (λ r. r.first) select_is) (ap (λ r. r.order) select_is) (ap (λ r. r.with) select_is) (ap (λ r. r.others) select_is) (ap (λ r. r.limit) select_is) (ap (λ r. r.offset) select_is)
-      (λ query. ap (λ c. program.sources query schema c.from []) core_is ∙ sources_are query)
-      list_joined (parsed_in (first list_joined)) (record { lets = []; body = query }) parses statement_is untimed (programs accepted)
+  -- ---- the whole text
 
-  -- ---- its types
+  abbrev head : KnownTable schema
+  head = known_by four.lines
+
+  abbrev joints : List (Joint schema)
+  joints = record { known = known_by four.lots; on = on_line; test = equals (col 2 4) (col 1 1); left = 99985 } ∷ lot_joints 2 schema at four 99978 99975
+
+  is_read : IsRead schema head joints picks sorts None [] 99975 nothing
+  is_read = record {
+    few = refl;
+    room = (refl, (refl, (refl, tt)));
+    shown = picks_found [] true true;
+    joins = (
+      line_lowers,
+      refl,
+      (
+        lot_lowers 2 on_scope (lots_found outs false false) 5 99985 nothing refl refl refl refl refl refl refl,
+        refl,
+        (contract_lowers 2 on_scope (lots_found outs false false) 5 99978 nothing refl refl refl, refl, tt),
+      ),
+    );
+    tested = untested;
+    sorted = sorts_found outs false true;
+    later = (refl, (refl, (refl, (refl, (refl, tt)))));
+  }
 
   accepted : accepts_program schema [] (joined_query at) [] ≡ true
   accepted = rw (
@@ -384,17 +161,10 @@ module _ (schema : Schema) (at : Trees4) (four : HoldsFour schema at) where
   )
 
   -- the trees are those that are known
-  query_is : query ≡ joined_query at
+  query_is : query schema head joints picks sorts None [] 99975 nothing ≡ joined_query at
   query_is = λ i. joined_query (record { lines = four.lines.tree_is i; lots = four.lots.tree_is i; contracts = four.contracts.tree_is i; entries = four.entries.tree_is i })
 
-  abbrev pub joined_names : List Name
-  joined_names =
-      codes "line" ∷ codes "appropriation" ∷ codes "free" ∷ codes "notice" ∷ codes "lot" ∷ codes "reserved" ∷ codes "contract" ∷ codes "signed" ∷ codes "released" ∷ codes "entry" ∷ codes "kind" ∷ codes "amount" ∷ []
-
-  abbrev meant_by : Query → Compiled
-  meant_by q =
-      let p = parsed_in (first list_joined) in
-      record { command = command.Select (record { lets = []; body = q }) joined_names; returning = None; names = p.names; formats = []; start = p.start; end = p.end; tail = p.tail }
-
   pub joined_means : StatementMeans schema list_joined (command.Select (record { lets = []; body = joined_query at }) joined_names)
-  joined_means = means_by schema list_joined (meant_by (joined_query at)) (refl, refl) (joined_compiles (subst (λ q. accepts_program schema [] q [] ≡ true) (sym query_is) accepted) ∙ ap (λ q. Ok (meant_by q)) query_is)
+  joined_means =
+      subst (λ (q : Query). StatementMeans schema list_joined (command.Select (record { lets = []; body = q }) joined_names)) query_is
+      (means schema head joints picks sorts None [] 99975 nothing is_read list_joined joined_written (subst (λ (q : Query). accepts_program schema [] q [] ≡ true) (sym query_is) accepted))

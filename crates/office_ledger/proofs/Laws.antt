@@ -40,13 +40,13 @@ module _ (s : State) (t : Tables) (was : HoldsJoined s.now t) where
   pub join_shown : (new : State) (rows : List Row) → Shown list_joined [] s new rows → rows ≡ map joined_cells (joined t)
   join_shown new rows h =
       let means = joined_means s.now.schema was.at was.four in
-      answered rows (reads_as list_joined [] s new s.now.schema refl (Select (record { lets = []; body = joined_query was.at }) (joined_names s.now.schema was.at was.four)) means.is means.plain means.unlisted rows h)
+      answered rows (reads_as list_joined [] s new s.now.schema refl (Select (record { lets = []; body = joined_query was.at }) joined_names) means.is means.plain means.unlisted rows h)
 
   pub join_begun : (rows : List Row) → Begins list_joined [] s rows → (rest : List Row) × (rows ++ rest ≡ map joined_cells (joined t))
   join_begun rows h =
       let means = joined_means s.now.schema was.at was.four in
-      let first : ReadsFirst (Select (record { lets = []; body = joined_query was.at }) (joined_names s.now.schema was.at was.four)) s.now [] rows =
-      begins_as list_joined [] s s s.now.schema refl (Select (record { lets = []; body = joined_query was.at }) (joined_names s.now.schema was.at was.four)) means.is means.plain means.unlisted rows h in
+      let first : ReadsFirst (Select (record { lets = []; body = joined_query was.at }) joined_names) s.now [] rows =
+      begins_as list_joined [] s s s.now.schema refl (Select (record { lets = []; body = joined_query was.at }) joined_names) means.is means.plain means.unlisted rows h in
       (first.1.0, answered (rows ++ first.1.0) (record { typed = first.0; answer = first.1.1 }))
 
   module _ (line : List ℕ) where
@@ -62,11 +62,11 @@ module _ (s : State) (t : Tables) (was : HoldsJoined s.now t) where
     lots_shown new rows h =
         let means = lots_mean s.now.schema was.at was.four in
         lots_answered rows
-        (reads_as list_joined_of_line (Text line ∷ []) s new s.now.schema refl (Select (record { lets = []; body = lots_query was.at }) (lots_names s.now.schema was.at was.four)) means.is means.plain means.unlisted rows h)
+        (reads_as list_joined_of_line (Text line ∷ []) s new s.now.schema refl (Select (record { lets = []; body = lots_query was.at }) lots_names) means.is means.plain means.unlisted rows h)
 
     pub lots_begun : (rows : List Row) → Begins list_joined_of_line (Text line ∷ []) s rows → (rest : List Row) × (rows ++ rest ≡ map joined_lot_cells (joined_lots line t))
     lots_begun rows h =
         let means = lots_mean s.now.schema was.at was.four in
-        let first : ReadsFirst (Select (record { lets = []; body = lots_query was.at }) (lots_names s.now.schema was.at was.four)) s.now (Text line ∷ []) rows =
-        begins_as list_joined_of_line (Text line ∷ []) s s s.now.schema refl (Select (record { lets = []; body = lots_query was.at }) (lots_names s.now.schema was.at was.four)) means.is means.plain means.unlisted rows h in
+        let first : ReadsFirst (Select (record { lets = []; body = lots_query was.at }) lots_names) s.now (Text line ∷ []) rows =
+        begins_as list_joined_of_line (Text line ∷ []) s s s.now.schema refl (Select (record { lets = []; body = lots_query was.at }) lots_names) means.is means.plain means.unlisted rows h in
         (first.1.0, lots_answered (rows ++ first.1.0) (record { typed = first.0; answer = first.1.1 }))

@@ -1,31 +1,20 @@
 -- One level of a left join: the rows of a table that pass, or one row of NULLs.
-use Rattle.std.specs.Prelude.{◌≡◌, Bool, true, false, cond, List, [], ◌∷◌, ◌++◌, map, flat_map, filter, Option, Some, None}
+use Rattle.std.specs.Prelude.{◌≡◌, Bool, true, false, cond, List, [], ◌∷◌, flat_map, filter, Option, Some, None}
 use Rattle.std.proofs.Common.{refl, sym, ap, ◌∙◌, arith}
+use Rattle.std.proofs.lemmas.List.{append-nil}
 use Rattle.std.specs.List.Sorted.{IsPermutation}
 use Rattle.std.proofs.lemmas.List.Sorted.{IsPermutation-refl, IsPermutation-trans, IsPermutation-append, IsPermutation-map, length_permutation}
-use Rattle.sqlite_trees.proofs.ListLemmas.{IsPermutation-same, IsPermutation-filter, IsPermutation-flat_map}
+use Rattle.sqlite_trees.proofs.ListLemmas.{flat_map-map, IsPermutation-same, IsPermutation-filter, IsPermutation-flat_map}
 use Rattle.sqlite_value.specs.Order.{Row}
 use Rattle.sqlite_sql.specs.Query.{or_nulls}
 use Rattle.office_ledger.specs.Joins.{or_none}
 use Rattle.office_ledger.specs.Cells.{Paired, Show}
-
-pub append_none : {X : Type 0} (xs : List X) → xs ++ [] ≡ xs
-append_none [] = refl
-append_none (x ∷ xs) = ap (λ l. x ∷ l) (append_none xs)
-
-filter-never : {X : Type 0} (xs : List X) → filter (λ _. false) xs ≡ []
-filter-never [] = refl
-filter-never (x ∷ xs) = filter-never xs
 
 or_none_same : {X : Type 0} (xs ys : List X) → IsPermutation xs ys → IsPermutation (or_none xs) (or_none ys)
 or_none_same [] [] same = IsPermutation-refl _
 or_none_same [] (y ∷ ys) same = absurd (omega (arith, length_permutation _ _ same))
 or_none_same (x ∷ xs) [] same = absurd (omega (arith, length_permutation _ _ same))
 or_none_same (x ∷ xs) (y ∷ ys) same = IsPermutation-map Some (x ∷ xs) (y ∷ ys) same
-
-pub flat_map-map : {X Y Z : Type 0} (f : Y → List Z) (g : X → Y) (xs : List X) → flat_map f (map g xs) ≡ flat_map (λ x. f (g x)) xs
-flat_map-map f g [] = refl
-flat_map-map f g (x ∷ xs) = ap (λ l. f (g x) ++ l) (flat_map-map f g xs)
 
 module _ {X : Type 0} (cells : Row → X → Type 0) where
   paired-filter : (test : Row → Bool) (p : X → Bool) → ((r : Row) (x : X) → cells r x → test r ≡ p x) → (rows : List Row) (xs : List X) → Paired cells rows xs
@@ -69,7 +58,7 @@ module _ {X : Type 0} (cells : Row → X → Type 0) where
     -- no row passes
     pub no_level : (test : Row → Bool) → ((r : Row) (x : X) → cells r x → test r ≡ false) → (rows : List Row) (xs : List X) → Show cells rows xs
         → flat_map f (or_nulls (filter test rows)) ≡ f []
-    no_level test never rows xs show = ap (λ l. flat_map f (or_nulls l)) (none rows show.stored show.paired) ∙ append_none (f [])
+    no_level test never rows xs show = ap (λ l. flat_map f (or_nulls l)) (none rows show.stored show.paired) ∙ append-nil (f [])
       where
         none : (rows : List Row) (ys : List X) → Paired cells rows ys → filter test rows ≡ []
         none [] ys h = refl

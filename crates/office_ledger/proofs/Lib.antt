@@ -16,6 +16,8 @@ pub mod Qualified
 pub mod Whole
 pub mod Scoped
 pub mod Sources
+pub mod JoinedSelect
+pub mod JoinedColumns
 pub mod Joining
 pub mod NoWrite
 pub mod Laws

@@ -2,7 +2,7 @@
 use Rattle.std.specs.Prelude.{◌≡◌, ℕ, ◌-◌, ◌≤◌, Bool, true, false, cond, ◌&&◌, nat_eq, nat_le, List, [], ◌∷◌, ◌++◌, map, flat_map, Option, Some, None}
 use Rattle.std.proofs.Common.{refl, sym, ap, subst, ◌∙◌, arith}
 use Rattle.std.proofs.lemmas.Bool.{and_parts, and_from, leb-true, le-leb, eqb-true, eq-eqb}
-use Rattle.std.proofs.lemmas.List.{append_assoc}
+use Rattle.std.proofs.lemmas.List.{append_assoc, append-nil}
 use Rattle.std.specs.List.{AllByRecursion}
 use Rattle.std.specs.Ordering.{is_eq}
 use Rattle.std.specs.Cmp.{tied_itself}
@@ -211,10 +211,6 @@ module _ (law : JoinedSums) (t : Tables) (sorted : IsSorted t) where
   IsLedgerWith rows rs (Some all) = (all ≡ rows ++ map (ledger_row t) rs) × AllByRecursion (λ (r : LineRow). LineFits r.line t) rs
   IsLedgerWith rows rs None = ¬ (AllByRecursion (λ (r : LineRow). LineFits r.line t) rs)
 
-  append_none : (rows : List LedgerRow) → rows ≡ rows ++ []
-  append_none [] = refl
-  append_none (r ∷ rows) = ap (λ z. r ∷ z) (append_none rows)
-
   one_more : (r : LineRow) (rs : List LineRow) (rows : List LedgerRow) (row : LedgerRow) → row ≡ ledger_row t r → LineFits r.line t
       → (all : Option (List LedgerRow)) → IsLedgerWith (rows ++ row ∷ []) rs all → IsLedgerWith rows (r ∷ rs) all
   one_more r rs rows row is fits (Some all) h = (h.0 ∙ append_assoc rows (row ∷ []) (map (ledger_row t) rs) ∙ ap (λ z. rows ++ z ∷ map (ledger_row t) rs) is, (fits, h.1))
@@ -226,7 +222,7 @@ module _ (law : JoinedSums) (t : Tables) (sorted : IsSorted t) where
   with_found r rs rows ih None h = subst (IsLedgerWith rows (r ∷ rs)) (sym (none_and rs)) (λ a. h a.0)
 
   ledger_with : (rs : List LineRow) (rows : List LedgerRow) → IsLedgerWith rows rs (and_rows rs (Some rows))
-  ledger_with [] rows = (append_none rows, tt)
+  ledger_with [] rows = (sym (append-nil rows), tt)
   ledger_with (r ∷ rs) rows = with_found r rs rows (λ more. ledger_with rs more) (found r) (row_is r)
 
   -- the whole join adds up to the ledger

@@ -1,7 +1,7 @@
 -- The joined rows of lots make the sums of their contracts, lot by lot.
 use Rattle.std.specs.Prelude.{◌≡◌, ℕ, ◌-◌, ◌<◌, Bool, true, false, cond, ◌&&◌, List, [], ◌∷◌, ◌++◌, map, flat_map, Option, Some, None, Result, Ok, Err, OnOk}
 use Rattle.std.proofs.Common.{refl, sym, ap, ap₂, subst, ◌∙◌, arith}
-use Rattle.std.proofs.lemmas.List.{append_assoc}
+use Rattle.std.proofs.lemmas.List.{append_assoc, append-nil}
 use Rattle.std.specs.Ordering.{nat_cmp, is_eq}
 use Rattle.std.specs.Cmp.{nat_cmp_total}
 use Rattle.office_base.specs.Rows.{StartsAbove, IsInOrder}
@@ -90,11 +90,7 @@ module _ (t : Tables) (x : LotRow) where
   list_all cs s = fold_rows (λ c. fold_rows (list_contract head_of) (joined_contract t c)) cs s
 
   pub contracts_listed : (cs : List ContractRow) (s : Listed) → IsInOrder nat_cmp contract_key cs → IsNew s.current cs → all_listed (list_all cs s) ≡ all_listed s ++ map (sums_of t.entries) cs
-  contracts_listed [] s order new = sym (append_none (all_listed s))
-    where
-      append_none : (xs : List ContractSums) → xs ++ [] ≡ xs
-      append_none [] = refl
-      append_none (y ∷ ys) = ap (λ l. y ∷ l) (append_none ys)
+  contracts_listed [] s order new = sym (append-nil (all_listed s))
   contracts_listed (c ∷ cs) s order new =
       ap (λ z. all_listed (list_all cs z)) (one_contract t x c s new)
       ∙ contracts_listed cs (contract_listed t x c s) order.1 (next_is_new c (sums_of t.entries c) cs order.0)
@@ -138,11 +134,7 @@ module _ (t : Tables) (sorted : IsSorted t) where
   list_lots xs s = fold_rows (λ x. fold_rows list_lot (joined_lot t x)) xs s
 
   lots_listed : (xs : List LotRow) (s : Listed) → IsInOrder lot_cmp lot_key xs → IsBelow xs s.current → all_listed (list_lots xs s) ≡ all_listed s ++ sums_under t xs
-  lots_listed [] s order below = sym (append_none (all_listed s))
-    where
-      append_none : (xs : List ContractSums) → xs ++ [] ≡ xs
-      append_none [] = refl
-      append_none (y ∷ ys) = ap (λ l. y ∷ l) (append_none ys)
+  lots_listed [] s order below = sym (append-nil (all_listed s))
   lots_listed (x ∷ xs) s order below =
       let cs : List ContractRow = contracts_of_lot (lot_key x) t in
       let new = all_new x xs s.current cs below in

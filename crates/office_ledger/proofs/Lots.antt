@@ -1,5 +1,5 @@
 -- The rows of lots, one lot after another, and what they add up to.
-use Rattle.std.specs.Prelude.{◌≡◌, ℕ, ◌+◌, Bool, true, false, cond, ◌&&◌, List, [], ◌∷◌, ◌++◌, map, flat_map, filter, Option, Some, None}
+use Rattle.std.specs.Prelude.{◌≡◌, ℕ, ◌+◌, Bool, true, false, cond, ◌&&◌, List, [], ◌∷◌, ◌++◌, map, flat_map, Option, Some, None}
 use Rattle.std.proofs.Common.{refl, sym, ap, ◌∙◌, arith}
 use Rattle.std.specs.Ordering.{nat_cmp, is_eq, eq_by_cmp, ordering_then}
 use Rattle.std.specs.declared.cmp.Ordering.{Ordering}
@@ -16,7 +16,7 @@ use Rattle.office_base.specs.declared.ledger.ContractSums.{ContractSums}
 use Rattle.office_base.specs.declared.records.ContractRow.{ContractRow}
 use Rattle.office_base.specs.declared.records.LotRow.{LotRow}
 use Rattle.office_ledger.specs.Joins.{with_contract, joined_contract, joined_lot}
-use Rattle.office_ledger.specs.Inside.Adding.{overdrawn_in, with_sums, settle, settled, is_contract, is_lot, take_perhaps, entry_added, take_entry, enter_contract, take_contract, lot_opened, enter_lot, take_lot, fold_rows}
+use Rattle.office_ledger.specs.Inside.Adding.{overdrawn_in, with_sums, settle, settled, is_contract, is_lot, take_perhaps, take_entry, enter_contract, take_contract, lot_opened, enter_lot, take_lot, fold_rows}
 use Rattle.office_ledger.specs.declared.joined.JoinedEntry.{JoinedEntry}
 use Rattle.office_ledger.specs.declared.joined.JoinedContract.{JoinedContract}
 use Rattle.office_ledger.specs.declared.line_sums.OpenContract.{OpenContract}

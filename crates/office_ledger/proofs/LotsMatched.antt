@@ -1,31 +1,32 @@
 -- What the select over the lots of a line matches: the choices of the join, in any order.
-use Rattle.std.proofs.Common.{◌≡◌, ℕ, Bool, true, false, cond, ◌&&◌, List, [], ◌∷◌, ◌++◌, map, flat_map, filter, Some, None, Option, option_map, refl, sym, ap, ap₂, ◌∙◌}
+use Rattle.std.proofs.Common.{◌≡◌, ℕ, Bool, true, false, cond, ◌&&◌, List, [], ◌∷◌, ◌++◌, map, flat_map, filter, Some, None, refl, sym, ap, ap₂, ◌∙◌}
 use Rattle.std.specs.List.{list_all}
 use Rattle.std.specs.List.Sorted.{IsPermutation}
 use Rattle.std.proofs.lemmas.List.Sorted.{IsPermutation-trans}
-use Rattle.sqlite_trees.proofs.ListLemmas.{IsPermutation-same, map-flat_map, flat_map_same_on}
+use Rattle.sqlite_trees.proofs.ListLemmas.{IsPermutation-same, map-flat_map, flat_map_none, flat_map_same_on}
 use Rattle.sqlite_trees.specs.Tree.{Trees}
 use Rattle.sqlite_value.specs.declared.value.Value.{Value}
 use Rattle.sqlite_value.specs.declared.value.Value.TheVariants.{Null, Text}
 use Rattle.sqlite_value.specs.Order.{Row, column}
+use Rattle.sqlite_value.specs.declared.keys.Collation.TheVariants.{Binary}
+use Rattle.sqlite_schema.specs.Rules.{equal}
 use Rattle.sqlite_sql.specs.Term.{Term, Env, holds}
 use Rattle.sqlite_sql.specs.Query.{Join, Output, matches_as, output, or_nulls, left, end}
 use Rattle.office_values.specs.Ids.{same_id}
-use Rattle.office_base.specs.Tables.{Tables, same_number, lot_key, of_line, lots_of_line, contracts_of_lot, entries_of_contract}
+use Rattle.office_base.specs.Tables.{Tables, same_number, of_line, lots_of_line}
 use Rattle.office_base.specs.declared.records.LotRow.{LotRow}
 use Rattle.office_base.specs.declared.records.ContractRow.{ContractRow}
 use Rattle.office_base.specs.declared.records.EntryRow.{EntryRow}
-use Rattle.office_ledger.specs.Joins.{or_none, entry_part, with_entry, with_contract, joined_contract, joined_lot, joined_lots}
+use Rattle.office_tables.proofs.Cells.{text_tested, number_tested, and_true}
+use Rattle.office_ledger.specs.Joins.{joined_lot, joined_lots}
 use Rattle.office_ledger.specs.declared.joined.JoinedLot.{JoinedLot}
-use Rattle.office_ledger.specs.declared.joined.JoinedContract.{JoinedContract}
-use Rattle.office_ledger.specs.declared.joined.JoinedEntry.{JoinedEntry}
 use Rattle.office_ledger.specs.Select.{Trees4}
 use Rattle.office_ledger.specs.SelectLots.{is_of_line, of_its_lot, of_its_contract, lots_from, lots_query}
 use Rattle.office_ledger.specs.Cells as cells
 use Rattle.office_ledger.specs.Cells.{LotCells, ContractCells, EntryCells, Show, lot_cells}
-use Rattle.office_ledger.proofs.Cells.{equal_values, text_tested, number_tested, number_null, and_true}
+use Rattle.office_ledger.proofs.Cells.{number_null}
 use Rattle.office_ledger.proofs.Levels.{first_level, level, no_level}
-use Rattle.office_ledger.proofs.Nested.{full-or_none, nested, last, map-map}
+use Rattle.office_ledger.proofs.Nested.{with_last, with_contracts, lot_choices, lot_is}
 
 -- a joined lot as the select puts it out: what it is sorted by, and what it shows
 abbrev pub out : JoinedLot → Output
@@ -34,46 +35,21 @@ out l = (cells.lot_key (Some l), lot_cells (Some l))
 -- ---- the choices of the join
 
 module _ (t : Tables) (line : List ℕ) where
-  abbrev with_last : LotRow → ContractRow → Option EntryRow → List Output
-  with_last x c e = out (with_contract x (Some (with_entry c (option_map entry_part e)))) ∷ []
-
-  abbrev with_contracts : LotRow → Option ContractRow → List Output
-  with_contracts x None = out (with_contract x None) ∷ []
-  with_contracts x (Some c) = flat_map (with_last x c) (or_none (entries_of_contract c.contract t))
-
-  abbrev with_lot : LotRow → List Output
-  with_lot x = flat_map (with_contracts x) (or_none (contracts_of_lot (lot_key x) t))
-
-  contract_is : (x : LotRow) (c : ContractRow) → with_contracts x (Some c) ≡ map (λ y. out (with_contract x (Some y))) (joined_contract t c)
-  contract_is x c =
-      last (λ (e : Option JoinedEntry). out (with_contract x (Some (with_entry c e)))) entry_part (entries_of_contract c.contract t)
-      ∙ sym (map-map (λ y. out (with_contract x (Some y))) (with_entry c) (or_none (map entry_part (entries_of_contract c.contract t))))
-
-  lot_is : (x : LotRow) → with_lot x ≡ map out (joined_lot t x)
-  lot_is x =
-      nested (λ (c : Option JoinedContract). out (with_contract x c)) (joined_contract t) (λ c. full-or_none (with_entry c) (map entry_part (entries_of_contract c.contract t)))
-      (with_contracts x) refl (contract_is x) (contracts_of_lot (lot_key x) t)
-      ∙ sym (map-map out (with_contract x) (or_none (flat_map (joined_contract t) (contracts_of_lot (lot_key x) t))))
-
   -- a lot counts where it is of the line
   abbrev if_of_line : LotRow → List Output
-  if_of_line x = cond (of_line line x) (with_lot x) []
+  if_of_line x = cond (of_line line x) (lot_choices out t x) []
 
-  passing : (xs : List LotRow) → flat_map if_of_line xs ≡ flat_map with_lot (filter (of_line line) xs)
+  passing : (xs : List LotRow) → flat_map if_of_line xs ≡ flat_map (lot_choices out t) (filter (of_line line) xs)
   passing [] = refl
   passing (x ∷ xs) = by (of_line line x) (passing xs)
     where
-      by : (b : Bool) → flat_map if_of_line xs ≡ flat_map with_lot (filter (of_line line) xs)
-          → cond b (with_lot x) [] ++ flat_map if_of_line xs ≡ flat_map with_lot (cond b (x ∷ filter (of_line line) xs) (filter (of_line line) xs))
-      by true h = ap (λ l. with_lot x ++ l) h
+      by : (b : Bool) → flat_map if_of_line xs ≡ flat_map (lot_choices out t) (filter (of_line line) xs)
+          → cond b (lot_choices out t x) [] ++ flat_map if_of_line xs ≡ flat_map (lot_choices out t) (cond b (x ∷ filter (of_line line) xs) (filter (of_line line) xs))
+      by true h = ap (λ l. lot_choices out t x ++ l) h
       by false h = h
 
   choices : flat_map if_of_line t.lots ≡ map out (joined_lots line t)
-  choices = passing t.lots ∙ flat_map_same_on with_lot (λ x. map out (joined_lot t x)) lot_is (lots_of_line line t) ∙ sym (map-flat_map out (joined_lot t) (lots_of_line line t))
-
-flat_map-none : {X Y : Type 0} (f : X → List Y) (xs : List X) → ((x : X) → f x ≡ []) → flat_map f xs ≡ []
-flat_map-none f [] h = refl
-flat_map-none f (x ∷ xs) h = ap (λ l. l ++ flat_map f xs) (h x) ∙ flat_map-none f xs h
+  choices = passing t.lots ∙ flat_map_same_on (lot_choices out t) (λ x. map out (joined_lot t x)) (lot_is out t) (lots_of_line line t) ∙ sym (map-flat_map out (joined_lot t) (lots_of_line line t))
 
 module _ (at : Trees4) (lost : Value) (db : Trees) (t : Tables) (line : List ℕ)
     (lots : Show LotCells (db at.lots) t.lots) (contracts : Show ContractCells (db at.contracts) t.contracts) (entries : Show EntryCells (db at.entries) t.entries) where
@@ -96,8 +72,8 @@ module _ (at : Trees4) (lost : Value) (db : Trees) (t : Tables) (line : List ℕ
   from2 = left at.contracts of_its_lot from3
 
   module _ (r1 : Row) (x : LotRow) (c1 : LotCells r1 x) where
-    line_tested : (equal_values (column r1 4) (Text line) && true) ≡ of_line line x
-    line_tested = and_true (equal_values (column r1 4) (Text line)) ∙ ap (λ v. equal_values v (Text line)) c1.line ∙ text_tested x.line line
+    line_tested : (equal Binary (column r1 4) (Text line) && true) ≡ of_line line x
+    line_tested = and_true (equal Binary (column r1 4) (Text line)) ∙ ap (λ v. equal Binary v (Text line)) c1.line ∙ text_tested x.line line
 
     -- a lot of another line
     module _ (other : of_line line x ≡ false) where
@@ -105,54 +81,54 @@ module _ (at : Trees4) (lost : Value) (db : Trees) (t : Tables) (line : List ℕ
       nothing_ends r2 r3 = ap (λ b. map (output (lots_query at)) (cond b ((params ∷ r1 ∷ r2 ∷ r3 ∷ []) ∷ []) [])) (line_tested ∙ other)
 
       nothing_follows : (r2 : Row) → puts_out from3 (params ∷ r1 ∷ r2 ∷ []) ≡ []
-      nothing_follows r2 = stepped at.entries of_its_contract end (params ∷ r1 ∷ r2 ∷ []) ∙ flat_map-none (λ r. puts_out end (params ∷ r1 ∷ r2 ∷ r ∷ [])) _ (nothing_ends r2)
+      nothing_follows r2 = stepped at.entries of_its_contract end (params ∷ r1 ∷ r2 ∷ []) ∙ flat_map_none (λ r. puts_out end (params ∷ r1 ∷ r2 ∷ r ∷ [])) (nothing_ends r2) _
 
       nothing : puts_out from2 (params ∷ r1 ∷ []) ≡ []
-      nothing = stepped at.contracts of_its_lot from3 (params ∷ r1 ∷ []) ∙ flat_map-none (λ r. puts_out from3 (params ∷ r1 ∷ r ∷ [])) _ nothing_follows
+      nothing = stepped at.contracts of_its_lot from3 (params ∷ r1 ∷ []) ∙ flat_map_none (λ r. puts_out from3 (params ∷ r1 ∷ r ∷ [])) nothing_follows _
 
     -- a lot of this line
     module _ (own : of_line line x ≡ true) where
       ends : (r2 r3 : Row) → puts_out end (params ∷ r1 ∷ r2 ∷ r3 ∷ []) ≡ output (lots_query at) (params ∷ r1 ∷ r2 ∷ r3 ∷ []) ∷ []
       ends r2 r3 = ap (λ b. map (output (lots_query at)) (cond b ((params ∷ r1 ∷ r2 ∷ r3 ∷ []) ∷ []) [])) (line_tested ∙ own)
 
-      alone : puts_out end (params ∷ r1 ∷ [] ∷ [] ∷ []) ≡ with_contracts t line x None
+      alone : puts_out end (params ∷ r1 ∷ [] ∷ [] ∷ []) ≡ with_contracts out t x None
       alone = ends [] [] ∙ λ i. ((c1.notice i ∷ c1.lot i ∷ Null ∷ Null ∷ []), (c1.notice i ∷ c1.lot i ∷ c1.reserved i ∷ Null ∷ Null ∷ Null ∷ Null ∷ Null ∷ Null ∷ [])) ∷ []
 
-      no_contract : puts_out from3 (params ∷ r1 ∷ [] ∷ []) ≡ with_contracts t line x None
+      no_contract : puts_out from3 (params ∷ r1 ∷ [] ∷ []) ≡ with_contracts out t x None
       no_contract =
           stepped at.entries of_its_contract end (params ∷ r1 ∷ [] ∷ [])
           ∙ no_level EntryCells (λ r. puts_out end (params ∷ r1 ∷ [] ∷ r ∷ [])) (tests of_its_contract (params ∷ r1 ∷ [] ∷ []))
-          (λ r e h. ap (λ v. equal_values v Null && true) h.contract ∙ ap (λ b. b && true) (number_null e.contract)) (db at.entries) t.entries entries
+          (λ r e h. ap (λ v. equal Binary v Null && true) h.contract ∙ ap (λ b. b && true) (number_null e.contract)) (db at.entries) t.entries entries
           ∙ alone
 
       module _ (r2 : Row) (c : ContractRow) (c2 : ContractCells r2 c) where
-        contract_alone : puts_out end (params ∷ r1 ∷ r2 ∷ [] ∷ []) ≡ with_last t line x c None
+        contract_alone : puts_out end (params ∷ r1 ∷ r2 ∷ [] ∷ []) ≡ with_last out t x c None
         contract_alone = ends r2 [] ∙ λ i. ((c1.notice i ∷ c1.lot i ∷ c2.contract i ∷ Null ∷ []), (c1.notice i ∷ c1.lot i ∷ c1.reserved i ∷ c2.contract i ∷ c2.signed i ∷ c2.released i ∷ Null ∷ Null ∷ Null ∷ [])) ∷ []
 
-        one_entry : (r3 : Row) (e : EntryRow) → EntryCells r3 e → puts_out end (params ∷ r1 ∷ r2 ∷ r3 ∷ []) ≡ with_last t line x c (Some e)
+        one_entry : (r3 : Row) (e : EntryRow) → EntryCells r3 e → puts_out end (params ∷ r1 ∷ r2 ∷ r3 ∷ []) ≡ with_last out t x c (Some e)
         one_entry r3 e c3 = ends r2 r3 ∙ λ i. (
           (c1.notice i ∷ c1.lot i ∷ c2.contract i ∷ c3.entry i ∷ []),
           (c1.notice i ∷ c1.lot i ∷ c1.reserved i ∷ c2.contract i ∷ c2.signed i ∷ c2.released i ∷ c3.entry i ∷ c3.kind i ∷ c3.amount i ∷ []),
         ) ∷ []
 
-        one_contract : IsPermutation (puts_out from3 (params ∷ r1 ∷ r2 ∷ [])) (with_contracts t line x (Some c))
+        one_contract : IsPermutation (puts_out from3 (params ∷ r1 ∷ r2 ∷ [])) (with_contracts out t x (Some c))
         one_contract = IsPermutation-trans _ _ _
             (IsPermutation-same _ _ (stepped at.entries of_its_contract end (params ∷ r1 ∷ r2 ∷ [])))
-            (level EntryCells (λ r. puts_out end (params ∷ r1 ∷ r2 ∷ r ∷ [])) (tests of_its_contract (params ∷ r1 ∷ r2 ∷ [])) (λ (e : EntryRow). same_number e.contract c.contract) (with_last t line x c)
-            (λ r e h. and_true (equal_values (column r 1) (column r2 0)) ∙ ap₂ equal_values h.contract c2.contract ∙ number_tested e.contract c.contract)
+            (level EntryCells (λ r. puts_out end (params ∷ r1 ∷ r2 ∷ r ∷ [])) (tests of_its_contract (params ∷ r1 ∷ r2 ∷ [])) (λ (e : EntryRow). same_number e.contract c.contract) (with_last out t x c)
+            (λ r e h. and_true (equal Binary (column r 1) (column r2 0)) ∙ ap₂ (equal Binary) h.contract c2.contract ∙ number_tested e.contract c.contract)
             (λ r e h. IsPermutation-same _ _ (one_entry r e h)) (IsPermutation-same _ _ contract_alone) (db at.entries) t.entries entries)
 
-      one_lot : IsPermutation (puts_out from2 (params ∷ r1 ∷ [])) (with_lot t line x)
+      one_lot : IsPermutation (puts_out from2 (params ∷ r1 ∷ [])) (lot_choices out t x)
       one_lot = IsPermutation-trans _ _ _
           (IsPermutation-same _ _ (stepped at.contracts of_its_lot from3 (params ∷ r1 ∷ [])))
-          (level ContractCells (λ r. puts_out from3 (params ∷ r1 ∷ r ∷ [])) (tests of_its_lot (params ∷ r1 ∷ [])) (λ (c : ContractRow). same_id c.notice x.notice && same_id c.lot x.lot) (with_contracts t line x)
-          (λ r c h. ap₂ ◌&&◌ (ap₂ equal_values h.notice c1.notice ∙ text_tested c.notice x.notice) (and_true (equal_values (column r 3) (column r1 2)) ∙ ap₂ equal_values h.lot c1.lot ∙ text_tested c.lot x.lot))
+          (level ContractCells (λ r. puts_out from3 (params ∷ r1 ∷ r ∷ [])) (tests of_its_lot (params ∷ r1 ∷ [])) (λ (c : ContractRow). same_id c.notice x.notice && same_id c.lot x.lot) (with_contracts out t x)
+          (λ r c h. ap₂ ◌&&◌ (ap₂ (equal Binary) h.notice c1.notice ∙ text_tested c.notice x.notice) (and_true (equal Binary (column r 3) (column r1 2)) ∙ ap₂ (equal Binary) h.lot c1.lot ∙ text_tested c.lot x.lot))
           one_contract (IsPermutation-same _ _ no_contract) (db at.contracts) t.contracts contracts)
 
     any_lot : IsPermutation (puts_out from2 (params ∷ r1 ∷ [])) (if_of_line t line x)
     any_lot = by (of_line line x) refl
       where
-        by : (b : Bool) → of_line line x ≡ b → IsPermutation (puts_out from2 (params ∷ r1 ∷ [])) (cond b (with_lot t line x) [])
+        by : (b : Bool) → of_line line x ≡ b → IsPermutation (puts_out from2 (params ∷ r1 ∷ [])) (cond b (lot_choices out t x) [])
         by true e = one_lot e
         by false e = IsPermutation-same _ _ (nothing e)
 

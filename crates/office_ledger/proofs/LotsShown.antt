@@ -1,7 +1,7 @@
 -- The select over the lots of a line shows their join, in the order of its keys.
 use Rattle.std.proofs.Common.{◌≡◌, ℕ, List, [], ◌∷◌, map, Some, sym, ap, ◌∙◌, Less}
 use Rattle.std.proofs.lemmas.List.Sorted.{IsPermutation-sym, IsPermutation-trans}
-use Rattle.sqlite_trees.proofs.ListLemmas.{IsPermutation-same}
+use Rattle.sqlite_trees.proofs.ListLemmas.{map-map, IsPermutation-same}
 use Rattle.sqlite_trees.specs.Tree.{Trees, IsAscending}
 use Rattle.sqlite_keyed.proofs.ListLemmas.{ascending-map}
 use Rattle.sqlite_keyed.proofs.SortLemmas.{sorted_unique}
@@ -17,7 +17,6 @@ use Rattle.office_ledger.specs.Select.{Trees4}
 use Rattle.office_ledger.specs.SelectLots.{is_of_line, lots_query}
 use Rattle.office_ledger.specs.Cells.{LotCells, ContractCells, EntryCells, Show, lot_cells}
 use Rattle.office_ledger.proofs.Ascending.{lots_rise}
-use Rattle.office_ledger.proofs.Nested.{map-map}
 use Rattle.office_ledger.proofs.LotsMatched.{out, lots_matched}
 
 module _ (at : Trees4) (lost : Value) (db : Trees) (t : Tables) (sorted : IsSorted t) (line : List ℕ) (rows : List Row)

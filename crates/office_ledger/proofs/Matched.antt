@@ -8,6 +8,8 @@ use Rattle.sqlite_trees.specs.Tree.{Trees}
 use Rattle.sqlite_value.specs.declared.value.Value.{Value}
 use Rattle.sqlite_value.specs.declared.value.Value.TheVariants.{Null}
 use Rattle.sqlite_value.specs.Order.{Row, column}
+use Rattle.sqlite_value.specs.declared.keys.Collation.TheVariants.{Binary}
+use Rattle.sqlite_schema.specs.Rules.{equal}
 use Rattle.sqlite_sql.specs.Term.{Term, Env, holds}
 use Rattle.sqlite_sql.specs.Query.{Join, Output, matches_as, output, or_nulls, left, end}
 use Rattle.office_values.specs.Ids.{same_id}
@@ -16,13 +18,14 @@ use Rattle.office_base.specs.declared.records.LineRow.{LineRow}
 use Rattle.office_base.specs.declared.records.LotRow.{LotRow}
 use Rattle.office_base.specs.declared.records.ContractRow.{ContractRow}
 use Rattle.office_base.specs.declared.records.EntryRow.{EntryRow}
+use Rattle.office_tables.proofs.Cells.{text_tested, number_tested, and_true}
 use Rattle.office_ledger.specs.Joins.{joined}
 use Rattle.office_ledger.specs.declared.joined.JoinedRow.{JoinedRow}
 use Rattle.office_ledger.specs.Select.{Trees4, of_the_line, of_the_lot, of_the_contract, joined_from, joined_query}
 use Rattle.office_ledger.specs.Cells.{LineCells, LotCells, ContractCells, EntryCells, Show, row_key, joined_cells}
-use Rattle.office_ledger.proofs.Cells.{equal_values, text_tested, number_tested, text_null, number_null, and_true}
+use Rattle.office_ledger.proofs.Cells.{text_null, number_null}
 use Rattle.office_ledger.proofs.Levels.{first_level, level, no_level}
-use Rattle.office_ledger.proofs.Nested.{with_last, with_contracts, with_lots, with_lines, choices}
+use Rattle.office_ledger.proofs.Nested.{with_last, with_contracts, lot_out, with_lots, with_lines, choices}
 
 -- a joined row as the select puts it out: what it is sorted by, and what it shows
 abbrev pub out : JoinedRow → Output
@@ -58,56 +61,56 @@ module _ (at : Trees4) (lost : Value) (db : Trees) (t : Tables) (params : Row)
     no_lot =
         stepped at.contracts of_the_lot from4 (params ∷ r1 ∷ [] ∷ [])
         ∙ no_level ContractCells (λ r. puts_out from4 (params ∷ r1 ∷ [] ∷ r ∷ [])) (tests of_the_lot (params ∷ r1 ∷ [] ∷ []))
-        (λ r c h. ap (λ v. equal_values v Null && (equal_values (column r 3) Null && true)) h.notice ∙ ap (λ b. b && (equal_values (column r 3) Null && true)) (text_null c.notice)) (db at.contracts) t.contracts contracts
+        (λ r c h. ap (λ v. equal Binary v Null && (equal Binary (column r 3) Null && true)) h.notice ∙ ap (λ b. b && (equal Binary (column r 3) Null && true)) (text_null c.notice)) (db at.contracts) t.contracts contracts
         ∙ stepped at.entries of_the_contract end (params ∷ r1 ∷ [] ∷ [] ∷ [])
         ∙ no_level EntryCells (λ r. puts_out end (params ∷ r1 ∷ [] ∷ [] ∷ r ∷ [])) (tests of_the_contract (params ∷ r1 ∷ [] ∷ [] ∷ []))
-        (λ r e h. ap (λ v. equal_values v Null && true) h.contract ∙ ap (λ b. b && true) (number_null e.contract)) (db at.entries) t.entries entries
+        (λ r e h. ap (λ v. equal Binary v Null && true) h.contract ∙ ap (λ b. b && true) (number_null e.contract)) (db at.entries) t.entries entries
         ∙ alone
 
     module _ (r2 : Row) (x : LotRow) (c2 : LotCells r2 x) where
       -- a lot alone
-      lot_alone : puts_out end (params ∷ r1 ∷ r2 ∷ [] ∷ [] ∷ []) ≡ with_contracts out t l x None
+      lot_alone : puts_out end (params ∷ r1 ∷ r2 ∷ [] ∷ [] ∷ []) ≡ with_contracts (lot_out out t l) t x None
       lot_alone = λ i. ((c1.line i ∷ c2.notice i ∷ c2.lot i ∷ Null ∷ Null ∷ []), (c1.line i ∷ c1.appropriation i ∷ c1.free i ∷ c2.notice i ∷ c2.lot i ∷ c2.reserved i ∷ Null ∷ Null ∷ Null ∷ Null ∷ Null ∷ Null ∷ [])) ∷ []
 
-      no_contract : puts_out from4 (params ∷ r1 ∷ r2 ∷ [] ∷ []) ≡ with_contracts out t l x None
+      no_contract : puts_out from4 (params ∷ r1 ∷ r2 ∷ [] ∷ []) ≡ with_contracts (lot_out out t l) t x None
       no_contract =
           stepped at.entries of_the_contract end (params ∷ r1 ∷ r2 ∷ [] ∷ [])
           ∙ no_level EntryCells (λ r. puts_out end (params ∷ r1 ∷ r2 ∷ [] ∷ r ∷ [])) (tests of_the_contract (params ∷ r1 ∷ r2 ∷ [] ∷ []))
-          (λ r e h. ap (λ v. equal_values v Null && true) h.contract ∙ ap (λ b. b && true) (number_null e.contract)) (db at.entries) t.entries entries
+          (λ r e h. ap (λ v. equal Binary v Null && true) h.contract ∙ ap (λ b. b && true) (number_null e.contract)) (db at.entries) t.entries entries
           ∙ lot_alone
 
       module _ (r3 : Row) (c : ContractRow) (c3 : ContractCells r3 c) where
-        contract_alone : puts_out end (params ∷ r1 ∷ r2 ∷ r3 ∷ [] ∷ []) ≡ with_last out t l x c None
+        contract_alone : puts_out end (params ∷ r1 ∷ r2 ∷ r3 ∷ [] ∷ []) ≡ with_last (lot_out out t l) t x c None
         contract_alone = λ i. (
           (c1.line i ∷ c2.notice i ∷ c2.lot i ∷ c3.contract i ∷ Null ∷ []),
           (c1.line i ∷ c1.appropriation i ∷ c1.free i ∷ c2.notice i ∷ c2.lot i ∷ c2.reserved i ∷ c3.contract i ∷ c3.signed i ∷ c3.released i ∷ Null ∷ Null ∷ Null ∷ []),
         ) ∷ []
 
-        one_entry : (r4 : Row) (e : EntryRow) → EntryCells r4 e → puts_out end (params ∷ r1 ∷ r2 ∷ r3 ∷ r4 ∷ []) ≡ with_last out t l x c (Some e)
+        one_entry : (r4 : Row) (e : EntryRow) → EntryCells r4 e → puts_out end (params ∷ r1 ∷ r2 ∷ r3 ∷ r4 ∷ []) ≡ with_last (lot_out out t l) t x c (Some e)
         one_entry r4 e c4 = λ i. (
           (c1.line i ∷ c2.notice i ∷ c2.lot i ∷ c3.contract i ∷ c4.entry i ∷ []),
           (c1.line i ∷ c1.appropriation i ∷ c1.free i ∷ c2.notice i ∷ c2.lot i ∷ c2.reserved i ∷ c3.contract i ∷ c3.signed i ∷ c3.released i ∷ c4.entry i ∷ c4.kind i ∷ c4.amount i ∷ []),
         ) ∷ []
 
-        one_contract : IsPermutation (puts_out from4 (params ∷ r1 ∷ r2 ∷ r3 ∷ [])) (with_contracts out t l x (Some c))
+        one_contract : IsPermutation (puts_out from4 (params ∷ r1 ∷ r2 ∷ r3 ∷ [])) (with_contracts (lot_out out t l) t x (Some c))
         one_contract = IsPermutation-trans _ _ _
             (IsPermutation-same _ _ (stepped at.entries of_the_contract end (params ∷ r1 ∷ r2 ∷ r3 ∷ [])))
-            (level EntryCells (λ r. puts_out end (params ∷ r1 ∷ r2 ∷ r3 ∷ r ∷ [])) (tests of_the_contract (params ∷ r1 ∷ r2 ∷ r3 ∷ [])) (λ (e : EntryRow). same_number e.contract c.contract) (with_last out t l x c)
-            (λ r e h. and_true (equal_values (column r 1) (column r3 0)) ∙ ap₂ equal_values h.contract c3.contract ∙ number_tested e.contract c.contract)
+            (level EntryCells (λ r. puts_out end (params ∷ r1 ∷ r2 ∷ r3 ∷ r ∷ [])) (tests of_the_contract (params ∷ r1 ∷ r2 ∷ r3 ∷ [])) (λ (e : EntryRow). same_number e.contract c.contract) (with_last (lot_out out t l) t x c)
+            (λ r e h. and_true (equal Binary (column r 1) (column r3 0)) ∙ ap₂ (equal Binary) h.contract c3.contract ∙ number_tested e.contract c.contract)
             (λ r e h. IsPermutation-same _ _ (one_entry r e h)) (IsPermutation-same _ _ contract_alone) (db at.entries) t.entries entries)
 
       one_lot : IsPermutation (puts_out from3 (params ∷ r1 ∷ r2 ∷ [])) (with_lots out t l (Some x))
       one_lot = IsPermutation-trans _ _ _
           (IsPermutation-same _ _ (stepped at.contracts of_the_lot from4 (params ∷ r1 ∷ r2 ∷ [])))
-          (level ContractCells (λ r. puts_out from4 (params ∷ r1 ∷ r2 ∷ r ∷ [])) (tests of_the_lot (params ∷ r1 ∷ r2 ∷ [])) (λ (c : ContractRow). same_id c.notice x.notice && same_id c.lot x.lot) (with_contracts out t l x)
-          (λ r c h. ap₂ ◌&&◌ (ap₂ equal_values h.notice c2.notice ∙ text_tested c.notice x.notice) (and_true (equal_values (column r 3) (column r2 2)) ∙ ap₂ equal_values h.lot c2.lot ∙ text_tested c.lot x.lot))
+          (level ContractCells (λ r. puts_out from4 (params ∷ r1 ∷ r2 ∷ r ∷ [])) (tests of_the_lot (params ∷ r1 ∷ r2 ∷ [])) (λ (c : ContractRow). same_id c.notice x.notice && same_id c.lot x.lot) (with_contracts (lot_out out t l) t x)
+          (λ r c h. ap₂ ◌&&◌ (ap₂ (equal Binary) h.notice c2.notice ∙ text_tested c.notice x.notice) (and_true (equal Binary (column r 3) (column r2 2)) ∙ ap₂ (equal Binary) h.lot c2.lot ∙ text_tested c.lot x.lot))
           one_contract (IsPermutation-same _ _ no_contract) (db at.contracts) t.contracts contracts)
 
     one_line : IsPermutation (puts_out from2 (params ∷ r1 ∷ [])) (with_lines out t l)
     one_line = IsPermutation-trans _ _ _
         (IsPermutation-same _ _ (stepped at.lots of_the_line from3 (params ∷ r1 ∷ [])))
         (level LotCells (λ r. puts_out from3 (params ∷ r1 ∷ r ∷ [])) (tests of_the_line (params ∷ r1 ∷ [])) (of_line l.line) (with_lots out t l)
-        (λ r x h. and_true (equal_values (column r 4) (column r1 1)) ∙ ap₂ equal_values h.line c1.line ∙ text_tested x.line l.line)
+        (λ r x h. and_true (equal Binary (column r 4) (column r1 1)) ∙ ap₂ (equal Binary) h.line c1.line ∙ text_tested x.line l.line)
         one_lot (IsPermutation-same _ _ no_lot) (db at.lots) t.lots lots)
 
   -- all that is put out is the join

@@ -1,7 +1,8 @@
 -- The join of lists, level by level, as the nested choices that SQL makes.
 use Rattle.std.specs.Prelude.{◌≡◌, List, [], ◌∷◌, ◌++◌, map, flat_map, Option, Some, None, option_map}
 use Rattle.std.proofs.Common.{refl, sym, ap, ◌∙◌}
-use Rattle.sqlite_trees.proofs.ListLemmas.{map-flat_map, flat_map_same_on}
+use Rattle.std.proofs.lemmas.List.{append-nil}
+use Rattle.sqlite_trees.proofs.ListLemmas.{map-map, map-flat_map, flat_map-map, flat_map_same_on}
 use Rattle.office_base.specs.Tables.{Tables, lot_key, lots_of_line, contracts_of_lot, entries_of_contract}
 use Rattle.office_base.specs.declared.records.LineRow.{LineRow}
 use Rattle.office_base.specs.declared.records.LotRow.{LotRow}
@@ -12,14 +13,13 @@ use Rattle.office_ledger.specs.declared.joined.JoinedRow.{JoinedRow}
 use Rattle.office_ledger.specs.declared.joined.JoinedLot.{JoinedLot}
 use Rattle.office_ledger.specs.declared.joined.JoinedContract.{JoinedContract}
 use Rattle.office_ledger.specs.declared.joined.JoinedEntry.{JoinedEntry}
-use Rattle.office_ledger.proofs.Levels.{append_none, flat_map-map}
 
 -- a list that isn't empty
 abbrev pub IsFull : {X : Type 0} → List X → Type 0
 IsFull [] = ⊥
 IsFull (x ∷ xs) = Unit {0}
 
-pub full-or_none : {X Y : Type 0} (w : Option X → Y) (xs : List X) → IsFull (map w (or_none xs))
+full-or_none : {X Y : Type 0} (w : Option X → Y) (xs : List X) → IsFull (map w (or_none xs))
 full-or_none w [] = tt
 full-or_none w (x ∷ xs) = tt
 
@@ -31,15 +31,11 @@ or_none-full : {X : Type 0} (xs : List X) → IsFull xs → or_none xs ≡ map S
 or_none-full [] h = absurd h
 or_none-full (x ∷ xs) h = refl
 
-pub map-map : {X Y Z : Type 0} (f : Y → Z) (g : X → Y) (xs : List X) → map f (map g xs) ≡ map (λ x. f (g x)) xs
-map-map f g [] = refl
-map-map f g (x ∷ xs) = ap (λ l. f (g x) ∷ l) (map-map f g xs)
-
 -- the choices of one level: none, or one after another
-pub nested : {X Y Z : Type 0} (k : Option Y → Z) (rows : X → List Y) → ((x : X) → IsFull (rows x)) → (choose : Option X → List Z)
+nested : {X Y Z : Type 0} (k : Option Y → Z) (rows : X → List Y) → ((x : X) → IsFull (rows x)) → (choose : Option X → List Z)
     → choose None ≡ k None ∷ [] → ((x : X) → choose (Some x) ≡ map (λ y. k (Some y)) (rows x)) → (xs : List X)
     → flat_map choose (or_none xs) ≡ map k (or_none (flat_map rows xs))
-nested k rows full choose none some [] = append_none (choose None) ∙ none
+nested k rows full choose none some [] = append-nil (choose None) ∙ none
 nested k rows full choose none some (x ∷ xs) =
     flat_map-map choose Some (x ∷ xs)
     ∙ flat_map_same_on (λ x. choose (Some x)) (λ x. map (λ y. k (Some y)) (rows x)) some (x ∷ xs)
@@ -47,7 +43,7 @@ nested k rows full choose none some (x ∷ xs) =
     ∙ sym (ap (map k) (or_none-full (flat_map rows (x ∷ xs)) (full-append (rows x) (flat_map rows xs) (full x))) ∙ map-map k Some (flat_map rows (x ∷ xs)))
 
 -- the last level: each is one row
-pub last : {X Y Z : Type 0} (k : Option Y → Z) (f : X → Y) (xs : List X) → flat_map (λ o. k (option_map f o) ∷ []) (or_none xs) ≡ map k (or_none (map f xs))
+last : {X Y Z : Type 0} (k : Option Y → Z) (f : X → Y) (xs : List X) → flat_map (λ o. k (option_map f o) ∷ []) (or_none xs) ≡ map k (or_none (map f xs))
 last k f [] = refl
 last k f (x ∷ xs) = ap (λ l. k (Some (f x)) ∷ l) (flat_map-map (λ o. k (option_map f o) ∷ []) Some xs ∙ more xs)
   where
@@ -55,37 +51,46 @@ last k f (x ∷ xs) = ap (λ l. k (Some (f x)) ∷ l) (flat_map-map (λ o. k (op
     more [] = refl
     more (x ∷ xs) = ap (λ l. k (Some (f x)) ∷ l) (more xs)
 
-module _ {Z : Type 0} (out : JoinedRow → Z) (t : Tables) where
-  -- with a line, a lot and a contract chosen
-  abbrev pub with_last : LineRow → LotRow → ContractRow → Option EntryRow → List Z
-  with_last l x c e = out (with_lot l (Some (with_contract x (Some (with_entry c (option_map entry_part e)))))) ∷ []
+-- the choices of a lot: one of its contracts, and one of the entries of this
+module _ {Z : Type 0} (out : JoinedLot → Z) (t : Tables) where
+  -- with a contract chosen
+  abbrev pub with_last : LotRow → ContractRow → Option EntryRow → List Z
+  with_last x c e = out (with_contract x (Some (with_entry c (option_map entry_part e)))) ∷ []
 
-  abbrev pub with_contracts : LineRow → LotRow → Option ContractRow → List Z
-  with_contracts l x None = out (with_lot l (Some (with_contract x None))) ∷ []
-  with_contracts l x (Some c) = flat_map (with_last l x c) (or_none (entries_of_contract c.contract t))
+  abbrev pub with_contracts : LotRow → Option ContractRow → List Z
+  with_contracts x None = out (with_contract x None) ∷ []
+  with_contracts x (Some c) = flat_map (with_last x c) (or_none (entries_of_contract c.contract t))
+
+  abbrev pub lot_choices : LotRow → List Z
+  lot_choices x = flat_map (with_contracts x) (or_none (contracts_of_lot (lot_key x) t))
+
+  contract_is : (x : LotRow) (c : ContractRow) → with_contracts x (Some c) ≡ map (λ y. out (with_contract x (Some y))) (joined_contract t c)
+  contract_is x c =
+      last (λ (e : Option JoinedEntry). out (with_contract x (Some (with_entry c e)))) entry_part (entries_of_contract c.contract t)
+      ∙ sym (map-map (λ y. out (with_contract x (Some y))) (with_entry c) (or_none (map entry_part (entries_of_contract c.contract t))))
+
+  pub lot_is : (x : LotRow) → lot_choices x ≡ map out (joined_lot t x)
+  lot_is x =
+      nested (λ (c : Option JoinedContract). out (with_contract x c)) (joined_contract t) (λ c. full-or_none (with_entry c) (map entry_part (entries_of_contract c.contract t)))
+      (with_contracts x) refl (contract_is x) (contracts_of_lot (lot_key x) t)
+      ∙ sym (map-map out (with_contract x) (or_none (flat_map (joined_contract t) (contracts_of_lot (lot_key x) t))))
+
+module _ {Z : Type 0} (out : JoinedRow → Z) (t : Tables) where
+  -- with a line chosen
+  abbrev pub lot_out : LineRow → JoinedLot → Z
+  lot_out l y = out (with_lot l (Some y))
 
   abbrev pub with_lots : LineRow → Option LotRow → List Z
   with_lots l None = out (with_lot l None) ∷ []
-  with_lots l (Some x) = flat_map (with_contracts l x) (or_none (contracts_of_lot (lot_key x) t))
+  with_lots l (Some x) = lot_choices (lot_out l) t x
 
   abbrev pub with_lines : LineRow → List Z
   with_lines l = flat_map (with_lots l) (or_none (lots_of_line l.line t))
 
-  contract_is : (l : LineRow) (x : LotRow) (c : ContractRow) → with_contracts l x (Some c) ≡ map (λ y. out (with_lot l (Some (with_contract x (Some y))))) (joined_contract t c)
-  contract_is l x c =
-      last (λ (e : Option JoinedEntry). out (with_lot l (Some (with_contract x (Some (with_entry c e)))))) entry_part (entries_of_contract c.contract t)
-      ∙ sym (map-map (λ y. out (with_lot l (Some (with_contract x (Some y))))) (with_entry c) (or_none (map entry_part (entries_of_contract c.contract t))))
-
-  lot_is : (l : LineRow) (x : LotRow) → with_lots l (Some x) ≡ map (λ y. out (with_lot l (Some y))) (joined_lot t x)
-  lot_is l x =
-      nested (λ (c : Option JoinedContract). out (with_lot l (Some (with_contract x c)))) (joined_contract t) (λ c. full-or_none (with_entry c) (map entry_part (entries_of_contract c.contract t)))
-      (with_contracts l x) refl (contract_is l x) (contracts_of_lot (lot_key x) t)
-      ∙ sym (map-map (λ y. out (with_lot l (Some y))) (with_contract x) (or_none (flat_map (joined_contract t) (contracts_of_lot (lot_key x) t))))
-
   line_is : (l : LineRow) → with_lines l ≡ map out (joined_line t l)
   line_is l =
       nested (λ (x : Option JoinedLot). out (with_lot l x)) (joined_lot t) (λ x. full-or_none (with_contract x) (flat_map (joined_contract t) (contracts_of_lot (lot_key x) t)))
-      (with_lots l) refl (lot_is l) (lots_of_line l.line t)
+      (with_lots l) refl (lot_is (lot_out l) t) (lots_of_line l.line t)
       ∙ sym (map-map out (with_lot l) (or_none (flat_map (joined_lot t) (lots_of_line l.line t))))
 
   -- all choices are the join

@@ -11,10 +11,10 @@ use Rattle.sqlite_resolve.specs.Scope.{Name}
 use Rattle.sqlite_resolve.specs.Compile.{first, compiled, planned, meaning, timed, returning, small, with_command}
 use Rattle.sqlite_resolve.specs.Compile as compile
 use Rattle.sqlite.specs.Listing.{understood, listing_schema, misses_table, if_select, is_select}
+use Rattle.office_tables.proofs.Meanings.{parsed_in}
 use Rattle.office_ledger.specs.Plain.{JoinIsNoWrite}
 use Rattle.office_ledger.specs.Select.{list_joined}
-use Rattle.office_ledger.proofs.Sources.{parsed_in}
-use Rattle.office_ledger.proofs.Joining.{parses, returns_none}
+use Rattle.office_ledger.proofs.Joining.{joined_written, returns_none}
 
 no_answer : {x : CompileError} {c : Compiled} → ◌≡◌ {A = Checked Compiled} (Err x) (Ok c) → ⊥
 no_answer e = cc
@@ -59,4 +59,4 @@ module _ (text : List ℕ) (p : Parsed) (is : first text ≡ Ok p) (untold : (sc
   from_understood schema c h = by_either (compiled schema text) (compiled listing_schema text) (from_compiled schema) (from_compiled listing_schema) c h
 
 pub join_is_no_write : JoinIsNoWrite
-join_is_no_write schema c h = from_understood list_joined (parsed_in (first list_joined)) parses returns_none schema c h
+join_is_no_write schema c h = from_understood list_joined (parsed_in (first list_joined)) joined_written.is returns_none schema c h

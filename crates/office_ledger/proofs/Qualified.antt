@@ -27,6 +27,7 @@ use Rattle.sqlite_resolve.specs.Expr.{node, opened, passes, operation, both, com
 use Rattle.sqlite_resolve.specs.Body as body
 use Rattle.sqlite_resolve.specs.Order as order
 use Rattle.sqlite_tied.specs.Compute.{everything}
+use Rattle.office_tables.proofs.Simple.{both_e, out_both, out_parameter}
 
 -- what a column of a table carries
 abbrev pub plainly : Carried
@@ -74,9 +75,6 @@ sort_of p = roll-Sort (record { key = pick_e p; descending = false; nulls_first 
 abbrev pub equals_e : Pick → Pick → Expr
 equals_e p q = roll-Expr (Expr-F.Binary binary.Eq (pick_e p) (pick_e q))
 
-abbrev pub both_e : Expr → Expr → Expr
-both_e a b = roll-Expr (Expr-F.Binary binary.And a b)
-
 out_pick : (p : Pick) → out-Expr (pick_e p) ≡ Expr-F.Column (Some p.table) p.column.name
 unfolding everything
 out_pick p = refl
@@ -88,10 +86,6 @@ out_shown p = refl
 out_equals : (p q : Pick) → out-Expr (equals_e p q) ≡ Expr-F.Binary binary.Eq (pick_e p) (pick_e q)
 unfolding everything
 out_equals p q = refl
-
-out_both : (a b : Expr) → out-Expr (both_e a b) ≡ Expr-F.Binary binary.And a b
-unfolding everything
-out_both a b = refl
 
 abbrev pub term_of_pick : Pick → Term
 term_of_pick p = col p.slot p.row
@@ -229,10 +223,6 @@ parameter_e m = roll-Expr (Expr-F.Parameter m)
 
 abbrev pub given_e : Pick → ℕ → Expr
 given_e p m = roll-Expr (Expr-F.Binary binary.Eq (pick_e p) (parameter_e m))
-
-out_parameter : (m : ℕ) → out-Expr (parameter_e m) ≡ Expr-F.Parameter m
-unfolding everything
-out_parameter m = refl
 
 out_given : (p : Pick) (m : ℕ) → out-Expr (given_e p m) ≡ Expr-F.Binary binary.Eq (pick_e p) (parameter_e m)
 unfolding everything

@@ -1,7 +1,7 @@
 -- The joined rows of lots tell what each lot has reserved, at the first of its rows.
 use Rattle.std.specs.Prelude.{◌≡◌, ℕ, Bool, true, false, cond, List, [], ◌∷◌, ◌++◌, map, flat_map, None}
 use Rattle.std.proofs.Common.{refl, sym, ap, ◌∙◌}
-use Rattle.std.proofs.lemmas.List.{append_assoc}
+use Rattle.std.proofs.lemmas.List.{append_assoc, append-nil}
 use Rattle.office_base.specs.Rows.{IsInOrder}
 use Rattle.office_base.specs.Tables.{Tables, IsSorted, lot_cmp, lot_key, lots_of_line, contracts_of_lot}
 use Rattle.office_base.specs.Joined.{reservations}
@@ -18,10 +18,6 @@ use Rattle.office_ledger.proofs.Taken.{fold_rows-flat_map, grouped}
 none_counts : {X S : Type 0} (xs : List X) (s : S) → fold_rows (λ x s. s) xs s ≡ s
 none_counts [] s = refl
 none_counts (x ∷ xs) s = none_counts xs s
-
-append_none : {X : Type 0} (xs : List X) → xs ++ [] ≡ xs
-append_none [] = refl
-append_none (x ∷ xs) = ap (λ l. x ∷ l) (append_none xs)
 
 module _ (t : Tables) (sorted : IsSorted t) where
   -- ---- a lot
@@ -53,7 +49,7 @@ module _ (t : Tables) (sorted : IsSorted t) where
   list_lots xs s = fold_rows (λ x. fold_rows list_reserved (joined_lot t x)) xs s
 
   lots_reserved : (xs : List LotRow) (s : LotListing) → IsInOrder lot_cmp lot_key xs → LotsAbove t sorted s.lot xs → (list_lots xs s).amounts ≡ s.amounts ++ map (λ (l : LotRow). l.reserved) xs
-  lots_reserved [] s order above = sym (append_none s.amounts)
+  lots_reserved [] s order above = sym (append-nil s.amounts)
   lots_reserved (x ∷ xs) s order above =
       ap (λ z. (list_lots xs z).amounts) (one_lot x s (not_open t sorted s.lot x xs above))
       ∙ lots_reserved xs (begin_lot (with_contract x None) s) order.1 order.0

@@ -83,95 +83,40 @@ module _ (schema : Schema) (at : Trees4) (four : HoldsFour schema at) where
   three_bounds = bound_of (codes "lots") four.lots.place 1 ∷ bound_of (codes "contracts") four.contracts.place 2 ∷ bound_of (codes "entries") four.entries.place 3 ∷ []
 
   module _ (shown : List Output) (may alias : Bool) (text : Name) (k : ℕ) (c : Column) where
-    line_four : column_named four.lines.table c.name ≡ Some k → find (among schema four_bounds shown may alias) (Some (codes "lines")) c.name ≡ Ok (found.Column 1 four.lines.place k)
-    unfolding find in_level only hit is_among column_in same_name
-    line_four called = rw (four.lines.found, called)
-
-    line_four_typed : slice_get four.lines.table.columns k ≡ Some c → of_column (among schema four_bounds shown may alias) 1 (suc k) ≡ of_declared c
-    unfolding of_column
-    line_four_typed stands = rw (four.lines.found, stands)
-
     pub line_of_four : Has line_columns k c → Finds (among schema four_bounds shown may alias) (record { table = codes "lines"; text = text; slot = 1; place = k; row = suc k; column = c })
-    line_of_four has = column_found schema four_bounds (codes "lines") line_columns None at.lines four.lines 1 shown may alias text k c has refl line_four line_four_typed
-
-    lot_four : column_named four.lots.table c.name ≡ Some k → find (among schema four_bounds shown may alias) (Some (codes "lots")) c.name ≡ Ok (found.Column 2 four.lots.place k)
-    unfolding find in_level only hit is_among column_in same_name
-    lot_four called = rw (four.lots.found, called)
-
-    lot_four_typed : slice_get four.lots.table.columns k ≡ Some c → of_column (among schema four_bounds shown may alias) 2 (suc k) ≡ of_declared c
-    unfolding of_column
-    lot_four_typed stands = rw (four.lots.found, stands)
+    unfolding find in_level only hit is_among column_in same_name of_column
+    line_of_four has = column_found schema four_bounds (codes "lines") line_columns None at.lines four.lines 1 shown may alias text k c has refl (λ called. rw (four.lines.found, called)) (λ stands. rw (four.lines.found, stands))
 
     pub lot_of_four : Has lot_columns k c → Finds (among schema four_bounds shown may alias) (record { table = codes "lots"; text = text; slot = 2; place = k; row = suc k; column = c })
-    lot_of_four has = column_found schema four_bounds (codes "lots") lot_columns None at.lots four.lots 2 shown may alias text k c has refl lot_four lot_four_typed
-
-    contract_four : column_named four.contracts.table c.name ≡ Some k → find (among schema four_bounds shown may alias) (Some (codes "contracts")) c.name ≡ Ok (found.Column 3 four.contracts.place k)
-    unfolding find in_level only hit is_among column_in same_name
-    contract_four called = rw (four.contracts.found, called)
-
-    contract_four_typed : slice_get four.contracts.table.columns k ≡ Some c → of_column (among schema four_bounds shown may alias) 3 (suc k) ≡ of_declared c
-    unfolding of_column
-    contract_four_typed stands = rw (four.contracts.found, stands)
+    unfolding find in_level only hit is_among column_in same_name of_column
+    lot_of_four has = column_found schema four_bounds (codes "lots") lot_columns None at.lots four.lots 2 shown may alias text k c has refl (λ called. rw (four.lots.found, called)) (λ stands. rw (four.lots.found, stands))
 
     pub contract_of_four : is_key (Some 0) k ≡ false → Has contract_columns k c → Finds (among schema four_bounds shown may alias) (record { table = codes "contracts"; text = text; slot = 3; place = k; row = suc k; column = c })
-    contract_of_four apart has = column_found schema four_bounds (codes "contracts") contract_columns (Some 0) at.contracts four.contracts 3 shown may alias text k c has apart contract_four contract_four_typed
-
-    contract_four_rowid : of_column (among schema four_bounds shown may alias) 3 0 ≡ affinity.Numeric
-    unfolding of_column
-    contract_four_rowid = refl
+    unfolding find in_level only hit is_among column_in same_name of_column
+    contract_of_four apart has = column_found schema four_bounds (codes "contracts") contract_columns (Some 0) at.contracts four.contracts 3 shown may alias text k c has apart (λ called. rw (four.contracts.found, called)) (λ stands. rw (four.contracts.found, stands))
 
     -- the rowid of a contract
     pub contract_key_of_four : is_key (Some 0) k ≡ true → of_declared c ≡ affinity.Numeric → Has contract_columns k c → Finds (among schema four_bounds shown may alias) (record { table = codes "contracts"; text = text; slot = 3; place = k; row = 0; column = c })
-    contract_key_of_four own number has = rowid_found schema four_bounds (codes "contracts") contract_columns (Some 0) at.contracts four.contracts 3 shown may alias text k c has own contract_four (contract_four_rowid ∙ sym number)
-
-    entry_four : column_named four.entries.table c.name ≡ Some k → find (among schema four_bounds shown may alias) (Some (codes "entries")) c.name ≡ Ok (found.Column 4 four.entries.place k)
-    unfolding find in_level only hit is_among column_in same_name
-    entry_four called = rw (four.entries.found, called)
-
-    entry_four_typed : slice_get four.entries.table.columns k ≡ Some c → of_column (among schema four_bounds shown may alias) 4 (suc k) ≡ of_declared c
-    unfolding of_column
-    entry_four_typed stands = rw (four.entries.found, stands)
+    unfolding find in_level only hit is_among column_in same_name of_column
+    contract_key_of_four own number has = rowid_found schema four_bounds (codes "contracts") contract_columns (Some 0) at.contracts four.contracts 3 shown may alias text k c has own (λ called. rw (four.contracts.found, called)) (sym number)
 
     pub entry_of_four : Has entry_columns k c → Finds (among schema four_bounds shown may alias) (record { table = codes "entries"; text = text; slot = 4; place = k; row = suc k; column = c })
-    entry_of_four has = column_found schema four_bounds (codes "entries") entry_columns None at.entries four.entries 4 shown may alias text k c has refl entry_four entry_four_typed
-
-    lot_three : column_named four.lots.table c.name ≡ Some k → find (among schema three_bounds shown may alias) (Some (codes "lots")) c.name ≡ Ok (found.Column 1 four.lots.place k)
-    unfolding find in_level only hit is_among column_in same_name
-    lot_three called = rw (four.lots.found, called)
-
-    lot_three_typed : slice_get four.lots.table.columns k ≡ Some c → of_column (among schema three_bounds shown may alias) 1 (suc k) ≡ of_declared c
-    unfolding of_column
-    lot_three_typed stands = rw (four.lots.found, stands)
+    unfolding find in_level only hit is_among column_in same_name of_column
+    entry_of_four has = column_found schema four_bounds (codes "entries") entry_columns None at.entries four.entries 4 shown may alias text k c has refl (λ called. rw (four.entries.found, called)) (λ stands. rw (four.entries.found, stands))
 
     pub lot_of_three : Has lot_columns k c → Finds (among schema three_bounds shown may alias) (record { table = codes "lots"; text = text; slot = 1; place = k; row = suc k; column = c })
-    lot_of_three has = column_found schema three_bounds (codes "lots") lot_columns None at.lots four.lots 1 shown may alias text k c has refl lot_three lot_three_typed
-
-    contract_three : column_named four.contracts.table c.name ≡ Some k → find (among schema three_bounds shown may alias) (Some (codes "contracts")) c.name ≡ Ok (found.Column 2 four.contracts.place k)
-    unfolding find in_level only hit is_among column_in same_name
-    contract_three called = rw (four.contracts.found, called)
-
-    contract_three_typed : slice_get four.contracts.table.columns k ≡ Some c → of_column (among schema three_bounds shown may alias) 2 (suc k) ≡ of_declared c
-    unfolding of_column
-    contract_three_typed stands = rw (four.contracts.found, stands)
+    unfolding find in_level only hit is_among column_in same_name of_column
+    lot_of_three has = column_found schema three_bounds (codes "lots") lot_columns None at.lots four.lots 1 shown may alias text k c has refl (λ called. rw (four.lots.found, called)) (λ stands. rw (four.lots.found, stands))
 
     pub contract_of_three : is_key (Some 0) k ≡ false → Has contract_columns k c → Finds (among schema three_bounds shown may alias) (record { table = codes "contracts"; text = text; slot = 2; place = k; row = suc k; column = c })
-    contract_of_three apart has = column_found schema three_bounds (codes "contracts") contract_columns (Some 0) at.contracts four.contracts 2 shown may alias text k c has apart contract_three contract_three_typed
-
-    contract_three_rowid : of_column (among schema three_bounds shown may alias) 2 0 ≡ affinity.Numeric
-    unfolding of_column
-    contract_three_rowid = refl
+    unfolding find in_level only hit is_among column_in same_name of_column
+    contract_of_three apart has = column_found schema three_bounds (codes "contracts") contract_columns (Some 0) at.contracts four.contracts 2 shown may alias text k c has apart (λ called. rw (four.contracts.found, called)) (λ stands. rw (four.contracts.found, stands))
 
     -- the rowid of a contract
     pub contract_key_of_three : is_key (Some 0) k ≡ true → of_declared c ≡ affinity.Numeric → Has contract_columns k c → Finds (among schema three_bounds shown may alias) (record { table = codes "contracts"; text = text; slot = 2; place = k; row = 0; column = c })
-    contract_key_of_three own number has = rowid_found schema three_bounds (codes "contracts") contract_columns (Some 0) at.contracts four.contracts 2 shown may alias text k c has own contract_three (contract_three_rowid ∙ sym number)
-
-    entry_three : column_named four.entries.table c.name ≡ Some k → find (among schema three_bounds shown may alias) (Some (codes "entries")) c.name ≡ Ok (found.Column 3 four.entries.place k)
-    unfolding find in_level only hit is_among column_in same_name
-    entry_three called = rw (four.entries.found, called)
-
-    entry_three_typed : slice_get four.entries.table.columns k ≡ Some c → of_column (among schema three_bounds shown may alias) 3 (suc k) ≡ of_declared c
-    unfolding of_column
-    entry_three_typed stands = rw (four.entries.found, stands)
+    unfolding find in_level only hit is_among column_in same_name of_column
+    contract_key_of_three own number has = rowid_found schema three_bounds (codes "contracts") contract_columns (Some 0) at.contracts four.contracts 2 shown may alias text k c has own (λ called. rw (four.contracts.found, called)) (sym number)
 
     pub entry_of_three : Has entry_columns k c → Finds (among schema three_bounds shown may alias) (record { table = codes "entries"; text = text; slot = 3; place = k; row = suc k; column = c })
-    entry_of_three has = column_found schema three_bounds (codes "entries") entry_columns None at.entries four.entries 3 shown may alias text k c has refl entry_three entry_three_typed
+    unfolding find in_level only hit is_among column_in same_name of_column
+    entry_of_three has = column_found schema three_bounds (codes "entries") entry_columns None at.entries four.entries 3 shown may alias text k c has refl (λ called. rw (four.entries.found, called)) (λ stands. rw (four.entries.found, stands))

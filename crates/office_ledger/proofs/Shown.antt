@@ -1,7 +1,7 @@
 -- The select shows the join, in the order of its keys.
-use Rattle.std.proofs.Common.{◌≡◌, List, [], ◌∷◌, map, refl, sym, ap, ◌∙◌, Less}
+use Rattle.std.proofs.Common.{◌≡◌, List, [], ◌∷◌, map, sym, ap, ◌∙◌, Less}
 use Rattle.std.proofs.lemmas.List.Sorted.{IsPermutation-sym, IsPermutation-trans}
-use Rattle.sqlite_trees.proofs.ListLemmas.{IsPermutation-same}
+use Rattle.sqlite_trees.proofs.ListLemmas.{map-map, IsPermutation-same}
 use Rattle.sqlite_trees.specs.Tree.{Trees, IsAscending}
 use Rattle.sqlite_keyed.proofs.ListLemmas.{ascending-map}
 use Rattle.sqlite_keyed.proofs.SortLemmas.{sorted_unique}
@@ -15,10 +15,6 @@ use Rattle.office_ledger.specs.Select.{Trees4, joined_query}
 use Rattle.office_ledger.specs.Cells.{LineCells, LotCells, ContractCells, EntryCells, Show, joined_cells}
 use Rattle.office_ledger.proofs.Ascending.{joined_rises}
 use Rattle.office_ledger.proofs.Matched.{out, matched}
-
-map-map : {X Y Z : Type 0} (f : Y → Z) (g : X → Y) (xs : List X) → map f (map g xs) ≡ map (λ x. f (g x)) xs
-map-map f g [] = refl
-map-map f g (x ∷ xs) = ap (λ l. f (g x) ∷ l) (map-map f g xs)
 
 module _ (at : Trees4) (lost : Value) (db : Trees) (t : Tables) (sorted : IsSorted t) (params : Row) (rows : List Row)
     (lines : Show LineCells (db at.lines) t.lines) (lots : Show LotCells (db at.lots) t.lots) (contracts : Show ContractCells (db at.contracts) t.contracts) (entries : Show EntryCells (db at.entries) t.entries)

@@ -1,5 +1,5 @@
--- The sources of a SELECT that joins known tables, and what a caller asks of its text.
-use Rattle.std.proofs.Common.{◌≡◌, ◌+◌, nat_lt, ◌∷◌, [], ◌++◌, List, Option, Some, None, Ok, Err, Result, Bool, true, false, ℕ, slice_get, sym, ap, subst}
+-- The sources of a SELECT that joins known tables.
+use Rattle.std.proofs.Common.{◌≡◌, ◌+◌, nat_lt, ◌∷◌, [], ◌++◌, List, Option, Some, None, Ok, Bool, true, false, ℕ, slice_get}
 use Rattle.std.specs.List.{list_all}
 use Rattle.sqlite_sql.specs.Term.{Term, reads_below}
 use Rattle.sqlite_schema.specs.declared.schema.Schema.{Schema}
@@ -9,26 +9,18 @@ use Rattle.sqlite_ast.specs.declared.Origin.TheVariants as origin
 use Rattle.sqlite_ast.specs.declared.Expr.{Expr}
 use Rattle.sqlite_ast.specs.declared.Source.{Source, out-Source, roll-Source, out-roll-Source}
 use Rattle.sqlite_ast.specs.declared.Select.{Select}
-use Rattle.sqlite_ast.specs.declared.Statement.TheVariants as written
-use Rattle.sqlite_syntax.specs.declared.statement.Parsed.{Parsed}
 use Rattle.sqlite_draft.specs.declared.join.Step.TheVariants.{Inner, Left}
-use Rattle.sqlite_resolve.specs.declared.error.CompileError.{CompileError}
 use Rattle.sqlite_resolve.specs.declared.state.State.{State}
 use Rattle.sqlite_resolve.specs.declared.state.Carried.{Carried}
 use Rattle.sqlite_resolve.specs.declared.scope.Bound.{Bound}
 use Rattle.sqlite_resolve.specs.declared.scope.Output.{Output}
 use Rattle.sqlite_resolve.specs.declared.body.Joined.{Joined}
-use Rattle.sqlite_resolve.specs.declared.compiled.Compiled.{Compiled}
 use Rattle.sqlite_resolve.specs.Scope.{Name}
 use Rattle.sqlite_resolve.specs.Terms.{conjuncts}
 use Rattle.sqlite_resolve.specs.Lowering.{Checked, take_slot}
 use Rattle.sqlite_resolve.specs.Expr.{lower}
 use Rattle.sqlite_resolve.specs.Body as body
 use Rattle.sqlite_resolve.specs.Program as program
-use Rattle.sqlite_resolve.specs.Compile.{compiled}
-use Rattle.sqlite.specs.Listing.{understood, reads_listing}
-use Rattle.sqlite.proofs.Callers.{IsPlain, command_of}
-use Rattle.office_ledger.specs.StatementMeans.{StatementMeans}
 use Rattle.office_ledger.proofs.Qualified.{at_budget}
 use Rattle.office_ledger.proofs.Scoped.{bound_of}
 use Rattle.office_ledger.proofs.Whole.{among}
@@ -37,10 +29,6 @@ use Rattle.office_ledger.proofs.Whole.{among}
 
 abbrev pub source_of : Bool → Name → Option Expr → Source
 source_of is_left name on = roll-Source (record { is_left = is_left; origin = origin.Table name; alias = None; on = on; using = [] })
-
-abbrev pub parsed_in : Result Parsed CompileError → Parsed
-parsed_in (Ok p) = p
-parsed_in (Err e) = record { statement = written.Empty; names = []; formats = []; start = 0; end = 0; tail = 0 }
 
 pub out_source : (is_left : Bool) (name : Name) (on : Option Expr) → out-Source (source_of is_left name on) ≡ record { is_left = is_left; origin = origin.Table name; alias = None; on = on; using = [] }
 out_source is_left name on = out-roll-Source (record { is_left = is_left; origin = origin.Table name; alias = None; on = on; using = [] })
@@ -75,16 +63,3 @@ module _ (schema : Schema) (bounds : List Bound) (shown : List Output) where
       → body.join lower (among schema bounds shown false true) bounds done (bound_of name place slot) (source_of true name (Some on)) s₁ ≡ r
   unfolding body.join body.shared
   joined_by done name place slot on table s₁ r found left = rw (found, out_source true name (Some on)) left
-
--- ---- what a caller asks of a statement
-
-unlisted_by : (schema : Schema) (text : List ℕ) (c : Compiled) → compiled schema text ≡ Ok c → reads_listing schema text ≡ false
-unlisted_by schema text c h = rw h
-
-understands : (schema : Schema) (text : List ℕ) (c : Compiled) → compiled schema text ≡ Ok c → understood schema text ≡ Ok c
-unfolding understood
-understands schema text c h = rw h
-
-pub means_by : (schema : Schema) (text : List ℕ) (c : Compiled) → IsPlain (Ok c) → compiled schema text ≡ Ok c → StatementMeans schema text c.command
-means_by schema text c plain h =
-    let u = understands schema text c h in record { is = ap command_of u; plain = subst IsPlain (sym u) plain; unlisted = unlisted_by schema text c h }

@@ -5,25 +5,23 @@ use Rattle.std.specs.List.Sorted.{IsPermutation}
 use Rattle.std.proofs.lemmas.Bool.{cases_Bool}
 use Rattle.std.proofs.lemmas.List.Sorted.{IsPermutation-refl, IsPermutation-trans, IsPermutation-cons, IsPermutation-append_comm, IsPermutation-append_left}
 use Rattle.std.specs.Cmp.{tied_itself}
-use Rattle.std.specs.FinMap.{IsAntisymmetric, nat_cmp-IsAntisymmetric, slice_cmp-IsAntisymmetric}
-use Rattle.std.proofs.lemmas.Map.Lookups.{exact_pairs}
+use Rattle.std.specs.FinMap.{IsAntisymmetric, nat_cmp-IsAntisymmetric}
 use Rattle.std.specs.Ordering.{is_eq, nat_cmp}
 use Rattle.sqlite_value.specs.declared.value.Value.{Value}
 use Rattle.sqlite_value.specs.Order.{Row, value_cmp}
 use Rattle.sqlite_value.proofs.OrderLemmas.{value_cmp_total}
 use Rattle.sqlite_trees.specs.Tree.{rowid, IsTable}
+use Rattle.sqlite_trees.specs.View.{is_int}
 use Rattle.sqlite_rules.specs.Lists.{Has}
 use Rattle.sqlite_rules.proofs.ListLemmas.{all_has, all_from}
 use Rattle.office_values.specs.Ids.{id_cmp}
 use Rattle.office_base.specs.Rows.{by_order, row_put}
+use Rattle.office_base.proofs.Orders.{equal_from_test}
+use Rattle.office_base.proofs.ExactKeys.{ids_exact, lots_exact, entries_exact}
 use Rattle.office_base.specs.Tables.{lot_cmp, entry_cmp, line_key, lot_key, contract_key, entry_key}
+use Rattle.office_tables.specs.Kept.{rows_kept}
 use Rattle.office_ledger.specs.Cells.{LineCells, LotCells, ContractCells, EntryCells, Paired}
-use Rattle.office_ledger.specs.Standing.{records_of, ShowsBy, StoredRowsShow}
-
-equal_is : (o : Ordering) → is_eq o ≡ true → o ≡ Equal
-equal_is Less h = absurd (true≢false (sym h))
-equal_is Equal h = refl
-equal_is Greater h = absurd (true≢false (sym h))
+use Rattle.office_ledger.specs.Standing.{ShowsBy, StoredRowsShow}
 
 less_differs : (a b : Row) → value_cmp (rowid a) (rowid b) ≡ Less → a ≡ b → ⊥
 less_differs a b l e = let t = tied_itself value_cmp_total (rowid b) in let m = ap (λ z. value_cmp (rowid z) (rowid b)) e in cc
@@ -49,39 +47,37 @@ module _ {K X : Type 0} (R : K → K → Ordering) (same : IsAntisymmetric R) (k
       by Greater e more = IsPermutation-trans (r ∷ x ∷ xs) (x ∷ r ∷ xs) (x ∷ row_put R key xs r) (IsPermutation-append_left xs (r ∷ x ∷ []) (x ∷ r ∷ []) (IsPermutation-append_comm (r ∷ []) (x ∷ []))) (IsPermutation-cons x (r ∷ xs) (row_put R key xs r) more)
 
   module _ (form : Value → X → Row) (decode : Row → X) where
-    all_records : (P : X → Type 0) (rows : List Row) → AllByRecursion (λ r. P (decode r)) rows → AllByRecursion P (records_of R key form decode rows)
+    all_records : (P : X → Type 0) (rows : List Row) → AllByRecursion (λ r. P (decode r)) rows → AllByRecursion P (rows_kept R key form decode rows)
     all_records P [] h = tt
-    all_records P (r ∷ rows) h = all_put P (decode r) (records_of R key form decode rows) h.0 (all_records P rows h.1)
+    all_records P (r ∷ rows) h = all_put P (decode r) (rows_kept R key form decode rows) h.0 (all_records P rows h.1)
 
-    shuffled : (rows : List Row) → IsTable rows → ((a b : Row) → Has rows a → Has rows b → key (decode a) ≡ key (decode b) → a ≡ b) → IsPermutation (map decode rows) (records_of R key form decode rows)
+    shuffled : (rows : List Row) → IsTable rows → ((a b : Row) → Has rows a → Has rows b → key (decode a) ≡ key (decode b) → a ≡ b) → IsPermutation (map decode rows) (rows_kept R key form decode rows)
     shuffled [] up one = IsPermutation-refl []
     shuffled (r ∷ rows) up one =
         let apart : AllByRecursion (λ y. Differs (decode r) (decode y)) rows = all_from _ rows (λ y h. elim (cases_Bool (is_eq (R (key (decode r)) (key (decode y))))) [
-          | inl tie ↦ absurd (less_differs r y (all_has _ rows y up.0 h) (one r y (inl refl) (inr h) (same (key (decode r)) (key (decode y)) (equal_is _ tie))))
+          | inl tie ↦ absurd (less_differs r y (all_has _ rows y up.0 h) (one r y (inl refl) (inr h) (same (key (decode r)) (key (decode y)) (equal_from_test _ tie))))
           | inr differs ↦ differs
         ]) in
-        IsPermutation-trans (decode r ∷ map decode rows) (decode r ∷ records_of R key form decode rows) (row_put R key (records_of R key form decode rows) (decode r))
+        IsPermutation-trans (decode r ∷ map decode rows) (decode r ∷ rows_kept R key form decode rows) (row_put R key (rows_kept R key form decode rows) (decode r))
         (IsPermutation-cons (decode r) _ _ (shuffled rows up.1 (λ a b h k e. one a b (inr h) (inr k) e)))
-        (put_new (decode r) (records_of R key form decode rows) (all_records (Differs (decode r)) rows apart))
+        (put_new (decode r) (rows_kept R key form decode rows) (all_records (Differs (decode r)) rows apart))
 
-    paired : (cells : Row → X → Type 0) → ((v : Value) (x : X) → cells (form v x) x) → (rows : List Row) → AllByRecursion (λ r. r ≡ form (rowid r) (decode r)) rows → Paired cells rows (map decode rows)
+    paired : (cells : Row → X → Type 0) → ((v : Value) (x : X) → cells (form v x) x) → (rows : List Row) → AllByRecursion (λ r. (is_int (rowid r) ≡ true) × (r ≡ form (rowid r) (decode r))) rows
+        → Paired cells rows (map decode rows)
     paired cells shows [] h = tt
-    paired cells shows (r ∷ rows) h = (subst (λ z. cells z (decode r)) (sym h.0) (shows (rowid r) (decode r)), paired cells shows rows h.1)
+    paired cells shows (r ∷ rows) h = (subst (λ z. cells z (decode r)) (sym h.0.1) (shows (rowid r) (decode r)), paired cells shows rows h.1)
 
   pub stored_show : (cells : Row → X → Type 0) → ShowsBy R key cells
   stored_show cells form decode shows rows xs h = record {
     stored = map decode rows;
-    paired = paired form decode cells shows rows h.each;
-    same = subst (IsPermutation (map decode rows)) h.is (shuffled form decode rows h.rising h.one);
+    paired = paired form decode cells shows rows h.kept.each;
+    same = subst (IsPermutation (map decode rows)) h.is (shuffled form decode rows h.kept.rising h.kept.one);
   }
-
-ids_exact : IsAntisymmetric id_cmp
-ids_exact = slice_cmp-IsAntisymmetric nat_cmp-IsAntisymmetric
 
 pub stored_rows_show : StoredRowsShow
 stored_rows_show = record {
   lines = stored_show id_cmp ids_exact line_key LineCells;
-  lots = stored_show lot_cmp (exact_pairs id_cmp id_cmp ids_exact ids_exact) lot_key LotCells;
+  lots = stored_show lot_cmp lots_exact lot_key LotCells;
   contracts = stored_show nat_cmp nat_cmp-IsAntisymmetric contract_key ContractCells;
-  entries = stored_show entry_cmp (exact_pairs nat_cmp id_cmp nat_cmp-IsAntisymmetric ids_exact) entry_key EntryCells;
+  entries = stored_show entry_cmp entries_exact entry_key EntryCells;
 }

@@ -9,7 +9,6 @@ pub mod Cells
 pub mod Parts
 pub mod Fits
 pub mod Known
-pub mod StatementMeans
 pub mod Shows
 pub mod Standing
 pub mod Reading

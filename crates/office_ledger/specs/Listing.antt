@@ -1,5 +1,5 @@
 -- What a list of amounts has taken.
-use Rattle.std.specs.Prelude.{◌≡◌, ℕ, ◌+◌, ◌-◌, ◌^◌, List, length}
+use Rattle.std.specs.Prelude.{◌≡◌, ◌+◌, ◌-◌, ◌^◌, List, length}
 use Rattle.office_ledger.specs.Inside.Listing.{listed, ContractListing, LotListing, all_reserved}
 use Rattle.office_ledger.specs.declared.joined.JoinedLot.{JoinedLot}
 

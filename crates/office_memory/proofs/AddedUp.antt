@@ -1,18 +1,16 @@
 -- Entries and lines added up.
-use Rattle.std.specs.Prelude.{◌≡◌, ℕ, ◌+◌, ◌^◌, ◌≤◌, List, [], ◌∷◌, ◌++◌, map, Some, None}
+use Rattle.std.specs.Prelude.{◌≡◌, ℕ, ◌+◌, ◌^◌, ◌≤◌, List, Some, None}
 use Rattle.std.proofs.Common.{sym, ap, ◌∙◌, subst, arith}
-use Rattle.std.proofs.lemmas.List.{append_assoc}
 use Rattle.office_base.specs.EntrySums.{sums_with_entry}
 use Rattle.office_base.specs.Tables.{Tables, IsSorted}
-use Rattle.office_base.specs.Joined.{reservations, sums_of_line, ledger_row}
+use Rattle.office_base.specs.Joined.{reservations, sums_of_line}
 use Rattle.office_base.specs.LineSums.{pots_with, SumsFit, JoinedSums}
 use Rattle.office_base.specs.declared.ledger.ContractSums.{ContractSums}
-use Rattle.office_base.specs.declared.ledger.LedgerRow.{LedgerRow}
 use Rattle.office_base.specs.declared.ledger.Pots.{Pots}
 use Rattle.office_base.specs.declared.records.EntryKind.{EntryKind}
 use Rattle.office_base.specs.declared.records.EntryKind.TheVariants.{Raise, Cut, Payment}
 use Rattle.office_base.specs.declared.records.LineRow.{LineRow}
-use Rattle.office_memory.specs.Inside.Adding.{HasRoom, IsLedgerRow, IsLedgerTo}
+use Rattle.office_memory.specs.Inside.Adding.{HasRoom, IsLedgerRow}
 
 -- an entry takes the room of one
 pub entry_room : (k : EntryKind) (amount : ℕ) (sums new : ContractSums) → new ≡ sums_with_entry k amount sums → amount ≤ 2 ^ 50 → (n : ℕ) → HasRoom (n + 1) sums → HasRoom n new
@@ -59,12 +57,3 @@ module _ (law : JoinedSums) (t : Tables) (sorted : IsSorted t) (row : LineRow) (
   -- where there are none, the line doesn't fit
   pub no_row : ¬ (SumsFit reserved sums) → IsLedgerRow t row None
   no_row unfit h = unfit (fits ((law t sorted row).fits.1 h))
-
--- a row more
-pub ledger_step : (t : Tables) (rows : List LedgerRow) (found : LedgerRow) (row : LineRow) (rest : List LineRow)
-    → IsLedgerTo t rows (row ∷ rest) → IsLedgerRow t row (Some found) → IsLedgerTo t (rows ++ found ∷ []) rest
-ledger_step t rows found row rest h is = record {
-  rows_are = append_assoc rows (found ∷ []) (map (ledger_row t) rest) ∙ ap (λ first. rows ++ first ∷ map (ledger_row t) rest) is.0 ∙ h.rows_are;
-  fit = λ all. h.fit (is.1, all);
-  unfit = λ all. (h.unfit all).1;
-}

@@ -1,4 +1,4 @@
--- Words of private clauses: no public clause speaks of them.
+-- Words of private clauses, and of those of indexes: no clause of the shelf speaks of them.
 pub mod Drops
 pub mod IdBounds
 pub mod GroupIndex

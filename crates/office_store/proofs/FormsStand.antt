@@ -1,5 +1,5 @@
 -- A table that stands in its form is one of the office's.
-use Rattle.std.proofs.Common.{◌≡◌, ◌⊎◌, inl, inr, ℕ, zero, suc, ◌+◌, ◌<◌, ◌==◌, ◌^◌, Bool, true, false, List, [], ◌∷◌, Option, Some, None, length, filter, slice_get, nat_le, refl, sym, ap, subst, ◌∙◌, IsTrue, arith}
+use Rattle.std.proofs.Common.{◌≡◌, ◌⊎◌, inl, inr, ℕ, zero, suc, ◌+◌, ◌<◌, ◌==◌, ◌^◌, true, false, List, [], ◌∷◌, Option, Some, None, length, filter, slice_get, nat_le, refl, sym, ap, subst, ◌∙◌, IsTrue, arith}
 use Rattle.std.proofs.lemmas.Bool.Decides.{nat_tests}
 use Rattle.std.proofs.lemmas.Bool.{eq-eqb}
 use Rattle.std.specs.Prelude.{is_some, ◌&&◌}
@@ -12,11 +12,10 @@ use Rattle.sqlite_catalog.specs.Listing.{IsGuarded, IsTableRow, automatic}
 use Rattle.sqlite_catalog.proofs.AlterLemmas.{place_has}
 use Rattle.sqlite_catalog.proofs.LayoutLemmas.{zipped_left}
 use Rattle.sqlite.specs.Effect.{Database, IsDatabase}
-use Rattle.office_tables.specs.First.{has_table}
 use Rattle.office_tables.specs.Known.{IsIn, at_tree, key_indexes}
 use Rattle.office_tables.specs.Schema.{OfficeTable, table_of}
 use Rattle.office_tables.proofs.Each.{each}
-use Rattle.office_store.specs.Forms.{HasForms, ListsForms, StandsAlike, StandsOrLacks, came_later, index_count}
+use Rattle.office_store.specs.Forms.{HasForms, ListsForms, StandsAlike, StandsOrLacks, index_count}
 
 -- ---- a list of one
 
@@ -97,8 +96,8 @@ module _ (db : Database) (sound : IsDatabase db) (form : Table) (key : HasKey fo
 as_table : (schema : Schema) (it : Table) (m n : ℕ) → IsIn schema (at_tree it m) n → IsIn schema it n
 as_table schema _ m n it = record { place = it.place; named = it.named; found = it.found; alone = it.alone; stored = it.stored; index = it.index; guarded = it.guarded }
 
-pub forms_stand : (first : Bool) (db : Database) (forms : Schema) → IsDatabase db → ListsForms forms → ((form : Table) → Has forms.tables form → StandsOrLacks first db.schema form) → HasForms first db.schema
-forms_stand first db forms sound lists each k =
+pub forms_stand : (edition : ℕ) (db : Database) (forms : Schema) → IsDatabase db → ListsForms forms → ((form : Table) → Has forms.tables form → StandsOrLacks edition db.schema form) → HasForms edition db.schema
+forms_stand edition db forms sound lists each k =
     let listed = lists k in
     elim (each (at_tree (table_of k) listed.0) listed.1) [
       | inl stands ↦ inl (stands.tree, as_table db.schema (table_of k) listed.0 stands.tree (is_in db sound (at_tree (table_of k) listed.0) (keyed k) stands))

@@ -16,11 +16,11 @@ use Rattle.sqlite.specs.Steps.{over_memory, IsEmpty}
 use Rattle.office_base.specs.Tables.{no_tables}
 use Rattle.office_tables.specs.Making.{Founds, KeepsOthers}
 use Rattle.office_tables.specs.Standing.{Holds}
-use Rattle.office_tables.specs.Steps.{Refused, ShowsTables}
+use Rattle.office_tables.specs.Steps.{IsAsked, Refused, ShowsTables}
 use Rattle.office_tables.specs.Version.{get_version, HasNoVersion}
 use Rattle.office_store.specs.declared.opened.Origin.{Origin}
 use Rattle.office_store.specs.declared.opened.Origin.TheVariants as from
-use Rattle.office_store.specs.Founding.{Founded, LeavesNew, LeavesOffice, IsSoundOpen, is_version_one, is_version_two, Answered, Enters, takes_a_name}
+use Rattle.office_store.specs.Founding.{Founded, LeavesNew, LeavesOffice, IsSoundOpen, Enters, takes_a_name}
 use Rattle.office_store.specs.SqlMeaning.{LeavesShown}
 
 sound_now : (old : State) → (IsTrue old.is_open → old.now ≡ old.committed) → IsSoundOpen old → IsTrue old.is_open → IsDatabase old.now
@@ -82,13 +82,13 @@ unfolding understood everything listing_schema is_understood
 unanswered = refl
 
 -- there nothing answers
-no_version : {S : Type 0} (g : Ghosts S) (old : Held S) (passes : List Row → Bool) → old.schema ≡ no_schema → Answered g old passes → ⊥
+no_version : {S : Type 0} (g : Ghosts S) (old : Held S) (rows : List Row) → old.schema ≡ no_schema → IsAsked g get_version [] old rows → ⊥
 unfolding Shown is_understood
-no_version g old passes none (rows, asked, is) = true≢false (sym (ap is_understood asked.shown.1.is) ∙ ap (λ s. is_understood (understood s get_version)) none ∙ unanswered)
+no_version g old rows none asked = true≢false (sym (ap is_understood asked.shown.1.is) ∙ ap (λ s. is_understood (understood s get_version)) none ∙ unanswered)
 
 pub enters_bare : {S : Type 0} (g : Ghosts S) (origin : Origin) (old new : Held S) → old.schema ≡ no_schema → Enters g origin old new → ShowsTables (state g new) no_tables
-enters_bare g from.Found old new bare entered = absurd (no_version g old is_version_two bare entered.0)
-enters_bare g from.Migrated old new bare entered = absurd (no_version g old is_version_one bare entered.0)
+enters_bare g from.Found old new bare entered = absurd (no_version g old entered.0.0 bare entered.0.1)
+enters_bare g from.Migrated old new bare entered = absurd (no_version g old entered.1.0 bare entered.1.1)
 enters_bare g from.Made old new bare made = λ is_open. made.2.tables
 
 pub enters_empty : (origin : Origin) (old new : Held MemStore) → IsEmpty (state over_memory old) → Enters over_memory origin old new → ShowsTables (state over_memory new) no_tables

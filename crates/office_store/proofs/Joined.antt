@@ -1,51 +1,30 @@
 -- A database that holds an office holds the tables that are joined.
 use Rattle.std.specs.Prelude.{map}
-use Rattle.std.proofs.Common.{◌≡◌, ◌⊎◌, inl, inr, ℕ, Bool, true, false, cond, find, ◌==◌, List, [], ◌∷◌, Some, refl, sym, ap, subst, ◌∙◌, true≢false}
-use Rattle.std.specs.declared.cmp.Ordering.{Ordering}
-use Rattle.std.specs.Ordering.{nat_cmp}
-use Rattle.std.proofs.lemmas.Bool.{eqb-true, eq-eqb}
-use Rattle.sqlite_value.specs.declared.value.Value.{Value}
+use Rattle.std.proofs.Common.{◌≡◌, ℕ, true, List, [], ◌∷◌, refl, sym, subst}
 use Rattle.sqlite_value.specs.declared.value.Value.TheVariants.{Text}
 use Rattle.sqlite_value.specs.Order.{Row}
-use Rattle.sqlite_trees.specs.Tree.{rowid}
-use Rattle.sqlite_trees.specs.View.{is_int}
-use Rattle.sqlite_trees.proofs.ListLemmas.{all_weaker}
 use Rattle.sqlite_trees.specs.declared.store.Store.{Ghosts}
-use Rattle.sqlite_rules.specs.Lists.{Has}
 use Rattle.sqlite_schema.specs.declared.schema.Schema.{Schema}
 use Rattle.sqlite_schema.specs.declared.schema.Table.{Table}
-use Rattle.sqlite_catalog.proofs.AlterLemmas.{place_has}
 use Rattle.sqlite.specs.Effect.{Database}
 use Rattle.sqlite.specs.Held.{Held, state}
-use Rattle.office_values.specs.Ids.{id_cmp}
-use Rattle.office_base.specs.Rows.{row_put}
-use Rattle.office_base.specs.Tables.{Tables, IsSorted, line_key, lot_key, lot_cmp, contract_key, entry_key, entry_cmp}
+use Rattle.office_base.specs.Tables.{Tables, IsSorted}
 use Rattle.office_tables.specs.Tables.Lines.{line_form}
 use Rattle.office_tables.specs.Tables.Lots.{lot_form}
 use Rattle.office_tables.specs.Tables.Contracts.{contract_values, contract_read}
 use Rattle.office_tables.specs.Tables.Entries.{entry_form}
-use Rattle.office_tables.specs.Kept.{rows_kept as kept_of, by_rowid, read_by_rowid, Stand}
+use Rattle.office_tables.specs.Kept.{by_rowid, read_by_rowid}
 use Rattle.office_tables.specs.Known.{IsIn, at_tree}
 use Rattle.office_tables.specs.Schema.{table_of}
 use Rattle.office_tables.specs.Standing.{Holds}
 use Rattle.office_tables.specs.Steps.{IsAsked, ShowsTables}
 use Rattle.office_tables.specs.Schema.OfficeTable.{Lines, Lots, Contracts, Entries}
-use Rattle.office_ledger.specs.Joins.{joined, joined_lots}
-use Rattle.office_ledger.specs.Cells.{joined_cells}
+use Rattle.office_tables.proofs.Selecting.{found_by_tree}
+use Rattle.office_ledger.specs.Joins.{joined_lots}
 use Rattle.office_ledger.specs.Known.{Holds as HasTable}
-use Rattle.office_ledger.specs.Select.{list_joined}
 use Rattle.office_ledger.specs.SelectLots.{list_joined_of_line}
-use Rattle.office_ledger.specs.Shows.{HoldsJoined, JoinIsShown, LotsAreShown, joined_lot_cells}
-use Rattle.office_ledger.specs.Standing.{records_of, StandFor, StoredRowsShow}
-
-find_only : (n : ℕ) (x : Table) (xs : List Table) → Has xs x → x.tree ≡ n → ((y : Table) → Has xs y → y.tree ≡ n → y ≡ x) → find (λ t. t.tree == n) xs ≡ Some x
-find_only n x [] there is alone = absurd there
-find_only n x (y ∷ ys) there is alone = by (y.tree == n) refl there (λ more. find_only n x ys more is (λ z h. alone z (inr h)))
-  where
-    by : (b : Bool) → (y.tree == n) ≡ b → (x ≡ y) ⊎ Has ys x → (Has ys x → find (λ t. t.tree == n) ys ≡ Some x) → cond b (Some y) (find (λ t. t.tree == n) ys) ≡ Some x
-    by true e h rest = ap Some (alone y (inl refl) (eqb-true y.tree n e))
-    by false e (inl same) rest = absurd (true≢false (sym (eq-eqb y.tree n (ap (λ (t : Table). t.tree) (sym same) ∙ is)) ∙ e))
-    by false e (inr more) rest = rest more
+use Rattle.office_ledger.specs.Shows.{HoldsJoined, LotsAreShown, joined_lot_cells}
+use Rattle.office_ledger.specs.Standing.{StoredRowsShow}
 
 known : (schema : Schema) (table : Table) (n : ℕ) → IsIn schema table n → HasTable schema table.name table.columns table.key n
 known schema table n it = record {
@@ -56,22 +35,9 @@ known schema table n it = record {
   columns_are = refl;
   key_is = refl;
   tree_is = refl;
-  alone = find_only n (at_tree table n) schema.tables (place_has schema.tables it.place (at_tree table n) it.found) refl it.alone;
+  alone = found_by_tree schema table n it;
   stored = it.stored;
 }
-
-module _ {K X : Type 0} (R : K → K → Ordering) (key : X → K) (form : Value → X → Row) (decode : Row → X) where
-  same_records : (rows : List Row) → records_of R key form decode rows ≡ kept_of R key form decode rows
-  same_records [] = refl
-  same_records (r ∷ rows) = ap (λ xs. row_put R key xs (decode r)) (same_records rows)
-
-  stands : (rows : List Row) (xs : List X) → Stand R key form decode rows xs → StandFor R key form decode rows xs
-  stands rows xs it = record {
-    rising = it.kept.rising;
-    each = all_weaker (λ r. (is_int (rowid r) ≡ true) × (r ≡ form (rowid r) (decode r))) (λ r. r ≡ form (rowid r) (decode r)) (λ r h. h.1) rows it.kept.each;
-    one = it.kept.one;
-    is = same_records rows ∙ it.is;
-  }
 
 pub holds_joined : StoredRowsShow → (db : Database) (t : Tables) → IsSorted t → Holds db t → HoldsJoined db t
 holds_joined show db t sorted it = record {
@@ -83,20 +49,15 @@ holds_joined show db t sorted it = record {
     entries = known db.schema (table_of Entries) (it.places Entries) (it.tables Entries);
   };
   sorted = sorted;
-  lines = show.lines line_form.stored line_form.back (λ v x. record { line = refl; appropriation = refl; free = refl }) (db.trees (it.places Lines)) t.lines (stands id_cmp line_key line_form.stored line_form.back (db.trees (it.places Lines)) t.lines (it.stands Lines));
-  lots = show.lots lot_form.stored lot_form.back (λ v x. record { notice = refl; lot = refl; line = refl; reserved = refl }) (db.trees (it.places Lots)) t.lots (stands lot_cmp lot_key lot_form.stored lot_form.back (db.trees (it.places Lots)) t.lots (it.stands Lots));
-  contracts = show.contracts (by_rowid contract_values) (read_by_rowid contract_read) (λ v x. record { contract = refl; notice = refl; lot = refl; signed = refl; released = refl }) (db.trees (it.places Contracts)) t.contracts
-      (stands nat_cmp contract_key (by_rowid contract_values) (read_by_rowid contract_read) (db.trees (it.places Contracts)) t.contracts (it.stands Contracts));
-  entries = show.entries entry_form.stored entry_form.back (λ v x. record { contract = refl; entry = refl; kind = refl; amount = refl }) (db.trees (it.places Entries)) t.entries
-      (stands entry_cmp entry_key entry_form.stored entry_form.back (db.trees (it.places Entries)) t.entries (it.stands Entries));
+  lines = show.lines line_form.stored line_form.back (λ v x. record { line = refl; appropriation = refl; free = refl }) (db.trees (it.places Lines)) t.lines (it.stands Lines);
+  lots = show.lots lot_form.stored lot_form.back (λ v x. record { notice = refl; lot = refl; line = refl; reserved = refl }) (db.trees (it.places Lots)) t.lots (it.stands Lots);
+  contracts = show.contracts (by_rowid contract_values) (read_by_rowid contract_read) (λ v x. record { contract = refl; notice = refl; lot = refl; signed = refl; released = refl }) (db.trees (it.places Contracts)) t.contracts (it.stands Contracts);
+  entries = show.entries entry_form.stored entry_form.back (λ v x. record { contract = refl; entry = refl; kind = refl; amount = refl }) (db.trees (it.places Entries)) t.entries (it.stands Entries);
 }
 
 module _ {S : Type 0} (g : Ghosts S) (show : StoredRowsShow) (old : Held S) (rows : List Row) (t : Tables) (sorted : IsSorted t) (shows : ShowsTables (state g old) t) where
   held : (sql : List ℕ) (params : Row) → IsAsked g sql params old rows → HoldsJoined (state g (record old { in_transaction = true })).now t
   held sql params it = holds_joined show (state g old).now t sorted (subst (λ d. Holds d t) (sym it.settled) (shows it.was_open))
-
-  pub asked_joined : JoinIsShown g → IsAsked g list_joined [] old rows → rows ≡ map joined_cells (joined t)
-  asked_joined law it = law (record old { in_transaction = true }) it.after t rows (held list_joined [] it) it.shown
 
   pub asked_lots : LotsAreShown g → (line : List ℕ) → IsAsked g list_joined_of_line (Text line ∷ []) old rows → rows ≡ map joined_lot_cells (joined_lots line t)
   asked_lots law line it = law (record old { in_transaction = true }) it.after t line rows (held list_joined_of_line (Text line ∷ []) it) it.shown

@@ -1,6 +1,7 @@
--- An office of version 1 becomes one of version 2 as it is opened.
-use Rattle.std.proofs.Common.{◌≡◌, inl, inr, ℕ, Bool, true, false, List, [], refl, sym, ap, subst, ◌∙◌, IsTrue, true≢false}
-use Rattle.std.specs.Prelude.{not, ◌&&◌}
+-- An office of an earlier edition becomes one as this program makes it as it is opened.
+use Rattle.std.proofs.Common.{◌≡◌, inl, inr, ℕ, zero, suc, Bool, true, false, List, [], refl, sym, ap, subst, ◌∙◌, IsTrue, true≢false, arith}
+use Rattle.std.specs.Prelude.{not, ◌&&◌, cond, nat_lt, nat_le}
+use Rattle.std.proofs.lemmas.Bool.{and_from, and_parts, leb-true, le-leb, lt-ltb, ltb-false, ltb-true, not-false}
 use Rattle.sqlite_value.specs.Order.{Row}
 use Rattle.sqlite_trees.specs.Tree.{Trees}
 use Rattle.sqlite_trees.specs.declared.store.Store.{Ghosts}
@@ -10,12 +11,14 @@ use Rattle.sqlite.specs.State.{State}
 use Rattle.office_base.specs.Tables.{Tables}
 use Rattle.office_base.specs.declared.records.ClockRow.{ClockRow}
 use Rattle.office_base.specs.declared.records.NoticeRow.{NoticeRow}
-use Rattle.office_tables.specs.First.{has_late, HoldsFirst, ShowsFirst, ShowsOffice, IsMigrated}
+use Rattle.office_tables.specs.Earlier.{HoldsEdition, IsMigrated, ShowsEdition, ShowsOffice, former_part, had_former}
+use Rattle.office_tables.specs.Editions.{edition_of, has_late, version_of}
 use Rattle.office_tables.specs.Steps.{IsAsked, Refused, ShowsTables}
+use Rattle.office_tables.specs.Tables.Office.{this_version}
 use Rattle.office_tables.specs.Version.{get_version, one_version, ShowsVersion}
-use Rattle.office_tables.proofs.FirstVersion.{first_version, second_version}
-use Rattle.office_changes.specs.Migration.{HoldsThese, Migrates, LeavesSecond}
-use Rattle.office_store.specs.Founding.{Migrated, LeavesMigrated, LeavesReadied, LeavesOffice, IsMadeCurrent, Enters, is_version_one, is_version_two, is_other_version, origin_of}
+use Rattle.office_tables.proofs.EarlierEditions.{current_is, current_version, edition_is, edition_version}
+use Rattle.office_changes.specs.Migration.{HoldsThese, Migrates, LeavesCurrent}
+use Rattle.office_store.specs.Founding.{Migrated, LeavesMigrated, LeavesReadied, LeavesOffice, IsMadeCurrent, Enters, version_in, is_other_version, origin_of}
 use Rattle.office_store.specs.Forms.{HasForms}
 use Rattle.office_store.specs.Others.{KeepsRest, leads_there}
 use Rattle.office_store.proofs.Founding.{refused_on}
@@ -24,61 +27,59 @@ use Rattle.office_store.proofs.Shelves.{still_shows}
 
 -- ---- after a look that was refused
 
-first_after : (old mid : State) (t : Tables) → Refused old mid → IsTrue mid.is_open → HoldsFirst old.committed t → HoldsFirst mid.committed t
-first_after old mid t kept open_now = subst (λ (d : Database). HoldsFirst d t) (sym (kept.committed open_now))
+earlier_after : (edition : ℕ) (old mid : State) (t : Tables) → Refused old mid → IsTrue mid.is_open → HoldsEdition edition old.committed t → HoldsEdition edition mid.committed t
+earlier_after edition old mid t kept open_now = subst (λ (d : Database). HoldsEdition edition d t) (sym (kept.committed open_now))
 
 -- what came of it came of what stood before the look
-moved_after : (old mid : State) (t : Tables) (new : Database) → Refused old mid → IsTrue mid.is_open → IsMigrated t mid.committed new → IsMigrated t old.committed new
-moved_after old mid t new kept open_now = subst (λ (d : Database). IsMigrated t d new) (kept.committed open_now)
+moved_after : (edition : ℕ) (old mid : State) (t : Tables) (new : Database) → Refused old mid → IsTrue mid.is_open → IsMigrated edition t mid.committed new → IsMigrated edition t old.committed new
+moved_after edition old mid t new kept open_now = subst (λ (d : Database). IsMigrated edition t d new) (kept.committed open_now)
 
-rest_after : (old mid : State) (new : Database) → Refused old mid → IsTrue mid.is_open → KeepsRest mid.committed new → KeepsRest old.committed new
-rest_after old mid new kept open_now = subst (λ (d : Database). KeepsRest d new) (kept.committed open_now)
+rest_after : (edition : ℕ) (old mid : State) (new : Database) → Refused old mid → IsTrue mid.is_open → KeepsRest edition mid.committed new → KeepsRest edition old.committed new
+rest_after edition old mid new kept open_now = subst (λ (d : Database). KeepsRest edition d new) (kept.committed open_now)
 
-pub first_on : (old mid : State) (t : Tables) → Refused old mid → ShowsFirst old t → ShowsFirst mid t
-first_on old mid t kept shows open_now = first_after old mid t kept open_now (shows (kept.was_open open_now))
+pub earlier_on : (edition : ℕ) (old mid : State) (t : Tables) → Refused old mid → ShowsEdition edition old t → ShowsEdition edition mid t
+earlier_on edition old mid t kept shows open_now = earlier_after edition old mid t kept open_now (shows (kept.was_open open_now))
 
-migrated_after : (old mid new : State) → Refused old mid → Migrated mid new → Migrated old new
-migrated_after old mid new kept it = record {
+migrated_after : (edition : ℕ) (old mid new : State) → Refused old mid → Migrated edition mid new → Migrated edition old new
+migrated_after edition old mid new kept it = record {
   was_open = kept.was_open it.was_open;
   is_open = it.is_open;
-  tables = λ t was. moved_after old mid t new.committed kept it.was_open (it.tables t (first_after old mid t kept it.was_open was));
-  free = subst (λ (d : Database). leads_there d.schema ≡ false) (kept.committed it.was_open) it.free;
-  rest = λ t was. rest_after old mid new.committed kept it.was_open (it.rest t (first_after old mid t kept it.was_open was));
+  tables = λ t was. moved_after edition old mid t new.committed kept it.was_open (it.tables t (earlier_after edition old mid t kept it.was_open was));
+  free = subst (λ (d : Database). leads_there edition d.schema ≡ false) (kept.committed it.was_open) it.free;
+  rest = λ t was. rest_after edition old mid new.committed kept it.was_open (it.rest t (earlier_after edition old mid t kept it.was_open was));
   only = it.only;
 }
 
-pub readied_after : (first : Bool) (old mid new : State) → Refused old mid → IsMadeCurrent first mid new → IsMadeCurrent first old new
-readied_after true old mid new kept it = (subst (λ (d : Database). HasForms true d.schema) (kept.committed it.1.was_open) it.0, migrated_after old mid new kept it.1)
-readied_after false old mid new kept it = (λ open_now. subst (λ (d : Database). HasForms false d.schema) (kept.committed (it.1.was_open open_now)) (it.0 open_now), refused_on old mid new kept it.1)
+pub readied_after : (earlier : Bool) (edition : ℕ) (old mid new : State) → Refused old mid → IsMadeCurrent earlier edition mid new → IsMadeCurrent earlier edition old new
+readied_after true edition old mid new kept it = (subst (λ (d : Database). HasForms edition d.schema) (kept.committed it.1.was_open) it.0, migrated_after edition old mid new kept it.1)
+readied_after false edition old mid new kept it =
+    (λ open_now. subst (λ (d : Database). HasForms edition d.schema) (kept.committed (it.1.was_open open_now)) (it.0 open_now), refused_on old mid new kept it.1)
 
-leaves_migrated_before : (old mid : State) (db : Trees) → Refused old mid → LeavesMigrated mid db → LeavesMigrated old db
-leaves_migrated_before old mid db kept it = (
+leaves_migrated_before : (edition : ℕ) (old mid : State) (db : Trees) → Refused old mid → LeavesMigrated edition mid db → LeavesMigrated edition old db
+leaves_migrated_before edition old mid db kept it = (
   kept.was_open it.0,
-  λ t was. let left = it.1 t (first_after old mid t kept it.0 was) in (left.0, left.1, moved_after old mid t left.0 kept it.0 left.2, rest_after old mid left.0 kept it.0 left.3),
+  λ t was. let left = it.1 t (earlier_after edition old mid t kept it.0 was) in (left.0, left.1, moved_after edition old mid t left.0 kept it.0 left.2, rest_after edition old mid left.0 kept it.0 left.3),
 )
 
-pub leaves_readied_before : {S : Type 0} (g : Ghosts S) (old mid : Held S) (rows : List Row) (db : Trees) → IsAsked g get_version [] old rows → Refused (state g old) (state g mid)
-    → LeavesReadied (is_version_one rows) (state g mid) db → LeavesOffice g old db
-leaves_readied_before g old mid rows db asked kept it = inr ((rows, asked, it.0), leaves_migrated_before (state g old) (state g mid) db kept it.1)
+pub leaves_readied_before : {S : Type 0} (g : Ghosts S) (old mid : Held S) (rows : List Row) (edition : ℕ) (db : Trees) → IsAsked g get_version [] old rows → is_other_version rows ≡ false
+    → edition_of (version_in rows) (has_late old.schema) ≡ edition → Refused (state g old) (state g mid) → LeavesReadied edition (state g mid) db → LeavesOffice g old db
+leaves_readied_before g old mid rows edition db asked known is kept it =
+    inr (edition, (rows, asked, known, is), (it.0, leaves_migrated_before edition (state g old) (state g mid) db kept it.1))
 
 -- ---- with the clock and the notices that stood there
 
-module _ (b : Bool) (clock : ClockRow) (notices : List NoticeRow) (old mid : State) (kept : Refused old mid) (there : IsTrue old.is_open → has_late old.committed.schema ≡ b)
-    (apart : IsTrue old.is_open → leads_there old.committed.schema ≡ false)
-    (clock_is : (t : Tables) → ShowsFirst old t → clock ≡ t.clock) (notices_are : (t : Tables) → ShowsFirst old t → notices ≡ t.notices) where
-  as_told : IsTrue mid.is_open → (t : Tables) → HoldsFirst old.committed t → HoldsThese b clock notices mid.committed t
-  as_told open_now t was = record {
-    held = first_after old mid t kept open_now was;
-    late_is = subst (λ (d : Database). has_late d.schema ≡ b) (sym (kept.committed open_now)) (there (kept.was_open open_now));
-    clock_is = sym (clock_is t (λ _. was));
-    notices_are = sym (notices_are t (λ _. was));
-  }
+module _ (edition : ℕ) (clock : ClockRow) (notices : List NoticeRow) (old mid : State) (kept : Refused old mid) (apart : IsTrue old.is_open → leads_there edition old.committed.schema ≡ false)
+    (clock_is : (t : Tables) → ShowsEdition edition old t → clock ≡ t.clock) (notices_are : (t : Tables) → ShowsEdition edition old t → notices ≡ former_part (had_former edition) t.notices) where
+  as_told : IsTrue mid.is_open → (t : Tables) → HoldsEdition edition old.committed t → HoldsThese edition clock notices mid.committed t
+  as_told open_now t was = record { held = earlier_after edition old mid t kept open_now was; clock_is = sym (clock_is t (λ _. was)); notices_are = sym (notices_are t (λ _. was)) }
 
   -- what came of it, and what stayed beside it
-  moved : (new : Database) (t : Tables) → IsTrue mid.is_open → IsMigrated t mid.committed new → IsMigrated t old.committed new × KeepsRest old.committed new
-  moved new t open_now it = let whole = moved_after old mid t new kept open_now it in (whole, keeps_rest t old.committed new whole (apart (kept.was_open open_now)))
+  moved : (new : Database) (t : Tables) → IsTrue mid.is_open → IsMigrated edition t mid.committed new → IsMigrated edition t old.committed new × KeepsRest edition old.committed new
+  moved new t open_now it =
+      let whole = moved_after edition old mid t new kept open_now it in
+      (whole, keeps_rest edition t old.committed new whole (apart (kept.was_open open_now)))
 
-  pub from_told : (new : State) → Migrates b clock notices mid new → Migrated old new
+  pub from_told : (new : State) → Migrates edition clock notices mid new → Migrated edition old new
   from_told new it = record {
     was_open = kept.was_open it.was_open;
     is_open = it.is_open;
@@ -88,52 +89,71 @@ module _ (b : Bool) (clock : ClockRow) (notices : List NoticeRow) (old mid : Sta
     only = it.only;
   }
 
-  pub told_leaves : (db : Trees) → LeavesSecond b clock notices mid db → LeavesMigrated old db
+  pub told_leaves : (db : Trees) → LeavesCurrent edition clock notices mid db → LeavesMigrated edition old db
   told_leaves db it = (
     kept.was_open it.0,
     λ t was. let left = it.1 t (as_told it.0 t was) in let both = moved left.0 t it.0 left.2 in (left.0, left.1, both.0, both.1),
   )
 
--- what the schema says of the table of late withdrawals is what the last commit's says
-pub late_committed : {S : Type 0} (g : Ghosts S) (old : Held S) → (IsTrue (state g old).is_open → (state g old).now ≡ (state g old).committed) → (b : Bool) → has_late old.schema ≡ b
-    → IsTrue (state g old).is_open → has_late (state g old).committed.schema ≡ b
-late_committed g old settled b is open_now = sym (ap (λ (d : Database). has_late d.schema) (settled open_now)) ∙ is
+-- what the schema says of what others have is what the last commit's says
+pub apart_committed : {S : Type 0} (g : Ghosts S) (edition : ℕ) (old : Held S) → (IsTrue (state g old).is_open → (state g old).now ≡ (state g old).committed) → leads_there edition old.schema ≡ false
+    → IsTrue (state g old).is_open → leads_there edition (state g old).committed.schema ≡ false
+apart_committed g edition old settled is open_now = sym (ap (λ (d : Database). leads_there edition d.schema) (settled open_now)) ∙ is
 
--- and so of what others have
-pub apart_committed : {S : Type 0} (g : Ghosts S) (old : Held S) → (IsTrue (state g old).is_open → (state g old).now ≡ (state g old).committed) → leads_there old.schema ≡ false
-    → IsTrue (state g old).is_open → leads_there (state g old).committed.schema ≡ false
-apart_committed g old settled is open_now = sym (ap (λ (d : Database). leads_there d.schema) (settled open_now)) ∙ is
+-- and so of the table of late withdrawals
+pub late_committed : {S : Type 0} (g : Ghosts S) (old : Held S) → (IsTrue (state g old).is_open → (state g old).now ≡ (state g old).committed) → IsTrue (state g old).is_open
+    → has_late old.schema ≡ has_late (state g old).committed.schema
+late_committed g old settled open_now = ap (λ (d : Database). has_late d.schema) (settled open_now)
 
 -- ---- which version answers
 
+-- that of an earlier edition is known
+knows_earlier : (edition : ℕ) → nat_lt edition this_version ≡ true → is_other_version (one_version (version_of edition)) ≡ false
+knows_earlier zero early = refl
+knows_earlier (suc edition) early = ap not (and_from _ _ (lt-ltb 0 (suc edition) (omega arith)) (le-leb (suc edition) this_version (omega (arith, ltb-true (suc edition) this_version early))))
+
 module _ {S : Type 0} (g : Ghosts S) (old : Held S) (rows : List Row) (one : (n : ℕ) (clock : ClockRow) → ShowsVersion n clock (state g old) → rows ≡ one_version n) where
-  -- an office of either version is no other
+  -- an office of any of these versions is no other
   pub never_other : (t : Tables) → ShowsOffice (state g old) t → IsTrue (state g old).is_open → is_other_version rows ≡ true → ⊥
   never_other t shows open_now other = elim (shows open_now) [
-    | inl was ↦ true≢false (sym other ∙ ap is_other_version (one 2 t.clock (λ _. second_version (state g old).committed t was)))
-    | inr was ↦ true≢false (sym other ∙ ap is_other_version (one 1 t.clock (λ _. first_version (state g old).committed t was)))
+    | inl was ↦ true≢false (sym other ∙ ap is_other_version (one this_version t.clock (λ _. current_version (state g old).committed t was)))
+    | inr was ↦ true≢false (sym other ∙ ap is_other_version (one (version_of was.0) t.clock (λ _. edition_version was.0 (state g old).committed t was.2)) ∙ knows_earlier was.0 was.1)
   ]
 
   -- what stood is shown after it was used as it was or migrated
-  pub readied_shows : (new : State) (t : Tables) → ShowsOffice (state g old) t → IsTrue (state g old).is_open → IsMadeCurrent (is_version_one rows) (state g old) new → ShowsTables new t
-  readied_shows new t shows open_now it = elim (shows open_now) [
-    | inl was ↦ (
-        let used : IsMadeCurrent false (state g old) new = subst (λ b. IsMadeCurrent b (state g old) new) (ap is_version_one (one 2 t.clock (λ _. second_version (state g old).committed t was))) it in
-        still_shows (state g old) new t used.1 (λ _. was))
-    | inr was ↦ (
-        let moved : IsMadeCurrent true (state g old) new = subst (λ b. IsMadeCurrent b (state g old) new) (ap is_version_one (one 1 t.clock (λ _. first_version (state g old).committed t was))) it in
-        λ _. (moved.1.tables t was).held)
-  ]
+  module _ (edition : ℕ) (is : edition_of (version_in rows) (has_late old.schema) ≡ edition) (late : has_late old.schema ≡ has_late (state g old).committed.schema) where
+    told : (n e : ℕ) → rows ≡ one_version n → edition_of n (has_late (state g old).committed.schema) ≡ e → edition ≡ e
+    told n e answer so = sym is ∙ ap (λ r. edition_of (version_in r) (has_late old.schema)) answer ∙ ap (edition_of n) late ∙ so
 
-two_left : (a b : Bool) → a ≡ false → (not a && not b) ≡ false → b ≡ true
-two_left a true apart both = refl
-two_left a false apart both = absurd (true≢false (ap (λ x. not x && true) (sym apart) ∙ both))
+    pub readied_shows : (new : State) (t : Tables) → ShowsOffice (state g old) t → IsTrue (state g old).is_open → IsMadeCurrent (nat_lt edition this_version) edition (state g old) new → ShowsTables new t
+    readied_shows new t shows open_now it = elim (shows open_now) [
+      | inl was ↦ (
+          let same = told this_version this_version (one this_version t.clock (λ _. current_version (state g old).committed t was)) (current_is (state g old).committed t was) in
+          let used : IsMadeCurrent false this_version (state g old) new = subst (λ e. IsMadeCurrent (nat_lt e this_version) e (state g old) new) same it in
+          still_shows (state g old) new t used.1 (λ _. was))
+      | inr was ↦ (
+          let same = told (version_of was.0) was.0 (one (version_of was.0) t.clock (λ _. edition_version was.0 (state g old).committed t was.2)) (edition_is was.0 (state g old).committed t was.2) in
+          let as_it_was = subst (λ e. IsMadeCurrent (nat_lt e this_version) e (state g old) new) same it in
+          let moved : IsMadeCurrent true was.0 (state g old) new = subst (λ b. IsMadeCurrent b was.0 (state g old) new) was.1 as_it_was in
+          λ _. (moved.1.tables t was.2).held)
+    ]
 
--- what answered was one of the two
+-- where this program knows the version, and the edition isn't earlier, it is this program's
+not_earlier : (first : Bool) (version : ℕ) → nat_le version this_version ≡ true → nat_lt (cond first 0 version) this_version ≡ false → cond first 0 version ≡ this_version
+not_earlier true version known later = absurd (true≢false later)
+not_earlier false version known later = omega (arith, leb-true version this_version known, ltb-false version this_version later)
+
+-- what answered was one that this program knows
 pub readied_enters : {S : Type 0} (g : Ghosts S) (old new : Held S) (rows : List Row) → IsAsked g get_version [] old rows → is_other_version rows ≡ false
-    → (first : Bool) → is_version_one rows ≡ first → IsMadeCurrent first (state g old) (state g new) → Enters g (origin_of first) old new
-readied_enters g old new rows asked one true is it = ((rows, asked, is), it)
-readied_enters g old new rows asked one false is it = ((rows, asked, two_left (is_version_one rows) (is_version_two rows) is one), it)
+    → (edition : ℕ) → edition_of (version_in rows) (has_late old.schema) ≡ edition → (earlier : Bool) → nat_lt edition this_version ≡ earlier → IsMadeCurrent earlier edition (state g old) (state g new)
+    → Enters g (origin_of earlier) old new
+readied_enters g old new rows asked known edition is true early it = (edition, (rows, asked, known, is), early, it)
+readied_enters g old new rows asked known edition is false later it =
+    let both = not-false (nat_lt 0 (version_in rows) && nat_le (version_in rows) this_version) known in
+    let low = (and_parts (nat_lt 0 (version_in rows)) (nat_le (version_in rows) this_version) both).1 in
+    let same : edition_of (version_in rows) (has_late old.schema) ≡ this_version =
+    not_earlier (not (has_late old.schema) && nat_lt (version_in rows) 2) (version_in rows) low (ap (λ e. nat_lt e this_version) is ∙ later) in
+    ((rows, asked, known, same), subst (λ e. IsMadeCurrent false e (state g old) (state g new)) (sym is ∙ same) it)
 
 -- an office that stands there has one of them
 pub shown_version : {S : Type 0} (g : Ghosts S) (old : Held S) (t : Tables) → ShowsOffice (state g old) t → ((n : ℕ) (clock : ClockRow) → ShowsVersion n clock (state g old) → ⊥) → ⊥
@@ -141,7 +161,7 @@ shown_version g old t shows none = by_open (state g old).is_open refl
   where
     by_open : (b : Bool) → (state g old).is_open ≡ b → ⊥
     by_open true open_now = elim (shows open_now) [
-      | inl was ↦ none 2 t.clock (λ _. second_version (state g old).committed t was)
-      | inr was ↦ none 1 t.clock (λ _. first_version (state g old).committed t was)
+      | inl was ↦ none this_version t.clock (λ _. current_version (state g old).committed t was)
+      | inr was ↦ none (version_of was.0) t.clock (λ _. edition_version was.0 (state g old).committed t was.2)
     ]
-    by_open false shut = none 1 t.clock (λ open_now. absurd (true≢false (sym open_now ∙ shut)))
+    by_open false shut = none this_version t.clock (λ open_now. absurd (true≢false (sym open_now ∙ shut)))

@@ -25,7 +25,7 @@ use Rattle.sqlite.specs.declared.file.Leftover.TheVariants as left
 use Rattle.sqlite.proofs.ListingLemmas.{empty_is_sound}
 use Rattle.sqlite.proofs.Theorems.{opens_again}
 use Rattle.office_base.specs.Tables.{Tables}
-use Rattle.office_tables.specs.First.{ShowsOffice, HoldsOffice as HasOffice}
+use Rattle.office_tables.specs.Earlier.{ShowsOffice, HoldsOffice as HasOffice}
 use Rattle.office_tables.specs.Laws.{TreesTellOneOffice}
 use Rattle.office_tables.specs.Steps.{Refused}
 use Rattle.office_store.specs.Founding.{LeavesOffice, IsNoOffice}
@@ -39,10 +39,10 @@ use Rattle.office_store.proofs.Once.{schema_once}
 pub finds_in : {D : Type 0} {g : Ghosts D} (files : Files D) (now : Held (FileStore D g)) → Finds files now → FindsIn (image_of g files) (file_state now)
 finds_in files now found = record { holds = found.holds; reads = found.reads }
 
--- an office of either version stands in a sound database
+-- an office of any version stands in a sound database
 sound_of : (db : Database) (t : Tables) → HasOffice db t → IsDatabase db
 sound_of db t (inl was) = was.sound
-sound_of db t (inr was) = was.sound
+sound_of db t (inr was) = was.2.sound
 
 -- the office that files hold is in what was opened there
 pub held_shown : {D : Type 0} {g : Ghosts D} (image : Image) (now : Held (FileStore D g)) → IsOpened now → FindsIn image (file_state now)

@@ -1,6 +1,6 @@
 -- Where nothing of others leads to what a migration changes, all else keeps its rows.
 use Rattle.std.proofs.Common.{◌≡◌, ◌⊎◌, inl, inr, ℕ, ◌==◌, ◌||◌, Bool, true, false, cond, List, [], ◌∷◌, Option, Some, None, find, refl, sym, ap, ◌∙◌, subst, true≢false}
-use Rattle.std.specs.Prelude.{not, option_and_then, option_map, slice_get}
+use Rattle.std.specs.Prelude.{not, ◌&&◌, option_and_then, option_map, slice_get}
 use Rattle.std.specs.List.{list_any}
 use Rattle.std.proofs.lemmas.Bool.{eq-eqb, eqb-true, or_cases, or_left, or_right, cases_Bool}
 use Rattle.sqlite_schema.specs.declared.schema.Reference.{Reference}
@@ -13,11 +13,11 @@ use Rattle.sqlite_rules.proofs.ListLemmas.{has_found, some_from}
 use Rattle.sqlite.specs.Effect.{Database}
 use Rattle.office_base.specs.Tables.{Tables}
 use Rattle.office_tables.specs.Apart.{LeadsInside}
-use Rattle.office_tables.specs.First.{AreApart, IsMigrated, migrated_tables}
+use Rattle.office_tables.specs.Earlier.{AreApart, IsMigrated, changed_tables, changed_where, had_former}
 use Rattle.office_tables.specs.Known.{IsIn, at_tree}
 use Rattle.office_tables.specs.Schema.{OfficeTable, table_of}
 use Rattle.office_tables.specs.Schema.OfficeTable.{FormerNotices, Notices, Office}
-use Rattle.office_store.specs.Others.{KeepsRest, is_changed, leads_there, refers_there}
+use Rattle.office_store.specs.Others.{KeepsRest, is_changed, is_changed_where, leads_there, refers_there}
 
 -- ---- tests that fail
 
@@ -30,19 +30,43 @@ none_passes p xs x fails h = elim (cases_Bool (p x)) [ inl passes ↦ absurd (tr
 
 -- ---- the name of what is changed
 
-changed : (k : OfficeTable) → Has migrated_tables k → is_changed (table_of k).name ≡ true
+changed : (had : Bool) (k : OfficeTable) → Has (changed_where had) k → is_changed_where had (table_of k).name ≡ true
 unfolding same_name
-changed k (inl e) = ap (λ (j : OfficeTable). is_changed (table_of j).name) e
-changed k (inr (inl e)) = ap (λ (j : OfficeTable). is_changed (table_of j).name) e
-changed k (inr (inr (inl e))) = ap (λ (j : OfficeTable). is_changed (table_of j).name) e
-changed k (inr (inr (inr none))) = absurd none
+changed true k (inl e) = ap (λ (j : OfficeTable). is_changed_where true (table_of j).name) e
+changed true k (inr (inl e)) = ap (λ (j : OfficeTable). is_changed_where true (table_of j).name) e
+changed true k (inr (inr (inl e))) = ap (λ (j : OfficeTable). is_changed_where true (table_of j).name) e
+changed true k (inr (inr (inr none))) = absurd none
+changed false k (inl e) = ap (λ (j : OfficeTable). is_changed_where false (table_of j).name) e
+changed false k (inr none) = absurd none
 
 -- a name that is found as one of these is one of them
-as_changed : (k : OfficeTable) → Has migrated_tables k → (name : List ℕ) → same_name (table_of k).name name ≡ true → is_changed name ≡ true
-as_changed k (inl e) name same = or_left _ _ (subst (λ (j : OfficeTable). same_name (table_of j).name name ≡ true) e same)
-as_changed k (inr (inl e)) name same = or_right _ _ (or_left _ _ (subst (λ (j : OfficeTable). same_name (table_of j).name name ≡ true) e same))
-as_changed k (inr (inr (inl e))) name same = or_right _ _ (or_right _ _ (or_left _ _ (subst (λ (j : OfficeTable). same_name (table_of j).name name ≡ true) e same)))
-as_changed k (inr (inr (inr none))) name same = absurd none
+as_changed : (had : Bool) (k : OfficeTable) → Has (changed_where had) k → (name : List ℕ) → same_name (table_of k).name name ≡ true → is_changed_where had name ≡ true
+as_changed true k (inl e) name same = or_left _ _ (subst (λ (j : OfficeTable). same_name (table_of j).name name ≡ true) e same)
+as_changed true k (inr (inl e)) name same = or_right _ _ (or_left _ _ (subst (λ (j : OfficeTable). same_name (table_of j).name name ≡ true) e same))
+as_changed true k (inr (inr (inl e))) name same = or_right _ _ (or_right _ _ (subst (λ (j : OfficeTable). same_name (table_of j).name name ≡ true) e same))
+as_changed true k (inr (inr (inr none))) name same = absurd none
+as_changed false k (inl e) name same = or_left _ _ (subst (λ (j : OfficeTable). same_name (table_of j).name name ≡ true) e same)
+as_changed false k (inr none) name same = absurd none
+
+-- ---- their trees
+
+abbrev is_theirs : Bool → (OfficeTable → ℕ) → ℕ → Bool
+is_theirs had place n = (n == place Office) || (had && ((n == place FormerNotices) || (n == place Notices)))
+
+which : (had : Bool) (place : OfficeTable → ℕ) (n : ℕ) → is_theirs had place n ≡ true → (k : OfficeTable) × Has (changed_where had) k × (n ≡ place k)
+which true place n h = elim (or_cases (n == place Office) ((n == place FormerNotices) || (n == place Notices)) h) [
+  | inl clock ↦ (Office, inl refl, eqb-true _ _ clock)
+  | inr rest ↦ elim (or_cases (n == place FormerNotices) (n == place Notices) rest) [ inl former ↦ (FormerNotices, inr (inl refl), eqb-true _ _ former) | inr notices ↦ (Notices, inr (inr (inl refl)), eqb-true _ _ notices) ]
+]
+which false place n h = elim (or_cases (n == place Office) false h) [ inl clock ↦ (Office, inl refl, eqb-true _ _ clock) | inr none ↦ absurd (true≢false (sym none)) ]
+
+theirs : (had : Bool) (place : OfficeTable → ℕ) (k : OfficeTable) → Has (changed_where had) k → is_theirs had place (place k) ≡ true
+theirs true place k (inl e) = or_left _ _ (eq-eqb _ _ (ap place e))
+theirs true place k (inr (inl e)) = or_right _ _ (or_left _ _ (eq-eqb _ _ (ap place e)))
+theirs true place k (inr (inr (inl e))) = or_right _ _ (or_right _ _ (eq-eqb _ _ (ap place e)))
+theirs true place k (inr (inr (inr none))) = absurd none
+theirs false place k (inl e) = or_left _ _ (eq-eqb _ _ (ap place e))
+theirs false place k (inr none) = absurd none
 
 -- ---- the parent that a reference finds
 
@@ -72,28 +96,27 @@ one_tree schema table m n a b =
     let same : at_tree table m ≡ at_tree table n = cc in
     ap (λ (t : Table). t.tree) same
 
-module _ (t : Tables) (old new : Database) (it : IsMigrated t old new) (apart : leads_there old.schema ≡ false) where
+module _ (edition : ℕ) (t : Tables) (old new : Database) (it : IsMigrated edition t old new) (apart : leads_there edition old.schema ≡ false) where
+  abbrev had : Bool
+  had = had_former edition
+
   abbrev place : OfficeTable → ℕ
   place k = it.held.places k
 
   abbrev unmarked : ℕ → Bool
-  unmarked n = (n == place FormerNotices) || ((n == place Office) || (n == place Notices))
+  unmarked n = is_theirs had place n
 
   abbrev marked : ℕ → Bool
   marked n = not (unmarked n)
 
-  -- whatever is unmarked is one of the three
-  of_three : (u : Table) → Has new.schema.tables u → unmarked u.tree ≡ true → (k : OfficeTable) × Has migrated_tables k × (u ≡ at_tree (table_of k) u.tree)
-  of_three u there h = elim (or_cases _ _ h) [
-    | inl former ↦ one FormerNotices (inl refl) (eqb-true _ _ former)
-    | inr rest ↦ elim (or_cases _ _ rest) [ inl clock ↦ one Office (inr (inl refl)) (eqb-true _ _ clock) | inr notices ↦ one Notices (inr (inr (inl refl))) (eqb-true _ _ notices) ]
-  ]
-    where
-      one : (k : OfficeTable) → Has migrated_tables k → u.tree ≡ place k → (k : OfficeTable) × Has migrated_tables k × (u ≡ at_tree (table_of k) u.tree)
-      one k among e = (k, among, (it.held.tables k).alone u there e ∙ ap (at_tree (table_of k)) (sym e))
+  -- whatever is unmarked is one of those that are changed
+  of_changed : (u : Table) → Has new.schema.tables u → unmarked u.tree ≡ true → (k : OfficeTable) × Has (changed_tables edition) k × (u ≡ at_tree (table_of k) u.tree)
+  of_changed u there h =
+      let one = which had place u.tree h in
+      (one.0, one.1, (it.held.tables one.0).alone u there one.2 ∙ ap (at_tree (table_of one.0)) (sym one.2))
 
-  references : (u : Table) (r : Reference) → Has old.schema.tables u → Has u.references r → is_changed r.parent ≡ false
-  references u r there has = none_passes (λ (q : Reference). is_changed q.parent) u.references r (none_passes refers_there old.schema.tables u (or_false _ _ apart).0 there) has
+  references : (u : Table) (r : Reference) → Has old.schema.tables u → Has u.references r → is_changed edition r.parent ≡ false
+  references u r there has = none_passes (λ (q : Reference). is_changed edition q.parent) u.references r (none_passes (refers_there edition) old.schema.tables u (or_false _ _ apart).0 there) has
 
   inside : LeadsInside new.schema marked
   inside u r key there is_marked has is = elim (it.added u there) [
@@ -101,34 +124,28 @@ module _ (t : Tables) (old new : Database) (it : IsMigrated t old new) (apart : 
         let p = parent new.schema.tables r key is in
         elim (cases_Bool (unmarked p.0.tree)) [
           | inl is_one ↦ (
-              let k = of_three p.0 p.1 is_one in
+              let k = of_changed p.0 p.1 is_one in
               let called : p.0.name ≡ (table_of k.0).name = ap (λ (v : Table). v.name) k.2 in
-              absurd (true≢false (sym (as_changed k.0 k.1 r.parent (ap (λ n. same_name n r.parent) (sym called) ∙ p.2)) ∙ references u r stood has)))
+              absurd (true≢false (sym (as_changed had k.0 k.1 r.parent (ap (λ n. same_name n r.parent) (sym called) ∙ p.2)) ∙ references u r stood has)))
           | inr is_none ↦ ap marked p.3 ∙ ap not is_none
         ])
     | inr bare ↦ absurd (subst (λ (rs : List Reference). Has rs r) bare has)
   ]
 
-  is_unmarked : (k : OfficeTable) → Has migrated_tables k → unmarked (place k) ≡ true
-  is_unmarked k (inl e) = or_left _ _ (eq-eqb _ _ (ap place e))
-  is_unmarked k (inr (inl e)) = or_right _ _ (or_left _ _ (eq-eqb _ _ (ap place e)))
-  is_unmarked k (inr (inr (inl e))) = or_right _ _ (or_right _ _ (eq-eqb _ _ (ap place e)))
-  is_unmarked k (inr (inr (inr none))) = absurd none
-
-  are_apart : AreApart new.schema marked
+  are_apart : AreApart edition new.schema marked
   are_apart = record {
     inside = inside;
-    others = λ k among n is. ap marked (one_tree new.schema (table_of k) n (place k) is (it.held.tables k)) ∙ ap not (is_unmarked k among);
+    others = λ k among n is. ap marked (one_tree new.schema (table_of k) n (place k) is (it.held.tables k)) ∙ ap not (theirs had place k among);
   }
 
-  pub keeps_rest : KeepsRest old new
+  pub keeps_rest : KeepsRest edition old new
   keeps_rest u stood =
       let kept = it.others u stood in (
         kept.0,
         λ plain. elim (cases_Bool (unmarked u.tree)) [
           | inl is_one ↦ (
-              let k = of_three u kept.0 is_one in
-              absurd (true≢false (sym (changed k.0 k.1) ∙ ap is_changed (sym (ap (λ (v : Table). v.name) k.2)) ∙ plain)))
+              let k = of_changed u kept.0 is_one in
+              absurd (true≢false (sym (changed had k.0 k.1) ∙ ap (is_changed edition) (sym (ap (λ (v : Table). v.name) k.2)) ∙ plain)))
           | inr is_none ↦ kept.1 marked are_apart (ap not is_none)
         ],
       )

@@ -1,30 +1,22 @@
 -- Whether the tables of an office stand in a schema in the form in which this program makes them.
-use Rattle.std.specs.Prelude.{◌≡◌, ◌⊎◌, ◌&&◌, ◌==◌, ℕ, Bool, false, IsTrue, List, [], ◌∷◌, Option, Some, None, codes, length, filter, slice_get}
-use Rattle.std.specs.List.{list_any}
+use Rattle.std.specs.Prelude.{◌≡◌, ◌⊎◌, ◌==◌, ℕ, false, IsTrue, Option, Some, None, length, filter, slice_get}
 use Rattle.sqlite_schema.specs.declared.schema.Schema.{Schema}
 use Rattle.sqlite_schema.specs.declared.schema.Table.{Table}
-use Rattle.sqlite_schema.specs.Names.{same_name, table_named}
+use Rattle.sqlite_schema.specs.Names.{table_named}
 use Rattle.sqlite_schema.specs.Rules.{guards}
 use Rattle.sqlite_rules.specs.Lists.{Has}
-use Rattle.office_tables.specs.First.{has_table}
+use Rattle.office_tables.specs.Editions.{came_later, has_table}
 use Rattle.office_tables.specs.Known.{IsIn, at_tree}
 use Rattle.office_tables.specs.Schema.{OfficeTable, table_of}
-
--- the tables that came after version 1, or with a later program of it
-abbrev pub later_names : List (List ℕ)
-later_names = codes "late_rules" ∷ codes "notices_2" ∷ codes "performance" ∷ []
-
-abbrev pub came_later : List ℕ → Bool
-came_later name = list_any (λ later. same_name later name) later_names
 
 -- the table of an office stands there in its form
 abbrev pub HasForm : Schema → OfficeTable → Type 0
 HasForm schema k = (n : ℕ) × IsIn schema (table_of k) n
 
--- each of its tables does; in an office of version 1 those that came later may be missing
-abbrev pub HasForms : Bool → Schema → Type 0
-HasForms first schema =
-    (k : OfficeTable) → HasForm schema k ⊎ (IsTrue (first && came_later (table_of k).name) × (has_table schema (table_of k).name ≡ false))
+-- each of its tables does; in an office of an earlier edition those that came later may be missing
+abbrev pub HasForms : ℕ → Schema → Type 0
+HasForms edition schema =
+    (k : OfficeTable) → HasForm schema k ⊎ (IsTrue (came_later edition (table_of k).name) × (has_table schema (table_of k).name ≡ false))
 
 -- how many unique indexes such a table has: that of its key, where this isn't its rowid
 abbrev pub index_count : Option ℕ → ℕ
@@ -40,9 +32,9 @@ pub record StandsAlike (schema : Schema) (form : Table) : Type 0 where
   pub alone : length (filter (λ t. t.tree == tree) schema.tables) ≡ 1
   pub guarded : length (filter (λ i. guards i (at_tree form tree)) schema.indexes) ≡ index_count form.key
 
--- it does; or in an office of version 1 it is one that came later, and no table has its name
-abbrev pub StandsOrLacks : Bool → Schema → Table → Type 0
-StandsOrLacks first schema form = StandsAlike schema form ⊎ (IsTrue (first && came_later form.name) × (table_named schema form.name ≡ None))
+-- it does; or it came later than this edition, and no table has its name
+abbrev pub StandsOrLacks : ℕ → Schema → Table → Type 0
+StandsOrLacks edition schema form = StandsAlike schema form ⊎ (IsTrue (came_later edition form.name) × (table_named schema form.name ≡ None))
 
 -- the tables of an office are among those of the schema
 abbrev pub ListsForms : Schema → Type 0

@@ -1,5 +1,5 @@
 -- What an opening finds in a database, and what it makes there.
-use Rattle.std.specs.Prelude.{◌≡◌, ◌⊎◌, ◌&&◌, ℕ, Bool, true, false, not, nat_eq, pos, IsTrue, List, [], ◌∷◌, codes}
+use Rattle.std.specs.Prelude.{◌≡◌, ◌⊎◌, ◌&&◌, ℕ, Bool, true, false, not, nat_lt, nat_le, pos, IsTrue, List, [], ◌∷◌, codes}
 use Rattle.std.specs.List.{list_any}
 use Rattle.sqlite_value.specs.declared.value.Value.TheVariants.{Int}
 use Rattle.sqlite_value.specs.Order.{Row}
@@ -12,48 +12,44 @@ use Rattle.sqlite.specs.Effect.{Database, IsDatabase}
 use Rattle.sqlite.specs.Held.{Held, state}
 use Rattle.sqlite.specs.State.{State}
 use Rattle.office_base.specs.Tables.{Tables, no_tables}
-use Rattle.office_tables.specs.First.{HoldsFirst, IsMigrated}
+use Rattle.office_tables.specs.Earlier.{HoldsEdition, IsMigrated}
+use Rattle.office_tables.specs.Editions.{edition_of, has_late}
 use Rattle.office_tables.specs.Making.{KeepsOthers}
+use Rattle.office_tables.specs.Schema.{table_of, all_tables}
 use Rattle.office_tables.specs.Standing.{Holds}
 use Rattle.office_tables.specs.Steps.{Leaves, Refused, IsAsked}
+use Rattle.office_tables.specs.Tables.Office.{this_version}
 use Rattle.office_tables.specs.Version.{get_version, HasNoVersion}
 use Rattle.office_store.specs.Forms.{HasForms}
 use Rattle.office_store.specs.Others.{KeepsRest, leads_there}
 use Rattle.office_store.specs.declared.opened.Origin.{Origin}
 use Rattle.office_store.specs.declared.opened.Origin.TheVariants as from
 
--- the names of the office's tables; those of indexes are none
-abbrev pub table_names : List (List ℕ)
-table_names =
-    codes "lines" ∷ codes "batches" ∷ codes "tenderers" ∷ codes "notices" ∷ codes "lots" ∷ codes "envelopes" ∷ codes "seals"
-    ∷ codes "securities" ∷ codes "awards" ∷ codes "contracts" ∷ codes "entries" ∷ codes "releases" ∷ codes "compiled" ∷ codes "office"
-    ∷ codes "late_rules" ∷ codes "notices_2" ∷ codes "performance" ∷ []
-
--- a table, an index or a view of the schema has one of them
+-- a table, an index or a view of the schema has the name of a table of the office's; those of its indexes are none
 abbrev pub takes_a_name : Schema → Bool
-takes_a_name schema = list_any (is_used schema) table_names
+takes_a_name schema = list_any (λ k. is_used schema (table_of k).name) all_tables
 
 -- a table `office` has its first column for a rowid
 abbrev pub has_rowids : Schema → Bool
 has_rowids schema = list_any (λ t. same_name t.name (codes "office") && is_key t.key 0) schema.tables
 
--- the rows are one, and it is version 1
-abbrev pub is_version_one : List Row → Bool
-is_version_one ((Int (pos n) ∷ []) ∷ []) = nat_eq n 1
-is_version_one _ = false
+-- the version that the rows tell: the number that is their one row; 0, which is none, where they are no such row
+abbrev pub version_in : List Row → ℕ
+version_in ((Int (pos n) ∷ []) ∷ []) = n
+version_in _ = 0
 
--- the rows are one, and it is version 2
-abbrev pub is_version_two : List Row → Bool
-is_version_two ((Int (pos n) ∷ []) ∷ []) = nat_eq n 2
-is_version_two _ = false
-
--- neither
+-- this program doesn't know it
 abbrev pub is_other_version : List Row → Bool
-is_other_version rows = not (is_version_one rows) && not (is_version_two rows)
+is_other_version rows = not (nat_lt 0 (version_in rows) && nat_le (version_in rows) this_version)
 
 -- rows that pass were the answer to the question for the version
 abbrev pub Answered : {S : Type 0} → Ghosts S → Held S → (List Row → Bool) → Type 0
 Answered g old passes = (rows : List Row) × IsAsked g get_version [] old rows × IsTrue (passes rows)
+
+-- a version that this program knows was the answer, and by it the tables are of this edition
+abbrev pub IsOfEdition : {S : Type 0} → Ghosts S → ℕ → Held S → Type 0
+IsOfEdition g edition old =
+    (rows : List Row) × IsAsked g get_version [] old rows × (is_other_version rows ≡ false) × (edition_of (version_in rows) (has_late old.schema) ≡ edition)
 
 -- an office was made, and stands empty beside what was there
 pub record Founded (old new : State) : Type 0 where
@@ -72,45 +68,48 @@ IsSoundOpen s = IsTrue s.is_open → IsDatabase s.committed
 abbrev pub LeavesNew : State → Trees → Type 0
 LeavesNew old trees = IsTrue old.is_open × (IsDatabase old.committed → Leaves no_tables trees)
 
--- An office of version 1 became one of version 2, with its content, beside what others had there: of that nothing led to what was changed, and it has its rows.
-pub record Migrated (old new : State) : Type 0 where
+-- An office of this edition became one as this program makes it, with its content, beside what others had there: of that nothing led to what was changed, and
+-- it has its rows.
+pub record Migrated (edition : ℕ) (old new : State) : Type 0 where
   pub was_open : IsTrue old.is_open
   pub is_open : IsTrue new.is_open
-  pub tables : (t : Tables) → HoldsFirst old.committed t → IsMigrated t old.committed new.committed
-  pub free : leads_there old.committed.schema ≡ false
-  pub rest : (t : Tables) → HoldsFirst old.committed t → KeepsRest old.committed new.committed
+  pub tables : (t : Tables) → HoldsEdition edition old.committed t → IsMigrated edition t old.committed new.committed
+  pub free : leads_there edition old.committed.schema ≡ false
+  pub rest : (t : Tables) → HoldsEdition edition old.committed t → KeepsRest edition old.committed new.committed
   -- a stop leaves this and nothing else
   pub only : (db : Trees) → new.may_leave db → db ≡ new.committed.trees
 
--- what the commit of a migration leaves: the whole of an office of version 2, with the content that stood there, beside what others had
-abbrev pub LeavesMigrated : State → Trees → Type 0
-LeavesMigrated old trees = IsTrue old.is_open × ((t : Tables) → HoldsFirst old.committed t → (db : Database) × (trees ≡ db.trees) × IsMigrated t old.committed db × KeepsRest old.committed db)
+-- what the commit of a migration leaves: the whole of an office as this program makes it, with the content that stood there, beside what others had
+abbrev pub LeavesMigrated : ℕ → State → Trees → Type 0
+LeavesMigrated edition old trees =
+    IsTrue old.is_open
+    × ((t : Tables) → HoldsEdition edition old.committed t → (db : Database) × (trees ≡ db.trees) × IsMigrated edition t old.committed db × KeepsRest edition old.committed db)
 
--- Each table of the office stood there in its form. One of version 1 was migrated; of one of version 2 the last commit is as it was.
-abbrev pub IsMadeCurrent : Bool → State → State → Type 0
-IsMadeCurrent true old new = HasForms true old.committed.schema × Migrated old new
-IsMadeCurrent false old new = (IsTrue new.is_open → HasForms false old.committed.schema) × Refused old new
+-- Each table of the office stood there in its form. One of an earlier edition was migrated; of one of this program's the last commit is as it was.
+abbrev pub IsMadeCurrent : Bool → ℕ → State → State → Type 0
+IsMadeCurrent true edition old new = HasForms edition old.committed.schema × Migrated edition old new
+IsMadeCurrent false edition old new = (IsTrue new.is_open → HasForms edition old.committed.schema) × Refused old new
 
 abbrev pub origin_of : Bool → Origin
 origin_of true = from.Migrated
 origin_of false = from.Found
 
 -- what that may commit
-abbrev pub LeavesReadied : Bool → State → Trees → Type 0
-LeavesReadied first old trees = IsTrue first × LeavesMigrated old trees
+abbrev pub LeavesReadied : ℕ → State → Trees → Type 0
+LeavesReadied edition old trees = IsTrue (nat_lt edition this_version) × LeavesMigrated edition old trees
 
--- what an opening may commit: the whole of an empty office, where nothing answered and no name of a table was taken; or, where version 1 answered, the whole of an
--- office that was migrated
+-- what an opening may commit: the whole of an empty office, where nothing answered and no name of a table was taken; or, where one of an earlier edition
+-- stood, the whole of an office that was migrated
 abbrev pub LeavesOffice : {S : Type 0} → Ghosts S → Held S → Trees → Type 0
 LeavesOffice g old trees =
     (IsTrue (state g old).is_open × HasNoVersion g old × (takes_a_name old.schema ≡ false) × Leaves no_tables trees)
-    ⊎ (Answered g old is_version_one × LeavesMigrated (state g old) trees)
+    ⊎ ((edition : ℕ) × IsOfEdition g edition old × LeavesReadied edition (state g old) trees)
 
--- an office of version 2 was there, in its form, and is as it was; or one of version 1 was, in its form, and it was migrated; or nothing answered, no name of a table
--- was taken, and an office was made
+-- an office of this program's version was there, in its form, and is as it was; or one of an earlier edition was, in its form, and it was migrated; or nothing
+-- answered, no name of a table was taken, and an office was made
 abbrev pub Enters : {S : Type 0} → Ghosts S → Origin → Held S → Held S → Type 0
-Enters g from.Found old new = Answered g old is_version_two × IsMadeCurrent false (state g old) (state g new)
-Enters g from.Migrated old new = Answered g old is_version_one × IsMadeCurrent true (state g old) (state g new)
+Enters g from.Found old new = IsOfEdition g this_version old × IsMadeCurrent false this_version (state g old) (state g new)
+Enters g from.Migrated old new = (edition : ℕ) × IsOfEdition g edition old × IsTrue (nat_lt edition this_version) × IsMadeCurrent true edition (state g old) (state g new)
 Enters g from.Made old new = HasNoVersion g old × (takes_a_name old.schema ≡ false) × Founded (state g old) (state g new)
 
 -- what answered is another version or no single row; or nothing answered, and the name of a table is taken

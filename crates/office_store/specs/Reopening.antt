@@ -20,7 +20,7 @@ use Rattle.sqlite.specs.Closing.{HoldsAlone, IsCopied}
 use Rattle.sqlite.specs.declared.file.Leftover.{Leftover}
 use Rattle.sqlite.specs.declared.file.Leftover.TheVariants as left
 use Rattle.office_base.specs.Tables.{Tables, no_tables}
-use Rattle.office_tables.specs.First.{ShowsOffice, HoldsOffice as HasOffice}
+use Rattle.office_tables.specs.Earlier.{ShowsOffice, HoldsOffice as HasOffice}
 use Rattle.office_tables.specs.Steps.{ShowsTables, MayLeave}
 use Rattle.office_store.specs.Founding.{Enters, IsNoOffice, LeavesOffice}
 use Rattle.office_store.specs.SqlMeaning.{LeavesOffices}

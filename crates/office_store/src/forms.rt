@@ -3,13 +3,13 @@ ghost use Rattle.std.specs.Prelude.{◌≡◌, ◌&&◌, ◌==◌, IsTrue, IfOk,
 ghost use Rattle.sqlite_schema.specs.declared.schema.Table.{Table as Form};
 ghost use Rattle.sqlite_rules.specs.Lists.{Has};
 ghost use Rattle.sqlite.specs.Held.{state};
-ghost use Rattle.office_store.specs.Forms.{HasForms, ListsForms, StandsAlike, StandsOrLacks, came_later, index_count};
+ghost use Rattle.office_store.specs.Forms.{HasForms, ListsForms, StandsAlike, StandsOrLacks, index_count};
 
 use crate::found::{OpenFault, found, open_fault};
 use crate::same::same_form;
 use crate::shelf::is_live;
+use office_tables::editions::came_later;
 use sqlite::{Alter, Connection, MemStore};
-use sqlite_schema::names::same_name;
 use sqlite_schema::schema::{Schema, Table};
 use std::alloc::Global;
 
@@ -30,14 +30,6 @@ fn blank(alloc: Global) -> Result<Connection<MemStore>, OpenFault>
     } else {
         Err(OpenFault::Store)
     }
-}
-
-fn came_later(name: &[u8]) -> bool
-    ensures { result ≡ came_later name.now }
-{
-    same_name(b"late_rules", name)
-        || same_name(b"notices_2", name)
-        || same_name(b"performance", name)
 }
 
 // How many tables have this tree.
@@ -89,20 +81,20 @@ fn stands(schema: &Schema, form: &Table) -> bool
     guards_at(schema, table.tree) == index_count(form.key)
 }
 
-fn stands_or_lacks(schema: &Schema, form: &Table, is_first: bool) -> bool
-    ensures { IsTrue result → StandsOrLacks is_first schema.now form.now }
+fn stands_or_lacks(schema: &Schema, form: &Table, edition: u64) -> bool
+    ensures { IsTrue result → StandsOrLacks edition schema.now form.now }
 {
     let name = form.name.as_slice();
-    stands(schema, form) || (is_first && came_later(name) && schema.table_named(name).is_none())
+    stands(schema, form) || (came_later(edition, name) && schema.table_named(name).is_none())
 }
 
-// Whether each of these tables stands in the schema in the same form; in an office of version 1 those may be missing that came later.
-fn all_stand(schema: &Schema, forms: &Schema, is_first: bool) -> bool
-    ensures { IsTrue result → (form : Form) → Has forms.now.tables form → StandsOrLacks is_first schema.now form }
+// Whether each of these tables stands in the schema in the same form; in an office of an earlier edition those may be missing that came later.
+fn all_stand(schema: &Schema, forms: &Schema, edition: u64) -> bool
+    ensures { IsTrue result → (form : Form) → Has forms.now.tables form → StandsOrLacks edition schema.now form }
 {
     let tables = forms.tables.as_slice();
     for at in 0..tables.len() {
-        if !stands_or_lacks(schema, &tables[at], is_first) {
+        if !stands_or_lacks(schema, &tables[at], edition) {
             return false;
         }
     }
@@ -113,9 +105,9 @@ fn all_stand(schema: &Schema, forms: &Schema, is_first: bool) -> bool
 pub(crate) fn check_forms<S: Alter>(
     alloc: Global,
     conn: &Connection<S>,
-    is_first: bool,
+    edition: u64,
 ) -> Result<(), OpenFault>
-    ensures forms { OnOk result (IsTrue (state S.Store conn.now).is_open → HasForms is_first (state S.Store conn.now).committed.schema) }
+    ensures forms { OnOk result (IsTrue (state S.Store conn.now).is_open → HasForms edition (state S.Store conn.now).committed.schema) }
     ensures cause { IfErr result (λ e. e ≡ OpenFault.NotAnOffice → ⊥) }
 {
     if !conn.is_autocommit() {
@@ -125,7 +117,7 @@ pub(crate) fn check_forms<S: Alter>(
         Ok(forms) => forms,
         Err(fault) => return Err(fault),
     };
-    if all_stand(conn.schema(), forms.schema(), is_first) {
+    if all_stand(conn.schema(), forms.schema(), edition) {
         Ok(())
     } else {
         Err(OpenFault::Store)

@@ -1,22 +1,26 @@
 //! Entering an office that is there, and making one.
-ghost use Rattle.std.specs.Prelude.{◌≡◌, IsTrue, OnOk, OnErr, IfOk, IfErr};
+ghost use Rattle.std.specs.Prelude.{◌≡◌, nat_lt, IsTrue, OnOk, OnErr, IfOk, IfErr};
 ghost use Rattle.std.specs.List.{list_any};
 ghost use Rattle.sqlite_catalog.specs.Change.{is_used};
 ghost use Rattle.sqlite.specs.Held.{state};
 ghost use Rattle.sqlite.specs.State.{HasCleanDisk, Survives};
 ghost use Rattle.office_base.specs.Tables.{Tables};
-ghost use Rattle.office_tables.specs.First.{ShowsOffice};
+ghost use Rattle.office_tables.specs.Earlier.{ShowsOffice};
 ghost use Rattle.office_tables.specs.Steps.{Refused, ShowsTables};
-ghost use Rattle.office_store.specs.Founding.{Founded, LeavesNew, LeavesOffice, Enters, IsNoOffice, IsSoundOpen, takes_a_name, has_rowids, is_version_one, is_version_two, is_other_version, origin_of};
+ghost use Rattle.office_tables.specs.Tables.Office.{this_version};
+ghost use Rattle.office_store.specs.Founding.{Founded, LeavesNew, LeavesOffice, Enters, IsNoOffice, IsSoundOpen, takes_a_name, has_rowids, version_in, is_other_version, origin_of};
 ghost use Rattle.office_store.specs.SqlMeaning.{LeavesShown};
 
 use crate::migrate::ready;
 use crate::opened::Origin;
 use office_base::shelf::ShelfFault;
+use office_tables::editions::{edition_of, has_late};
 use office_tables::faults::fault;
 use office_tables::make::make;
+use office_tables::tables::office::VERSION;
+use office_tables::tables::table_names;
 use office_tables::version::ask_version;
-use sqlite::{Alter, Connection, Error, ErrorCode, Row};
+use sqlite::{Alter, Connection, Error, Row};
 use sqlite_catalog::layout::is_used;
 use sqlite_schema::names::same_name;
 use sqlite_schema::schema::Schema;
@@ -29,10 +33,10 @@ pub enum OpenFault {
     /// Memory was refused.
     NoMemory,
     /// The store failed; or a table of the office's is missing, in another form than this program makes, or has a trigger or a unique index of others;
-    /// or the name of an index of the office's is taken; or, in an office of version 1, the name of a table which it lacks is, or something of others
-    /// leads to a table that a migration changes.
+    /// or the name of an index of the office's is taken; or, in an office of an earlier edition, the name of a table which it lacks is, or something of
+    /// others leads to a table that a migration changes.
     Store,
-    /// What stands there is no office of version 1 or 2: it has another version or no single row of one, or its schema takes no question for
+    /// What stands there is no office of a version up to this program's: it has another version or no single row of one, or its schema takes no question for
     /// the version, and has the name of a table of the office's for a table, an index or a view.
     NotAnOffice,
 }
@@ -84,50 +88,28 @@ fn any_is_used(schema: &Schema, names: &[&[u8]]) -> bool
 fn takes_a_name(schema: &Schema) -> bool
     ensures { result ≡ takes_a_name schema.now }
 {
-    let names: [&[u8]; 17] = [
-        b"lines",
-        b"batches",
-        b"tenderers",
-        b"notices",
-        b"lots",
-        b"envelopes",
-        b"seals",
-        b"securities",
-        b"awards",
-        b"contracts",
-        b"entries",
-        b"releases",
-        b"compiled",
-        b"office",
-        b"late_rules",
-        b"notices_2",
-        b"performance",
-    ];
-    any_is_used(schema, names.as_slice())
+    let names = table_names();
+    any_is_used(schema, &names)
 }
 
-fn is_version_one(rows: &[Row]) -> bool
-    ensures { result ≡ is_version_one rows.now }
+// The version of the one row; 0 where there is no such row.
+fn version_in(rows: &[Row]) -> u64
+    ensures { result ≡ version_in rows.now }
 {
     if rows.len() != 1 || rows[0].column_count() != 1 {
-        return false;
+        return 0;
     }
-    matches!(rows[0].get_ref(0), Ok(ValueRef::Int(1)))
-}
-
-fn is_version_two(rows: &[Row]) -> bool
-    ensures { result ≡ is_version_two rows.now }
-{
-    if rows.len() != 1 || rows[0].column_count() != 1 {
-        return false;
+    match rows[0].get_ref(0) {
+        Ok(ValueRef::Int(number)) if number >= 0 => number as u64,
+        _ => 0,
     }
-    matches!(rows[0].get_ref(0), Ok(ValueRef::Int(2)))
 }
 
 fn is_other_version(rows: &[Row]) -> bool
     ensures { result ≡ is_other_version rows.now }
 {
-    !is_version_one(rows) && !is_version_two(rows)
+    let version = version_in(rows);
+    !(0 < version && version <= VERSION)
 }
 
 // Whether the key of the table `office` is its rowid, as this program makes it.
@@ -151,18 +133,18 @@ pub(crate) fn still_open<S: Alter>(conn: &mut Connection<S>) -> Result<(), OpenF
     Ok(())
 }
 
-fn origin_of(is_first: bool) -> Origin
-    ensures { result ≡ origin_of is_first }
+fn origin_of(edition: u64) -> Origin
+    ensures { result ≡ origin_of (nat_lt edition this_version) }
 {
-    if is_first {
+    if edition < VERSION {
         Origin::Migrated
     } else {
         Origin::Found
     }
 }
 
-/// Enters the office that is there, where one of version 1 becomes one of version 2; or makes an office where no name of its tables is taken. The
-/// store is open then.
+/// Enters the office that is there, where one of an earlier edition becomes one as this program makes it; or makes an office where no name of its tables
+/// is taken. The store is open then.
 pub(crate) fn enter<S: Alter>(alloc: Global, conn: &mut Connection<S>) -> Result<Origin, OpenFault>
     ensures enters { HasCleanDisk (state S.Store conn.new) → IfOk result (λ origin. Enters S.Store origin conn.old conn.new) }
     ensures none { HasCleanDisk (state S.Store conn.new) → IfErr result (λ e. e ≡ OpenFault.NotAnOffice → IsNoOffice S.Store conn.old) }
@@ -179,6 +161,7 @@ pub(crate) fn enter<S: Alter>(alloc: Global, conn: &mut Connection<S>) -> Result
     }
     let taken = takes_a_name(conn.schema());
     let has_key = has_rowids(conn.schema());
+    let knows_late = has_late(conn.schema());
     match ask_version(conn) {
         Ok(rows) => {
             if is_other_version(rows.as_slice()) {
@@ -187,9 +170,9 @@ pub(crate) fn enter<S: Alter>(alloc: Global, conn: &mut Connection<S>) -> Result
             if !has_key {
                 return Err(OpenFault::Store);
             }
-            let is_first = is_version_one(rows.as_slice());
-            match ready(alloc, conn, is_first) {
-                Ok(()) => Ok(origin_of(is_first)),
+            let edition = edition_of(version_in(rows.as_slice()), knows_late);
+            match ready(alloc, conn, edition) {
+                Ok(()) => Ok(origin_of(edition)),
                 Err(fault) => Err(fault),
             }
         }

@@ -55,9 +55,9 @@ impl SqlShelf<MemStore> {
 
 impl<D: Disk + Drop> SqlShelf<FileStore<D>> {
     /// The office in two files, or a new one where no name of the office's tables is taken there; and which of these. Other tables stay, with
-    /// their rows. An office of version 1 becomes one of version 2, with its content. Each table of an office that is opened stands in its form:
-    /// else it is refused, and so is one of version 1 to whose `notices` or `office` a foreign key or a view of others leads. Where it shows the
-    /// tables of an office, a stop leaves one. A refusal comes with what is left of the files: they are closed, or, where they can't be, it is
+    /// their rows. An office of an earlier version becomes one of this program's, with its content. Each table of an office that is opened stands in
+    /// its form: else it is refused, and so is one of an earlier version where a foreign key or a view of others leads to what is changed. Where it
+    /// shows the tables of an office, a stop leaves one. A refusal comes with what is left of the files: they are closed, or, where they can't be, it is
     /// their store.
     pub fn open_files(
         alloc: Global,

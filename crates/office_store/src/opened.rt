@@ -6,9 +6,9 @@ use sqlite_disk::Disk;
 /// Where an office that was opened comes from.
 #[derive(Clone, Copy, Debug, PartialEq, Eq)]
 pub enum Origin {
-    /// It stood there in version 2. Nothing was written.
+    /// It stood there as this program makes it. Nothing was written.
     Found,
-    /// It stood there in version 1, and stands there in version 2 now.
+    /// It stood there as an earlier program made it, and stands there as this program does now.
     Migrated,
     /// No name of its tables was taken there, and it was made, with no content.
     Made,

@@ -4,22 +4,23 @@ ghost use Rattle.std.specs.List.{list_any};
 ghost use Rattle.sqlite_catalog.specs.Listing.{mentions};
 ghost use Rattle.office_store.specs.Others.{is_changed, leads_there, refers_there, shows_there};
 
+use office_tables::editions::had_former;
 use sqlite_schema::names::same_name;
 use sqlite_schema::schema::{Schema, Table, View};
 
-fn is_changed(name: &[u8]) -> bool
-    ensures { result ≡ is_changed name.now }
+// The notices go from one table to another where an office is of an edition before version 2.
+fn is_changed(edition: u64, name: &[u8]) -> bool
+    ensures { result ≡ is_changed edition name.now }
 {
-    same_name(b"notices", name) || same_name(b"office", name) || same_name(b"notices_2", name)
+    same_name(b"office", name)
+        || (had_former(edition) && (same_name(b"notices", name) || same_name(b"notices_2", name)))
 }
 
-fn refers_there(table: &Table) -> bool
-    ensures { result ≡ refers_there table.now }
+fn refers_there(edition: u64, table: &Table) -> bool
+    ensures { result ≡ refers_there edition table.now }
 {
     let references = table.references.as_slice();
-    references
-        .iter()
-        .any(|reference| is_changed(reference.parent.as_slice()))
+    references.iter().any(|reference| is_changed(edition, reference.parent.as_slice()))
 }
 
 // Whether the word stands somewhere in the text, in either case.
@@ -38,31 +39,31 @@ fn mentions(word: &[u8], text: &[u8]) -> bool
 }
 
 // What is kept as it is, and isn't read, is no view.
-fn shows_there(view: &View) -> bool
-    ensures { result ≡ shows_there view.now }
+fn shows_there(edition: u64, view: &View) -> bool
+    ensures { result ≡ shows_there edition view.now }
 {
     if view.foreign.is_some() {
         return false;
     }
     let sql = view.sql.as_slice();
-    mentions(b"notices", sql) || mentions(b"office", sql)
+    mentions(b"office", sql) || (had_former(edition) && mentions(b"notices", sql))
 }
 
-fn some_refer(tables: &[Table]) -> bool
-    ensures { result ≡ list_any refers_there tables.now }
+fn some_refer(edition: u64, tables: &[Table]) -> bool
+    ensures { result ≡ list_any (refers_there edition) tables.now }
 {
-    tables.iter().any(|table| refers_there(table))
+    tables.iter().any(|table| refers_there(edition, table))
 }
 
-fn some_show(views: &[View]) -> bool
-    ensures { result ≡ list_any shows_there views.now }
+fn some_show(edition: u64, views: &[View]) -> bool
+    ensures { result ≡ list_any (shows_there edition) views.now }
 {
-    views.iter().any(|view| shows_there(view))
+    views.iter().any(|view| shows_there(edition, view))
 }
 
-/// Whether a foreign key or a view leads to one of them.
-pub(crate) fn leads_there(schema: &Schema) -> bool
-    ensures { result ≡ leads_there schema.now }
+/// Whether a foreign key or a view leads to a table that a migration from this edition changes.
+pub(crate) fn leads_there(edition: u64, schema: &Schema) -> bool
+    ensures { result ≡ leads_there edition schema.now }
 {
-    some_refer(schema.tables.as_slice()) || some_show(schema.views.as_slice())
+    some_refer(edition, schema.tables.as_slice()) || some_show(edition, schema.views.as_slice())
 }

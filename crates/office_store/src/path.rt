@@ -62,9 +62,9 @@ fn options_for(rt: &HostRuntime, room: Room) -> Result<Options, OpenFault>
 }
 
 impl<S: Start> SqlShelf<FileStore<FileFrom<S>>> {
-    /// The office in a file of the host, or a new one where no name of the office's tables is taken there. An office of version 1
-    /// becomes one of version 2, with its content. No clause can tie the path to a file: `S` stands for what the two files there hold, and the clauses are proved
-    /// for all that they may hold. `main` passes `Unknown`. A refusal comes with what is left of the files, once they were opened.
+    /// The office in a file of the host, or a new one where no name of the office's tables is taken there. An office of an earlier version becomes one
+    /// of this program's, with its content. No clause can tie the path to a file: `S` stands for what the two files there hold, and the clauses are
+    /// proved for all that they may hold. `main` passes `Unknown`. A refusal comes with what is left of the files, once they were opened.
     pub fn open_from(
         rt: &HostRuntime,
         path: &str,

@@ -12,7 +12,7 @@ use Rattle.office_base.specs.declared.shelf.ShelfFault.{ShelfFault}
 use Rattle.office_base.specs.Tables.{Tables}
 use Rattle.office_tables.specs.Failing.{IsUnread}
 use Rattle.office_tables.specs.Standing.{Holds}
-use Rattle.office_tables.specs.Steps.{IsAsked, IsRefusal, ShowsTables, Tells}
+use Rattle.office_tables.specs.Steps.{IsAsked, IsRefusal, ShowsTables, Tells, FindsPart}
 
 pub asked : {S : Type 0} (g : Ghosts S) (sql : List ℕ) (params : Row) (old : Held S) (rows : List Row) (t : Tables) (Q : Type 0) → IsAsked g sql params old rows → ShowsTables (state g old) t
     → ((before after : State) → Holds before.now t → Shown sql params before after rows → Q) → Q
@@ -43,24 +43,25 @@ refusals g sql params old mid (Ok a) h = tt
 refusals g sql params old mid (Err e) h = inl (mid, h)
 
 -- what was found in the rows of an answer is right, where the rows are
-pub told : {S A E : Type 0} (g : Ghosts S) (sql : List ℕ) (params : Row) (old : Held S) (r : Result A E) (From : A → List Row → Type 0) (t : Tables) (Right : A → Type 0)
+told : {S A E : Type 0} (g : Ghosts S) (sql : List ℕ) (params : Row) (old : Held S) (r : Result A E) (From : A → List Row → Type 0) (t : Tables) (Right : A → Type 0)
     → IfOk r (λ a. (rows : List Row) × IsAsked g sql params old rows × From a rows) → ShowsTables (state g old) t
-    → ((before after : State) (rows : List Row) (a : A) → Holds before.now t → Shown sql params before after rows → From a rows → Right a) → IfOk r Right
-told g sql params old (Ok a) From t Right h shows right = asked g sql params old h.0 t (Right a) h.1 shows (λ before after holds shown. right before after h.0 a holds shown h.2)
+    → ((before after : Held S) (rows : List Row) (a : A) → Holds (state g before).now t → Shown sql params (state g before) (state g after) rows → From a rows → Right a) → IfOk r Right
+told g sql params old (Ok a) From t Right h shows right =
+    right (record old { in_transaction = true }) h.1.after h.0 a (subst (λ d. Holds d t) (sym h.1.settled) (shows h.1.was_open)) h.1.shown h.2
 told g sql params old (Err e) From t Right h shows right = tt
 
 -- the record that was found is the one that was asked for, and so are all records that were found
-pub tells_one : {S X E : Type 0} (g : Ghosts S) (sql : List ℕ) (params : Row) (old new : Held S) (r : Result (Option X) E) (read : Row → X) (there : Tables → Option X)
+pub tells_one : {S X E : Type 0} (g : Ghosts S) (sql : List ℕ) (params : Row) (old new : Held S) (r : Result (Option X) E) (read : Row → X) (part : Tables → Option X)
     → (HasCleanDisk (state g new) → IfOk r (λ found. (rows : List Row) × IsAsked g sql params old rows × (found ≡ option_map read (slice_get rows 0))))
-    → ((before after : State) (rows : List Row) (t : Tables) → Holds before.now t → Shown sql params before after rows → option_map read (slice_get rows 0) ≡ there t) → Tells g old new r (λ t found. found ≡ there t)
-tells_one g sql params old new r read there asked shown clean t shows =
-    told g sql params old r (λ found rows. found ≡ option_map read (slice_get rows 0)) t (λ found. found ≡ there t) (asked clean) shows (λ before after rows found holds of from. from ∙ shown before after rows t holds of)
+    → FindsPart g sql params (λ rows. option_map read (slice_get rows 0)) part → Tells g old new r (λ t found. found ≡ part t)
+tells_one g sql params old new r read part asked finds clean t shows =
+    told g sql params old r (λ found rows. found ≡ option_map read (slice_get rows 0)) t (λ found. found ≡ part t) (asked clean) shows (λ before after rows found holds shown from. from ∙ finds before after rows t holds shown)
 
-pub tells_all : {S A X E : Type 0} (g : Ghosts S) (sql : List ℕ) (params : Row) (old new : Held S) (r : Result A E) (items : A → List X) (read : Row → X) (there : Tables → List X)
+pub tells_all : {S A X E : Type 0} (g : Ghosts S) (sql : List ℕ) (params : Row) (old new : Held S) (r : Result A E) (items : A → List X) (read : Row → X) (part : Tables → List X)
     → (HasCleanDisk (state g new) → IfOk r (λ found. (rows : List Row) × IsAsked g sql params old rows × (items found ≡ map read rows)))
-    → ((before after : State) (rows : List Row) (t : Tables) → Holds before.now t → Shown sql params before after rows → map read rows ≡ there t) → Tells g old new r (λ t found. items found ≡ there t)
-tells_all g sql params old new r items read there asked shown clean t shows =
-    told g sql params old r (λ found rows. items found ≡ map read rows) t (λ found. items found ≡ there t) (asked clean) shows (λ before after rows found holds of from. from ∙ shown before after rows t holds of)
+    → FindsPart g sql params (map read) part → Tells g old new r (λ t found. items found ≡ part t)
+tells_all g sql params old new r items read part asked finds clean t shows =
+    told g sql params old r (λ found rows. items found ≡ map read rows) t (λ found. items found ≡ part t) (asked clean) shows (λ before after rows found holds shown from. from ∙ finds before after rows t holds shown)
 
 -- what was found in the rows that were asked for
 pub from_rows : {S A E : Type 0} (g : Ghosts S) (sql : List ℕ) (params : Row) (old : Held S) (rows : List Row) (r : Result A E) (From : A → List Row → Type 0)

@@ -1,11 +1,15 @@
 -- Each table of an office, and each change.
-use Rattle.std.proofs.Common.{◌≡◌, List, ℕ, [], ◌∷◌, Ok, length, pos, true, false, refl, sym, subst, ◌∙◌}
-use Rattle.std.specs.List.{AllByRecursion}
+use Rattle.std.proofs.Common.{◌≡◌, List, ℕ, [], ◌∷◌, Ok, Some, length, slice_get, pos, true, false, refl, sym, subst, ◌∙◌}
+use Rattle.std.specs.Prelude.{bytes_eq}
+use Rattle.std.specs.List.{AllByRecursion, position_or_len}
 use Rattle.std.specs.declared.cmp.Ordering.{Ordering}
 use Rattle.sqlite_value.specs.declared.value.Value.{Value}
 use Rattle.sqlite_value.specs.declared.value.Value.TheVariants.{Int}
 use Rattle.sqlite_value.specs.Order.{Row}
 use Rattle.sqlite_schema.specs.declared.command.Command.{Command}
+use Rattle.sqlite_rules.specs.Lists.{Has}
+use Rattle.sqlite_rules.proofs.ListLemmas.{all_has}
+use Rattle.sqlite_catalog.proofs.AlterLemmas.{place_has}
 use Rattle.sqlite.specs.Effect.{Database}
 use Rattle.sqlite.specs.State.{State, Executes, ExecutesInside}
 use Rattle.office_base.specs.Tables.{Tables, no_tables, after_put}
@@ -15,20 +19,19 @@ use Rattle.office_base.specs.declared.records.ClockRow.{ClockRow}
 use Rattle.office_tables.specs.Forms.{Form, RowsStand}
 use Rattle.office_tables.specs.Kept.{Stand}
 use Rattle.office_tables.specs.Known.{IsIn, Places, HasTables}
-use Rattle.office_tables.specs.Making.{AreIndexings}
-use Rattle.office_tables.specs.Schema.{OfficeTable, table_of, all_tables, StandFor, statement_of, values_of_put, IsReadBack}
+use Rattle.office_tables.specs.Schema.{OfficeTable, table_of, all_tables, StandFor, ComeBack, statement_of, values_of_put, IsReadBack}
 use Rattle.office_tables.specs.Standing.{Stands}
 use Rattle.office_tables.specs.Steps.{Puts}
 use Rattle.office_tables.specs.Tables.Lines.{line_form}
 use Rattle.office_tables.specs.Tables.Batches.{batch_form}
 use Rattle.office_tables.specs.Tables.Tenderers.{tenderer_form}
 use Rattle.office_tables.specs.Tables.Notices.{notice_form}
-use Rattle.office_tables.specs.Tables.Lots.{lot_form, create_lots_of_line, lots_of_line}
-use Rattle.office_tables.specs.Tables.Envelopes.{envelope_form, create_envelopes_of_notice, envelopes_of_notice}
+use Rattle.office_tables.specs.Tables.Lots.{lot_form}
+use Rattle.office_tables.specs.Tables.Envelopes.{envelope_form}
 use Rattle.office_tables.specs.Tables.Seals.{delete_seal, seal_form}
-use Rattle.office_tables.specs.Tables.Securities.{security_form, create_securities_of_notice, securities_of_notice}
-use Rattle.office_tables.specs.Tables.Awards.{award_form, create_awards_of_notice, awards_of_notice}
-use Rattle.office_tables.specs.Tables.Contracts.{contract_form, create_contracts_of_notice, contracts_of_notice}
+use Rattle.office_tables.specs.Tables.Securities.{security_form}
+use Rattle.office_tables.specs.Tables.Awards.{award_form}
+use Rattle.office_tables.specs.Tables.Contracts.{contract_form}
 use Rattle.office_tables.specs.Tables.Entries.{entry_form}
 use Rattle.office_tables.specs.Tables.Releases.{release_form}
 use Rattle.office_tables.specs.Tables.Compiled.{compiled_form}
@@ -41,19 +44,19 @@ use Rattle.office_tables.proofs.Drops.{drops_row}
 use Rattle.office_tables.proofs.Held.{holds_put, goes_with}
 use Rattle.office_tables.proofs.Made.{is_change, shows, made_of}
 use Rattle.office_tables.proofs.Meanings.{StatementMeans, IsOne}
-use Rattle.office_tables.proofs.RowsBack.{notice_back, lot_back, envelope_back, security_back, award_back, contract_back, entry_back, performance_back}
+use Rattle.office_tables.proofs.RowsBack.{notice_back, former_back, lot_back, envelope_back, security_back, award_back, contract_back, entry_back, performance_back}
 use Rattle.office_tables.proofs.Upserts.{Shape}
 use Rattle.office_tables.proofs.Writes.{IsBare, puts_row, with_rows}
 use Rattle.office_tables.proofs.ByTable.Lines.{lines_made, line_shape, line_put, after_line}
 use Rattle.office_tables.proofs.ByTable.Batches.{batches_made, batch_shape, batch_put, after_batch}
 use Rattle.office_tables.proofs.ByTable.Tenderers.{tenderers_made, tenderer_shape, tenderer_put, after_tenderer}
 use Rattle.office_tables.proofs.ByTable.Notices.{notices_made, former_notices_made, notice_shape, notice_put, after_notice}
-use Rattle.office_tables.proofs.ByTable.Lots.{lots_made, lot_shape, lot_put, after_lot, indexes_lots_of_line}
-use Rattle.office_tables.proofs.ByTable.Envelopes.{envelopes_made, envelope_shape, envelope_put, after_envelope, indexes_envelopes_of_notice}
+use Rattle.office_tables.proofs.ByTable.Lots.{lots_made, lot_shape, lot_put, after_lot}
+use Rattle.office_tables.proofs.ByTable.Envelopes.{envelopes_made, envelope_shape, envelope_put, after_envelope}
 use Rattle.office_tables.proofs.ByTable.Seals.{seals_made, seal_shape, seal_put, after_seal, drop_seal_one, drop_seal_means, after_drop}
-use Rattle.office_tables.proofs.ByTable.Securities.{securities_made, security_shape, security_put, after_security, indexes_securities_of_notice}
-use Rattle.office_tables.proofs.ByTable.Awards.{awards_made, award_shape, award_put, after_award, indexes_awards_of_notice}
-use Rattle.office_tables.proofs.ByTable.Contracts.{contracts_made, contract_shape, contract_put, after_contract, indexes_contracts_of_notice}
+use Rattle.office_tables.proofs.ByTable.Securities.{securities_made, security_shape, security_put, after_security}
+use Rattle.office_tables.proofs.ByTable.Awards.{awards_made, award_shape, award_put, after_award}
+use Rattle.office_tables.proofs.ByTable.Contracts.{contracts_made, contract_shape, contract_put, after_contract}
 use Rattle.office_tables.proofs.ByTable.Entries.{entries_made, entry_shape, entry_put, after_entry}
 use Rattle.office_tables.proofs.ByTable.Releases.{releases_made, release_shape, release_put, after_release}
 use Rattle.office_tables.proofs.ByTable.Compiled.{compiled_made, compiled_shape, compiled_put, after_compiled}
@@ -86,9 +89,25 @@ each Performances = performances_made
 pub bare : (k : OfficeTable) → IsBare (table_of k)
 bare k = (each k).bare
 
--- each text of an index makes it
-pub all_indexings : AreIndexings (create_lots_of_line ∷ create_envelopes_of_notice ∷ create_securities_of_notice ∷ create_awards_of_notice ∷ create_contracts_of_notice ∷ [])
-all_indexings = ((Lots, lots_of_line, indexes_lots_of_line, refl), ((Envelopes, envelopes_of_notice, indexes_envelopes_of_notice, refl), ((Securities, securities_of_notice, indexes_securities_of_notice, refl), ((Awards, awards_of_notice, indexes_awards_of_notice, refl), ((Contracts, contracts_of_notice, indexes_contracts_of_notice, refl), tt)))))
+-- its records come back from their rows
+pub all_come_back : (k : OfficeTable) → ComeBack k
+all_come_back Lines = record { row = λ x. refl; entry = λ rowid x. refl }
+all_come_back Batches = record { row = λ x. refl; entry = λ rowid x. refl }
+all_come_back Tenderers = record { row = λ x. refl; entry = λ rowid x. refl }
+all_come_back Notices = record { row = notice_back; entry = λ rowid. notice_back }
+all_come_back Lots = record { row = lot_back; entry = λ rowid. lot_back }
+all_come_back Envelopes = record { row = envelope_back; entry = λ rowid. envelope_back }
+all_come_back Seals = record { row = λ x. refl; entry = λ rowid x. refl }
+all_come_back Securities = record { row = security_back; entry = λ rowid. security_back }
+all_come_back Awards = record { row = award_back; entry = λ rowid. award_back }
+all_come_back Contracts = record { row = contract_back; entry = λ rowid. contract_back }
+all_come_back Entries = record { row = entry_back; entry = λ rowid. entry_back }
+all_come_back Releases = record { row = λ x. refl; entry = λ rowid x. refl }
+all_come_back Compiled = record { row = λ x. refl; entry = λ rowid x. refl }
+all_come_back Office = record { row = λ x. refl; entry = λ rowid x. refl }
+all_come_back LateRules = record { row = λ x. refl; entry = λ rowid x. refl }
+all_come_back FormerNotices = former_back
+all_come_back Performances = record { row = performance_back; entry = λ rowid. performance_back }
 
 -- ---- what each put makes
 
@@ -171,25 +190,20 @@ known old places tables (put.Clock x) = known_by old places tables Office clock_
 abbrev pub Found : Database → OfficeTable → Type 0
 Found db k = (n : ℕ) × IsIn db.schema (table_of k) n × (db.trees n ≡ [])
 
--- each table is among those that were made
+-- each table is one of all, at the place of its name
+abbrev place_of : OfficeTable → ℕ
+place_of k = position_or_len (λ (j : OfficeTable). bytes_eq (table_of j).name (table_of k).name) all_tables
+
+at_place : (k : OfficeTable) → slice_get all_tables (place_of k) ≡ Some k
+at_place Lines = refl
+at_place k = refl
+
+pub listed : (k : OfficeTable) → Has all_tables k
+listed k = place_has all_tables (place_of k) k (at_place k)
+
+-- and so of those that were made
 pub found : {db : Database} (k : OfficeTable) → AllByRecursion (Found db) all_tables → Found db k
-found Lines all = all.1.1.1.1.1.1.1.1.1.1.1.1.1.1.1.1.0
-found Batches all = all.1.1.1.1.1.1.1.1.1.1.1.1.1.1.1.0
-found Tenderers all = all.1.1.1.1.1.1.1.1.1.1.1.1.1.1.0
-found Notices all = all.1.0
-found Lots all = all.1.1.1.1.1.1.1.1.1.1.1.1.0
-found Envelopes all = all.1.1.1.1.1.1.1.1.1.1.1.0
-found Seals all = all.1.1.1.1.1.1.1.1.1.1.0
-found Securities all = all.1.1.1.1.1.1.1.1.1.0
-found Awards all = all.1.1.1.1.1.1.1.1.0
-found Contracts all = all.1.1.1.1.1.1.1.0
-found Entries all = all.1.1.1.1.1.1.0
-found Releases all = all.1.1.1.1.1.0
-found Compiled all = all.1.1.1.1.0
-found Office all = all.1.1.1.0
-found LateRules all = all.1.1.0
-found FormerNotices all = all.1.1.1.1.1.1.1.1.1.1.1.1.1.0
-found Performances all = all.0
+found {db} k all = all_has (Found db) all_tables k all (listed k)
 
 -- no rows stand for no records
 pub nothing : {K X : Type 0} {R : K → K → Ordering} {key : X → K} {form : Value → X → Row} {decode : Row → X} {rows : List Row} → rows ≡ [] → Stand R key form decode rows []
@@ -198,23 +212,9 @@ nothing {R} {key} {form} {decode} e = subst (λ r. Stand R key form decode r [])
 -- the clock's row among empty tables
 pub stands_empty : (rows : OfficeTable → List Row) (changed : List Row) (x : ClockRow) → ((k : OfficeTable) → rows k ≡ []) → StandFor Office changed (record no_tables { clock = x })
     → Stands (with_rows rows Office changed) (record no_tables { clock = x })
-stands_empty rows changed x empty stand Lines = nothing (empty Lines)
-stands_empty rows changed x empty stand Batches = nothing (empty Batches)
-stands_empty rows changed x empty stand Tenderers = nothing (empty Tenderers)
-stands_empty rows changed x empty stand Notices = nothing (empty Notices)
-stands_empty rows changed x empty stand Lots = nothing (empty Lots)
-stands_empty rows changed x empty stand Envelopes = nothing (empty Envelopes)
-stands_empty rows changed x empty stand Seals = nothing (empty Seals)
-stands_empty rows changed x empty stand Securities = nothing (empty Securities)
-stands_empty rows changed x empty stand Awards = nothing (empty Awards)
-stands_empty rows changed x empty stand Contracts = nothing (empty Contracts)
-stands_empty rows changed x empty stand Entries = nothing (empty Entries)
-stands_empty rows changed x empty stand Releases = nothing (empty Releases)
-stands_empty rows changed x empty stand Compiled = nothing (empty Compiled)
 stands_empty rows changed x empty stand Office = stand
-stands_empty rows changed x empty stand LateRules = nothing (empty LateRules)
 stands_empty rows changed x empty stand FormerNotices = empty FormerNotices
-stands_empty rows changed x empty stand Performances = nothing (empty Performances)
+stands_empty rows changed x empty stand k = nothing (empty k)
 
 same : {K X : Type 0} {R : K → K → Ordering} {key : X → K} {form : Value → X → Row} {decode : Row → X} {rows : List Row} {xs ys : List X} → Stand R key form decode rows xs → Stand R key form decode rows ys → xs ≡ ys
 same a b = sym a.is ∙ b.is

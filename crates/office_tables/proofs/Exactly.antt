@@ -33,12 +33,6 @@ pub exit : {T : Type 0} (e : ShelfFault) (r : Result T ShelfFault) (P Q : Type 0
 exit e (Ok x) P Q same f h = tt
 exit e (Err d) P Q same f h = subst (IsFaultOf Q) (sym same) (fault_of f e h)
 
--- a row of another length is no record's
-pub other_width : {T Y : Type 0} (row_of : Y → Row) (fits : Y → Type 0) (row : Row) (n : ℕ) → ((y : Y) → length (row_of y) ≡ n) → (e : ShelfFault) (r : Result T ShelfFault)
-    → IsErrAnd r (λ y. y ≡ e) → IsFaultOf (IsUnwritten (λ (r : Row). r) (λ r. length r ≡ n) row) e → IfErr r (IsFaultOf (IsUnwritten row_of fits row))
-other_width row_of fits row n wide e r same h =
-    exit e r (IsUnwritten (λ (r : Row). r) (λ r. length r ≡ n) row) (IsUnwritten row_of fits row) same (λ h. record { none = λ y f is. h.none (row_of y) (wide y) is }) h
-
 -- one of some rows
 one_of : {R : Type 0} (row_of : R → Row) (fits : R → Type 0) (xs : List R) (row : Row) (at : ℕ) → at < length (map row_of xs) → get_or (map row_of xs) at row ≡ row → AllByRecursion fits xs
     → (x : R) × fits x × (row_of x ≡ row)

@@ -6,7 +6,7 @@ use Rattle.office_base.specs.Rows.{row_put}
 use Rattle.office_base.specs.Tables.{no_tables}
 use Rattle.office_base.specs.declared.records.ClockRow.{ClockRow}
 use Rattle.office_tables.specs.Tables.Office.{clock_values, upsert_office, clock_form}
-use Rattle.office_tables.specs.Schema.{all_tables}
+use Rattle.office_tables.specs.Schema.{OfficeTable, table_of, all_tables}
 use Rattle.office_tables.specs.Known.{Places, HasTables}
 use Rattle.office_tables.specs.Standing.{Stands, Holds}
 use Rattle.office_tables.specs.Making.{AreMade, KeepsOthers, AreNew}
@@ -17,7 +17,7 @@ use Rattle.sqlite_rules.specs.Lists.{Has}
 use Rattle.sqlite_rules.proofs.ListLemmas.{all_has}
 use Rattle.office_tables.proofs.Writes.{puts_row, puts_others}
 use Rattle.office_tables.proofs.ByTable.Office.{clock_shape, clock_put}
-use Rattle.office_tables.proofs.Each.{bare, found, nothing, stands_empty}
+use Rattle.office_tables.proofs.Each.{bare, found, listed, nothing, stands_empty}
 use Rattle.office_tables.specs.Schema.OfficeTable.{Office}
 use Rattle.office_tables.proofs.TableTools.{put_means}
 
@@ -29,7 +29,7 @@ first_others start old new x count kept fresh was h t there =
     let tables : HasTables old.now.schema places = λ k. (found k was.each).1 in
     let same = puts_others Office bare clock_form clock_shape clock_put.stored old new places tables upsert_office x count (put_means clock_put old.now.schema (places Office) (tables Office)) (found Office was.each).2 h in
     let now = kept t there in
-    let apart : t.tree ≢ places Office = λ e. fresh.1.1.1.0 t there (ap (λ (u : Table). u.name) ((tables Office).alone t now.0 e)) in
+    let apart : t.tree ≢ places Office = λ e. all_has (λ (k : OfficeTable). (u : Table) → Has start.schema.tables u → u.name ≢ (table_of k).name) all_tables Office fresh (listed Office) t there (ap (λ (u : Table). u.name) ((tables Office).alone t now.0 e)) in
     (subst (λ (s : Schema). Has s.tables t) (sym same.0) now.0, all_has (λ (u : Table). u.tree ≢ places Office → new.now.trees u.tree ≡ old.now.trees u.tree) old.now.schema.tables t same.1 now.0 apart ∙ now.1)
 
 pub founds : (old new : State) (x : ClockRow) (count : ℕ) → AreMade all_tables old.now → Executes upsert_office (clock_values x) old new (Ok count) → Holds new.now (record no_tables { clock = x })

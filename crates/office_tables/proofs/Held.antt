@@ -4,7 +4,7 @@ use Rattle.std.specs.declared.cmp.Ordering.{Ordering}
 use Rattle.sqlite_value.specs.declared.value.Value.{Value}
 use Rattle.sqlite_value.specs.Order.{Row}
 use Rattle.sqlite.specs.Effect.{Database}
-use Rattle.sqlite.specs.State.{State, IsUnchanged, Shows}
+use Rattle.sqlite.specs.State.{State, Shows}
 use Rattle.office_base.specs.Tables.{Tables, after_put}
 use Rattle.office_base.specs.declared.puts.Put.{Put}
 use Rattle.office_tables.specs.Schema.{OfficeTable}
@@ -31,11 +31,3 @@ goes_on old new h = record { mode = subst IsTrue (sym h.mode) refl; was_open = h
 pub goes_with : (old new : State) (put : Put) → Shows old new new.now old.committed true → ((t : Tables) → Holds old.now t → MakesOne old.step_limit put old.now new.now)
     → ((t : Tables) → Holds old.now t → Holds new.now (after_put put t)) → Puts old new (put ∷ [])
 goes_with old new put shows made tables = record { goes = goes_on old new shows; made = λ t was. (new.now, made t was, refl); tables = tables }
-
--- nothing is put
-pub puts_none : (a b : State) → IsTrue a.in_transaction → IsUnchanged a b → Puts a b []
-puts_none a b inside h = record {
-  goes = record { mode = subst IsTrue (sym h.0.mode) inside; was_open = h.0.was_open; is_open = h.0.is_open; committed = h.0.committed_is };
-  made = λ t holds. h.0.now_is;
-  tables = λ t holds. subst (λ d. Holds d t) (sym h.0.now_is) holds;
-}

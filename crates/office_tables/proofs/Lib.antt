@@ -9,18 +9,18 @@ mod Upserted
 mod RowsPut
 mod Selected
 mod RowsDropped
-mod Meanings
+pub mod Meanings
 mod Made
 mod LoweredColumns
 mod Whole
-mod Simple
-mod Selecting
+pub mod Simple
+pub mod Selecting
 mod Asking
 mod Deletes
 mod Drops
 mod Asked
 mod Reading
-mod Cells
+pub mod Cells
 mod Keyed
 mod Upserts
 mod Renewed
@@ -37,7 +37,8 @@ mod Makes
 mod Founds
 mod MakingSteps
 mod Emptied
-pub mod FirstVersion
+mod LaterTables
+pub mod EarlierEditions
 mod Told
 mod Versions
 mod Failing

@@ -1,8 +1,7 @@
 -- What a select leaves of a connection, and what its rows give.
-use Rattle.std.specs.Prelude.{OnOk, OnErr, IfOk, IfErr}
-use Rattle.std.proofs.Common.{◌≡◌, ◌⊎◌, inl, inr, ℕ, List, [], ◌∷◌, Option, Some, None, Ok, Err, Result, true, IsTrue, slice_get, refl, ◌∙◌}
+use Rattle.std.specs.Prelude.{OnOk, IfOk, IfErr}
+use Rattle.std.proofs.Common.{◌≡◌, ◌⊎◌, inl, inr, ℕ, List, Option, Some, None, Ok, Err, Result, IsTrue, ◌∙◌}
 use Rattle.sqlite_value.specs.Order.{Row}
-use Rattle.sqlite_rules.specs.Lists.{Has}
 use Rattle.sqlite_resolve.specs.declared.compiled.Compiled.{Compiled}
 use Rattle.sqlite.specs.declared.error.Error.{Error}
 use Rattle.sqlite.specs.State.{State, IsUnchanged, IsRolledBack, IsNotRun, IsTooLate, FailsToQuery, FailsToShow, Shown, ShowsRows}
@@ -43,31 +42,9 @@ module _ (sql : List ℕ) (params : Row) (old new : State) (inside : IsTrue old.
   result_kept rows_of (Ok x) ok err = (shown_kept (rows_of x) ok).1
   result_kept rows_of (Err e) ok err = query_kept e err
 
-pub refused_back : (a b c : State) → Refused a b → IsRolledBack b c → Refused a c
-refused_back a b c first last = record { was_open = λ o. first.was_open (last.was_open o); committed = λ o. (last.undone o).1 ∙ first.committed (last.was_open o) }
-
-pub begun_kept : (old new : State) → Refused (record old { in_transaction = true }) new → Refused old new
-begun_kept old new h = record { was_open = h.was_open; committed = h.committed }
-
-pub first_has : {X : Type 0} (xs : List X) (x : X) → slice_get xs 0 ≡ Some x → Has xs x
-first_has [] x h = absurd (cc)
-first_has (y ∷ xs) x h = inl (cc)
-
-pub first_none : {X : Type 0} (xs : List X) → slice_get xs 0 ≡ None → xs ≡ []
-first_none [] h = refl
-first_none (y ∷ xs) h = absurd (cc)
-
-pub if_ok_with : {A E : Type 0} (r : Result A E) (P Q : A → Type 0) → IfOk r P → ((a : A) → P a → Q a) → IfOk r Q
-if_ok_with (Ok a) P Q h f = f a h
-if_ok_with (Err e) P Q h f = tt
-
 pub if_ok_on : {A E : Type 0} (r : Result A E) (P : A → Type 0) (Q : Type 0) → IfOk r P → ((a : A) → P a → Q) → OnOk r Q
 if_ok_on (Ok a) P Q h f = f a h
 if_ok_on (Err e) P Q h f = tt
-
-pub if_err_on : {A E : Type 0} (r : Result A E) (P : E → Type 0) (Q : Type 0) → IfErr r P → ((e : E) → P e → Q) → OnErr r Q
-if_err_on (Ok a) P Q h f = tt
-if_err_on (Err e) P Q h f = f e h
 
 pub not_run_kept : (sql : List ℕ) (params : Row) (old new : State) (e : Error) → IsNotRun old new sql params e → Refused old new
 unfolding IsNotRun

@@ -83,9 +83,6 @@ core_of table columns test = roll-Core (record { distinct = false; shown = map s
 abbrev pub capped : Name → List Name → Option Expr → List Name → Option Expr → Select
 capped table columns test sorts cap = roll-Select (record { with = []; first = core_of table columns test; others = []; order = map sort_of sorts; limit = cap; offset = None })
 
-abbrev pub simple : Name → List Name → Option Expr → List Name → Select
-simple table columns test sorts = capped table columns test sorts None
-
 pub out_column : (name : Name) → out-Expr (column_e name) ≡ Expr-F.Column None name
 unfolding everything
 out_column name = refl

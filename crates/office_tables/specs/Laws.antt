@@ -1,9 +1,9 @@
 -- Laws of databases that hold an office.
-use Rattle.std.specs.Prelude.{◌≡◌, []}
+use Rattle.std.specs.Prelude.{◌≡◌, [], ℕ, nat_lt, IsTrue}
 use Rattle.std.specs.List.{AllByRecursion}
 use Rattle.sqlite.specs.Effect.{Database}
 use Rattle.office_base.specs.Tables.{Tables}
-use Rattle.office_tables.specs.First.{HoldsFirst}
+use Rattle.office_tables.specs.Earlier.{HoldsEdition}
 use Rattle.office_tables.specs.Standing.{Holds}
 
 -- of the same trees no two contents are told
@@ -17,4 +17,4 @@ pub record KnowsNoPerformances (t : Tables) : Type 0 where
 
 -- so it is in an office of version 1
 abbrev pub FirstKnowsNoPerformances : Type 0
-FirstKnowsNoPerformances = (db : Database) (t : Tables) → HoldsFirst db t → KnowsNoPerformances t
+FirstKnowsNoPerformances = (edition : ℕ) (db : Database) (t : Tables) → IsTrue (nat_lt edition 2) → HoldsEdition edition db t → KnowsNoPerformances t

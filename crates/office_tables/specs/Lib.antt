@@ -7,14 +7,15 @@ pub mod Ranges
 pub mod Kept
 pub mod Forms
 pub mod Tables
-pub mod Schema
 pub mod ComesBack
+pub mod Schema
 pub mod Apart
 pub mod Known
 pub mod Standing
 pub mod Steps
 pub mod Failing
 pub mod Making
-pub mod First
+pub mod Editions
+pub mod Earlier
 pub mod Laws
 pub mod Version

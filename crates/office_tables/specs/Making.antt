@@ -72,13 +72,13 @@ onto done (k ∷ ks) = onto (k ∷ done) ks
 abbrev pub AreIndexings : List (List ℕ) → Type 0
 AreIndexings texts = AllByRecursion (λ text. (k : OfficeTable) × (index : Index) × IsIndexing text (table_of k) index × (index.is_unique ≡ false)) texts
 
--- the same, and the tables that were made still are
+-- the transaction goes on, nothing is committed, and where all tables of an office were made they still are, and what was there stays
 pub record Indexes (old new : State) : Type 0 where
   pub goes : Goes old new
   pub others : AreMade all_tables old.now → KeepsOthers old.now new.now
   pub made : AreMade all_tables old.now → AreMade all_tables new.now
 
--- the same, and the office is there, with no content, and what was there stays
+-- the transaction goes on, nothing is committed, the office is there, with no content, and what was there stays
 pub record Founds (old new : State) : Type 0 where
   pub goes : Goes old new
   pub tables : IsDatabase old.now → Holds new.now no_tables

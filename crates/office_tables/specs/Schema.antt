@@ -8,6 +8,7 @@ use Rattle.office_base.specs.declared.puts.Put.{Put}
 use Rattle.office_base.specs.declared.puts.Put.TheVariants as put
 use Rattle.office_tables.specs.ItemTexts.{items_text, items_in_text}
 use Rattle.office_tables.specs.Forms.{RowsStand}
+use Rattle.office_tables.specs.ComesBack.{ComesBack, LotComesBack, FormerComesBack}
 use Rattle.office_tables.specs.Tables.Lines.{lines, create_lines, upsert_lines, line_values, line_form}
 use Rattle.office_tables.specs.Tables.Batches.{batches, create_batches, upsert_batches, batch_values, batch_form}
 use Rattle.office_tables.specs.Tables.Tenderers.{tenderers, create_tenderers, upsert_tenderers, tenderer_values, tenderer_form}
@@ -110,6 +111,30 @@ StandFor LateRules rows t = RowsStand late_form rows t.late_rules
 StandFor FormerNotices rows t = rows ≡ []
 StandFor Performances rows t = RowsStand performance_form rows t.performances
 
+-- its records come back from their rows
+abbrev pub ComeBack : OfficeTable → Type 0
+ComeBack Lines = ComesBack line_form
+ComeBack Batches = ComesBack batch_form
+ComeBack Tenderers = ComesBack tenderer_form
+ComeBack Notices = ComesBack notice_form
+ComeBack Lots = LotComesBack
+ComeBack Envelopes = ComesBack envelope_form
+ComeBack Seals = ComesBack seal_form
+ComeBack Securities = ComesBack security_form
+ComeBack Awards = ComesBack award_form
+ComeBack Contracts = ComesBack contract_form
+ComeBack Entries = ComesBack entry_form
+ComeBack Releases = ComesBack release_form
+ComeBack Compiled = ComesBack compiled_form
+ComeBack Office = ComesBack clock_form
+ComeBack LateRules = ComesBack late_form
+ComeBack FormerNotices = FormerComesBack
+ComeBack Performances = ComesBack performance_form
+
+-- and so of each table
+abbrev pub RecordsComeBack : Type 0
+RecordsComeBack = (k : OfficeTable) → ComeBack k
+
 -- the text of a change
 abbrev pub statement_of : Put → List ℕ
 statement_of (put.Line row) = upsert_lines
@@ -155,7 +180,7 @@ abbrev pub IsReadBack : Put → Type 0
 IsReadBack (put.Lot row) = items_in_text (items_text row.items) ≡ row.items
 IsReadBack p = ⊤
 
--- its statement has this text and these values
+-- the statement of the put has this text and these values, and what is put is read back
 pub record IsStatementOf (p : Put) (sql : List ℕ) (params : Row) : Type 0 where
   pub text : statement_of p ≡ sql
   pub values : values_of_put p ≡ params

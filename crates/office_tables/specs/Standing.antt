@@ -6,7 +6,7 @@ use Rattle.office_base.specs.Tables.{Tables}
 use Rattle.office_tables.specs.Known.{Places, HasTables}
 use Rattle.office_tables.specs.Schema.{OfficeTable, StandFor}
 
--- the rows of each table do
+-- the rows of each table stand for its part of the content
 abbrev pub Stands : (OfficeTable → List Row) → Tables → Type 0
 Stands rows t = (k : OfficeTable) → StandFor k (rows k) t
 

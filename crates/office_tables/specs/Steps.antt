@@ -25,12 +25,16 @@ ShowsTables s t = IsTrue s.is_open → Holds s.committed t
 abbrev pub Tells : {S T E : Type 0} → Ghosts S → Held S → Held S → Result T E → (Tables → T → Type 0) → Type 0
 Tells g old new result right = HasCleanDisk (state g new) → (t : Tables) → ShowsTables (state g old) t → IfOk result (right t)
 
+-- the rows that are shown for this text, where a database holds an office, are read as this part of its content
+abbrev pub FindsPart : {S T : Type 0} → Ghosts S → List ℕ → Row → (List Row → T) → (Tables → T) → Type 0
+FindsPart {S} g sql params read part = (before after : Held S) (rows : List Row) (t : Tables) → Holds (state g before).now t → Shown sql params (state g before) (state g after) rows → read rows ≡ part t
+
 -- the last commit is as before
 pub record Refused (old new : State) : Type 0 where
   pub was_open : IsTrue new.is_open → IsTrue old.is_open
   pub committed : IsTrue new.is_open → new.committed ≡ old.committed
 
--- it is; the last commit is as before, and a stop leaves nothing that it didn't leave before
+-- the answer is right for each content that the last commit held; that commit is as before, and a stop leaves nothing that it didn't leave before
 abbrev pub TellsOnly : {S T E : Type 0} → Ghosts S → Held S → Held S → Result T E → (Tables → T → Type 0) → Type 0
 TellsOnly g old new result right = Tells g old new result right × (HasCleanDisk (state g new) → Refused (state g old) (state g new)) × Survives (state g old) (state g new) (λ _. ⊥)
 

@@ -1,13 +1,14 @@
 //! Queries over the last commit.
-ghost use Rattle.std.specs.Prelude.{◌≡◌, ◌⊎◌, List, IsTrue, IfOk, IfErr, IfSome, OnOk, map, slice_get, option_map};
+ghost use Rattle.std.specs.Prelude.{◌≡◌, ◌⊎◌, List, Option, IsTrue, IfOk, IfErr, IfSome, OnOk, map, slice_get, option_map};
 ghost use Rattle.std.specs.List.{AllByRecursion};
 ghost use Rattle.sqlite_value.specs.Order.{Row as Values};
 ghost use Rattle.sqlite.specs.Held.{state};
 ghost use Rattle.sqlite.specs.State.{HasCleanDisk, Survives, Shown, FailsToQuery, IsTooLate};
 ghost use Rattle.sqlite.specs.Values.{bound};
+ghost use Rattle.office_base.specs.Tables.{Tables};
 ghost use Rattle.office_tables.specs.Unwritten.{IsUnwritten};
 ghost use Rattle.office_tables.specs.Failing.{IsUnread};
-ghost use Rattle.office_tables.specs.Steps.{IsAsked, IsRefusal, Refused};
+ghost use Rattle.office_tables.specs.Steps.{IsAsked, IsRefusal, Refused, FindsPart, TellsOnly};
 
 use crate::faults::fault;
 use crate::stored::{Stored, all, first};
@@ -62,6 +63,7 @@ pub fn ask_first<S: Alter, R: Stored>(
     values: &[ValueRef<'_>],
 ) -> Result<Option<R>, ShelfFault>
     ensures asked { HasCleanDisk (state S.Store conn.new) → IfOk result (λ found. (rows : List Values) × IsAsked S.Store sql.now (bound values.now) conn.old rows × (found ≡ option_map R.read (slice_get rows 0))) }
+    ensures told { (part : Tables → Option R) → FindsPart S.Store sql.now (bound values.now) (λ rows. option_map R.read (slice_get rows 0)) part → TellsOnly S.Store conn.old conn.new result (λ t found. found ≡ part t) }
     ensures exact { HasCleanDisk (state S.Store conn.new) → IfOk result (λ found. (rows : List Values) × IsAsked S.Store sql.now (bound values.now) conn.old rows × (option_map R.row_of found ≡ slice_get rows 0)) }
     ensures cause { HasCleanDisk (state S.Store conn.new) → IfErr result (IsUnread S.Store sql.now (bound values.now) conn.old (λ rows. IsUnwritten (option_map R.row_of) (λ found. IfSome found R.fits) (slice_get rows 0))) }
     ensures kept { HasCleanDisk (state S.Store conn.new) → Refused (state S.Store conn.old) (state S.Store conn.new) }
@@ -81,6 +83,7 @@ pub fn ask_all<S: Alter, R: Stored + Drop>(
     values: &[ValueRef<'_>],
 ) -> Result<Vec<R>, ShelfFault>
     ensures asked { HasCleanDisk (state S.Store conn.new) → IfOk result (λ found. (rows : List Values) × IsAsked S.Store sql.now (bound values.now) conn.old rows × (found.items ≡ map R.read rows)) }
+    ensures told { (part : Tables → List R) → FindsPart S.Store sql.now (bound values.now) (map R.read) part → TellsOnly S.Store conn.old conn.new result (λ t found. found.items ≡ part t) }
     ensures exact { HasCleanDisk (state S.Store conn.new) → IfOk result (λ found. (rows : List Values) × IsAsked S.Store sql.now (bound values.now) conn.old rows × (map R.row_of found.items ≡ rows)) }
     ensures cause { HasCleanDisk (state S.Store conn.new) → IfErr result (IsUnread S.Store sql.now (bound values.now) conn.old (IsUnwritten (map R.row_of) (AllByRecursion R.fits))) }
     ensures kept { HasCleanDisk (state S.Store conn.new) → Refused (state S.Store conn.old) (state S.Store conn.new) }

@@ -1,8 +1,8 @@
 //! One column of a row. What no office writes there is a fault of the store.
-ghost use Rattle.std.specs.Prelude.{◌≡◌, ℕ, ◌≤◌, ◌↔◌, List, [], ◌∷◌, length, IsTrue, IsUtf8, IfOk, IfErr, IfSome, option_map};
+ghost use Rattle.std.specs.Prelude.{◌≡◌, ◌≢◌, ℕ, ◌<◌, ◌≤◌, ◌↔◌, List, [], ◌∷◌, length, IsTrue, IsUtf8, IfOk, IfErr, IfSome, option_map};
 ghost use Rattle.sqlite_value.specs.Value.{owned};
 ghost use Rattle.sqlite_value.specs.declared.value.Value.TheVariants.{Null, Text, Blob};
-ghost use Rattle.sqlite_value.specs.Order.{Row as Values, column};
+ghost use Rattle.sqlite_value.specs.Order.{column};
 ghost use Rattle.office_values.specs.Ids.{IsId};
 ghost use Rattle.office_values.specs.Moments.{last_moment};
 ghost use Rattle.office_values.specs.Money.{amount_limit, total_limit};
@@ -35,7 +35,7 @@ pub(crate) fn is_same(text: &[u8], other: &[u8]) -> bool
 /// Nothing where a row has so many columns.
 pub fn has_columns(row: &Row, count: usize) -> Result<(), ShelfFault>
     ensures exact { IfOk result (λ _. length row.now ≡ count) }
-    ensures cause { IfErr result (IsFaultOf (IsUnwritten (λ (r : Values). r) (λ r. length r ≡ count) row.now)) }
+    ensures cause { IfErr result (IsFaultOf (length row.now ≢ count)) }
 {
     if row.column_count() == count {
         Ok(())
@@ -272,6 +272,19 @@ pub(crate) fn version_at(row: &Row, at: usize, version: u64) -> Result<(), Shelf
 {
     if number_at(row, at)? == version {
         Ok(())
+    } else {
+        Err(ShelfFault::Store)
+    }
+}
+
+// A version of the office's tables before this one.
+pub(crate) fn earlier_at(row: &Row, at: usize, version: u64) -> Result<u64, ShelfFault>
+    ensures exact { IfOk result (λ earlier. whole earlier ≡ column row.now at) }
+    ensures cause { IfErr result (IsFaultOf (IsUnwritten whole (λ n. n < version) (column row.now at))) }
+{
+    let earlier = number_at(row, at)?;
+    if earlier < version {
+        Ok(earlier)
     } else {
         Err(ShelfFault::Store)
     }

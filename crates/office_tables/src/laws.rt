@@ -3,7 +3,7 @@ ghost use Rattle.std.specs.Prelude.{◌≡◌, List};
 ghost use Rattle.std.specs.List.{AllByRecursion};
 ghost use Rattle.office_commands.specs.declared.item.Item.{Item};
 ghost use Rattle.office_tables.specs.ItemTexts.{items_text, items_in_text, ItemFits};
-ghost use Rattle.office_tables.specs.ComesBack.{RecordsComeBack, FormerComesBack};
+ghost use Rattle.office_tables.specs.Schema.{RecordsComeBack};
 ghost use Rattle.office_tables.specs.Laws.{FirstKnowsNoPerformances, TreesTellOneOffice};
 
 /// A law: items come back from their text.
@@ -11,14 +11,9 @@ pub fn items_come_back()
     ensures { (items : List Item) → AllByRecursion ItemFits items → items_in_text (items_text items) ≡ items }
 {}
 
-/// A law: records of each table come back from their rows.
+/// A law: records of each table come back from their rows; notices of an earlier program ask for no performance security then.
 pub fn records_come_back()
     ensures { RecordsComeBack }
-{}
-
-/// A law: notices of an earlier program come back from their rows, and ask for no performance security.
-pub fn former_notices_come_back()
-    ensures { FormerComesBack }
 {}
 
 /// A law: trees that hold an office hold one alone, whatever schema they are read under, since they list their schema. So what a stop leaves

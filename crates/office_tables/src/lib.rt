@@ -4,12 +4,12 @@
 
 pub mod ask;
 pub mod columns;
+pub mod earlier;
+pub mod editions;
 pub mod faults;
-pub mod first;
 pub mod items;
 pub mod laws;
 pub mod make;
-pub mod puts;
 mod readings;
 mod statement;
 pub mod stored;

@@ -5,22 +5,19 @@ ghost use Rattle.sqlite.specs.Held.{state};
 ghost use Rattle.sqlite.specs.State.{HasCleanDisk, Survives, ExecutesInside};
 ghost use Rattle.office_base.specs.Tables.{first_clock};
 ghost use Rattle.office_tables.specs.Tables.Office.{clock_values, upsert_office};
-ghost use Rattle.office_tables.specs.Schema.{OfficeTable, table_of, create_of, all_tables};
+ghost use Rattle.office_tables.specs.Schema.{OfficeTable, table_of, create_of};
 ghost use Rattle.office_tables.specs.Making.{IsCreate, IsIndexing, AreIndexings, Makes, Indexes, Founds, onto};
 ghost use Rattle.office_tables.specs.Steps.{Refused};
 
 use crate::statement::execute_one;
-use crate::tables::{
-    awards, batches, compiled, contracts, entries, envelopes, late_rules, lines, lots, notices,
-    office, performances, releases, seals, securities, tenderers,
-};
+use crate::tables::{awards, contracts, envelopes, lots, make_office, office, securities};
 use office_base::records::ClockRow;
 use office_values::given::LastNumber;
 use office_values::moment::Moment;
 use sqlite::{Alter, Error, Transaction};
 
 // One CREATE TABLE.
-fn make_table<S: Alter>(tx: &mut Transaction<'_, S>, sql: &str) -> Result<(), Error>
+pub(crate) fn make_table<S: Alter>(tx: &mut Transaction<'_, S>, sql: &str) -> Result<(), Error>
     ensures same_reference { tx.new.conn.ghost_name ≡ tx.old.conn.ghost_name }
     ensures made { HasCleanDisk (state S.Store tx.new.conn.now) → IsTrue (state S.Store tx.old.conn.now).in_transaction → (k : OfficeTable) → IsCreate sql.now (table_of k) → OnOk result (Makes (state S.Store tx.old.conn.now) (state S.Store tx.new.conn.now) (k ∷ [])) }
     ensures refused { HasCleanDisk (state S.Store tx.new.conn.now) → IsTrue (state S.Store tx.old.conn.now).in_transaction → OnErr result (Refused (state S.Store tx.old.conn.now) (state S.Store tx.new.conn.now)) }
@@ -73,37 +70,6 @@ fn make_indexes<S: Alter>(
         make_index(tx, text)?;
     }
     Ok(())
-}
-
-// All tables: those of version 1, of which that of its notices stays empty; that of late withdrawals, which came later; those of version 2.
-fn make_office<S: Alter>(tx: &mut Transaction<'_, S>) -> Result<(), Error>
-    ensures same_reference { tx.new.conn.ghost_name ≡ tx.old.conn.ghost_name }
-    ensures made { HasCleanDisk (state S.Store tx.new.conn.now) → IsTrue (state S.Store tx.old.conn.now).in_transaction → OnOk result (Makes (state S.Store tx.old.conn.now) (state S.Store tx.new.conn.now) all_tables) }
-    ensures refused { HasCleanDisk (state S.Store tx.new.conn.now) → IsTrue (state S.Store tx.old.conn.now).in_transaction → OnErr result (Refused (state S.Store tx.old.conn.now) (state S.Store tx.new.conn.now)) }
-    ensures survives { Survives (state S.Store tx.old.conn.now) (state S.Store tx.new.conn.now) (λ _. ⊥) }
-{
-    make_tables(
-        tx,
-        lines::CREATE,
-        &[
-            batches::CREATE,
-            tenderers::CREATE,
-            notices::CREATE_FORMER,
-            lots::CREATE,
-            envelopes::CREATE,
-            seals::CREATE,
-            securities::CREATE,
-            awards::CREATE,
-            contracts::CREATE,
-            entries::CREATE,
-            releases::CREATE,
-            compiled::CREATE,
-            office::CREATE,
-            late_rules::CREATE,
-            notices::CREATE,
-            performances::CREATE,
-        ],
-    )
 }
 
 // The clock of an office where nothing was accepted.

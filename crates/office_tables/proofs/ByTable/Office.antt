@@ -1,8 +1,8 @@
--- The clock: what is shown of their table, of the text that puts one, and of each question.
+-- The clock: what is shown of its table, of the text that puts it, and of its question.
 use Rattle.office_tables.proofs.TableTools.{◌≡◌, ◌∷◌, [], List, ℕ, pos, None, codes, refl, true, map, range_with_len, IsTotalOrder, IsAntisymmetric, Int, first_key, Row, same_name, Schema, Select, alone, chosen, first_found, max_budget, first, everything, State, Shown, row_put, Tables, number_column, IsIn, at_tree, Holds, cast_null, cast_int, numbers_equal, one_true, numbered, StatementMeans, IsOne, parsed_in, names_of, outputs_of, Has, no_test, select, columns_of, left, IsSelect, selects_mean, found_by_tree, lists, shows_rows, Shape, at_rowid, columns_in, rows_in, clause_in, IsStored, ReadsTable, creates_it, IsOfficeTable, IsPutText, IsPutOf, StaysBeside}
 use Rattle.office_base.specs.declared.puts.Put.TheVariants as put
 use Rattle.office_base.specs.declared.records.ClockRow.{ClockRow}
-use Rattle.office_tables.specs.Tables.Office.{create_office, office, upsert_office, clock_cmp, clock_read, clock_form_of, clock_form}
+use Rattle.office_tables.specs.Tables.Office.{this_version, create_office, office, upsert_office, clock_cmp, clock_read, clock_form_of, clock_form}
 use Rattle.office_tables.specs.Version.{get_version, HasVersion}
 use Rattle.office_tables.specs.Schema.OfficeTable.{Office}
 
@@ -39,9 +39,9 @@ clock_stored = record {
   total = clock_total;
   exact = clock_exact;
   computes = record { given = λ n x. refl; chosen = λ rows x. refl; numbered = λ m x. refl; kept = λ m x. refl; finds = λ x id more. refl };
-  tries = λ n x. rw (cast_null, cast_int (pos 2), cast_int (pos x.moment), cast_int (pos x.receipts), cast_int (pos x.awards));
-  stores = λ n m x. rw (cast_null, cast_int (pos 2), cast_int (pos x.moment), cast_int (pos x.receipts), cast_int (pos x.awards));
-  meets = λ u v x y e. one_true _ (numbers_equal 2 2 refl);
+  tries = λ n x. rw (cast_null, cast_int (pos this_version), cast_int (pos x.moment), cast_int (pos x.receipts), cast_int (pos x.awards));
+  stores = λ n m x. rw (cast_null, cast_int (pos this_version), cast_int (pos x.moment), cast_int (pos x.receipts), cast_int (pos x.awards));
+  meets = λ u v x y e. one_true _ (numbers_equal this_version this_version refl);
   met = λ u v x y h. refl;
   updates = λ n x y v more e. refl;
 }

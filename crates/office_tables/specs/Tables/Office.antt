@@ -1,4 +1,4 @@
--- The clock, as a table of one record: the text that makes the table, its columns, the text that puts one, and its row: the key, then the other fields.
+-- The clock, as a table of one record: the text that makes the table, its columns, the text that puts one, and its row: the version, then the fields.
 use Rattle.std.specs.Prelude.{◌≤◌, ◌^◌, ℕ, List, [], ◌∷◌, codes, pos}
 use Rattle.std.specs.declared.cmp.Ordering.{Ordering}
 use Rattle.std.specs.declared.cmp.Ordering.TheVariants.{Equal}
@@ -29,12 +29,16 @@ clock_key x = tt
 abbrev pub clock_cmp : Unit {0} → Unit {0} → Ordering
 clock_cmp a b = Equal
 
--- the clock stands in the office's one row, behind the version of its tables, which is 2
+-- the version of the tables that this program makes
+abbrev pub this_version : ℕ
+this_version = 2
+
+-- the clock stands in the office's one row, behind the version of its tables
 abbrev pub clock_values_of : ℕ → ClockRow → Row
 clock_values_of version x = Int (pos version) ∷ Int (pos x.moment) ∷ Int (pos x.receipts) ∷ Int (pos x.awards) ∷ []
 
 abbrev pub clock_values : ClockRow → Row
-clock_values x = clock_values_of 2 x
+clock_values x = clock_values_of this_version x
 
 -- what a row is read as
 abbrev pub clock_read : Row → ClockRow
@@ -49,4 +53,4 @@ abbrev pub clock_form_of : ℕ → Form (Unit {0}) ClockRow
 clock_form_of version = rowid_form office clock_cmp clock_key (clock_values_of version) clock_read
 
 abbrev pub clock_form : Form (Unit {0}) ClockRow
-clock_form = clock_form_of 2
+clock_form = clock_form_of this_version

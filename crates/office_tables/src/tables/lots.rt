@@ -1,4 +1,4 @@
-//! Lots: the texts of their table, their rows, and the questions for them.
+//! Lots: the texts of their table, their rows, the questions for them, and their put.
 ghost use Rattle.std.specs.Prelude.{◌≡◌, [], ◌∷◌, IsTrue, OnOk, OnErr};
 ghost use Rattle.sqlite.specs.Held.{state};
 ghost use Rattle.sqlite.specs.State.{HasCleanDisk, Survives};
@@ -126,8 +126,8 @@ pub fn list_lots_of_line<S: Alter>(
     )
 }
 
-/// Adds a lot, or replaces the one of its key.
-pub fn put_lot<S: Alter>(
+// Adds a lot, or replaces the one of its key.
+pub(crate) fn put_lot<S: Alter>(
     alloc: Global,
     tx: &mut Transaction<'_, S>,
     row: &LotRow,

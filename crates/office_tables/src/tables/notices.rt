@@ -1,4 +1,4 @@
-//! Notices, and those of earlier programs: the texts of their table, their rows, and the questions for them.
+//! Notices, and those of earlier programs: the texts of their table, their rows, the questions for them, and their put.
 ghost use Rattle.std.specs.Prelude.{◌≡◌, [], ◌∷◌, IsTrue, OnOk, OnErr};
 ghost use Rattle.sqlite.specs.Held.{state};
 ghost use Rattle.sqlite.specs.State.{HasCleanDisk, Survives};

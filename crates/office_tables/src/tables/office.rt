@@ -1,11 +1,13 @@
 //! The clock, and that of earlier programs: the texts of its table, its row, and the question for it.
-ghost use Rattle.std.specs.Prelude.{◌≡◌, Some, IfOk};
+ghost use Rattle.std.specs.Prelude.{◌≡◌, ◌<◌, Some, IfOk};
+ghost use Rattle.sqlite_value.specs.Order.{column};
 ghost use Rattle.sqlite.specs.Values.{bound};
 ghost use Rattle.office_tables.specs.Steps.{TellsOnly};
-ghost use Rattle.office_tables.specs.Tables.Office.{clock_values, clock_read, ClockFits, clock_values_of};
+ghost use Rattle.office_tables.specs.Tables.Office.{this_version, clock_values, clock_read, ClockFits, clock_values_of};
+ghost use Rattle.office_tables.specs.Values.{number_in_value};
 
 use crate::ask::ask_first;
-use crate::columns::{bounded_at, has_columns, moment_at, version_at};
+use crate::columns::{bounded_at, earlier_at, has_columns, moment_at, version_at};
 use crate::stored::Stored;
 use crate::values::signed;
 use office_base::records::ClockRow;
@@ -13,6 +15,9 @@ use office_base::shelf::ShelfFault;
 use sqlite::{Alter, Connection, Row};
 use sqlite_value::value::ValueRef;
 use std::alloc::Global;
+
+/// The version of the tables that this program makes.
+pub const VERSION: u64 = 2;
 
 /// The text that makes the table.
 pub(crate) const CREATE: &str =
@@ -22,13 +27,13 @@ pub(crate) const CREATE: &str =
 pub(crate) const PUT: &str =
     "INSERT INTO office (version, moment, receipts, awards) VALUES (?1, ?2, ?3, ?4) ON CONFLICT (version) DO UPDATE SET moment = ?2, receipts = ?3, awards = ?4";
 
-/// The values of the office's one row: the version of its tables, which is 2, and the clock.
+/// The values of the office's one row: the version of its tables, and the clock.
 pub fn clock_values(row: &ClockRow) -> [ValueRef<'static>; 4]
     ensures row { bound result ≡ clock_values row.now }
     ensures fits { ClockFits row.now }
 {
     [
-        ValueRef::Int(2),
+        ValueRef::Int(signed(VERSION)),
         ValueRef::Int(signed(row.moment.second())),
         ValueRef::Int(signed(row.receipts.get())),
         ValueRef::Int(signed(row.awards.get())),
@@ -44,7 +49,7 @@ impl Stored for ClockRow {
 
     fn from_row(_alloc: Global, row: &Row) -> Result<ClockRow, ShelfFault> {
         has_columns(row, 4)?;
-        version_at(row, 0, 2)?;
+        version_at(row, 0, VERSION)?;
         Ok(ClockRow {
             moment: moment_at(row, 1)?,
             receipts: bounded_at(row, 2)?,
@@ -53,23 +58,24 @@ impl Stored for ClockRow {
     }
 }
 
-/// The clock as an earlier program kept it, behind version 1.
+/// The clock as an earlier program kept it, behind the version of its tables.
 #[derive(Clone, Copy)]
 pub struct FormerClock {
+    pub version: u64,
     pub row: ClockRow,
 }
 
 impl Stored for FormerClock {
-    ghost read = { λ r. record { row = clock_read r } };
+    ghost read = { λ r. record { version = number_in_value (column r 0); row = clock_read r } };
 
-    ghost row_of = { λ x. clock_values_of 1 x.row };
+    ghost row_of = { λ x. clock_values_of x.version x.row };
 
-    ghost fits = { λ x. ClockFits x.row };
+    ghost fits = { λ x. (x.version < this_version) × ClockFits x.row };
 
     fn from_row(_alloc: Global, row: &Row) -> Result<FormerClock, ShelfFault> {
         has_columns(row, 4)?;
-        version_at(row, 0, 1)?;
         Ok(FormerClock {
+            version: earlier_at(row, 0, VERSION)?,
             row: ClockRow {
                 moment: moment_at(row, 1)?,
                 receipts: bounded_at(row, 2)?,

@@ -1,4 +1,4 @@
-use Rattle.std.proofs.Common.{◌≡◌, refl, ap, sym, subst, ◌∙◌, IfOk, IfErr}
+use Rattle.std.proofs.Common.{◌≡◌, ap, sym, subst, ◌∙◌, IfOk, IfErr}
 use Rattle.std.proofs.lemmas.Result.{IfOk-weaker}
 use Rattle.sqlite_value.specs.Order.{Row}
 use Rattle.office_base.specs.Faults.{IsFaultOf}
@@ -8,11 +8,8 @@ use Rattle.office_ledger.specs.Reading.{joined_lot_read}
 use Rattle.office_ledger.specs.Shows.{joined_lot_cells}
 use Rattle.office_ledger.specs.Fits.{LotFits}
 use Rattle.office_ledger.proofs.BackAgain.{lot_back}
-use Rattle.office_tables.proofs.Exactly.{columns_are, other_width}
+use Rattle.office_tables.proofs.Exactly.{columns_are}
 use Rattle.office_ledger.proofs.reading.joined_lot.Goals as goal
-
-pub returns-in_err-has_columns-clause-cause : goal.returns-in_err-has_columns-clause-cause
-returns-in_err-has_columns-clause-cause c = other_width joined_lot_cells LotFits c.args.row.now 9 (λ x. refl) _ c.from_residual.result c.from_residual.ensures.1 c.in_err-has_columns.ensures.cause
 
 exact : goal.returns-clause-exact
 exact c = subst (λ (r : Row). IfOk c.lot_at.result (λ (lot : JoinedLot). joined_lot_cells lot ≡ r)) (columns_are c.args.row.now 9 c.in_ok-has_columns.ensures.exact) c.lot_at.ensures.exact

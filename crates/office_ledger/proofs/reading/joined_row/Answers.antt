@@ -1,13 +1,8 @@
-use Rattle.std.proofs.Common.{refl, ap, sym, ◌∙◌, ◌∷◌}
-use Rattle.office_ledger.specs.Cells.{joined_cells}
+use Rattle.std.proofs.Common.{ap, sym, ◌∙◌, ◌∷◌}
 use Rattle.office_ledger.specs.Reading.{joined_read}
-use Rattle.office_ledger.specs.Fits.{JoinedFits}
 use Rattle.office_ledger.proofs.BackAgain.{row_back}
-use Rattle.office_tables.proofs.Exactly.{columns_are, other_width}
+use Rattle.office_tables.proofs.Exactly.{columns_are}
 use Rattle.office_ledger.proofs.reading.joined_row.Goals as goal
-
-pub returns-in_err-has_columns-clause-cause : goal.returns-in_err-has_columns-clause-cause
-returns-in_err-has_columns-clause-cause c = other_width joined_cells JoinedFits c.args.row.now 12 (λ x. refl) _ c.from_residual.result c.from_residual.ensures.1 c.in_err-has_columns.ensures.cause
 
 exact : goal.returns-clause-exact
 exact c =

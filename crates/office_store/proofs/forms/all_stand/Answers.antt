@@ -11,8 +11,8 @@ loop-at-preserved c form h =
     let tables = c.as_slice-tables.result.now in
     let item = c.index-tables-at.result in
     let more : take (c.loop-at.at + 1) tables ≡ take c.loop-at.at tables ++ item ∷ [] = search (rules, take_more) in
-    let stands : StandsOrLacks c.args.is_first c.args.schema.now item = search rules in
+    let stands : StandsOrLacks c.args.edition c.args.schema.now item = search rules in
     elim (has_either (take c.loop-at.at tables) (item ∷ []) form (subst (λ (xs : List Table). Has xs form) more h)) [
       | inl early ↦ c.loop-at.invariant form early
-      | inr last ↦ elim last [ inl same ↦ subst (StandsOrLacks c.args.is_first c.args.schema.now) (sym same) stands | inr none ↦ absurd none ]
+      | inr last ↦ elim last [ inl same ↦ subst (StandsOrLacks c.args.edition c.args.schema.now) (sym same) stands | inr none ↦ absurd none ]
     ]

@@ -5,4 +5,4 @@ use Rattle.office_store.specs.Forms.{StandsOrLacks}
 use Rattle.office_store.proofs.forms.all_stand.Given as goal
 
 abbrev pub invariant-loop-at : goal.invariant-loop-at
-invariant-loop-at l = (form : Table) → Has (take l.at l.tables) form → StandsOrLacks l.is_first l.schema form
+invariant-loop-at l = (form : Table) → Has (take l.at l.tables) form → StandsOrLacks l.edition l.schema form

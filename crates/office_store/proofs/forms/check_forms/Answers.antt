@@ -13,7 +13,7 @@ returns-then-all_stand-clause-forms g c open_now =
     let alone : IsTrue c.is_autocommit.result = search rules in
     let settled = c.is_autocommit.ensures.settled alone open_now in
     let forms = c.in-Ok.forms.schema in
-    subst (λ (d : Database). HasForms c.args.is_first d.schema) settled
-    (forms_stand c.args.is_first it.now forms (c.schema.ensures.live open_now).0 c.in-Ok.ensures.forms (λ form h.
-    subst (λ s. StandsOrLacks c.args.is_first s form) c.schema.ensures.value
+    subst (λ (d : Database). HasForms c.args.edition d.schema) settled
+    (forms_stand c.args.edition it.now forms (c.schema.ensures.live open_now).0 c.in-Ok.ensures.forms (λ form h.
+    subst (λ s. StandsOrLacks c.args.edition s form) c.schema.ensures.value
     (c.all_stand.ensures c.if-all_stand.true form (subst (λ (s : Schema). Has s.tables form) (sym c.schema-2.ensures.value) h))))

@@ -1,13 +1,16 @@
-use Rattle.std.proofs.Common.{rules, arith, ◌≡◌, ◌∙◌, ap, refl, sym, subst, inl, inr, [], true, false}
+use Rattle.std.proofs.Common.{rules, arith, ◌≡◌, refl, sym, subst, inl, inr, [], true, false, IsTrue}
+use Rattle.std.specs.Prelude.{nat_lt}
 use Rattle.sqlite.specs.Held.{state}
 use Rattle.sqlite.specs.declared.error.Error.TheVariants.{SqlInputError}
 use Rattle.sqlite.specs.State.{HasCleanDisk, IsLive}
 use Rattle.sqlite.proofs.StateLemmas.{survives_then}
+use Rattle.office_tables.specs.Editions.{edition_of, has_late}
 use Rattle.office_tables.specs.Steps.{IsRefusal}
+use Rattle.office_tables.specs.Tables.Office.{this_version}
 use Rattle.office_tables.specs.Version.{get_version}
-use Rattle.office_store.specs.Founding.{Enters, is_version_one, is_other_version, origin_of, takes_a_name, IsMadeCurrent, LeavesReadied, LeavesOffice}
+use Rattle.office_store.specs.Founding.{Enters, version_in, is_other_version, takes_a_name, LeavesOffice}
 use Rattle.office_store.proofs.Founding.{sound_after, founded_after, leaves_before, refused_on, shown_is_left}
-use Rattle.office_store.proofs.Migrating.{leaves_readied_before, readied_after, readied_enters, readied_shows, never_other, shown_version}
+use Rattle.office_store.proofs.Migrating.{late_committed, leaves_readied_before, readied_after, readied_enters, readied_shows, never_other, shown_version}
 use Rattle.office_store.proofs.found.enter.Goals as goal
 
 pub returns-in-Ok-ready-clause-enters : goal.returns-in-Ok-ready-clause-enters
@@ -17,11 +20,12 @@ returns-in-Ok-ready-clause-enters g c clean =
     let mid = state g.S.Store c.ask_version.new.conn in
     let end = state g.S.Store c.ready.new.conn in
     let early : HasCleanDisk mid = omega (arith, clean, c.ready.ensures.survives.clean) in
-    let one : is_other_version c.in-Ok.rows.items ≡ false = search rules in
-    let first : c.is_version_one-is_first.result ≡ is_version_one c.in-Ok.rows.items = search rules in
-    let readied = readied_after c.is_version_one-is_first.result old mid end (c.ask_version.ensures.kept early) (c.in-Ok-ready.ensures.readied clean) in
-    subst (λ o. Enters g.S.Store o held c.ready.new.conn) (sym (c.origin_of.ensures ∙ ap origin_of first))
-    (readied_enters g.S.Store held c.ready.new.conn c.in-Ok.rows.items (c.in-Ok.ensures.asked early) one (is_version_one c.in-Ok.rows.items) refl (subst (λ b. IsMadeCurrent b old end) first readied))
+    let known : is_other_version c.in-Ok.rows.items ≡ false = search rules in
+    let edition = c.edition_of-edition.result in
+    let is : edition_of (version_in c.in-Ok.rows.items) (has_late held.schema) ≡ edition = search rules in
+    let readied = readied_after (nat_lt edition this_version) edition old mid end (c.ask_version.ensures.kept early) (c.in-Ok-ready.ensures.readied clean) in
+    subst (λ o. Enters g.S.Store o held c.ready.new.conn) (sym c.origin_of.ensures)
+    (readied_enters g.S.Store held c.ready.new.conn c.in-Ok.rows.items (c.in-Ok.ensures.asked early) known edition is (nat_lt edition this_version) refl readied)
 
 pub returns-in-Ok-ready-clause-found : goal.returns-in-Ok-ready-clause-found
 returns-in-Ok-ready-clause-found g c clean t shows =
@@ -30,9 +34,12 @@ returns-in-Ok-ready-clause-found g c clean t shows =
     let mid = state g.S.Store c.ask_version.new.conn in
     let end = state g.S.Store c.ready.new.conn in
     let early : HasCleanDisk mid = omega (arith, clean, c.ready.ensures.survives.clean) in
-    let first : c.is_version_one-is_first.result ≡ is_version_one c.in-Ok.rows.items = search rules in
-    let readied = readied_after c.is_version_one-is_first.result old mid end (c.ask_version.ensures.kept early) (c.in-Ok-ready.ensures.readied clean) in
-    readied_shows g.S.Store held c.in-Ok.rows.items (λ n clock is. c.in-Ok.ensures.one early n clock is) end t shows (c.in-Ok.ensures.asked early).was_open (subst (λ b. IsMadeCurrent b old end) first readied)
+    let settled : IsTrue old.is_open → old.now ≡ old.committed = search rules in
+    let edition = c.edition_of-edition.result in
+    let is : edition_of (version_in c.in-Ok.rows.items) (has_late held.schema) ≡ edition = search rules in
+    let was_open = (c.in-Ok.ensures.asked early).was_open in
+    let readied = readied_after (nat_lt edition this_version) edition old mid end (c.ask_version.ensures.kept early) (c.in-Ok-ready.ensures.readied clean) in
+    readied_shows g.S.Store held c.in-Ok.rows.items (λ n clock so. c.in-Ok.ensures.one early n clock so) edition is (late_committed g.S.Store held settled was_open) end t shows was_open readied
 
 pub returns-in-Ok-ready-clause-sound : goal.returns-in-Ok-ready-clause-sound
 returns-in-Ok-ready-clause-sound g c clean =
@@ -42,12 +49,13 @@ pub returns-in-Ok-ready-clause-survives : goal.returns-in-Ok-ready-clause-surviv
 returns-in-Ok-ready-clause-survives g c =
     let old = state g.S.Store c.args.conn.now in
     let mid = state g.S.Store c.ask_version.new.conn in
-    let first : c.is_version_one-is_first.result ≡ is_version_one c.in-Ok.rows.items = search rules in
+    let known : is_other_version c.in-Ok.rows.items ≡ false = search rules in
+    let edition = c.edition_of-edition.result in
+    let is : edition_of (version_in c.in-Ok.rows.items) (has_late c.args.conn.now.schema) ≡ edition = search rules in
     survives_then old mid (state g.S.Store c.ready.new.conn) _ _ (LeavesOffice g.S.Store c.args.conn.now) (λ _ db none. absurd none)
     (λ clean db leaves.
     let early : HasCleanDisk mid = omega (arith, clean, c.ready.ensures.survives.clean) in
-    leaves_readied_before g.S.Store c.args.conn.now c.ask_version.new.conn c.in-Ok.rows.items db (c.in-Ok.ensures.asked early) (c.ask_version.ensures.kept early)
-    (subst (λ b. LeavesReadied b mid db) first leaves))
+    leaves_readied_before g.S.Store c.args.conn.now c.ask_version.new.conn c.in-Ok.rows.items edition db (c.in-Ok.ensures.asked early) known is (c.ask_version.ensures.kept early) leaves)
     c.ask_version.ensures.survives c.ready.ensures.survives
 
 pub returns-in-Ok-clause-kept : goal.returns-in-Ok-clause-kept
@@ -60,12 +68,13 @@ pub returns-in-Ok-clause-survives : goal.returns-in-Ok-clause-survives
 returns-in-Ok-clause-survives g c =
     let old = state g.S.Store c.args.conn.now in
     let mid = state g.S.Store c.ask_version.new.conn in
-    let first : c.is_version_one-is_first.result ≡ is_version_one c.in-Ok.rows.items = search rules in
+    let known : is_other_version c.in-Ok.rows.items ≡ false = search rules in
+    let edition = c.edition_of-edition.result in
+    let is : edition_of (version_in c.in-Ok.rows.items) (has_late c.args.conn.now.schema) ≡ edition = search rules in
     survives_then old mid (state g.S.Store c.ready.new.conn) _ _ (LeavesOffice g.S.Store c.args.conn.now) (λ _ db none. absurd none)
     (λ clean db leaves.
     let early : HasCleanDisk mid = omega (arith, clean, c.ready.ensures.survives.clean) in
-    leaves_readied_before g.S.Store c.args.conn.now c.ask_version.new.conn c.in-Ok.rows.items db (c.in-Ok.ensures.asked early) (c.ask_version.ensures.kept early)
-    (subst (λ b. LeavesReadied b mid db) first leaves))
+    leaves_readied_before g.S.Store c.args.conn.now c.ask_version.new.conn c.in-Ok.rows.items edition db (c.in-Ok.ensures.asked early) known is (c.ask_version.ensures.kept early) leaves)
     c.ask_version.ensures.survives c.ready.ensures.survives
 
 pub returns-then-is_other_version-clause-none : goal.returns-then-is_other_version-clause-none

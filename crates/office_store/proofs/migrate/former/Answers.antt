@@ -3,15 +3,15 @@ use Rattle.sqlite.specs.Held.{state}
 use Rattle.sqlite.specs.State.{HasCleanDisk}
 use Rattle.sqlite.proofs.StateLemmas.{survives_then}
 use Rattle.office_store.proofs.Founding.{refused_on}
-use Rattle.office_store.proofs.Migrating.{first_on}
+use Rattle.office_store.proofs.Migrating.{earlier_on}
 use Rattle.office_store.proofs.migrate.former.Goals as goal
 
 pub returns-clause-got : goal.returns-clause-got
-returns-clause-got g c clean t shows =
+returns-clause-got g c clean edition t shows =
     let old = state g.S.Store c.args.conn.now in
     let mid = state g.S.Store c.former_clock.new.conn in
     let early : HasCleanDisk mid = omega (arith, clean, c.former_notices.ensures.survives.clean) in
-    (c.in_ok-clock.ensures.got early t shows, c.in_ok-notices.ensures.got clean t (first_on old mid t (c.former_clock.ensures.kept early) shows))
+    (c.in_ok-clock.ensures.got early edition t shows, c.in_ok-notices.ensures.got clean edition t (earlier_on edition old mid t (c.former_clock.ensures.kept early) shows))
 
 pub returns-clause-kept : goal.returns-clause-kept
 returns-clause-kept g c clean =

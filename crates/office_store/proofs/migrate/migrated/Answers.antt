@@ -3,11 +3,10 @@ use Rattle.sqlite.specs.Held.{state}
 use Rattle.sqlite.specs.State.{HasCleanDisk}
 use Rattle.sqlite.proofs.StateLemmas.{survives_then}
 use Rattle.office_tables.specs.declared.tables.notices.FormerNotice.{FormerNotice}
-use Rattle.office_tables.specs.First.{has_late}
 use Rattle.office_store.specs.Founding.{LeavesMigrated}
 use Rattle.office_store.proofs.Founding.{refused_on}
 use Rattle.office_store.specs.Others.{leads_there}
-use Rattle.office_store.proofs.Migrating.{from_told, told_leaves, late_committed, apart_committed}
+use Rattle.office_store.proofs.Migrating.{from_told, told_leaves, apart_committed}
 use Rattle.office_store.proofs.migrate.migrated.Goals as goal
 
 pub returns-in-Ok-clause-migrated : goal.returns-in-Ok-clause-migrated
@@ -18,13 +17,11 @@ returns-in-Ok-clause-migrated g c clean =
     let new = state g.S.Store c.migrate.new.conn in
     let early : HasCleanDisk mid = omega (arith, clean, c.migrate.ensures.survives.clean) in
     let settled : IsTrue old.is_open → old.now ≡ old.committed = search rules in
-    let there = c.has_late-has_table.result in
-    let b : has_late held.schema ≡ there = search rules in
-    let free : leads_there held.schema ≡ false = search rules in
+    let free : leads_there c.args.edition held.schema ≡ false = search rules in
     let stood = c.in_ok-stood.stood in
-    from_told there stood.clock (map (λ (r : FormerNotice). r.row) stood.notices.items) old mid (c.former.ensures.kept early) (late_committed g.S.Store held settled there b)
-    (apart_committed g.S.Store held settled free)
-    (λ t shows. (c.in_ok-stood.ensures.got early t shows).0) (λ t shows. (c.in_ok-stood.ensures.got early t shows).1) new (rw c.as_slice.ensures.value at (c.in-Ok.ensures.migrates clean))
+    from_told c.args.edition stood.clock (map (λ (r : FormerNotice). r.row) stood.notices.items) old mid (c.former.ensures.kept early)
+    (apart_committed g.S.Store c.args.edition held settled free)
+    (λ t shows. (c.in_ok-stood.ensures.got early c.args.edition t shows).0) (λ t shows. (c.in_ok-stood.ensures.got early c.args.edition t shows).1) new (rw c.as_slice.ensures.value at (c.in-Ok.ensures.migrates clean))
 
 pub returns-clause-kept : goal.returns-clause-kept
 returns-clause-kept g c clean =
@@ -39,17 +36,15 @@ returns-clause-survives g c =
     let mid = state g.S.Store c.former.new.conn in
     let new = state g.S.Store c.migrate.new.conn in
     let settled : IsTrue old.is_open → old.now ≡ old.committed = search rules in
-    let there = c.has_late-has_table.result in
-    let b : has_late held.schema ≡ there = search rules in
-    let free : leads_there held.schema ≡ false = search rules in
+    let free : leads_there c.args.edition held.schema ≡ false = search rules in
     let stood = c.in_ok-stood.stood in
     let stops = rw c.as_slice.ensures.value at c.migrate.ensures.survives in
-    survives_then old mid new _ _ (LeavesMigrated old) (λ _ db none. absurd none)
+    survives_then old mid new _ _ (LeavesMigrated c.args.edition old) (λ _ db none. absurd none)
     (λ clean db leaves.
     let early : HasCleanDisk mid = omega (arith, clean, stops.clean) in
-    told_leaves there stood.clock (map (λ (r : FormerNotice). r.row) stood.notices.items) old mid (c.former.ensures.kept early) (late_committed g.S.Store held settled there b)
-    (apart_committed g.S.Store held settled free)
-    (λ t shows. (c.in_ok-stood.ensures.got early t shows).0) (λ t shows. (c.in_ok-stood.ensures.got early t shows).1) db leaves)
+    told_leaves c.args.edition stood.clock (map (λ (r : FormerNotice). r.row) stood.notices.items) old mid (c.former.ensures.kept early)
+    (apart_committed g.S.Store c.args.edition held settled free)
+    (λ t shows. (c.in_ok-stood.ensures.got early c.args.edition t shows).0) (λ t shows. (c.in_ok-stood.ensures.got early c.args.edition t shows).1) db leaves)
     c.former.ensures.survives stops
 
 pub returns-in-Ok-clause-survives : goal.returns-in-Ok-clause-survives
@@ -59,15 +54,13 @@ returns-in-Ok-clause-survives g c =
     let mid = state g.S.Store c.former.new.conn in
     let new = state g.S.Store c.migrate.new.conn in
     let settled : IsTrue old.is_open → old.now ≡ old.committed = search rules in
-    let there = c.has_late-has_table.result in
-    let b : has_late held.schema ≡ there = search rules in
-    let free : leads_there held.schema ≡ false = search rules in
+    let free : leads_there c.args.edition held.schema ≡ false = search rules in
     let stood = c.in_ok-stood.stood in
     let stops = rw c.as_slice.ensures.value at c.migrate.ensures.survives in
-    survives_then old mid new _ _ (LeavesMigrated old) (λ _ db none. absurd none)
+    survives_then old mid new _ _ (LeavesMigrated c.args.edition old) (λ _ db none. absurd none)
     (λ clean db leaves.
     let early : HasCleanDisk mid = omega (arith, clean, stops.clean) in
-    told_leaves there stood.clock (map (λ (r : FormerNotice). r.row) stood.notices.items) old mid (c.former.ensures.kept early) (late_committed g.S.Store held settled there b)
-    (apart_committed g.S.Store held settled free)
-    (λ t shows. (c.in_ok-stood.ensures.got early t shows).0) (λ t shows. (c.in_ok-stood.ensures.got early t shows).1) db leaves)
+    told_leaves c.args.edition stood.clock (map (λ (r : FormerNotice). r.row) stood.notices.items) old mid (c.former.ensures.kept early)
+    (apart_committed g.S.Store c.args.edition held settled free)
+    (λ t shows. (c.in_ok-stood.ensures.got early c.args.edition t shows).0) (λ t shows. (c.in_ok-stood.ensures.got early c.args.edition t shows).1) db leaves)
     c.former.ensures.survives stops

@@ -1,7 +1,9 @@
-use Rattle.std.proofs.Common.{rules, ◌≡◌, true, false, sym, subst}
+use Rattle.std.proofs.Common.{◌≡◌, true, false, sym, subst}
+use Rattle.std.specs.Prelude.{nat_lt}
+use Rattle.std.proofs.lemmas.Bool.{lt-ltb, le-ltb}
 use Rattle.sqlite.specs.Held.{state}
 use Rattle.sqlite.proofs.StateLemmas.{survives_weaker}
-use Rattle.office_store.specs.Forms.{HasForms}
+use Rattle.office_tables.specs.Tables.Office.{this_version}
 use Rattle.office_store.specs.Founding.{LeavesReadied, IsMadeCurrent}
 use Rattle.office_store.proofs.migrate.ready.Goals as goal
 
@@ -9,28 +11,27 @@ pub returns-in-Ok-clause-readied : goal.returns-in-Ok-clause-readied
 returns-in-Ok-clause-readied g c clean =
     let old = state g.S.Store c.args.conn.now in
     let new = state g.S.Store c.migrated.new.conn in
-    let first : c.args.is_first ≡ true = search rules in
+    let early : nat_lt c.args.edition this_version ≡ true = lt-ltb c.args.edition this_version c.if-edition-lt-VERSION.true in
     let made = c.in-Ok.ensures.migrated clean in
-    subst (λ b. IsMadeCurrent b old new) (sym first) (subst (λ b. HasForms b old.committed.schema) first (c.in_ok-check_forms.ensures.forms made.was_open), made)
+    subst (λ b. IsMadeCurrent b c.args.edition old new) (sym early) (c.in_ok-check_forms.ensures.forms made.was_open, made)
 
 pub returns-in-Ok-clause-is_open : goal.returns-in-Ok-clause-is_open
 returns-in-Ok-clause-is_open g c clean = (c.in-Ok.ensures.migrated clean).is_open
 
 pub returns-in-Ok-clause-survives : goal.returns-in-Ok-clause-survives
 returns-in-Ok-clause-survives g c =
-    let first : c.args.is_first ≡ true = search rules in
-    survives_weaker (state g.S.Store c.args.conn.now) (state g.S.Store c.migrated.new.conn) _ (LeavesReadied c.args.is_first (state g.S.Store c.args.conn.now)) (λ clean db made. (first, made)) c.migrated.ensures.survives
+    let early : nat_lt c.args.edition this_version ≡ true = lt-ltb c.args.edition this_version c.if-edition-lt-VERSION.true in
+    survives_weaker (state g.S.Store c.args.conn.now) (state g.S.Store c.migrated.new.conn) _ (LeavesReadied c.args.edition (state g.S.Store c.args.conn.now)) (λ clean db made. (early, made)) c.migrated.ensures.survives
 
 pub returns-in-Err-clause-survives : goal.returns-in-Err-clause-survives
 returns-in-Err-clause-survives g c =
-    let first : c.args.is_first ≡ true = search rules in
-    survives_weaker (state g.S.Store c.args.conn.now) (state g.S.Store c.migrated.new.conn) _ (LeavesReadied c.args.is_first (state g.S.Store c.args.conn.now)) (λ clean db made. (first, made)) c.migrated.ensures.survives
+    let early : nat_lt c.args.edition this_version ≡ true = lt-ltb c.args.edition this_version c.if-edition-lt-VERSION.true in
+    survives_weaker (state g.S.Store c.args.conn.now) (state g.S.Store c.migrated.new.conn) _ (LeavesReadied c.args.edition (state g.S.Store c.args.conn.now)) (λ clean db made. (early, made)) c.migrated.ensures.survives
 
 pub returns-in-Ok-still_open-clause-readied : goal.returns-in-Ok-still_open-clause-readied
 returns-in-Ok-still_open-clause-readied g c clean =
     let old = state g.S.Store c.args.conn.now in
     let new = state g.S.Store c.still_open.new.conn in
-    let second : c.args.is_first ≡ false = search rules in
+    let later : nat_lt c.args.edition this_version ≡ false = le-ltb c.args.edition this_version c.if-edition-lt-VERSION.false in
     let kept = c.still_open.ensures.kept clean in
-    subst (λ b. IsMadeCurrent b old new) (sym second)
-    (λ open_now. subst (λ b. HasForms b old.committed.schema) second (c.in_ok-check_forms.ensures.forms (kept.was_open open_now)), kept)
+    subst (λ b. IsMadeCurrent b c.args.edition old new) (sym later) (λ open_now. c.in_ok-check_forms.ensures.forms (kept.was_open open_now), kept)

@@ -3,8 +3,19 @@ use Rattle.std.specs.Prelude.{map}
 use Rattle.std.specs.List.{AllByRecursion}
 use Rattle.sqlite.specs.Values.{bound}
 use Rattle.office_tables.specs.Unwritten.{IsUnwritten}
-use Rattle.office_tables.proofs.Asked.{from_rows, rows_unread}
+use Rattle.office_tables.proofs.Asked.{from_rows, rows_unread, tells_all}
 use Rattle.office_tables.proofs.ask.ask_all.Goals as goal
+
+pub returns-in-Ok-clause-told : goal.returns-in-Ok-clause-told
+returns-in-Ok-clause-told g c part finds = (
+  tells_all g.S.Store c.args.sql.now (bound c.args.values.now) c.args.conn.now c.ask.new.conn c.all.result (λ found. found.items) g.R.Stored.read part (λ clean.
+      from_rows g.S.Store c.args.sql.now (bound c.args.values.now) c.args.conn.now c.in-Ok.rows.items c.all.result (λ found rows. found.items ≡ map g.R.Stored.read rows) (c.in-Ok.ensures.asked clean) (rw c.as_slice.ensures.value at c.all.ensures.read)) finds,
+  c.in-Ok.ensures.kept,
+  c.in-Ok.ensures.survives,
+)
+
+pub returns-in-Err-clause-told : goal.returns-in-Err-clause-told
+returns-in-Err-clause-told g c part finds = (λ clean t shows. tt, c.in-Err.ensures.kept, c.in-Err.ensures.survives)
 
 pub returns-in-Ok-clause-exact : goal.returns-in-Ok-clause-exact
 returns-in-Ok-clause-exact g c clean =

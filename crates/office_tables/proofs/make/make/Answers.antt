@@ -1,10 +1,25 @@
-use Rattle.std.proofs.Common.{arith}
+use Rattle.std.proofs.Common.{[], ◌∷◌, refl, arith}
 use Rattle.sqlite.specs.Held.{state}
 use Rattle.sqlite.specs.State.{HasCleanDisk}
-use Rattle.office_tables.proofs.Each.{all_indexings}
+use Rattle.office_tables.specs.Making.{AreIndexings}
+use Rattle.office_tables.specs.Schema.OfficeTable.{Lots, Envelopes, Securities, Awards, Contracts}
+use Rattle.office_tables.specs.Tables.Lots.{create_lots_of_line, lots_of_line}
+use Rattle.office_tables.specs.Tables.Envelopes.{create_envelopes_of_notice, envelopes_of_notice}
+use Rattle.office_tables.specs.Tables.Securities.{create_securities_of_notice, securities_of_notice}
+use Rattle.office_tables.specs.Tables.Awards.{create_awards_of_notice, awards_of_notice}
+use Rattle.office_tables.specs.Tables.Contracts.{create_contracts_of_notice, contracts_of_notice}
+use Rattle.office_tables.proofs.ByTable.Lots.{indexes_lots_of_line}
+use Rattle.office_tables.proofs.ByTable.Envelopes.{indexes_envelopes_of_notice}
+use Rattle.office_tables.proofs.ByTable.Securities.{indexes_securities_of_notice}
+use Rattle.office_tables.proofs.ByTable.Awards.{indexes_awards_of_notice}
+use Rattle.office_tables.proofs.ByTable.Contracts.{indexes_contracts_of_notice}
 use Rattle.office_tables.proofs.MakingSteps.{founded, goes_then, goes_refused}
 use Rattle.office_tables.proofs.Stepping.{on_ok_with, on_err, on_err_with}
 use Rattle.office_tables.proofs.make.make.Goals as goal
+
+-- each text of an index makes it
+all_indexings : AreIndexings (create_lots_of_line ∷ create_envelopes_of_notice ∷ create_securities_of_notice ∷ create_awards_of_notice ∷ create_contracts_of_notice ∷ [])
+all_indexings = ((Lots, lots_of_line, indexes_lots_of_line, refl), ((Envelopes, envelopes_of_notice, indexes_envelopes_of_notice, refl), ((Securities, securities_of_notice, indexes_securities_of_notice, refl), ((Awards, awards_of_notice, indexes_awards_of_notice, refl), ((Contracts, contracts_of_notice, indexes_contracts_of_notice, refl), tt)))))
 
 pub returns-clause-founds : goal.returns-clause-founds
 returns-clause-founds g c clean inside =

@@ -1,12 +1,6 @@
-use Rattle.office_tables.specs.Tables.Contracts.{contract_read}
-use Rattle.office_tables.proofs.ByTable.Contracts.{get_contract as text, select_get_contract}
-use Rattle.office_tables.proofs.Asked.{tells_one}
+use Rattle.sqlite.specs.Held.{state}
+use Rattle.office_tables.proofs.ByTable.Contracts.{select_get_contract}
 use Rattle.office_tables.proofs.tables.contracts.get_contract.Goals as goal
 
 pub returns : goal.returns
-returns g c = (
-  tells_one g.S.Store text _ c.args.conn.now c.ask_first.new.conn c.ask_first.result contract_read _ (λ clean. rw c.number_value.ensures at (c.ask_first.ensures.asked clean))
-      (λ before after rows t holds. select_get_contract before after rows t holds c.args.contract),
-  c.ask_first.ensures.kept,
-  c.ask_first.ensures.survives,
-)
+returns g c = c.ask_first.ensures.told _ (rw c.number_value.ensures (λ before after rows t holds. select_get_contract (state g.S.Store before) (state g.S.Store after) rows t holds c.args.contract))

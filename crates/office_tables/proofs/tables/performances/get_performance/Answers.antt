@@ -1,12 +1,6 @@
-use Rattle.office_tables.specs.Tables.Performances.{performance_read}
-use Rattle.office_tables.proofs.ByTable.Performances.{get_performance as text, select_get_performance}
-use Rattle.office_tables.proofs.Asked.{tells_one}
+use Rattle.sqlite.specs.Held.{state}
+use Rattle.office_tables.proofs.ByTable.Performances.{select_get_performance}
 use Rattle.office_tables.proofs.tables.performances.get_performance.Goals as goal
 
 pub returns : goal.returns
-returns g c = (
-  tells_one g.S.Store text _ c.args.conn.now c.ask_first.new.conn c.ask_first.result performance_read _ (λ clean. rw c.number_value.ensures at (c.ask_first.ensures.asked clean))
-      (λ before after rows t holds. select_get_performance before after rows t holds c.args.contract),
-  c.ask_first.ensures.kept,
-  c.ask_first.ensures.survives,
-)
+returns g c = c.ask_first.ensures.told _ (rw c.number_value.ensures (λ before after rows t holds. select_get_performance (state g.S.Store before) (state g.S.Store after) rows t holds c.args.contract))

@@ -1,10 +1,6 @@
-use Rattle.std.proofs.Common.{refl, [], ◌∷◌, ◌∙◌}
-use Rattle.office_tables.specs.Tables.Notices.{notice_values, NoticeFits}
-use Rattle.office_tables.proofs.Exactly.{columns_are, other_width}
+use Rattle.std.proofs.Common.{[], ◌∷◌, ◌∙◌}
+use Rattle.office_tables.proofs.Exactly.{columns_are}
 use Rattle.office_tables.proofs.tables.notices.NoticeRowStored.from_row.Goals as goal
-
-pub returns-in_err-has_columns-clause-cause : goal.returns-in_err-has_columns-clause-cause
-returns-in_err-has_columns-clause-cause c = other_width notice_values NoticeFits c.args.row.now 12 (λ x. refl) _ c.from_residual.result c.from_residual.ensures.1 c.in_err-has_columns.ensures.cause
 
 pub returns-clause-exact : goal.returns-clause-exact
 returns-clause-exact c =

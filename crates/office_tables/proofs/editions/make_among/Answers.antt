@@ -1,0 +1,60 @@
+use Rattle.std.proofs.Common.{rules, arith, ◌≡◌, [], ◌∷◌, ◌+◌, get_or, drop, map, ap, subst}
+use Rattle.std.proofs.lemmas.List.{drop_more, drop_all}
+use Rattle.sqlite.specs.Held.{state}
+use Rattle.sqlite.specs.State.{HasCleanDisk}
+use Rattle.sqlite.proofs.StateLemmas.{survives_then}
+use Rattle.office_tables.specs.declared.editions.Later.{Later}
+use Rattle.office_tables.proofs.LaterTables.{LaterLine, MadeLater, later_first, later_more, later_all}
+use Rattle.office_tables.proofs.MakingSteps.{goes_refused}
+use Rattle.office_tables.proofs.Stepping.{on_err}
+use Rattle.office_tables.proofs.editions.make_among.Goals as goal
+
+-- what the list has of a table
+abbrev line_of : Later → LaterLine
+line_of x = (x.0, x.1.now, x.2.now)
+
+pub tables-init : goal.tables-init
+tables-init g c =
+    let old = state g.S.Store c.args.tx.now.conn.now in
+    let now = state g.S.Store c.begin.new.tx.conn.now in (
+      search rules,
+      c.begin.ensures.survives,
+      λ clean inside ks lines all.
+          let still = c.in_ok-begin.ensures.still clean inside in
+          later_first c.args.edition old now ks (map line_of c.args.tables.now) still.0 still.1 lines all,
+    )
+
+pub tables-preserved : goal.tables-preserved
+tables-preserved g c =
+    let old = state g.S.Store c.args.tx.now.conn.now in
+    let mid = state g.S.Store c.tables.tx.conn.now in
+    let new = state g.S.Store c.make_missing.new.tx.conn.now in
+    let more = c.args.tables.now in
+    let i = c.tables.table-index in
+    let item = get_or more i ((0, record { ref_ptr = (0, 0); now = [] }, record { ref_ptr = (0, 0); now = [] })) in
+    let next : drop i more ≡ item ∷ drop (i + 1) more = drop_more more i _ (omega arith) in (
+      search rules,
+      survives_then old mid new (λ _. ⊥) (λ _. ⊥) (λ _. ⊥) (λ _ db none. none) (λ _ db none. none) c.tables.invariant.1 c.make_missing.ensures.survives,
+      λ clean inside ks lines all.
+          let early : HasCleanDisk mid = omega (arith, clean, c.make_missing.ensures.survives.clean) in
+          let so_far = subst (λ l. MadeLater c.args.edition old mid (map line_of l)) next (c.tables.invariant.2 early inside ks lines all) in
+          later_more c.args.edition old mid new (line_of item) (map line_of (drop (i + 1) more)) (λ lacks k it. c.in_ok-make_missing.ensures.made clean so_far.4.goes.mode lacks k it)
+          (λ there. ap (state g.S.Store) (c.make_missing.ensures.there there)) so_far,
+    )
+
+pub returns-in_err-make_missing-clause-refused : goal.returns-in_err-make_missing-clause-refused
+returns-in_err-make_missing-clause-refused g c clean inside ks lines all =
+    let old = state g.S.Store c.args.tx.now.conn.now in
+    let mid = state g.S.Store c.tables.tx.conn.now in
+    let new = state g.S.Store c.make_missing.new.tx.conn.now in
+    let late : HasCleanDisk new = search rules in
+    let early : HasCleanDisk mid = omega (arith, late, c.make_missing.ensures.survives.clean) in
+    let so_far = c.tables.invariant.2 early inside ks lines all in
+    on_err _ _ (goes_refused old mid new so_far.4.goes (c.in_err-make_missing.ensures.refused late so_far.4.goes.mode))
+
+pub returns-clause-made : goal.returns-clause-made
+returns-clause-made g c clean inside ks lines all =
+    let old = state g.S.Store c.args.tx.now.conn.now in
+    let now = state g.S.Store c.tables.tx.conn.now in
+    let none = drop_all c.tables.table-index c.args.tables.now (omega arith) in
+    later_all c.args.edition old now (subst (λ l. MadeLater c.args.edition old now (map line_of l)) none (c.tables.invariant.2 clean inside ks lines all))

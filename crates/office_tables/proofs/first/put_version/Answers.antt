@@ -1,4 +1,0 @@
-use Rattle.office_tables.proofs.first.put_version.Goals as goal
-
-pub returns-clause-ran : goal.returns-clause-ran
-returns-clause-ran g c clean inside = rw c.clock_values.ensures.row at (c.execute_one.ensures.ran clean inside)

@@ -1,7 +1,0 @@
-use Rattle.std.proofs.Common.{refl}
-use Rattle.office_tables.specs.Tables.Compiled.{compiled_values, CompiledFits}
-use Rattle.office_tables.proofs.Exactly.{other_width}
-use Rattle.office_tables.proofs.tables.compiled.CompiledRowStored.from_row.Goals as goal
-
-pub returns-in_err-has_columns-clause-cause : goal.returns-in_err-has_columns-clause-cause
-returns-in_err-has_columns-clause-cause c = other_width compiled_values CompiledFits c.args.row.now 2 (λ x. refl) _ c.from_residual.result c.from_residual.ensures.1 c.in_err-has_columns.ensures.cause

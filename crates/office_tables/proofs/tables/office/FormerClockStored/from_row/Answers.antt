@@ -1,8 +1,0 @@
-use Rattle.std.proofs.Common.{refl}
-use Rattle.office_tables.specs.Tables.Office.{clock_values_of, ClockFits}
-use Rattle.office_tables.specs.declared.tables.office.FormerClock.{FormerClock}
-use Rattle.office_tables.proofs.Exactly.{other_width}
-use Rattle.office_tables.proofs.tables.office.FormerClockStored.from_row.Goals as goal
-
-pub returns-in_err-has_columns-clause-cause : goal.returns-in_err-has_columns-clause-cause
-returns-in_err-has_columns-clause-cause c = other_width (λ (x : FormerClock). clock_values_of 1 x.row) (λ x. ClockFits x.row) c.args.row.now 4 (λ x. refl) _ c.from_residual.result c.from_residual.ensures.1 c.in_err-has_columns.ensures.cause
