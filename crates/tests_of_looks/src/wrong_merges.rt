@@ -139,6 +139,7 @@ fn merges_that_are_no_objects_are_not_begun_anew(rt: HostRuntime) {
     let alloc = rt.alloc();
     assert!(rt; are_right_in_memory(alloc, &NO_OBJECTS));
     assert!(rt; is_right_in_sql(alloc, "5"));
+    assert!(rt; is_right_in_sql(alloc, "[]"));
 }
 
 fn carries_on_in_memory(alloc: Global) -> bool {
