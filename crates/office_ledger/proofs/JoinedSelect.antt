@@ -36,10 +36,11 @@ use Rattle.sqlite_resolve.specs.Compile.{first}
 use Rattle.sqlite_typing.specs.Types.{accepts_program}
 use Rattle.office_tables.proofs.Meanings.{StatementMeans, parsed_in, means_by}
 use Rattle.office_ledger.specs.Known.{Holds}
-use Rattle.office_ledger.proofs.Qualified.{Pick, AllFound, AreLater, spent, left_by, at_budget, shown_of, sort_of, outputs_are, sorts_are, outputs_of, keys_of}
+use Rattle.office_ledger.proofs.Qualified.{Pick, AllFound, AreLater, spent, left_by, shown_of, sort_of, outputs_are, sorts_are, outputs_of, keys_of}
 use Rattle.office_ledger.proofs.Scoped.{bound_of}
 use Rattle.office_ledger.proofs.Sources.{source_of, out_source, bound_is, source_is, left_joined, first_joined, joined_by}
-use Rattle.office_ledger.proofs.Whole.{among, compiles}
+use Rattle.office_tables.proofs.Whole.{at_budget, among, compiles}
+use Rattle.office_tables.proofs.OneTable.{pages_whole}
 
 -- ---- as a text is written
 
@@ -244,12 +245,12 @@ module _ (schema : Schema) where
       pub means : (text : List ℕ) → IsWritten text sources picks sorts filter → accepts_program schema [] query [] ≡ true → StatementMeans schema text (command.Select (record { lets = []; body = query }) names)
       means text is accepted =
           means_by schema text (meant_by text) (refl, refl)
-          (compiles schema (core_of sources picks filter) bounds next steps outs tests (map sort_of sorts) keys left (budget_after left js) b (spent scope b sorts) carried (carried_after carried js) l (left_by scope l sorts)
+          (compiles schema (core_of sources picks filter) bounds next steps outs tests (map sort_of sorts) keys (lit (Int (negsuc 0))) left (budget_after left js) b (spent scope b sorts) carried (carried_after carried js) l (left_by scope l sorts)
           (ap (λ c. body.bounds schema c.from (fresh 1 max_budget)) core_is ∙ bounds_are)
           (ap (λ c. body.outputs lower result_scope bounds c.shown (at_budget next max_budget nothing)) core_is ∙ outputs_is)
           (ap (λ c. body.joins lower scope bounds c.from (at_budget next left carried)) core_is ∙ joins_are)
           (ap (λ c. body.tests lower scope [] c.filter (at_budget next (budget_after left js) (carried_after carried js))) core_is ∙ it.tested)
           sorts_is (ap (λ c. c.group) core_is) (ap (λ c. c.having) core_is) (ap (λ c. c.distinct) core_is)
-          (select_of sources picks sorts filter) (ap (λ r. r.first) select_is) (ap (λ r. r.order) select_is) (ap (λ r. r.with) select_is) (ap (λ r. r.others) select_is) (ap (λ r. r.limit) select_is) (ap (λ r. r.offset) select_is)
+          (select_of sources picks sorts filter) (ap (λ r. r.first) select_is) (ap (λ r. r.order) select_is) (ap (λ r. r.with) select_is) (ap (λ r. r.others) select_is) (pages_whole schema (select_of sources picks sorts filter) (ap (λ r. r.limit) select_is) (ap (λ r. r.offset) select_is))
           (λ query. ap (λ c. program.sources query schema c.from []) core_is ∙ sources_are query)
           text (parsed_in (first text)) (record { lets = []; body = query }) is.is is.statement is.formats (programs accepted))

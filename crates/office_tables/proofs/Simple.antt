@@ -47,8 +47,10 @@ use Rattle.sqlite_resolve.specs.declared.compiled.Compiled.{Compiled}
 use Rattle.sqlite_resolve.specs.Lowering.{max_budget}
 use Rattle.sqlite_resolve.specs.Program.{program}
 use Rattle.sqlite_resolve.specs.Compile.{first, compiled}
-use Rattle.office_tables.proofs.Whole.{compiles, pages_by}
-use Rattle.office_tables.proofs.LoweredColumns.{at_budget, here, among, lower_is, then_shown, parameter_is, equal_is, above_is, and_is, then_sorted}
+use Rattle.office_tables.proofs.Whole.{compiles}
+use Rattle.office_tables.proofs.OneTable.{bounds_are, joins_are, sources_are, pages_by}
+use Rattle.office_tables.proofs.LoweredColumns.{at_budget, here, among, lower_is, then_shown, then_sorted}
+use Rattle.office_tables.proofs.LoweredTests.{parameter_is, equal_is, above_is, and_is}
 
 -- ---- as a text is written
 
@@ -173,9 +175,9 @@ module _ (schema : Schema) (at : ℕ) (table : Table) (found : slice_get schema.
       → lower_to (suc (suc d)) (scope shown) (equals_e p.1.name n) (at_budget b l)
       ≡ Ok (compared (scope shown) (by.Compare compare.Eq (chosen (declared table p.0 p.1) nothing)) (col 1 (place_of table p.0)) (col 0 (n - 1)), at_budget (b - 1 - 1 - 1) nothing)
   equals_lowers d shown p n b l h enough still =
-      equal_is (scope shown) (equals_e p.1.name n) (column_e p.1.name) (roll-Expr (Expr-F.Parameter n)) _ _ b _ _ l _ _ enough (suc d) (out_equals p.1.name n)
+      equal_is (scope shown) (equals_e p.1.name n) (column_e p.1.name) (roll-Expr (Expr-F.Parameter n)) _ _ 2 b _ _ l _ _ enough (suc d) (out_equals p.1.name n)
       (lower_is schema at table found name p.0 p.1 h.0 h.1 d shown false (column_e p.1.name) (b - 1) nothing (out_column p.1.name) h.2)
-      (parameter_is d (scope shown) (roll-Expr (Expr-F.Parameter n)) n (b - 1 - 1) (declared table p.0 p.1) (out_parameter n) still)
+      (parameter_is d (scope shown) (roll-Expr (Expr-F.Parameter n)) n 2 (b - 1 - 1) (declared table p.0 p.1) (out_parameter n) still)
 
   bare : (shown : List Output) (m : ℕ) → of_column (scope shown) 0 m ≡ affinity.None
   unfolding of_column
@@ -241,7 +243,7 @@ module _ (schema : Schema) (at : ℕ) (table : Table) (found : slice_get schema.
       → body.tests lower (scope shown) [] (Some (both_e (equals_e p.1.name m) (equals_e q.1.name n))) (at_budget b l) ≡ Ok (column_test (place_of table p.0) (m - 1) ∷ column_test (place_of table q.0) (n - 1) ∷ [], at_budget (b - 1 - 1 - 1 - 1 - 1 - 1 - 1) nothing)
   unfolding body.tests
   two_tests shown p q m n b l enough has₁ first₁ still₁ is₁ has₂ first₂ still₂ is₂ =
-      rw (and_is (scope shown) (both_e (equals_e p.1.name m) (equals_e q.1.name n)) (equals_e p.1.name m) (equals_e q.1.name n) _ _ b _ _ l _ _ enough 699 (out_both (equals_e p.1.name m) (equals_e q.1.name n))
+      rw (and_is (scope shown) (both_e (equals_e p.1.name m) (equals_e q.1.name n)) (equals_e p.1.name m) (equals_e q.1.name n) _ _ 2 b _ _ l _ _ enough 699 (out_both (equals_e p.1.name m) (equals_e q.1.name n))
       (tested_lowers 697 shown p m (b - 1) nothing has₁ first₁ still₁ is₁) (tested_lowers 697 shown q n (b - 1 - 1 - 1 - 1) nothing has₂ first₂ still₂ is₂))
 
   abbrev pub above_term : ℕ → ℕ → Term
@@ -250,9 +252,9 @@ module _ (schema : Schema) (at : ℕ) (table : Table) (found : slice_get schema.
   above_lowers : (d : ℕ) (shown : List Output) (p : ℕ × Column) (n b : ℕ) (l : Carried) → Has table (b - 1) (p ∷ []) → nat_lt 1 b ≡ true → nat_lt 1 (b - 1 - 1) ≡ true → IsTested p
       → lower_to (suc (suc d)) (scope shown) (above_e p.1.name n) (at_budget b l) ≡ Ok (above_term (place_of table p.0) (n - 1), at_budget (b - 1 - 1 - 1) nothing)
   above_lowers d shown p n b l h enough still is =
-      above_is (scope shown) (above_e p.1.name n) (column_e p.1.name) (roll-Expr (Expr-F.Parameter n)) _ _ b _ _ l _ _ enough (suc d) (out_above p.1.name n)
+      above_is (scope shown) (above_e p.1.name n) (column_e p.1.name) (roll-Expr (Expr-F.Parameter n)) _ _ 2 b _ _ l _ _ enough (suc d) (out_above p.1.name n)
       (lower_is schema at table found name p.0 p.1 h.0 h.1 d shown false (column_e p.1.name) (b - 1) nothing (out_column p.1.name) h.2)
-      (parameter_is d (scope shown) (roll-Expr (Expr-F.Parameter n)) n (b - 1 - 1) (declared table p.0 p.1) (out_parameter n) still)
+      (parameter_is d (scope shown) (roll-Expr (Expr-F.Parameter n)) n 2 (b - 1 - 1) (declared table p.0 p.1) (out_parameter n) still)
       ∙ ap (λ how. Ok (compared (scope shown) (by.Compare compare.Gt how) (col 1 (place_of table p.0)) (col 0 (n - 1)), at_budget (b - 1 - 1 - 1) nothing)) is.2
       ∙ ap (λ t. Ok (t, at_budget (b - 1 - 1 - 1) nothing)) (place_compares shown (by.Compare compare.Gt Binary) p (n - 1) h.1 is.0)
 
@@ -266,7 +268,7 @@ module _ (schema : Schema) (at : ℕ) (table : Table) (found : slice_get schema.
       → Has table (b - 1 - 1 - 1 - 1 - 1) (q ∷ []) → nat_lt 1 (b - 1 - 1 - 1 - 1) ≡ true → nat_lt 1 (b - 1 - 1 - 1 - 1 - 1 - 1) ≡ true → IsTested q
       → lower_to (suc (suc (suc d))) (scope shown) (both_e (equals_e p.1.name m) (equals_e q.1.name n)) (at_budget b l) ≡ Ok (op2 by.And (column_test (place_of table p.0) (m - 1)) (column_test (place_of table q.0) (n - 1)), at_budget (b - 1 - 1 - 1 - 1 - 1 - 1 - 1) nothing)
   both_lower d shown p q m n b l enough has₁ first₁ still₁ is₁ has₂ first₂ still₂ is₂ =
-      and_is (scope shown) (both_e (equals_e p.1.name m) (equals_e q.1.name n)) (equals_e p.1.name m) (equals_e q.1.name n) _ _ b _ _ l _ _ enough (suc (suc d)) (out_both (equals_e p.1.name m) (equals_e q.1.name n))
+      and_is (scope shown) (both_e (equals_e p.1.name m) (equals_e q.1.name n)) (equals_e p.1.name m) (equals_e q.1.name n) _ _ 2 b _ _ l _ _ enough (suc (suc d)) (out_both (equals_e p.1.name m) (equals_e q.1.name n))
       (tested_lowers d shown p m (b - 1) nothing has₁ first₁ still₁ is₁) (tested_lowers d shown q n (b - 1 - 1 - 1 - 1) nothing has₂ first₂ still₂ is₂)
 
   -- the first two are read together
@@ -278,7 +280,7 @@ module _ (schema : Schema) (at : ℕ) (table : Table) (found : slice_get schema.
       ≡ Ok (column_test (place_of table p.0) (m - 1) ∷ column_test (place_of table q.0) (n - 1) ∷ column_test (place_of table r.0) (o - 1) ∷ [], at_budget (b - 1 - 1 - 1 - 1 - 1 - 1 - 1 - 1 - 1 - 1 - 1) nothing)
   unfolding body.tests
   three_tests shown p q r m n o b l enough more has₁ first₁ still₁ is₁ has₂ first₂ still₂ is₂ has₃ first₃ still₃ is₃ =
-      rw (and_is (scope shown) (both_e (both_e (equals_e p.1.name m) (equals_e q.1.name n)) (equals_e r.1.name o)) (both_e (equals_e p.1.name m) (equals_e q.1.name n)) (equals_e r.1.name o) _ _ b _ _ l _ _ enough 699 (out_both (both_e (equals_e p.1.name m) (equals_e q.1.name n)) (equals_e r.1.name o))
+      rw (and_is (scope shown) (both_e (both_e (equals_e p.1.name m) (equals_e q.1.name n)) (equals_e r.1.name o)) (both_e (equals_e p.1.name m) (equals_e q.1.name n)) (equals_e r.1.name o) _ _ 2 b _ _ l _ _ enough 699 (out_both (both_e (equals_e p.1.name m) (equals_e q.1.name n)) (equals_e r.1.name o))
       (both_lower 696 shown p q m n (b - 1) nothing more has₁ first₁ still₁ is₁ has₂ first₂ still₂ is₂)
       (tested_lowers 697 shown r o (b - 1 - 1 - 1 - 1 - 1 - 1 - 1 - 1) nothing has₃ first₃ still₃ is₃))
 
@@ -324,11 +326,22 @@ module _ (schema : Schema) (at : ℕ) (table : Table) (found : slice_get schema.
       → Has table b₂ qs → AreFree outs qs → accepts_program schema [] query_is [] ≡ true → select.constant_or schema (lit (Int (negsuc 0))) cap ≡ Ok limit
       → compiled schema text ≡ Ok (means_select p)
   simple_compiles text p first_is statement_is untimed has tests sorted free accepted counts =
+      let written_core = core_of name (names_of ps) test in
       let source = out_source name in
       let core = out-roll-Core (record { distinct = false; shown = map shown_of (names_of ps); from = source_of name ∷ []; filter = test; group = []; having = None }) in
-      let whole = out-roll-Select (record { with = []; first = core_of name (names_of ps) test; others = []; order = map sort_of (names_of qs); limit = cap; offset = None }) in
-      compiles schema at table found name named (core_of name (names_of ps) test) (source_of name) (ap (λ c. c.from) core) (ap (λ r. r.origin) source) (ap (λ r. r.alias) source) (ap (λ r. r.using) source) (ap (λ r. r.is_left) source) (ap (λ r. r.on) source)
-      limit (ap (λ c. c.group) core) (ap (λ c. c.having) core) (ap (λ c. c.distinct) core) outs filter (map sort_of (names_of qs)) keys (spent max_budget ps) b₂ (spent b₂ qs) (left_by table nothing ps) l₂ (left_by table l₂ qs)
-      (outputs_from_is has) (ap (λ c. body.tests lower (scope schema at table found name outs) [] c.filter (at_budget (spent max_budget ps) (left_by table nothing ps))) core ∙ tests) (sorts_from_is sorted free)
+      let whole = out-roll-Select (record { with = []; first = written_core; others = []; order = map sort_of (names_of qs); limit = cap; offset = None }) in
+      let from_is = ap (λ c. c.from) core in
+      let origin_is = ap (λ r. r.origin) source in
+      let unaliased = ap (λ r. r.alias) source in
+      let unshared = ap (λ r. r.using) source in
+      let unjoined = ap (λ r. r.is_left) source in
+      let untested = ap (λ r. r.on) source in
+      compiles schema written_core (here schema at table found name ∷ []) 2 (Inner table.tree ∷ []) outs filter (map sort_of (names_of qs)) keys limit
+      (spent max_budget ps) (spent max_budget ps) b₂ (spent b₂ qs) (left_by table nothing ps) (left_by table nothing ps) l₂ (left_by table l₂ qs)
+      (bounds_are schema at table found name named written_core (source_of name) from_is origin_is unaliased unshared unjoined untested) (outputs_from_is has)
+      (joins_are schema at table found name named written_core (source_of name) from_is origin_is unaliased unshared unjoined untested outs (at_budget (spent max_budget ps) (left_by table nothing ps)))
+      (ap (λ c. body.tests lower (scope schema at table found name outs) [] c.filter (at_budget (spent max_budget ps) (left_by table nothing ps))) core ∙ tests) (sorts_from_is sorted free)
+      (ap (λ c. c.group) core) (ap (λ c. c.having) core) (ap (λ c. c.distinct) core)
       (capped name (names_of ps) test (names_of qs) cap) (ap (λ r. r.first) whole) (ap (λ r. r.order) whole) (ap (λ r. r.with) whole) (ap (λ r. r.others) whole) (pages_are counts)
+      (sources_are schema at table found name named written_core (source_of name) from_is origin_is unaliased unshared unjoined untested)
       text p (record { lets = []; body = query_is }) first_is statement_is untimed (programs accepted)
