@@ -9,7 +9,6 @@ use Rattle.sqlite_sql.specs.Query.{Query}
 use Rattle.sqlite_draft.specs.declared.join.Step.{Step}
 use Rattle.sqlite_draft.specs.declared.join.Step.TheVariants.{Inner, Left}
 use Rattle.sqlite_draft.specs.declared.query.Draft.{Draft}
-use Rattle.sqlite_draft.specs.Join.{chain}
 use Rattle.sqlite_draft.specs.Query.{query_of}
 use Rattle.sqlite_schema.specs.declared.schema.Schema.{Schema}
 use Rattle.sqlite_schema.specs.declared.schema.Table.{Table}
@@ -26,7 +25,7 @@ use Rattle.sqlite_resolve.specs.declared.scope.Bound.{Bound}
 use Rattle.sqlite_resolve.specs.declared.scope.Output.{Output}
 use Rattle.sqlite_resolve.specs.declared.compiled.Compiled.{Compiled}
 use Rattle.sqlite_resolve.specs.Scope.{Name, Context}
-use Rattle.sqlite_resolve.specs.Terms.{conjuncts, number}
+use Rattle.sqlite_resolve.specs.Terms.{conjuncts}
 use Rattle.sqlite_resolve.specs.Lowering.{nothing, fresh, max_budget}
 use Rattle.sqlite_resolve.specs.Expr.{lower}
 use Rattle.sqlite_resolve.specs.Body as body
@@ -39,8 +38,7 @@ use Rattle.office_ledger.specs.Known.{Holds}
 use Rattle.office_ledger.proofs.Qualified.{Pick, AllFound, AreLater, spent, left_by, shown_of, sort_of, outputs_are, sorts_are, outputs_of, keys_of}
 use Rattle.office_ledger.proofs.Scoped.{bound_of}
 use Rattle.office_ledger.proofs.Sources.{source_of, out_source, bound_is, source_is, left_joined, first_joined, joined_by}
-use Rattle.office_tables.proofs.Whole.{at_budget, among, compiles}
-use Rattle.office_tables.proofs.OneTable.{pages_whole}
+use Rattle.office_tables.proofs.Whole.{at_budget, among, compiled_to, compiles, draft_of, pages_whole}
 
 -- ---- as a text is written
 
@@ -176,25 +174,13 @@ module _ (schema : Schema) where
     names = map (λ (o : Output). o.name) outs
 
     abbrev pub draft : Draft
-    draft = record {
-      from = chain (steps ++ []);
-      filter = tests;
-      group = None;
-      project = map (λ (o : Output). o.term) outs;
-      distinct = false;
-      collations = [];
-      order = keys;
-      limit = lit (Int (negsuc 0));
-      offset = number 0;
-    }
+    draft = draft_of (steps ++ []) tests outs keys (lit (Int (negsuc 0)))
 
     abbrev pub query : Query
     query = query_of draft
 
     abbrev meant_by : List ℕ → Compiled
-    meant_by text =
-        let p = parsed_in (first text) in
-        record { command = command.Select (record { lets = []; body = query }) names; returning = None; names = p.names; formats = []; start = p.start; end = p.end; tail = p.tail }
+    meant_by text = compiled_to (record { lets = []; body = query }) outs (parsed_in (first text))
 
     -- each column is found, each ON and the test of WHERE are read, and slots and budget serve
     pub record IsRead : Type 0 where

@@ -1,41 +1,23 @@
--- A SELECT over one known table, whatever else the schema has.
-use Rattle.std.proofs.Common.{◌≡◌, ◌∷◌, [], List, Option, Ok, None, Some, false, Bool, ℕ, negsuc, slice_get, refl}
-use Rattle.sqlite_sql.specs.Term.{Term, lit}
-use Rattle.sqlite_value.specs.declared.value.Value.TheVariants.{Int}
-use Rattle.sqlite_ast.specs.declared.Expr.{Expr}
+-- What stands in FROM of a SELECT over one known table, whatever else the schema has.
+use Rattle.std.proofs.Common.{◌≡◌, ◌∷◌, [], List, Ok, None, Some, false, Bool, ℕ, slice_get}
 use Rattle.sqlite_schema.specs.declared.schema.Schema.{Schema}
 use Rattle.sqlite_schema.specs.declared.schema.Table.{Table}
 use Rattle.sqlite_schema.specs.Names.{table_named}
 use Rattle.sqlite_ast.specs.declared.Origin.TheVariants as origin
 use Rattle.sqlite_ast.specs.declared.Source.{Source, out-Source}
 use Rattle.sqlite_ast.specs.declared.Core.{Core, out-Core}
-use Rattle.sqlite_ast.specs.declared.Select.{Select, out-Select}
+use Rattle.sqlite_ast.specs.declared.Select.{Select}
 use Rattle.sqlite_draft.specs.declared.join.Step.TheVariants.{Inner}
 use Rattle.sqlite_resolve.specs.declared.state.State.{State}
 use Rattle.sqlite_resolve.specs.declared.scope.Bound.{Bound}
 use Rattle.sqlite_resolve.specs.declared.scope.Output.{Output}
 use Rattle.sqlite_resolve.specs.Scope.{Name, Context}
-use Rattle.sqlite_resolve.specs.Terms.{number}
 use Rattle.sqlite_resolve.specs.Lowering.{nothing, fresh, max_budget, take_slot}
 use Rattle.sqlite_resolve.specs.Expr.{lower}
 use Rattle.sqlite_resolve.specs.Body as body
-use Rattle.sqlite_resolve.specs.Select as select
 use Rattle.sqlite_resolve.specs.Program as program
-use Rattle.office_tables.proofs.LoweredColumns.{at_budget, here, among}
-
-no_offset : (schema : Schema) → select.constant_or schema (number 0) None ≡ Ok (number 0)
-unfolding select.constant_or
-no_offset schema = refl
-
-pub pages_by : (schema : Schema) (s : Select) (cap : Option Expr) (limit : Term) → (out-Select s).limit ≡ cap → (out-Select s).offset ≡ None
-    → select.constant_or schema (lit (Int (negsuc 0))) cap ≡ Ok limit → select.paging schema s ≡ Ok (limit, number 0)
-unfolding select.paging
-pages_by schema s cap limit capped unoffset counts = rw (capped, counts, unoffset, no_offset schema)
-
--- without a LIMIT
-pub pages_whole : (schema : Schema) (s : Select) → (out-Select s).limit ≡ None → (out-Select s).offset ≡ None → select.paging schema s ≡ Ok (lit (Int (negsuc 0)), number 0)
-unfolding select.paging select.constant_or
-pages_whole schema s unlimited unoffset = rw (unlimited, unoffset)
+use Rattle.office_tables.proofs.Whole.{at_budget}
+use Rattle.office_tables.proofs.LoweredColumns.{here, among_one}
 
 module _ (schema : Schema) (at : ℕ) (table : Table) (found : slice_get schema.tables at ≡ Some table) (name : Name) (named : table_named schema name ≡ Some at)
     (core : Core) (source : Source) (from_is : (out-Core core).from ≡ source ∷ []) (origin_is : (out-Source source).origin ≡ origin.Table name)
@@ -44,9 +26,9 @@ module _ (schema : Schema) (at : ℕ) (table : Table) (found : slice_get schema.
   place = here schema at table found name
 
   abbrev scope : List Output → Bool → Context
-  scope = among schema at table found name
+  scope = among_one schema at table found name
 
-  pub bounds_are : body.bounds schema (out-Core core).from (fresh 1 max_budget) ≡ Ok (place ∷ [], at_budget max_budget nothing)
+  pub bounds_are : body.bounds schema (out-Core core).from (fresh 1 max_budget) ≡ Ok (place ∷ [], at_budget 2 max_budget nothing)
   unfolding body.bounds body.bound body.table_in take_slot
   bounds_are = rw (from_is, origin_is, named, unaliased, unshared)
 

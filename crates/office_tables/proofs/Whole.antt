@@ -1,8 +1,10 @@
 -- A SELECT over known tables, one or several that are joined, whatever else the schema has.
-use Rattle.std.proofs.Common.{◌≡◌, ◌∷◌, [], ◌++◌, ◌+◌, List, Ok, None, false, true, Bool, ℕ, suc, map, Option}
+use Rattle.std.proofs.Common.{◌≡◌, ◌∷◌, [], ◌++◌, ◌+◌, List, Ok, None, false, true, Bool, ℕ, negsuc, suc, map, Option, refl}
 use Rattle.sqlite_value.specs.declared.keys.Collation.{Collation}
 use Rattle.sqlite_value.specs.declared.keys.Key.{Key}
-use Rattle.sqlite_sql.specs.Term.{Term}
+use Rattle.sqlite_value.specs.declared.value.Value.TheVariants.{Int}
+use Rattle.sqlite_sql.specs.Term.{Term, lit}
+use Rattle.sqlite_ast.specs.declared.Expr.{Expr}
 use Rattle.sqlite_schema.specs.declared.schema.Schema.{Schema}
 use Rattle.sqlite_schema.specs.declared.command.Command.{Command}
 use Rattle.sqlite_schema.specs.declared.command.Command.TheVariants as command
@@ -41,6 +43,46 @@ at_budget next budget last = record { next = next; steps = []; aggregates = []; 
 abbrev pub among : Schema → List Bound → List Output → Bool → Bool → Context
 among schema bounds shown may_aggregate may_alias = record { schema = schema; levels = record { tables = bounds; shown = shown } ∷ []; may_aggregate = may_aggregate; may_alias = may_alias }
 
+-- what a SELECT over known tables is drafted as
+abbrev pub draft_of : List Step → List Term → List Output → List (Term × Key) → Term → Draft
+draft_of steps filter shown keys limit = record {
+  from = chain steps;
+  filter = filter;
+  group = None;
+  project = map (λ (o : Output). o.term) shown;
+  distinct = false;
+  collations = [];
+  order = keys;
+  limit = limit;
+  offset = number 0;
+}
+
+-- what a text of such a SELECT is compiled to
+abbrev pub compiled_to : Program → List Output → Parsed → Compiled
+compiled_to q shown p = record {
+  command = command.Select q (map (λ (o : Output). o.name) shown);
+  returning = None;
+  names = p.names;
+  formats = [];
+  start = p.start;
+  end = p.end;
+  tail = p.tail;
+}
+
+no_offset : (schema : Schema) → select.constant_or schema (number 0) None ≡ Ok (number 0)
+unfolding select.constant_or
+no_offset schema = refl
+
+pub pages_by : (schema : Schema) (s : Select) (cap : Option Expr) (limit : Term) → (out-Select s).limit ≡ cap → (out-Select s).offset ≡ None
+    → select.constant_or schema (lit (Int (negsuc 0))) cap ≡ Ok limit → select.paging schema s ≡ Ok (limit, number 0)
+unfolding select.paging
+pages_by schema s cap limit capped unoffset counts = rw (capped, counts, unoffset, no_offset schema)
+
+-- without a LIMIT
+pub pages_whole : (schema : Schema) (s : Select) → (out-Select s).limit ≡ None → (out-Select s).offset ≡ None → select.paging schema s ≡ Ok (lit (Int (negsuc 0)), number 0)
+unfolding select.paging select.constant_or
+pages_whole schema s unlimited unoffset = rw (unlimited, unoffset)
+
 module _ (schema : Schema) (core : Core) (bounds : List Bound) (n : ℕ) (steps : List Step) (shown : List Output) (filter : List Term) (by_order : List Sort) (keys : List (Term × Key)) (limit : Term) (b₁ b₂ b₃ b₄ : ℕ) (l₁ l₂ l₃ l₄ : Carried)
     (bounds_are : body.bounds schema (out-Core core).from (fresh 1 max_budget) ≡ Ok (bounds, at_budget n max_budget nothing))
     (outputs_are : body.outputs lower (among schema bounds [] true true) bounds (out-Core core).shown (at_budget n max_budget nothing) ≡ Ok (shown, at_budget n b₁ l₁))
@@ -75,17 +117,7 @@ module _ (schema : Schema) (core : Core) (bounds : List Bound) (n : ℕ) (steps 
   parts_are = rw (body_is, keys_are (at_budget n b₃ l₃), ungrouped, having_is (at_budget n b₃ l₃), sorts_are)
 
   abbrev draft : Draft
-  draft = record {
-    from = chain (steps ++ []);
-    filter = filter;
-    group = None;
-    project = map (λ (o : Output). o.term) shown;
-    distinct = false;
-    collations = [];
-    order = keys;
-    limit = limit;
-    offset = number 0;
-  }
+  draft = draft_of (steps ++ []) filter shown keys limit
 
   abbrev answer : Draft × List Name × List (Option Collation)
   answer = (draft, map (λ (o : Output). o.name) shown, map (λ (o : Output). o.carried.collation) shown)
@@ -124,10 +156,10 @@ module _ (schema : Schema) (core : Core) (bounds : List Bound) (n : ℕ) (steps 
 
     module _ (text : List ℕ) (p : Parsed) (q : Program) (first_is : first text ≡ Ok p) (statement_is : p.statement ≡ written.Select s) (untimed : p.formats ≡ []) (program_is : program.program schema [] draft ≡ Ok q) where
       abbrev meant : Command
-      meant = command.Select q (map (λ (o : Output). o.name) shown)
+      meant = (compiled_to q shown p).command
 
       abbrev result : Compiled
-      result = record { command = meant; returning = None; names = p.names; formats = []; start = p.start; end = p.end; tail = p.tail }
+      result = compiled_to q shown p
 
       reads : read schema s ≡ Ok meant
       unfolding read

@@ -13,8 +13,8 @@ use tests_transcripts::published::AMENDED;
 use tests_transcripts::session::{Wrong, played};
 use tests_transcripts::setup::{MONEY, NOTICE, TENDERERS};
 
-// Nothing is published over it, and no record is shown.
-static NOT_GONE_ON: &str = r#"
+/// Nothing is published over it, and no record is shown.
+pub(crate) static NOT_GONE_ON: &str = r#"
 at 2026-02-01T09:00:00Z public GET /notices/N1/record
 = 503 {"name":"Unavailable","refusal":32}
 
