@@ -10,13 +10,13 @@ use Rattle.office_publications.specs.declared.merges.Kept.TheVariants.{Merge, Re
 
 pub has_merge : (notice : List ℕ) (s : Tables) (k : Kept) → IsKeptOf notice s k → CanGoOn k → HasMerge notice s
 has_merge notice s (Merge m) kept goes = (
-    λ c found. let same : m ≡ c = cc in subst (λ (r : CompiledRow). IsObjectText r.text) same goes,
-    λ none. absurd cc,
-  )
+  λ c found. let same : m ≡ c = cc in subst (λ (r : CompiledRow). IsObjectText r.text) same goes,
+  λ none. absurd cc,
+)
 has_merge notice s (Releases rows) kept goes = (
-    λ c found. let none : compiled_at notice s ≡ None = kept.0 in absurd cc,
-    λ none. subst AreObjects kept.1 goes,
-  )
+  λ c found. let none : compiled_at notice s ≡ None = kept.0 in absurd cc,
+  λ none. subst AreObjects kept.1 goes,
+)
 
 pub has_merge_on : {T E : Type 0} (notice : List ℕ) (s : Tables) (k : Kept) (result : Result T E) → IsKeptOf notice s k → OnOk result (CanGoOn k) → OnOk result (HasMerge notice s)
 has_merge_on notice s k (Ok made) kept goes = has_merge notice s k kept goes
