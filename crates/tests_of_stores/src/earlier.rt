@@ -202,7 +202,7 @@ fn version(alloc: Global, disks: &Disks) -> Result<Option<i64>, Wrong> {
 }
 
 // Whether such files are the whole office with these rows, in their version, and in version 2 once they were opened again.
-fn looked(alloc: Global, disks: Disks, is_late: bool, rows: &[u8]) -> Result<Looked, Wrong> {
+fn look_over(alloc: Global, disks: Disks, is_late: bool, rows: &[u8]) -> Result<Looked, Wrong> {
     let is_first = matches!(version(alloc, &disks)?, Some(1));
     let is_there = if is_first {
         rows_wanted(alloc, &disks, is_late)?.as_slice() == rows
@@ -238,7 +238,7 @@ impl Found {
     // Looks at these files, where others were looked at last, and counts them. Whether they are whole.
     fn count(&mut self, alloc: Global, disks: Disks, rows: &[u8]) -> Result<bool, Wrong> {
         if !self.is_last(&disks) {
-            self.last = Some(looked(alloc, disks, self.is_late, rows)?);
+            self.last = Some(look_over(alloc, disks, self.is_late, rows)?);
         }
         let Some(looked) = &self.last else {
             return Ok(false);
