@@ -157,7 +157,9 @@ def of_releases(name: str, is_long: bool) -> list[tuple[str, ...]]:
     where that isn't kept."""
     second, last = " AND seq = 2", f" AND seq = (SELECT max(seq) FROM releases WHERE notice = '{name}')"
     found = [("all releases", releases_gone(name)), ("all releases and the merge", releases_gone(name) + merge_gone(name)),
-             ("the merge", merge_gone(name), ANEW), ("the merge that isn't JSON", f"UPDATE compiled SET text = '{{{{' WHERE notice = '{name}';")]
+             ("the merge", merge_gone(name), ANEW), ("the merge that isn't JSON", f"UPDATE compiled SET text = '{{{{' WHERE notice = '{name}';"),
+             ("the merge that is no object", f"UPDATE compiled SET text = '[]' WHERE notice = '{name}';"),
+             ("the merge, and a release that is no object", merge_gone(name) + f"UPDATE releases SET text = '[]' WHERE notice = '{name}' AND seq = 1;")]
     if is_long:
         found += [("a release in the middle", releases_gone(name, second), MAY), ("the last release", releases_gone(name, last)),
                   ("a release in the middle and the merge", releases_gone(name, second) + merge_gone(name)),

@@ -173,7 +173,7 @@ fn answer_read<H: Shelf + Drop>(
 /// is the constant response to `Unavailable`, and the tables stay as they are; a stop right then may leave an accepted command whole. An office
 /// that stands as its commands left it stands so again; whatever the shelf holds, it holds it still unless a command is given and the answer is a 200, and a
 /// package is shown only where each release that its notice's row counts is there. What is refused at sight is told so, whatever memory
-/// there is; and a refusal that takes none to find is told, or the store's count of faults rose.
+/// there is; and a refusal that takes none to find, where the path says what is asked, is told, or the store's count of faults rose.
 pub fn answer_request<H: Shelf + Drop>(
     alloc: Global,
     routes: &Routes,

@@ -13,10 +13,12 @@ use Rattle.sqlite_resolve.specs.Expr.{lower}
 use Rattle.sqlite_resolve.specs.Compare.{of_declared}
 use Rattle.sqlite_resolve.specs.declared.compare.Affinity.TheVariants as affinity
 use Rattle.office_tables.specs.Forms.{text_column, number_column}
-use Rattle.office_tables.proofs.Simple.{both_e}
+use Rattle.office_tables.proofs.Simple.{both_e, out_both}
+use Rattle.office_tables.proofs.LoweredTests.{and_is}
 use Rattle.office_ledger.specs.Select.{Trees4, equals}
 use Rattle.office_ledger.specs.Known.{HoldsFour, lot_columns, contract_columns, entry_columns}
-use Rattle.office_ledger.proofs.Qualified.{Pick, Finds, at_budget, equals_e, equal_is, and_is}
+use Rattle.office_ledger.proofs.Qualified.{Pick, Finds, equals_e, equal_is}
+use Rattle.office_tables.proofs.Whole.{at_budget}
 use Rattle.office_ledger.proofs.JoinedSelect.{Joint, known_by}
 use Rattle.office_ledger.proofs.Scoped.{Has}
 
@@ -136,7 +138,8 @@ module _ (n : ℕ) where
     pub lot_lowers : nat_lt 1 b ≡ true → nat_lt 1 (b - 1) ≡ true → nat_lt 1 (b - 1 - 1) ≡ true → nat_lt 1 (b - 1 - 1 - 1) ≡ true → nat_lt 1 (b - 1 - 1 - 1 - 1) ≡ true → nat_lt 1 (b - 1 - 1 - 1 - 1 - 1) ≡ true → nat_lt 1 (b - 1 - 1 - 1 - 1 - 1 - 1) ≡ true
         → lower cx on_lot (at_budget next b l) ≡ Ok (lot_test, at_budget next (b - 1 - 1 - 1 - 1 - 1 - 1 - 1) nothing)
     lot_lowers one two three four five six seven =
-        and_is cx (equals_e contract_notice lot_notice) (equals_e contract_lot lot_lot) _ _ next b (b - 1 - 1 - 1 - 1) (b - 1 - 1 - 1 - 1 - 1 - 1 - 1) l nothing nothing one 699
+        and_is cx on_lot (equals_e contract_notice lot_notice) (equals_e contract_lot lot_lot) _ _ next b (b - 1 - 1 - 1 - 1) (b - 1 - 1 - 1 - 1 - 1 - 1 - 1) l nothing nothing one 699
+        (out_both (equals_e contract_notice lot_notice) (equals_e contract_lot lot_lot))
         (equal_is cx contract_notice lot_notice found.of_notice found.notice refl 697 next (b - 1) nothing two three four)
         (equal_is cx contract_lot lot_lot found.of_lot found.lot refl 697 next (b - 1 - 1 - 1 - 1) nothing five six seven)
 

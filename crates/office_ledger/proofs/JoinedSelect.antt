@@ -9,7 +9,6 @@ use Rattle.sqlite_sql.specs.Query.{Query}
 use Rattle.sqlite_draft.specs.declared.join.Step.{Step}
 use Rattle.sqlite_draft.specs.declared.join.Step.TheVariants.{Inner, Left}
 use Rattle.sqlite_draft.specs.declared.query.Draft.{Draft}
-use Rattle.sqlite_draft.specs.Join.{chain}
 use Rattle.sqlite_draft.specs.Query.{query_of}
 use Rattle.sqlite_schema.specs.declared.schema.Schema.{Schema}
 use Rattle.sqlite_schema.specs.declared.schema.Table.{Table}
@@ -26,7 +25,7 @@ use Rattle.sqlite_resolve.specs.declared.scope.Bound.{Bound}
 use Rattle.sqlite_resolve.specs.declared.scope.Output.{Output}
 use Rattle.sqlite_resolve.specs.declared.compiled.Compiled.{Compiled}
 use Rattle.sqlite_resolve.specs.Scope.{Name, Context}
-use Rattle.sqlite_resolve.specs.Terms.{conjuncts, number}
+use Rattle.sqlite_resolve.specs.Terms.{conjuncts}
 use Rattle.sqlite_resolve.specs.Lowering.{nothing, fresh, max_budget}
 use Rattle.sqlite_resolve.specs.Expr.{lower}
 use Rattle.sqlite_resolve.specs.Body as body
@@ -36,10 +35,10 @@ use Rattle.sqlite_resolve.specs.Compile.{first}
 use Rattle.sqlite_typing.specs.Types.{accepts_program}
 use Rattle.office_tables.proofs.Meanings.{StatementMeans, parsed_in, means_by}
 use Rattle.office_ledger.specs.Known.{Holds}
-use Rattle.office_ledger.proofs.Qualified.{Pick, AllFound, AreLater, spent, left_by, at_budget, shown_of, sort_of, outputs_are, sorts_are, outputs_of, keys_of}
+use Rattle.office_ledger.proofs.Qualified.{Pick, AllFound, AreLater, spent, left_by, shown_of, sort_of, outputs_are, sorts_are, outputs_of, keys_of}
 use Rattle.office_ledger.proofs.Scoped.{bound_of}
 use Rattle.office_ledger.proofs.Sources.{source_of, out_source, bound_is, source_is, left_joined, first_joined, joined_by}
-use Rattle.office_ledger.proofs.Whole.{among, compiles}
+use Rattle.office_tables.proofs.Whole.{at_budget, among, compiled_to, compiles, draft_of, pages_whole}
 
 -- ---- as a text is written
 
@@ -175,25 +174,13 @@ module _ (schema : Schema) where
     names = map (λ (o : Output). o.name) outs
 
     abbrev pub draft : Draft
-    draft = record {
-      from = chain (steps ++ []);
-      filter = tests;
-      group = None;
-      project = map (λ (o : Output). o.term) outs;
-      distinct = false;
-      collations = [];
-      order = keys;
-      limit = lit (Int (negsuc 0));
-      offset = number 0;
-    }
+    draft = draft_of (steps ++ []) tests outs keys (lit (Int (negsuc 0)))
 
     abbrev pub query : Query
     query = query_of draft
 
     abbrev meant_by : List ℕ → Compiled
-    meant_by text =
-        let p = parsed_in (first text) in
-        record { command = command.Select (record { lets = []; body = query }) names; returning = None; names = p.names; formats = []; start = p.start; end = p.end; tail = p.tail }
+    meant_by text = compiled_to (record { lets = []; body = query }) outs (parsed_in (first text))
 
     -- each column is found, each ON and the test of WHERE are read, and slots and budget serve
     pub record IsRead : Type 0 where
@@ -244,12 +231,12 @@ module _ (schema : Schema) where
       pub means : (text : List ℕ) → IsWritten text sources picks sorts filter → accepts_program schema [] query [] ≡ true → StatementMeans schema text (command.Select (record { lets = []; body = query }) names)
       means text is accepted =
           means_by schema text (meant_by text) (refl, refl)
-          (compiles schema (core_of sources picks filter) bounds next steps outs tests (map sort_of sorts) keys left (budget_after left js) b (spent scope b sorts) carried (carried_after carried js) l (left_by scope l sorts)
+          (compiles schema (core_of sources picks filter) bounds next steps outs tests (map sort_of sorts) keys (lit (Int (negsuc 0))) left (budget_after left js) b (spent scope b sorts) carried (carried_after carried js) l (left_by scope l sorts)
           (ap (λ c. body.bounds schema c.from (fresh 1 max_budget)) core_is ∙ bounds_are)
           (ap (λ c. body.outputs lower result_scope bounds c.shown (at_budget next max_budget nothing)) core_is ∙ outputs_is)
           (ap (λ c. body.joins lower scope bounds c.from (at_budget next left carried)) core_is ∙ joins_are)
           (ap (λ c. body.tests lower scope [] c.filter (at_budget next (budget_after left js) (carried_after carried js))) core_is ∙ it.tested)
           sorts_is (ap (λ c. c.group) core_is) (ap (λ c. c.having) core_is) (ap (λ c. c.distinct) core_is)
-          (select_of sources picks sorts filter) (ap (λ r. r.first) select_is) (ap (λ r. r.order) select_is) (ap (λ r. r.with) select_is) (ap (λ r. r.others) select_is) (ap (λ r. r.limit) select_is) (ap (λ r. r.offset) select_is)
+          (select_of sources picks sorts filter) (ap (λ r. r.first) select_is) (ap (λ r. r.order) select_is) (ap (λ r. r.with) select_is) (ap (λ r. r.others) select_is) (pages_whole schema (select_of sources picks sorts filter) (ap (λ r. r.limit) select_is) (ap (λ r. r.offset) select_is))
           (λ query. ap (λ c. program.sources query schema c.from []) core_is ∙ sources_are query)
           text (parsed_in (first text)) (record { lets = []; body = query }) is.is is.statement is.formats (programs accepted))

@@ -21,10 +21,10 @@ use Rattle.office_tables.specs.Forms.{column_of}
 use Rattle.office_tables.proofs.Meanings.{StatementMeans, parsed_in}
 use Rattle.office_ledger.specs.Select.{Trees4, equals, list_joined, joined_query}
 use Rattle.office_ledger.specs.Known.{HoldsFour}
-use Rattle.office_ledger.proofs.Qualified.{Pick, Finds, AllFound, at_budget, plainly, equals_e, equal_is, outputs_of}
+use Rattle.office_ledger.proofs.Qualified.{Pick, Finds, AllFound, plainly, equals_e, equal_is, outputs_of}
 use Rattle.office_ledger.proofs.Scoped.{four_bounds, line_of_four, lot_of_four, contract_of_four, contract_key_of_four, entry_of_four}
 use Rattle.office_ledger.proofs.Sources.{source_of}
-use Rattle.office_ledger.proofs.Whole.{among}
+use Rattle.office_tables.proofs.Whole.{at_budget, among}
 use Rattle.office_ledger.proofs.JoinedSelect.{IsWritten, KnownTable, Joint, known_by, IsRead, query, means}
 use Rattle.office_ledger.proofs.JoinedColumns.{lot_line, lot_picks, lot_sorts, on_lot, on_contract, lot_joints, FindsLots, finds_lots, lot_lowers, contract_lowers}
 

@@ -13,7 +13,6 @@ pub mod Cells
 pub mod Matched
 pub mod Shown
 pub mod Qualified
-pub mod Whole
 pub mod Scoped
 pub mod Sources
 pub mod JoinedSelect

@@ -17,10 +17,10 @@ use Rattle.office_tables.proofs.Meanings.{StatementMeans, parsed_in}
 use Rattle.office_ledger.specs.Select.{Trees4, equals}
 use Rattle.office_ledger.specs.SelectLots.{list_joined_of_line, is_of_line, lots_query}
 use Rattle.office_ledger.specs.Known.{HoldsFour}
-use Rattle.office_ledger.proofs.Qualified.{AllFound, at_budget, plainly, given_e, given_is, outputs_of}
+use Rattle.office_ledger.proofs.Qualified.{AllFound, plainly, given_e, given_is, outputs_of}
 use Rattle.office_ledger.proofs.Scoped.{three_bounds, lot_of_three, contract_of_three, contract_key_of_three, entry_of_three}
 use Rattle.office_ledger.proofs.Sources.{source_of}
-use Rattle.office_ledger.proofs.Whole.{among}
+use Rattle.office_tables.proofs.Whole.{at_budget, among}
 use Rattle.office_ledger.proofs.JoinedSelect.{IsWritten, KnownTable, Joint, known_by, IsRead, query, means}
 use Rattle.office_ledger.proofs.JoinedColumns.{lot_line, lot_picks, lot_sorts, on_lot, on_contract, lot_joints, FindsLots, finds_lots, lot_lowers, contract_lowers}
 

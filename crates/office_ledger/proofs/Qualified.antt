@@ -23,11 +23,13 @@ use Rattle.sqlite_resolve.specs.declared.compare.Affinity.TheVariants as affinit
 use Rattle.sqlite_resolve.specs.Scope.{Name, Context, column, find, term_of, column_at, declared}
 use Rattle.sqlite_resolve.specs.Lowering.{Checked, Lowering, nothing, alone, chosen, first_found, spend, begin, finish}
 use Rattle.sqlite_resolve.specs.Compare.{compared, affinity_of, of_column, of_declared, converted}
-use Rattle.sqlite_resolve.specs.Expr.{node, opened, passes, operation, both, combine, wanted_truth, tests_truth, tests_alias, lower_to, lower}
+use Rattle.sqlite_resolve.specs.Expr.{node, opened, passes, lower_to, lower}
 use Rattle.sqlite_resolve.specs.Body as body
 use Rattle.sqlite_resolve.specs.Order as order
 use Rattle.sqlite_tied.specs.Compute.{everything}
-use Rattle.office_tables.proofs.Simple.{both_e, out_both, out_parameter}
+use Rattle.office_tables.proofs.Simple.{out_parameter}
+use Rattle.office_tables.proofs.Whole.{at_budget}
+use Rattle.office_tables.proofs.LoweredTests as tests
 
 -- what a column of a table carries
 abbrev pub plainly : Carried
@@ -49,10 +51,6 @@ chosen_is zero zero = refl
 chosen_is zero (suc b) = refl
 chosen_is (suc a) zero = refl
 chosen_is (suc a) (suc b) = refl
-
--- the state while a SELECT is read, with the next slot
-abbrev pub at_budget : ℕ → ℕ → Carried → State
-at_budget next budget last = record { next = next; steps = []; aggregates = []; budget = budget; written = None; last = last }
 
 -- a column as a text names it: with the name of its table, the slot of that, its place in it and in a row, and how the text writes it
 pub record Pick : Type 0 where
@@ -101,10 +99,6 @@ pub record Finds (cx : Context) (p : Pick) : Type 0 where
   pub carries : declared whose p.place p.column ≡ carried_by p.row
   pub typed : of_column cx p.slot p.row ≡ of_declared p.column
 
-pub lowered : (d : ℕ) (cx : Context) (e : Expr) (s : State) (r : Checked (Term × State)) → node (lower_to d) cx e s ≡ r → lower_to (suc d) cx e s ≡ r
-unfolding lower_to
-lowered d cx e s r h = h
-
 module _ (cx : Context) (p : Pick) (h : Finds cx p) where
   column_is : (s : State) → column cx (Some p.table) p.column.name s ≡ Ok (term_of_pick p, record s { last = carried_by p.row })
   unfolding column term_of column_at
@@ -115,7 +109,7 @@ module _ (cx : Context) (p : Pick) (h : Finds cx p) where
   node_is low n b l enough = rw (enough, out_pick p, column_is (at_budget n (b - 1) nothing))
 
   pub lower_is : (d n b : ℕ) (l : Carried) → nat_lt 1 b ≡ true → lower_to (suc d) cx (pick_e p) (at_budget n b l) ≡ Ok (term_of_pick p, at_budget n (b - 1) (carried_by p.row))
-  lower_is d n b l enough = lowered d cx (pick_e p) (at_budget n b l) _ (node_is (lower_to d) n b l enough)
+  lower_is d n b l enough = tests.lowered d cx (pick_e p) (at_budget n b l) _ (node_is (lower_to d) n b l enough)
 
   abbrev pub output : Output
   output = record { name = p.column.name; is_alias = false; is_column = true; term = term_of_pick p; carried = carried_by p.row }
@@ -203,18 +197,12 @@ module _ (cx : Context) (p q : Pick) (h : Finds cx p) (k : Finds cx q) (alike : 
   unfolding compared affinity_of
   compares = rw (h.typed, k.typed, alike, same_kind (of_declared q.column) (term_of_pick p), same_kind (of_declared q.column) (term_of_pick q))
 
-  equal_node : (low : Context → Expr → Lowering Term) (n b : ℕ) (l : Carried) → nat_lt 1 b ≡ true
-      → low cx (pick_e p) (at_budget n (b - 1) nothing) ≡ Ok (term_of_pick p, at_budget n (b - 1 - 1) (carried_by p.row)) → low cx (pick_e q) (at_budget n (b - 1 - 1) (carried_by p.row)) ≡ Ok (term_of_pick q, at_budget n (b - 1 - 1 - 1) (carried_by q.row))
-      → node low cx (equals_e p q) (at_budget n b l) ≡ Ok (compared cx (by.Compare compare.Eq Binary) (term_of_pick p) (term_of_pick q), at_budget n (b - 1 - 1 - 1) nothing)
-  unfolding node spend begin opened finish passes operation both combine wanted_truth tests_truth tests_alias
-  equal_node low n b l enough left right = rw (enough, out_equals p q, left, right, chosen_is p.row q.row)
-
   -- `p = q`
   pub equal_is : (d n b : ℕ) (l : Carried) → nat_lt 1 b ≡ true → nat_lt 1 (b - 1) ≡ true → nat_lt 1 (b - 1 - 1) ≡ true
       → lower_to (suc (suc d)) cx (equals_e p q) (at_budget n b l) ≡ Ok (test, at_budget n (b - 1 - 1 - 1) nothing)
   equal_is d n b l one two three =
-      lowered (suc d) cx (equals_e p q) (at_budget n b l) _ (equal_node (lower_to (suc d)) n b l one (lower_is cx p h d n (b - 1) nothing two) (lower_is cx q k d n (b - 1 - 1) (carried_by p.row) three))
-      ∙ ap (λ t. Ok (t, at_budget n (b - 1 - 1 - 1) nothing)) compares
+      tests.equal_is cx (equals_e p q) (pick_e p) (pick_e q) _ _ n b _ _ l _ _ one (suc d) (out_equals p q) (lower_is cx p h d n (b - 1) nothing two) (lower_is cx q k d n (b - 1 - 1) (carried_by p.row) three)
+      ∙ ap (λ t. Ok (t, at_budget n (b - 1 - 1 - 1) nothing)) (ap (λ o. compared cx (by.Compare compare.Eq o) (term_of_pick p) (term_of_pick q)) (chosen_is p.row q.row) ∙ compares)
 
 -- ---- tests of WHERE
 
@@ -240,34 +228,12 @@ module _ (cx : Context) (p : Pick) (h : Finds cx p) (kind : of_declared p.column
       typed_text : of_column cx p.slot p.row ≡ affinity.Text
       typed_text = h.typed ∙ kind
 
-  parameter_node : (low : Context → Expr → Lowering Term) (n b : ℕ) (l : Carried) → nat_lt 1 b ≡ true → node low cx (parameter_e 1) (at_budget n b l) ≡ Ok (col 0 0, at_budget n (b - 1) nothing)
-  unfolding node spend begin opened finish passes
-  parameter_node low n b l enough = rw (enough, out_parameter 1)
-
-  given_node : (low : Context → Expr → Lowering Term) (n b : ℕ) (l : Carried) → nat_lt 1 b ≡ true
-      → low cx (pick_e p) (at_budget n (b - 1) nothing) ≡ Ok (term_of_pick p, at_budget n (b - 1 - 1) (carried_by p.row)) → low cx (parameter_e 1) (at_budget n (b - 1 - 1) (carried_by p.row)) ≡ Ok (col 0 0, at_budget n (b - 1 - 1 - 1) nothing)
-      → node low cx (given_e p 1) (at_budget n b l) ≡ Ok (compared cx (by.Compare compare.Eq Binary) (term_of_pick p) (col 0 0), at_budget n (b - 1 - 1 - 1) nothing)
-  unfolding node spend begin opened finish passes operation both combine wanted_truth tests_truth tests_alias
-  given_node low n b l enough left right = rw (enough, out_given p 1, left, right, chosen_is p.row 0)
-
   -- `p = ?1`
   pub given_is : (d n b : ℕ) (l : Carried) → nat_lt 1 b ≡ true → nat_lt 1 (b - 1) ≡ true → nat_lt 1 (b - 1 - 1) ≡ true
       → lower_to (suc (suc d)) cx (given_e p 1) (at_budget n b l) ≡ Ok (given, at_budget n (b - 1 - 1 - 1) nothing)
   given_is d n b l one two three =
-      lowered (suc d) cx (given_e p 1) (at_budget n b l) _
-      (given_node (lower_to (suc d)) n b l one (lower_is cx p h d n (b - 1) nothing two) (lowered d cx (parameter_e 1) (at_budget n (b - 1 - 1) (carried_by p.row)) _ (parameter_node (lower_to d) n (b - 1 - 1) (carried_by p.row) three)))
-      ∙ ap (λ t. Ok (t, at_budget n (b - 1 - 1 - 1) nothing)) given_compares
-
-module _ (cx : Context) (a c : Expr) (x y : Term) (n b b₁ b₂ : ℕ) (l l₁ l₂ : Carried) (enough : nat_lt 1 b ≡ true) where
-  and_node : (low : Context → Expr → Lowering Term) → low cx a (at_budget n (b - 1) nothing) ≡ Ok (x, at_budget n b₁ l₁) → low cx c (at_budget n b₁ l₁) ≡ Ok (y, at_budget n b₂ l₂)
-      → node low cx (both_e a c) (at_budget n b l) ≡ Ok (op2 by.And x y, at_budget n b₂ nothing)
-  unfolding node spend begin opened finish passes operation both combine wanted_truth tests_truth tests_alias
-  and_node low left right = rw (enough, out_both a c, left, right)
-
-  -- `a AND c`
-  pub and_is : (d : ℕ) → lower_to d cx a (at_budget n (b - 1) nothing) ≡ Ok (x, at_budget n b₁ l₁) → lower_to d cx c (at_budget n b₁ l₁) ≡ Ok (y, at_budget n b₂ l₂)
-      → lower_to (suc d) cx (both_e a c) (at_budget n b l) ≡ Ok (op2 by.And x y, at_budget n b₂ nothing)
-  and_is d left right = lowered d cx (both_e a c) (at_budget n b l) _ (and_node (lower_to d) left right)
+      tests.equal_is cx (given_e p 1) (pick_e p) (parameter_e 1) _ _ n b _ _ l _ _ one (suc d) (out_given p 1) (lower_is cx p h d n (b - 1) nothing two) (tests.parameter_is d cx (parameter_e 1) 1 n (b - 1 - 1) (carried_by p.row) (out_parameter 1) three)
+      ∙ ap (λ t. Ok (t, at_budget n (b - 1 - 1 - 1) nothing)) (ap (λ o. compared cx (by.Compare compare.Eq o) (term_of_pick p) (col 0 0)) (chosen_is p.row 0) ∙ given_compares)
 
 -- ---- several columns
 

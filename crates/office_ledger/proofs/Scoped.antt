@@ -15,7 +15,7 @@ use Rattle.sqlite_resolve.specs.declared.compare.Affinity.TheVariants as affinit
 use Rattle.office_ledger.specs.Select.{Trees4}
 use Rattle.office_ledger.specs.Known.{Holds, HoldsFour, line_columns, lot_columns, contract_columns, entry_columns}
 use Rattle.office_ledger.proofs.Qualified.{Finds, plainly}
-use Rattle.office_ledger.proofs.Whole.{among}
+use Rattle.office_tables.proofs.Whole.{among}
 
 abbrev pub bound_of : Name → ℕ → ℕ → Bound
 bound_of name at slot = record { name = name; table = at; slot = slot; shared = [] }

@@ -21,9 +21,8 @@ use Rattle.sqlite_resolve.specs.Lowering.{Checked, take_slot}
 use Rattle.sqlite_resolve.specs.Expr.{lower}
 use Rattle.sqlite_resolve.specs.Body as body
 use Rattle.sqlite_resolve.specs.Program as program
-use Rattle.office_ledger.proofs.Qualified.{at_budget}
 use Rattle.office_ledger.proofs.Scoped.{bound_of}
-use Rattle.office_ledger.proofs.Whole.{among}
+use Rattle.office_tables.proofs.Whole.{at_budget, among}
 
 -- ---- as the text is written
 

@@ -1,16 +1,22 @@
--- What can be gone on from is the merge that is kept, an object.
+-- What can be gone on from is the merge that is kept, an object, or, where none is kept, the releases, objects each.
 use Rattle.std.proofs.Common.{◌≡◌, ℕ, List, None, Result, Ok, Err, subst}
 use Rattle.std.specs.Prelude.{OnOk}
 use Rattle.ocds_merge.specs.Stored.{IsObjectText}
 use Rattle.office_base.specs.Tables.{Tables, compiled_at}
 use Rattle.office_base.specs.declared.records.CompiledRow.{CompiledRow}
-use Rattle.office_publications.specs.Merges.{CanGoOn, HasMerge, IsKeptOf}
+use Rattle.office_publications.specs.Merges.{AreObjects, CanGoOn, HasMerge, IsKeptOf}
 use Rattle.office_publications.specs.declared.merges.Kept.{Kept}
 use Rattle.office_publications.specs.declared.merges.Kept.TheVariants.{Merge, Releases}
 
 pub has_merge : (notice : List ℕ) (s : Tables) (k : Kept) → IsKeptOf notice s k → CanGoOn k → HasMerge notice s
-has_merge notice s (Merge m) kept goes c found = let same : m ≡ c = cc in subst (λ (r : CompiledRow). IsObjectText r.text) same goes
-has_merge notice s (Releases rows) kept goes c found = let none : compiled_at notice s ≡ None = kept.0 in absurd cc
+has_merge notice s (Merge m) kept goes = (
+  λ c found. let same : m ≡ c = cc in subst (λ (r : CompiledRow). IsObjectText r.text) same goes,
+  λ none. absurd cc,
+)
+has_merge notice s (Releases rows) kept goes = (
+  λ c found. let none : compiled_at notice s ≡ None = kept.0 in absurd cc,
+  λ none. subst AreObjects kept.1 goes,
+)
 
 pub has_merge_on : {T E : Type 0} (notice : List ℕ) (s : Tables) (k : Kept) (result : Result T E) → IsKeptOf notice s k → OnOk result (CanGoOn k) → OnOk result (HasMerge notice s)
 has_merge_on notice s k (Ok made) kept goes = has_merge notice s k kept goes

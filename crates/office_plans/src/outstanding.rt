@@ -1,6 +1,6 @@
-//! What is outstanding of a contract after a command on it. `Unavailable` from 2^64 on: in an office that commands reach, what is
-//! outstanding is at most 10^15.
-ghost use Rattle.std.specs.Prelude.{◌≡◌, IfOk, IfErr};
+//! What is outstanding of a contract after a command on it. `Unavailable` exactly from 2^64 on: in an office that commands reach, what is outstanding is at
+//! most 10^15.
+ghost use Rattle.std.specs.Prelude.{◌≡◌, ◌≤◌, ◌^◌, IfOk, IfErr};
 ghost use Rattle.office_machine.specs.Outstanding.{left_by_change, left_by_end, left_by_payment, left_changed};
 ghost use Rattle.office_machine.specs.Replies.{left_of};
 ghost use Rattle.office_values.specs.declared.refusal.Refusal.TheVariants.{Unavailable};
@@ -17,7 +17,7 @@ use office_values::refusal::Refusal;
 // The sum in 64 bits.
 fn within(left: u128) -> Result<u64, Refusal>
     ensures sum { IfOk result (λ sum. sum ≡ left) }
-    ensures none { IfErr result (λ why. why ≡ Unavailable) }
+    ensures none { IfErr result (λ why. (why ≡ Unavailable) × (2 ^ 64 ≤ left)) }
 {
     u64::try_from(left).ok().ok_or(Refusal::Unavailable)
 }
@@ -35,7 +35,7 @@ fn left_of(contract: &Option<ContractRow>, entries: &[EntryRow]) -> u128
 /// After the end of the contract: what was outstanding is released.
 pub fn left_by_end(rows: &EndRows) -> Result<u64, Refusal>
     ensures left { IfOk result (λ left. left ≡ left_by_end rows.now.contract rows.now.entries rows.now.notice rows.now.line) }
-    ensures none { IfErr result (λ why. why ≡ Unavailable) }
+    ensures none { IfErr result (λ why. (why ≡ Unavailable) × (2 ^ 64 ≤ left_by_end rows.now.contract rows.now.entries rows.now.notice rows.now.line)) }
 {
     let entries = rows.entries.as_slice();
     match (&rows.contract, &rows.notice, &rows.line) {
@@ -50,7 +50,7 @@ pub fn left_by_end(rows: &EndRows) -> Result<u64, Refusal>
 /// After a payment of this amount.
 pub fn left_by_payment(rows: &PayRows, amount: EntryAmount) -> Result<u64, Refusal>
     ensures left { IfOk result (λ left. left ≡ left_by_payment rows.now.contract rows.now.entries rows.now.notice amount) }
-    ensures none { IfErr result (λ why. why ≡ Unavailable) }
+    ensures none { IfErr result (λ why. (why ≡ Unavailable) × (2 ^ 64 ≤ left_by_payment rows.now.contract rows.now.entries rows.now.notice amount)) }
 {
     let entries = rows.entries.as_slice();
     match (&rows.contract, &rows.notice) {
@@ -81,7 +81,7 @@ pub fn left_by_change(
     amount: EntryAmount,
 ) -> Result<u64, Refusal>
     ensures left { IfOk result (λ left. left ≡ left_by_change kind rows.now.contract rows.now.entries rows.now.notice rows.now.line amount) }
-    ensures none { IfErr result (λ why. why ≡ Unavailable) }
+    ensures none { IfErr result (λ why. (why ≡ Unavailable) × (2 ^ 64 ≤ left_by_change kind rows.now.contract rows.now.entries rows.now.notice rows.now.line amount)) }
 {
     let entries = rows.entries.as_slice();
     match (&rows.contract, &rows.notice, &rows.line) {

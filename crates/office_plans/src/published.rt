@@ -113,8 +113,8 @@ fn is_whole(kept: &Kept, seq: Sequence) -> bool
 }
 
 // The release as it is kept, and the merge that it joins. Reads the merge of the notice's releases, or all of them where none is kept.
-// `Unavailable` where the release in front of it is gone, the merge that is kept is no object, or none is kept and a release is gone: nothing
-// is published behind a gap, nor over what can't be gone on from.
+// `Unavailable` where the release in front of it is gone, the merge that is kept is no object, or none is kept and a release is gone or no
+// object: nothing is published behind a gap, nor over what can't be gone on from.
 fn keep<H: Lookups>(
     alloc: Global,
     shelf: &mut H,
@@ -162,8 +162,8 @@ fn with_publication(
 }
 
 /// The plan of an accepted command that publishes: what it puts, the release, and the merge that this joins; and the reply's text.
-/// `Unavailable` also where the notice's last release is gone, its kept merge can't be carried on, or none is kept and a release is gone: never so
-/// in a reached office.
+/// `Unavailable` also where the notice's last release is gone, its kept merge can't be carried on, or none is kept and a release is gone or no
+/// object: never so in a reached office.
 pub(crate) fn published<H: Lookups>(
     alloc: Global,
     shelf: &mut H,

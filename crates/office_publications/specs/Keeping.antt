@@ -53,7 +53,7 @@ abbrev pub has_last_release : List ℕ → ℕ → Tables → Bool
 has_last_release notice releases t = nat_eq releases 0 || is_some (release_at (notice, releases) t)
 
 -- what is kept of a notice can be gone on from: its last release is there, and the merge, where one is kept, is an object; where none is, all
--- releases that its row counts are there
+-- releases that its row counts are there, and objects
 pub record CanBeFollowed (notice : List ℕ) (t : Tables) : Type 0 where
   pub last : has_last_release notice (releases_in (notice_at notice t)) t ≡ true
   pub merge : HasMerge notice t

@@ -58,14 +58,18 @@ abbrev pub IsKeptOf : List ℕ → Tables → Kept → Type 0
 IsKeptOf notice t (Merge c) = compiled_at notice t ≡ Some c
 IsKeptOf notice t (Releases rows) = (compiled_at notice t ≡ None) × (rows ≡ releases_of_notice notice t)
 
--- what is kept can be gone on from: where it is a merge, this is an object, as the merge of releases is
+-- each of these releases is an object, as what a command publishes is
+abbrev pub AreObjects : List ReleaseRow → Type 0
+AreObjects rows = All (λ (r : ReleaseRow). IsObjectText r.text) rows
+
+-- what is kept can be gone on from: where it is a merge, this is an object, as the merge of releases is; where it is releases, each of them is
 abbrev pub CanGoOn : Kept → Type 0
 CanGoOn (Merge c) = IsObjectText c.text
-CanGoOn (Releases rows) = Unit {0}
+CanGoOn (Releases rows) = AreObjects rows
 
 -- so is what an office keeps of this notice
 abbrev pub HasMerge : List ℕ → Tables → Type 0
-HasMerge notice t = (c : CompiledRow) → compiled_at notice t ≡ Some c → IsObjectText c.text
+HasMerge notice t = ((c : CompiledRow) → compiled_at notice t ≡ Some c → IsObjectText c.text) × (compiled_at notice t ≡ None → AreObjects (releases_of_notice notice t))
 
 -- where no merge is kept, so many releases of this notice are there
 abbrev pub AreSoMany : List ℕ → ℕ → Tables → Type 0

@@ -7,7 +7,7 @@ ghost use Rattle.ocds_merge.specs.Merge.{merge_or_null};
 ghost use Rattle.office_base.specs.Shelves.{LooksUp};
 ghost use Rattle.office_base.specs.Tables.{Tables};
 ghost use Rattle.office_values.specs.declared.refusal.Refusal.TheVariants.{Unavailable};
-ghost use Rattle.office_publications.specs.Merges.{bodies, body_in, CanGoOn, IsMergedOf, IsKeptOf, IsMerge};
+ghost use Rattle.office_publications.specs.Merges.{bodies, body_in, AreObjects, CanGoOn, IsMergedOf, IsKeptOf, IsMerge};
 
 use ocds_merge::{
     begins_object, merge_from_text, merge_into, merge_into_text, merge_to_text, without_head,
@@ -38,12 +38,17 @@ pub fn load_kept<H: Lookups>(shelf: &mut H, notice: &Id) -> Result<Kept, ShelfFa
     }
 }
 
-// A stored release without its head.
+// A stored release without its head. None is one that is no object: it has no part in a merge, and would be lost.
 fn body_of(alloc: Global, row: &ReleaseRow) -> Result<Value, Refusal>
     ensures body { IfOk result (λ body. view body ≡ body_in row.now) }
+    ensures object { OnOk result (IsObjectText row.now.text) }
     ensures none { IfErr result (λ why. why ≡ Unavailable) }
 {
-    match merge_from_text(alloc, row.text.as_str()) {
+    let stored = row.text.as_str();
+    if !begins_object(stored) {
+        return Err(Refusal::Unavailable);
+    }
+    match merge_from_text(alloc, stored) {
         Ok(release) => Ok(without_head(release)),
         Err(_) => Err(Refusal::Unavailable),
     }
@@ -52,6 +57,7 @@ fn body_of(alloc: Global, row: &ReleaseRow) -> Result<Value, Refusal>
 // The merge of stored releases without their heads.
 fn merge_of(alloc: Global, rows: &[ReleaseRow]) -> Result<Value, Refusal>
     ensures merge { IfOk result (λ merge. view merge ≡ merge_or_null (map body_in rows.now)) }
+    ensures objects { OnOk result (AreObjects rows.now) }
     ensures none { IfErr result (λ why. why ≡ Unavailable) }
 {
     let mut merge = Value::Null;
@@ -68,6 +74,7 @@ fn merge_of(alloc: Global, rows: &[ReleaseRow]) -> Result<Value, Refusal>
 fn merged_anew(alloc: Global, rows: &[ReleaseRow], body: &Value) -> Result<JsonText, Refusal>
     ensures keeps { IfOk result (λ text. All IsStorable (map body_in rows.now ++ (view body.now ∷ []))
         → KeepsMerge text (map body_in rows.now ++ (view body.now ∷ []))) }
+    ensures objects { OnOk result (AreObjects rows.now) }
     ensures none { IfErr result (λ why. why ≡ Unavailable) }
 {
     let mut merge = merge_of(alloc, rows)?;
@@ -112,8 +119,8 @@ fn merge_in(alloc: Global, kept: &CompiledRow) -> Result<Value, Refusal>
     }
 }
 
-/// The merge of a notice's releases without their heads. `Unavailable` also where the merge that is kept is no object: no office that commands
-/// lead to keeps such a one.
+/// The merge of a notice's releases without their heads. `Unavailable` also where the merge that is kept is no object, or, where none is kept, a
+/// release isn't one: no office that commands lead to keeps such a one.
 pub fn merge_kept(alloc: Global, kept: &Kept) -> Result<Value, Refusal>
     ensures merge { IfOk result (λ merge. (notice : List ℕ) (t : Tables) → IsKeptOf notice t kept.now → IsMergedOf notice t
         → view merge ≡ merge_or_null (bodies notice t)) }
@@ -127,7 +134,7 @@ pub fn merge_kept(alloc: Global, kept: &Kept) -> Result<Value, Refusal>
 }
 
 /// The row that keeps the merge of a notice's releases and one more, which is given without its head. `Unavailable` also where the merge that is
-/// kept is no object, so that nothing is published over what can't be gone on from.
+/// kept is no object, or, where none is kept, a release isn't one, so that nothing is published over what can't be gone on from.
 pub fn merge_with(
     alloc: Global,
     kept: &Kept,

@@ -28,7 +28,8 @@ pub struct Publication {
 
 /// A release of a notice as it is kept, as compact text under a number, with its moment, and the merge that it joins. Time and memory grow
 /// with the release and the merge, and not with the number of releases, where their merge is kept. A release can be stored where it has no
-/// floats and isn't nested more than 127 levels deep. `Unavailable` where the merge that is kept is no object.
+/// floats and isn't nested more than 127 levels deep. `Unavailable` where the merge that is kept, or, where none
+/// is, a release, is no object.
 pub fn keep_release(
     alloc: Global,
     notice: Id,

@@ -17,7 +17,7 @@ use Rattle.sqlite_resolve.specs.Write as write
 use Rattle.sqlite_resolve.specs.Compile.{first, compiled, planned, meaning, timed, returning, shows, command, delete, small}
 use Rattle.sqlite_typing.specs.Types.{accepts_program}
 use Rattle.office_tables.specs.Known.{IsIn, at_tree}
-use Rattle.office_tables.proofs.LoweredColumns.{at_budget}
+use Rattle.office_tables.proofs.Whole.{at_budget}
 use Rattle.office_tables.proofs.Simple.{scope}
 use Rattle.office_tables.proofs.Meanings.{StatementMeans, means_by}
 use Rattle.office_tables.proofs.Selecting.{select}
@@ -29,7 +29,7 @@ pub record IsDelete (text name : List ℕ) (test : Option Expr) (p : Parsed) : T
   pub formats : p.formats ≡ []
 
 module _ (schema : Schema) (table : Table) (n : ℕ) (it : IsIn schema table n) (unstamped : table.stamps.formats ≡ []) (text : List ℕ) (test : Option Expr) (p : Parsed) (read : IsDelete text table.name test p) (tests : List ℕ) (b : ℕ) (l : Carried)
-    (tests_are : body.tests lower (scope schema it.place (at_tree table n) it.found table.name []) [] test (at_budget max_budget nothing) ≡ Ok ((select n tests (0 ∷ []) []).filter, at_budget b l))
+    (tests_are : body.tests lower (scope schema it.place (at_tree table n) it.found table.name []) [] test (at_budget 2 max_budget nothing) ≡ Ok ((select n tests (0 ∷ []) []).filter, at_budget 2 b l))
     (accepted : accepts_program schema [] (select n tests (0 ∷ []) []) [] ≡ true) where
   abbrev found_rows : Program
   found_rows = record { lets = []; body = select n tests (0 ∷ []) [] }

@@ -11,8 +11,10 @@ mod Selected
 mod RowsDropped
 pub mod Meanings
 mod Made
+pub mod Whole
+pub mod LoweredTests
 mod LoweredColumns
-mod Whole
+pub mod OneTable
 pub mod Simple
 pub mod Selecting
 mod Asking

@@ -23,7 +23,7 @@ use Rattle.sqlite_resolve.specs.Select.{constant_or}
 use Rattle.sqlite_typing.specs.Types.{accepts_program}
 use Rattle.office_tables.specs.Known.{IsIn, at_tree}
 use Rattle.office_tables.proofs.Meanings.{StatementMeans, means_by, parsed_in}
-use Rattle.office_tables.proofs.LoweredColumns.{at_budget}
+use Rattle.office_tables.proofs.Whole.{at_budget}
 use Rattle.office_tables.proofs.Simple.{capped, names_of, outputs_of, spent, left_by, Has, AreFree, scope, query_is, simple_compiles}
 use Rattle.sqlite_resolve.specs.declared.scope.Output.{Output}
 use Rattle.sqlite_resolve.specs.Expr.{lower}
@@ -91,7 +91,7 @@ left ps = spent max_budget ps
 
 pub capped_selects_mean : (schema : Schema) (table : Table) (n : ℕ) (it : IsIn schema table n) (ps qs : List (ℕ × Column)) (text : List ℕ) → Has (at_tree table n) max_budget ps
     → (test : Option Expr) (filter : List Term) (b : ℕ) (l : Carried) (cap : Option Expr) (limit : Term) → IsCapped text table.name (names_of ps) test (names_of qs) cap
-    → body.tests lower (scope schema it.place (at_tree table n) it.found table.name (outputs_of (at_tree table n) [] ps)) [] test (at_budget (left ps) (left_by (at_tree table n) nothing ps)) ≡ Ok (filter, at_budget b l)
+    → body.tests lower (scope schema it.place (at_tree table n) it.found table.name (outputs_of (at_tree table n) [] ps)) [] test (at_budget 2 (left ps) (left_by (at_tree table n) nothing ps)) ≡ Ok (filter, at_budget 2 b l)
     → Has (at_tree table n) b qs → AreFree (outputs_of (at_tree table n) [] ps) qs
     → accepts_program schema [] (query_is schema it.place (at_tree table n) it.found table.name it.named ps qs test filter b l cap limit) [] ≡ true
     → constant_or schema (lit (Int (negsuc 0))) cap ≡ Ok limit
@@ -105,7 +105,7 @@ uncapped schema = refl
 
 pub selects_mean : (schema : Schema) (table : Table) (n : ℕ) (it : IsIn schema table n) (ps qs : List (ℕ × Column)) (text : List ℕ) → Has (at_tree table n) max_budget ps
     → (test : Option Expr) (filter : List Term) (b : ℕ) (l : Carried) → IsSelect text table.name (names_of ps) test (names_of qs)
-    → body.tests lower (scope schema it.place (at_tree table n) it.found table.name (outputs_of (at_tree table n) [] ps)) [] test (at_budget (left ps) (left_by (at_tree table n) nothing ps)) ≡ Ok (filter, at_budget b l)
+    → body.tests lower (scope schema it.place (at_tree table n) it.found table.name (outputs_of (at_tree table n) [] ps)) [] test (at_budget 2 (left ps) (left_by (at_tree table n) nothing ps)) ≡ Ok (filter, at_budget 2 b l)
     → Has (at_tree table n) b qs → AreFree (outputs_of (at_tree table n) [] ps) qs
     → accepts_program schema [] (query_is schema it.place (at_tree table n) it.found table.name it.named ps qs test filter b l None (lit (Int (negsuc 0)))) [] ≡ true
     → StatementMeans schema text (Select (record { lets = []; body = query_is schema it.place (at_tree table n) it.found table.name it.named ps qs test filter b l None (lit (Int (negsuc 0))) }) (map (λ (o : Output). o.name) (outputs_of (at_tree table n) [] ps)))

@@ -36,10 +36,8 @@ use Rattle.sqlite_schema.specs.Names.{table_named}
 use Rattle.sqlite_value.specs.declared.value.Value.TheVariants.{Int}
 use Rattle.sqlite_sql.specs.Term.{lit}
 use Rattle.sqlite_sql.specs.Query.{Query, inner, end}
-use Rattle.sqlite_schema.specs.declared.command.Command.TheVariants as command
 use Rattle.sqlite_draft.specs.declared.join.Step.TheVariants.{Inner}
 use Rattle.sqlite_draft.specs.declared.query.Draft.{Draft}
-use Rattle.sqlite_draft.specs.Join.{chain}
 use Rattle.sqlite_typing.specs.Types.{accepts_program}
 use Rattle.sqlite_ast.specs.declared.Statement.TheVariants as written
 use Rattle.sqlite_syntax.specs.declared.statement.Parsed.{Parsed}
@@ -47,8 +45,10 @@ use Rattle.sqlite_resolve.specs.declared.compiled.Compiled.{Compiled}
 use Rattle.sqlite_resolve.specs.Lowering.{max_budget}
 use Rattle.sqlite_resolve.specs.Program.{program}
 use Rattle.sqlite_resolve.specs.Compile.{first, compiled}
-use Rattle.office_tables.proofs.Whole.{compiles, pages_by}
-use Rattle.office_tables.proofs.LoweredColumns.{at_budget, here, among, lower_is, then_shown, parameter_is, equal_is, above_is, and_is, then_sorted}
+use Rattle.office_tables.proofs.Whole.{at_budget, compiled_to, compiles, draft_of, pages_by}
+use Rattle.office_tables.proofs.OneTable.{bounds_are, joins_are, sources_are}
+use Rattle.office_tables.proofs.LoweredColumns.{here, among_one, lower_is, then_shown, then_sorted}
+use Rattle.office_tables.proofs.LoweredTests.{parameter_is, equal_is, above_is, and_is}
 
 -- ---- as a text is written
 
@@ -152,14 +152,14 @@ same false = refl
 
 module _ (schema : Schema) (at : ℕ) (table : Table) (found : slice_get schema.tables at ≡ Some table) (name : Name) where
   pub outputs_are : (done : List Output) (ps : List (ℕ × Column)) (b : ℕ) (l : Carried) → Has table b ps
-      → body.outputs_from lower (among schema at table found name [] true) (here schema at table found name ∷ []) done (map shown_of (names_of ps)) (at_budget b l) ≡ Ok (outputs_of table done ps, at_budget (spent b ps) (left_by table l ps))
+      → body.outputs_from lower (among_one schema at table found name [] true) (here schema at table found name ∷ []) done (map shown_of (names_of ps)) (at_budget 2 b l) ≡ Ok (outputs_of table done ps, at_budget 2 (spent b ps) (left_by table l ps))
   outputs_are done [] b l h = refl
   outputs_are done (p ∷ ps) b l h =
       then_shown schema at table found name p.0 p.1 h.0 h.1 done (shown_of p.1.name) (map shown_of (names_of ps)) (column_e p.1.name) p.1.name b l _ (out_shown p.1.name) (out_column p.1.name) h.2
       (outputs_are (done ++ output_of table p ∷ []) ps (b - 1) (declared table p.0 p.1) h.3)
 
   pub sorts_are : (shown : List Output) (done : List (Term × Key)) (ps : List (ℕ × Column)) (b : ℕ) (l : Carried) → Has table b ps → AreFree shown ps
-      → order.sorts_from lower (among schema at table found name shown false) shown done (map sort_of (names_of ps)) (at_budget b l) ≡ Ok (keys_of table done ps, at_budget (spent b ps) (left_by table l ps))
+      → order.sorts_from lower (among_one schema at table found name shown false) shown done (map sort_of (names_of ps)) (at_budget 2 b l) ≡ Ok (keys_of table done ps, at_budget 2 (spent b ps) (left_by table l ps))
   sorts_are shown done [] b l h free = refl
   sorts_are shown done (p ∷ ps) b l h free =
       let is = out-roll-Sort (record { key = column_e p.1.name; descending = false; nulls_first = None }) in
@@ -167,15 +167,15 @@ module _ (schema : Schema) (at : ℕ) (table : Table) (found : slice_get schema.
       (sorts_are shown (done ++ key_of table p ∷ []) ps (b - 1) (declared table p.0 p.1) h.3 free.1)
 
   abbrev pub scope : List Output → Context
-  scope shown = among schema at table found name shown false
+  scope shown = among_one schema at table found name shown false
 
   pub equals_lowers : (d : ℕ) (shown : List Output) (p : ℕ × Column) (n b : ℕ) (l : Carried) → Has table (b - 1) (p ∷ []) → nat_lt 1 b ≡ true → nat_lt 1 (b - 1 - 1) ≡ true
-      → lower_to (suc (suc d)) (scope shown) (equals_e p.1.name n) (at_budget b l)
-      ≡ Ok (compared (scope shown) (by.Compare compare.Eq (chosen (declared table p.0 p.1) nothing)) (col 1 (place_of table p.0)) (col 0 (n - 1)), at_budget (b - 1 - 1 - 1) nothing)
+      → lower_to (suc (suc d)) (scope shown) (equals_e p.1.name n) (at_budget 2 b l)
+      ≡ Ok (compared (scope shown) (by.Compare compare.Eq (chosen (declared table p.0 p.1) nothing)) (col 1 (place_of table p.0)) (col 0 (n - 1)), at_budget 2 (b - 1 - 1 - 1) nothing)
   equals_lowers d shown p n b l h enough still =
-      equal_is (scope shown) (equals_e p.1.name n) (column_e p.1.name) (roll-Expr (Expr-F.Parameter n)) _ _ b _ _ l _ _ enough (suc d) (out_equals p.1.name n)
+      equal_is (scope shown) (equals_e p.1.name n) (column_e p.1.name) (roll-Expr (Expr-F.Parameter n)) _ _ 2 b _ _ l _ _ enough (suc d) (out_equals p.1.name n)
       (lower_is schema at table found name p.0 p.1 h.0 h.1 d shown false (column_e p.1.name) (b - 1) nothing (out_column p.1.name) h.2)
-      (parameter_is d (scope shown) (roll-Expr (Expr-F.Parameter n)) n (b - 1 - 1) (declared table p.0 p.1) (out_parameter n) still)
+      (parameter_is d (scope shown) (roll-Expr (Expr-F.Parameter n)) n 2 (b - 1 - 1) (declared table p.0 p.1) (out_parameter n) still)
 
   bare : (shown : List Output) (m : ℕ) → of_column (scope shown) 0 m ≡ affinity.None
   unfolding of_column
@@ -208,7 +208,7 @@ module _ (schema : Schema) (at : ℕ) (table : Table) (found : slice_get schema.
   abbrev pub column_test : ℕ → ℕ → Term
   column_test place m = op2 (by.Compare compare.Eq Binary) (col 1 place) (col 0 m)
 
-  pub no_test : (shown : List Output) (b : ℕ) (l : Carried) → body.tests lower (scope shown) [] None (at_budget b l) ≡ Ok ([], at_budget b l)
+  pub no_test : (shown : List Output) (b : ℕ) (l : Carried) → body.tests lower (scope shown) [] None (at_budget 2 b l) ≡ Ok ([], at_budget 2 b l)
   unfolding body.tests
   no_test shown b l = refl
 
@@ -225,48 +225,48 @@ module _ (schema : Schema) (at : ℕ) (table : Table) (found : slice_get schema.
   place_compares shown op p m stands (inr is) = subst (λ place. compared (scope shown) op (col 1 place) (col 0 m) ≡ op2 op (col 1 place) (col 0 m)) (sym is) (rowid_compares shown op m)
 
   pub tested_lowers : (d : ℕ) (shown : List Output) (p : ℕ × Column) (n b : ℕ) (l : Carried) → Has table (b - 1) (p ∷ []) → nat_lt 1 b ≡ true → nat_lt 1 (b - 1 - 1) ≡ true → IsTested p
-      → lower_to (suc (suc d)) (scope shown) (equals_e p.1.name n) (at_budget b l) ≡ Ok (column_test (place_of table p.0) (n - 1), at_budget (b - 1 - 1 - 1) nothing)
+      → lower_to (suc (suc d)) (scope shown) (equals_e p.1.name n) (at_budget 2 b l) ≡ Ok (column_test (place_of table p.0) (n - 1), at_budget 2 (b - 1 - 1 - 1) nothing)
   tested_lowers d shown p n b l h enough still is =
-      equals_lowers d shown p n b l h enough still ∙ ap (λ how. Ok (compared (scope shown) (by.Compare compare.Eq how) (col 1 (place_of table p.0)) (col 0 (n - 1)), at_budget (b - 1 - 1 - 1) nothing)) is.2
-      ∙ ap (λ t. Ok (t, at_budget (b - 1 - 1 - 1) nothing)) (place_compares shown (by.Compare compare.Eq Binary) p (n - 1) h.1 is.0)
+      equals_lowers d shown p n b l h enough still ∙ ap (λ how. Ok (compared (scope shown) (by.Compare compare.Eq how) (col 1 (place_of table p.0)) (col 0 (n - 1)), at_budget 2 (b - 1 - 1 - 1) nothing)) is.2
+      ∙ ap (λ t. Ok (t, at_budget 2 (b - 1 - 1 - 1) nothing)) (place_compares shown (by.Compare compare.Eq Binary) p (n - 1) h.1 is.0)
 
   pub one_test : (shown : List Output) (p : ℕ × Column) (n b : ℕ) (l : Carried) → Has table (b - 1) (p ∷ []) → nat_lt 1 b ≡ true → nat_lt 1 (b - 1 - 1) ≡ true → IsTested p
-      → body.tests lower (scope shown) [] (Some (equals_e p.1.name n)) (at_budget b l) ≡ Ok (column_test (place_of table p.0) (n - 1) ∷ [], at_budget (b - 1 - 1 - 1) nothing)
+      → body.tests lower (scope shown) [] (Some (equals_e p.1.name n)) (at_budget 2 b l) ≡ Ok (column_test (place_of table p.0) (n - 1) ∷ [], at_budget 2 (b - 1 - 1 - 1) nothing)
   unfolding body.tests
   one_test shown p n b l h enough still is = rw (tested_lowers 698 shown p n b l h enough still is)
 
   pub two_tests : (shown : List Output) (p q : ℕ × Column) (m n b : ℕ) (l : Carried) → nat_lt 1 b ≡ true
       → Has table (b - 1 - 1) (p ∷ []) → nat_lt 1 (b - 1) ≡ true → nat_lt 1 (b - 1 - 1 - 1) ≡ true → IsTested p
       → Has table (b - 1 - 1 - 1 - 1 - 1) (q ∷ []) → nat_lt 1 (b - 1 - 1 - 1 - 1) ≡ true → nat_lt 1 (b - 1 - 1 - 1 - 1 - 1 - 1) ≡ true → IsTested q
-      → body.tests lower (scope shown) [] (Some (both_e (equals_e p.1.name m) (equals_e q.1.name n))) (at_budget b l) ≡ Ok (column_test (place_of table p.0) (m - 1) ∷ column_test (place_of table q.0) (n - 1) ∷ [], at_budget (b - 1 - 1 - 1 - 1 - 1 - 1 - 1) nothing)
+      → body.tests lower (scope shown) [] (Some (both_e (equals_e p.1.name m) (equals_e q.1.name n))) (at_budget 2 b l) ≡ Ok (column_test (place_of table p.0) (m - 1) ∷ column_test (place_of table q.0) (n - 1) ∷ [], at_budget 2 (b - 1 - 1 - 1 - 1 - 1 - 1 - 1) nothing)
   unfolding body.tests
   two_tests shown p q m n b l enough has₁ first₁ still₁ is₁ has₂ first₂ still₂ is₂ =
-      rw (and_is (scope shown) (both_e (equals_e p.1.name m) (equals_e q.1.name n)) (equals_e p.1.name m) (equals_e q.1.name n) _ _ b _ _ l _ _ enough 699 (out_both (equals_e p.1.name m) (equals_e q.1.name n))
+      rw (and_is (scope shown) (both_e (equals_e p.1.name m) (equals_e q.1.name n)) (equals_e p.1.name m) (equals_e q.1.name n) _ _ 2 b _ _ l _ _ enough 699 (out_both (equals_e p.1.name m) (equals_e q.1.name n))
       (tested_lowers 697 shown p m (b - 1) nothing has₁ first₁ still₁ is₁) (tested_lowers 697 shown q n (b - 1 - 1 - 1 - 1) nothing has₂ first₂ still₂ is₂))
 
   abbrev pub above_term : ℕ → ℕ → Term
   above_term place m = op2 (by.Compare compare.Gt Binary) (col 1 place) (col 0 m)
 
   above_lowers : (d : ℕ) (shown : List Output) (p : ℕ × Column) (n b : ℕ) (l : Carried) → Has table (b - 1) (p ∷ []) → nat_lt 1 b ≡ true → nat_lt 1 (b - 1 - 1) ≡ true → IsTested p
-      → lower_to (suc (suc d)) (scope shown) (above_e p.1.name n) (at_budget b l) ≡ Ok (above_term (place_of table p.0) (n - 1), at_budget (b - 1 - 1 - 1) nothing)
+      → lower_to (suc (suc d)) (scope shown) (above_e p.1.name n) (at_budget 2 b l) ≡ Ok (above_term (place_of table p.0) (n - 1), at_budget 2 (b - 1 - 1 - 1) nothing)
   above_lowers d shown p n b l h enough still is =
-      above_is (scope shown) (above_e p.1.name n) (column_e p.1.name) (roll-Expr (Expr-F.Parameter n)) _ _ b _ _ l _ _ enough (suc d) (out_above p.1.name n)
+      above_is (scope shown) (above_e p.1.name n) (column_e p.1.name) (roll-Expr (Expr-F.Parameter n)) _ _ 2 b _ _ l _ _ enough (suc d) (out_above p.1.name n)
       (lower_is schema at table found name p.0 p.1 h.0 h.1 d shown false (column_e p.1.name) (b - 1) nothing (out_column p.1.name) h.2)
-      (parameter_is d (scope shown) (roll-Expr (Expr-F.Parameter n)) n (b - 1 - 1) (declared table p.0 p.1) (out_parameter n) still)
-      ∙ ap (λ how. Ok (compared (scope shown) (by.Compare compare.Gt how) (col 1 (place_of table p.0)) (col 0 (n - 1)), at_budget (b - 1 - 1 - 1) nothing)) is.2
-      ∙ ap (λ t. Ok (t, at_budget (b - 1 - 1 - 1) nothing)) (place_compares shown (by.Compare compare.Gt Binary) p (n - 1) h.1 is.0)
+      (parameter_is d (scope shown) (roll-Expr (Expr-F.Parameter n)) n 2 (b - 1 - 1) (declared table p.0 p.1) (out_parameter n) still)
+      ∙ ap (λ how. Ok (compared (scope shown) (by.Compare compare.Gt how) (col 1 (place_of table p.0)) (col 0 (n - 1)), at_budget 2 (b - 1 - 1 - 1) nothing)) is.2
+      ∙ ap (λ t. Ok (t, at_budget 2 (b - 1 - 1 - 1) nothing)) (place_compares shown (by.Compare compare.Gt Binary) p (n - 1) h.1 is.0)
 
   pub above_test : (shown : List Output) (p : ℕ × Column) (n b : ℕ) (l : Carried) → Has table (b - 1) (p ∷ []) → nat_lt 1 b ≡ true → nat_lt 1 (b - 1 - 1) ≡ true → IsTested p
-      → body.tests lower (scope shown) [] (Some (above_e p.1.name n)) (at_budget b l) ≡ Ok (above_term (place_of table p.0) (n - 1) ∷ [], at_budget (b - 1 - 1 - 1) nothing)
+      → body.tests lower (scope shown) [] (Some (above_e p.1.name n)) (at_budget 2 b l) ≡ Ok (above_term (place_of table p.0) (n - 1) ∷ [], at_budget 2 (b - 1 - 1 - 1) nothing)
   unfolding body.tests
   above_test shown p n b l h enough still is = rw (above_lowers 698 shown p n b l h enough still is)
 
   both_lower : (d : ℕ) (shown : List Output) (p q : ℕ × Column) (m n b : ℕ) (l : Carried) → nat_lt 1 b ≡ true
       → Has table (b - 1 - 1) (p ∷ []) → nat_lt 1 (b - 1) ≡ true → nat_lt 1 (b - 1 - 1 - 1) ≡ true → IsTested p
       → Has table (b - 1 - 1 - 1 - 1 - 1) (q ∷ []) → nat_lt 1 (b - 1 - 1 - 1 - 1) ≡ true → nat_lt 1 (b - 1 - 1 - 1 - 1 - 1 - 1) ≡ true → IsTested q
-      → lower_to (suc (suc (suc d))) (scope shown) (both_e (equals_e p.1.name m) (equals_e q.1.name n)) (at_budget b l) ≡ Ok (op2 by.And (column_test (place_of table p.0) (m - 1)) (column_test (place_of table q.0) (n - 1)), at_budget (b - 1 - 1 - 1 - 1 - 1 - 1 - 1) nothing)
+      → lower_to (suc (suc (suc d))) (scope shown) (both_e (equals_e p.1.name m) (equals_e q.1.name n)) (at_budget 2 b l) ≡ Ok (op2 by.And (column_test (place_of table p.0) (m - 1)) (column_test (place_of table q.0) (n - 1)), at_budget 2 (b - 1 - 1 - 1 - 1 - 1 - 1 - 1) nothing)
   both_lower d shown p q m n b l enough has₁ first₁ still₁ is₁ has₂ first₂ still₂ is₂ =
-      and_is (scope shown) (both_e (equals_e p.1.name m) (equals_e q.1.name n)) (equals_e p.1.name m) (equals_e q.1.name n) _ _ b _ _ l _ _ enough (suc (suc d)) (out_both (equals_e p.1.name m) (equals_e q.1.name n))
+      and_is (scope shown) (both_e (equals_e p.1.name m) (equals_e q.1.name n)) (equals_e p.1.name m) (equals_e q.1.name n) _ _ 2 b _ _ l _ _ enough (suc (suc d)) (out_both (equals_e p.1.name m) (equals_e q.1.name n))
       (tested_lowers d shown p m (b - 1) nothing has₁ first₁ still₁ is₁) (tested_lowers d shown q n (b - 1 - 1 - 1 - 1) nothing has₂ first₂ still₂ is₂)
 
   -- the first two are read together
@@ -274,11 +274,11 @@ module _ (schema : Schema) (at : ℕ) (table : Table) (found : slice_get schema.
       → Has table (b - 1 - 1 - 1) (p ∷ []) → nat_lt 1 (b - 1 - 1) ≡ true → nat_lt 1 (b - 1 - 1 - 1 - 1) ≡ true → IsTested p
       → Has table (b - 1 - 1 - 1 - 1 - 1 - 1) (q ∷ []) → nat_lt 1 (b - 1 - 1 - 1 - 1 - 1) ≡ true → nat_lt 1 (b - 1 - 1 - 1 - 1 - 1 - 1 - 1) ≡ true → IsTested q
       → Has table (b - 1 - 1 - 1 - 1 - 1 - 1 - 1 - 1 - 1) (r ∷ []) → nat_lt 1 (b - 1 - 1 - 1 - 1 - 1 - 1 - 1 - 1) ≡ true → nat_lt 1 (b - 1 - 1 - 1 - 1 - 1 - 1 - 1 - 1 - 1 - 1) ≡ true → IsTested r
-      → body.tests lower (scope shown) [] (Some (both_e (both_e (equals_e p.1.name m) (equals_e q.1.name n)) (equals_e r.1.name o))) (at_budget b l)
-      ≡ Ok (column_test (place_of table p.0) (m - 1) ∷ column_test (place_of table q.0) (n - 1) ∷ column_test (place_of table r.0) (o - 1) ∷ [], at_budget (b - 1 - 1 - 1 - 1 - 1 - 1 - 1 - 1 - 1 - 1 - 1) nothing)
+      → body.tests lower (scope shown) [] (Some (both_e (both_e (equals_e p.1.name m) (equals_e q.1.name n)) (equals_e r.1.name o))) (at_budget 2 b l)
+      ≡ Ok (column_test (place_of table p.0) (m - 1) ∷ column_test (place_of table q.0) (n - 1) ∷ column_test (place_of table r.0) (o - 1) ∷ [], at_budget 2 (b - 1 - 1 - 1 - 1 - 1 - 1 - 1 - 1 - 1 - 1 - 1) nothing)
   unfolding body.tests
   three_tests shown p q r m n o b l enough more has₁ first₁ still₁ is₁ has₂ first₂ still₂ is₂ has₃ first₃ still₃ is₃ =
-      rw (and_is (scope shown) (both_e (both_e (equals_e p.1.name m) (equals_e q.1.name n)) (equals_e r.1.name o)) (both_e (equals_e p.1.name m) (equals_e q.1.name n)) (equals_e r.1.name o) _ _ b _ _ l _ _ enough 699 (out_both (both_e (equals_e p.1.name m) (equals_e q.1.name n)) (equals_e r.1.name o))
+      rw (and_is (scope shown) (both_e (both_e (equals_e p.1.name m) (equals_e q.1.name n)) (equals_e r.1.name o)) (both_e (equals_e p.1.name m) (equals_e q.1.name n)) (equals_e r.1.name o) _ _ 2 b _ _ l _ _ enough 699 (out_both (both_e (equals_e p.1.name m) (equals_e q.1.name n)) (equals_e r.1.name o))
       (both_lower 696 shown p q m n (b - 1) nothing more has₁ first₁ still₁ is₁ has₂ first₂ still₂ is₂)
       (tested_lowers 697 shown r o (b - 1 - 1 - 1 - 1 - 1 - 1 - 1 - 1) nothing has₃ first₃ still₃ is₃))
 
@@ -290,14 +290,14 @@ module _ (schema : Schema) (at : ℕ) (table : Table) (found : slice_get schema.
   abbrev pub keys : List (Term × Key)
   keys = keys_of table [] qs
 
-  outputs_from_is : Has table max_budget ps → body.outputs lower (among schema at table found name [] true) (here schema at table found name ∷ []) (out-Core (core_of name (names_of ps) test)).shown (at_budget max_budget nothing)
-      ≡ Ok (outs, at_budget (spent max_budget ps) (left_by table nothing ps))
+  outputs_from_is : Has table max_budget ps → body.outputs lower (among_one schema at table found name [] true) (here schema at table found name ∷ []) (out-Core (core_of name (names_of ps) test)).shown (at_budget 2 max_budget nothing)
+      ≡ Ok (outs, at_budget 2 (spent max_budget ps) (left_by table nothing ps))
   unfolding body.outputs
   outputs_from_is has =
-      ap (λ (c : _). body.outputs_from lower (among schema at table found name [] true) (here schema at table found name ∷ []) [] c.shown (at_budget max_budget nothing)) (out-roll-Core (record { distinct = false; shown = map shown_of (names_of ps); from = source_of name ∷ []; filter = test; group = []; having = None }))
+      ap (λ (c : _). body.outputs_from lower (among_one schema at table found name [] true) (here schema at table found name ∷ []) [] c.shown (at_budget 2 max_budget nothing)) (out-roll-Core (record { distinct = false; shown = map shown_of (names_of ps); from = source_of name ∷ []; filter = test; group = []; having = None }))
       ∙ outputs_are schema at table found name [] ps max_budget nothing has
 
-  sorts_from_is : Has table b₂ qs → AreFree outs qs → order.sorts lower (scope schema at table found name outs) outs (map sort_of (names_of qs)) (at_budget b₂ l₂) ≡ Ok (keys, at_budget (spent b₂ qs) (left_by table l₂ qs))
+  sorts_from_is : Has table b₂ qs → AreFree outs qs → order.sorts lower (scope schema at table found name outs) outs (map sort_of (names_of qs)) (at_budget 2 b₂ l₂) ≡ Ok (keys, at_budget 2 (spent b₂ qs) (left_by table l₂ qs))
   unfolding order.sorts
   sorts_from_is has free = sorts_are schema at table found name outs [] qs b₂ l₂ has free
 
@@ -305,10 +305,10 @@ module _ (schema : Schema) (at : ℕ) (table : Table) (found : slice_get schema.
   query_is = record { from = inner table.tree end; filter = filter; group = None; project = map (λ (o : Output). o.term) outs; distinct = false; collations = []; order = keys; limit = limit; offset = lit (Int (pos 0)) }
 
   abbrev pub means_select : Parsed → Compiled
-  means_select p = record { command = command.Select (record { lets = []; body = query_is }) (map (λ (o : Output). o.name) outs); returning = None; names = p.names; formats = []; start = p.start; end = p.end; tail = p.tail }
+  means_select p = compiled_to (record { lets = []; body = query_is }) outs p
 
   abbrev pub draft_is : Draft
-  draft_is = record { from = chain (Inner table.tree ∷ []); filter = filter; group = None; project = map (λ (o : Output). o.term) outs; distinct = false; collations = []; order = keys; limit = limit; offset = lit (Int (pos 0)) }
+  draft_is = draft_of (Inner table.tree ∷ []) filter outs keys limit
 
   programs : accepts_program schema [] query_is [] ≡ true → program schema [] draft_is ≡ Ok (record { lets = []; body = query_is })
   unfolding program
@@ -320,15 +320,26 @@ module _ (schema : Schema) (at : ℕ) (table : Table) (found : slice_get schema.
       pages_by schema (capped name (names_of ps) test (names_of qs) cap) cap limit (ap (λ r. r.limit) whole) (ap (λ r. r.offset) whole) h
 
   pub simple_compiles : (text : List ℕ) (p : Parsed) → first text ≡ Ok p → p.statement ≡ written.Select (capped name (names_of ps) test (names_of qs) cap) → p.formats ≡ [] → Has table max_budget ps
-      → body.tests lower (scope schema at table found name outs) [] test (at_budget (spent max_budget ps) (left_by table nothing ps)) ≡ Ok (filter, at_budget b₂ l₂)
+      → body.tests lower (scope schema at table found name outs) [] test (at_budget 2 (spent max_budget ps) (left_by table nothing ps)) ≡ Ok (filter, at_budget 2 b₂ l₂)
       → Has table b₂ qs → AreFree outs qs → accepts_program schema [] query_is [] ≡ true → select.constant_or schema (lit (Int (negsuc 0))) cap ≡ Ok limit
       → compiled schema text ≡ Ok (means_select p)
   simple_compiles text p first_is statement_is untimed has tests sorted free accepted counts =
+      let written_core = core_of name (names_of ps) test in
       let source = out_source name in
       let core = out-roll-Core (record { distinct = false; shown = map shown_of (names_of ps); from = source_of name ∷ []; filter = test; group = []; having = None }) in
-      let whole = out-roll-Select (record { with = []; first = core_of name (names_of ps) test; others = []; order = map sort_of (names_of qs); limit = cap; offset = None }) in
-      compiles schema at table found name named (core_of name (names_of ps) test) (source_of name) (ap (λ c. c.from) core) (ap (λ r. r.origin) source) (ap (λ r. r.alias) source) (ap (λ r. r.using) source) (ap (λ r. r.is_left) source) (ap (λ r. r.on) source)
-      limit (ap (λ c. c.group) core) (ap (λ c. c.having) core) (ap (λ c. c.distinct) core) outs filter (map sort_of (names_of qs)) keys (spent max_budget ps) b₂ (spent b₂ qs) (left_by table nothing ps) l₂ (left_by table l₂ qs)
-      (outputs_from_is has) (ap (λ c. body.tests lower (scope schema at table found name outs) [] c.filter (at_budget (spent max_budget ps) (left_by table nothing ps))) core ∙ tests) (sorts_from_is sorted free)
+      let whole = out-roll-Select (record { with = []; first = written_core; others = []; order = map sort_of (names_of qs); limit = cap; offset = None }) in
+      let from_is = ap (λ c. c.from) core in
+      let origin_is = ap (λ r. r.origin) source in
+      let unaliased = ap (λ r. r.alias) source in
+      let unshared = ap (λ r. r.using) source in
+      let unjoined = ap (λ r. r.is_left) source in
+      let untested = ap (λ r. r.on) source in
+      compiles schema written_core (here schema at table found name ∷ []) 2 (Inner table.tree ∷ []) outs filter (map sort_of (names_of qs)) keys limit
+      (spent max_budget ps) (spent max_budget ps) b₂ (spent b₂ qs) (left_by table nothing ps) (left_by table nothing ps) l₂ (left_by table l₂ qs)
+      (bounds_are schema at table found name named written_core (source_of name) from_is origin_is unaliased unshared unjoined untested) (outputs_from_is has)
+      (joins_are schema at table found name named written_core (source_of name) from_is origin_is unaliased unshared unjoined untested outs (at_budget 2 (spent max_budget ps) (left_by table nothing ps)))
+      (ap (λ c. body.tests lower (scope schema at table found name outs) [] c.filter (at_budget 2 (spent max_budget ps) (left_by table nothing ps))) core ∙ tests) (sorts_from_is sorted free)
+      (ap (λ c. c.group) core) (ap (λ c. c.having) core) (ap (λ c. c.distinct) core)
       (capped name (names_of ps) test (names_of qs) cap) (ap (λ r. r.first) whole) (ap (λ r. r.order) whole) (ap (λ r. r.with) whole) (ap (λ r. r.others) whole) (pages_are counts)
+      (sources_are schema at table found name named written_core (source_of name) from_is origin_is unaliased unshared unjoined untested)
       text p (record { lets = []; body = query_is }) first_is statement_is untimed (programs accepted)

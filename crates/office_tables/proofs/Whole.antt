@@ -1,25 +1,22 @@
--- A SELECT over one known table, whatever else the schema has.
-use Rattle.std.proofs.Common.{◌≡◌, ◌∷◌, [], ◌+◌, List, Ok, None, Some, false, true, Bool, ℕ, negsuc, suc, slice_get, map, Option, refl}
+-- A SELECT over known tables, one or several that are joined, whatever else the schema has.
+use Rattle.std.proofs.Common.{◌≡◌, ◌∷◌, [], ◌++◌, ◌+◌, List, Ok, None, false, true, Bool, ℕ, negsuc, suc, map, Option, refl}
 use Rattle.sqlite_value.specs.declared.keys.Collation.{Collation}
 use Rattle.sqlite_value.specs.declared.keys.Key.{Key}
-use Rattle.sqlite_sql.specs.Term.{Term, lit}
 use Rattle.sqlite_value.specs.declared.value.Value.TheVariants.{Int}
+use Rattle.sqlite_sql.specs.Term.{Term, lit}
 use Rattle.sqlite_ast.specs.declared.Expr.{Expr}
 use Rattle.sqlite_schema.specs.declared.schema.Schema.{Schema}
-use Rattle.sqlite_schema.specs.declared.schema.Table.{Table}
 use Rattle.sqlite_schema.specs.declared.command.Command.{Command}
 use Rattle.sqlite_schema.specs.declared.command.Command.TheVariants as command
 use Rattle.sqlite_schema.specs.declared.program.Program.{Program}
-use Rattle.sqlite_schema.specs.Names.{table_named}
-use Rattle.sqlite_ast.specs.declared.Origin.TheVariants as origin
-use Rattle.sqlite_ast.specs.declared.Source.{Source, out-Source}
 use Rattle.sqlite_ast.specs.declared.Core.{Core, out-Core}
 use Rattle.sqlite_ast.specs.declared.Select.{Select, out-Select}
 use Rattle.sqlite_ast.specs.declared.Sort.{Sort}
 use Rattle.sqlite_ast.specs.declared.Statement.TheVariants as written
 use Rattle.sqlite_syntax.specs.declared.statement.Parsed.{Parsed}
-use Rattle.sqlite_draft.specs.declared.join.Step.TheVariants.{Inner}
+use Rattle.sqlite_draft.specs.declared.join.Step.{Step}
 use Rattle.sqlite_draft.specs.declared.query.Draft.{Draft}
+use Rattle.sqlite_draft.specs.Join.{chain}
 use Rattle.sqlite_resolve.specs.declared.state.State.{State}
 use Rattle.sqlite_resolve.specs.declared.state.Carried.{Carried}
 use Rattle.sqlite_resolve.specs.declared.scope.Bound.{Bound}
@@ -29,7 +26,7 @@ use Rattle.sqlite_resolve.specs.declared.select.Clauses.{Clauses}
 use Rattle.sqlite_resolve.specs.declared.compiled.Compiled.{Compiled}
 use Rattle.sqlite_resolve.specs.Scope.{Name, Context}
 use Rattle.sqlite_resolve.specs.Terms.{number}
-use Rattle.sqlite_resolve.specs.Lowering.{nothing, fresh, max_budget, take_slot}
+use Rattle.sqlite_resolve.specs.Lowering.{nothing, fresh, max_budget}
 use Rattle.sqlite_resolve.specs.Expr.{lower}
 use Rattle.sqlite_resolve.specs.Body as body
 use Rattle.sqlite_resolve.specs.Order as order
@@ -37,8 +34,40 @@ use Rattle.sqlite_resolve.specs.Select as select
 use Rattle.sqlite_resolve.specs.Program as program
 use Rattle.sqlite_resolve.specs.Compile.{first, compiled, planned, meaning, timed, returning, read, small}
 use Rattle.sqlite_resolve.specs.Compile as compile
-use Rattle.sqlite.specs.Listing.{understood}
-use Rattle.office_tables.proofs.LoweredColumns.{at_budget, here, among}
+
+-- the state while a SELECT is read: the next slot, what is left of the budget, and what was carried last
+abbrev pub at_budget : ℕ → ℕ → Carried → State
+at_budget next budget last = record { next = next; steps = []; aggregates = []; budget = budget; written = None; last = last }
+
+-- a scope of these tables
+abbrev pub among : Schema → List Bound → List Output → Bool → Bool → Context
+among schema bounds shown may_aggregate may_alias = record { schema = schema; levels = record { tables = bounds; shown = shown } ∷ []; may_aggregate = may_aggregate; may_alias = may_alias }
+
+-- what a SELECT over known tables is drafted as
+abbrev pub draft_of : List Step → List Term → List Output → List (Term × Key) → Term → Draft
+draft_of steps filter shown keys limit = record {
+  from = chain steps;
+  filter = filter;
+  group = None;
+  project = map (λ (o : Output). o.term) shown;
+  distinct = false;
+  collations = [];
+  order = keys;
+  limit = limit;
+  offset = number 0;
+}
+
+-- what a text of such a SELECT is compiled to
+abbrev pub compiled_to : Program → List Output → Parsed → Compiled
+compiled_to q shown p = record {
+  command = command.Select q (map (λ (o : Output). o.name) shown);
+  returning = None;
+  names = p.names;
+  formats = [];
+  start = p.start;
+  end = p.end;
+  tail = p.tail;
+}
 
 no_offset : (schema : Schema) → select.constant_or schema (number 0) None ≡ Ok (number 0)
 unfolding select.constant_or
@@ -49,140 +78,113 @@ pub pages_by : (schema : Schema) (s : Select) (cap : Option Expr) (limit : Term)
 unfolding select.paging
 pages_by schema s cap limit capped unoffset counts = rw (capped, counts, unoffset, no_offset schema)
 
-module _ (schema : Schema) (at : ℕ) (table : Table) (found : slice_get schema.tables at ≡ Some table) (name : Name) (named : table_named schema name ≡ Some at)
-    (core : Core) (source : Source) (from_is : (out-Core core).from ≡ source ∷ []) (origin_is : (out-Source source).origin ≡ origin.Table name)
-    (unaliased : (out-Source source).alias ≡ None) (unshared : (out-Source source).using ≡ []) (unjoined : (out-Source source).is_left ≡ false) (untested : (out-Source source).on ≡ None) where
-  abbrev place : Bound
-  place = here schema at table found name
+-- without a LIMIT
+pub pages_whole : (schema : Schema) (s : Select) → (out-Select s).limit ≡ None → (out-Select s).offset ≡ None → select.paging schema s ≡ Ok (lit (Int (negsuc 0)), number 0)
+unfolding select.paging select.constant_or
+pages_whole schema s unlimited unoffset = rw (unlimited, unoffset)
 
-  abbrev scope : List Output → Bool → Context
-  scope = among schema at table found name
+module _ (schema : Schema) (core : Core) (bounds : List Bound) (n : ℕ) (steps : List Step) (shown : List Output) (filter : List Term) (by_order : List Sort) (keys : List (Term × Key)) (limit : Term) (b₁ b₂ b₃ b₄ : ℕ) (l₁ l₂ l₃ l₄ : Carried)
+    (bounds_are : body.bounds schema (out-Core core).from (fresh 1 max_budget) ≡ Ok (bounds, at_budget n max_budget nothing))
+    (outputs_are : body.outputs lower (among schema bounds [] true true) bounds (out-Core core).shown (at_budget n max_budget nothing) ≡ Ok (shown, at_budget n b₁ l₁))
+    (joins_are : body.joins lower (among schema bounds shown false true) bounds (out-Core core).from (at_budget n b₁ l₁) ≡ Ok (record { steps = steps; filter = [] }, at_budget n b₂ l₂))
+    (filter_is : body.tests lower (among schema bounds shown false true) [] (out-Core core).filter (at_budget n b₂ l₂) ≡ Ok (filter, at_budget n b₃ l₃))
+    (sorts_are : order.sorts lower (among schema bounds shown false true) shown by_order (at_budget n b₃ l₃) ≡ Ok (keys, at_budget n b₄ l₄))
+    (ungrouped : (out-Core core).group ≡ []) (unhaving : (out-Core core).having ≡ None) (undistinct : (out-Core core).distinct ≡ false) where
+  abbrev whole_body : Body
+  whole_body = record { level = record { tables = bounds; shown = shown }; steps = steps; filter = filter }
 
-  bounds_is : body.bounds schema (source ∷ []) (fresh 1 max_budget) ≡ Ok (place ∷ [], at_budget max_budget nothing)
-  unfolding body.bounds body.bound body.table_in take_slot
-  bounds_is = rw (origin_is, named, unaliased, unshared)
+  matching_is : body.matching lower (select.outermost schema) (record { tables = bounds; shown = shown }) core (at_budget n b₁ l₁) ≡ Ok (record { steps = steps; filter = filter }, at_budget n b₃ l₃)
+  unfolding body.matching
+  matching_is = rw (joins_are, filter_is)
 
-  joins_is : (shown : List Output) (s : State) → body.joins lower (scope shown false) (place ∷ []) (source ∷ []) s ≡ Ok (record { steps = Inner table.tree ∷ []; filter = [] }, s)
-  unfolding body.joins body.join body.shared body.inner_join body.tests
-  joins_is shown s = rw (untested, unshared, found, unjoined)
+  body_is : body.body lower (select.outermost schema) core (fresh 1 max_budget) ≡ Ok (whole_body, at_budget n b₃ l₃)
+  unfolding body.body body.result
+  body_is = rw (bounds_are, outputs_are, matching_is)
 
-  module _ (limit : Term) (ungrouped : (out-Core core).group ≡ []) (unhaving : (out-Core core).having ≡ None) (undistinct : (out-Core core).distinct ≡ false)
-      (shown : List Output) (filter : List Term) (by_order : List Sort) (keys : List (Term × Key)) (b₁ b₂ b₃ : ℕ) (l₁ l₂ l₃ : Carried)
-      (outputs_are : body.outputs lower (scope [] true) (place ∷ []) (out-Core core).shown (at_budget max_budget nothing) ≡ Ok (shown, at_budget b₁ l₁))
-      (filter_is : body.tests lower (scope shown false) [] (out-Core core).filter (at_budget b₁ l₁) ≡ Ok (filter, at_budget b₂ l₂))
-      (sorts_are : order.sorts lower (scope shown false) shown by_order (at_budget b₂ l₂) ≡ Ok (keys, at_budget b₃ l₃)) where
-    abbrev whole_body : Body
-    whole_body = record { level = record { tables = place ∷ []; shown = shown }; steps = Inner table.tree ∷ []; filter = filter }
+  having_is : (s : State) → select.having (among schema bounds shown false true) (out-Core core).having s ≡ Ok ([], s)
+  unfolding select.having body.tests
+  having_is s = rw unhaving
 
-    matching_is : body.matching lower (select.outermost schema) (record { tables = place ∷ []; shown = shown }) core (at_budget b₁ l₁) ≡ Ok (record { steps = Inner table.tree ∷ []; filter = filter }, at_budget b₂ l₂)
-    unfolding body.matching
-    matching_is = rw (from_is, joins_is shown (at_budget b₁ l₁), filter_is)
+  keys_are : (s : State) → order.keys lower (among schema bounds shown false true) shown (out-Core core).group s ≡ Ok (([], []), s)
+  unfolding order.keys
+  keys_are s = rw ungrouped
 
-    body_is : body.body lower (select.outermost schema) core (fresh 1 max_budget) ≡ Ok (whole_body, at_budget b₂ l₂)
-    unfolding body.body body.result
-    body_is = rw (from_is, bounds_is, outputs_are, matching_is)
+  abbrev clauses : Clauses
+  clauses = record { body = whole_body; is_grouped = false; keys = []; collations = []; having = []; order = keys }
 
-    having_is : (s : State) → select.having (scope shown false) (out-Core core).having s ≡ Ok ([], s)
-    unfolding select.having body.tests
-    having_is s = rw unhaving
+  parts_are : select.parts schema core by_order (fresh 1 max_budget) ≡ Ok (clauses, at_budget n b₄ l₄)
+  unfolding select.parts
+  parts_are = rw (body_is, keys_are (at_budget n b₃ l₃), ungrouped, having_is (at_budget n b₃ l₃), sorts_are)
 
-    keys_are : (s : State) → order.keys lower (scope shown false) shown (out-Core core).group s ≡ Ok (([], []), s)
-    unfolding order.keys
-    keys_are s = rw ungrouped
+  abbrev draft : Draft
+  draft = draft_of (steps ++ []) filter shown keys limit
 
-    abbrev clauses : Clauses
-    clauses = record { body = whole_body; is_grouped = false; keys = []; collations = []; having = []; order = keys }
+  abbrev answer : Draft × List Name × List (Option Collation)
+  answer = (draft, map (λ (o : Output). o.name) shown, map (λ (o : Output). o.carried.collation) shown)
 
-    parts_are : select.parts schema core by_order (fresh 1 max_budget) ≡ Ok (clauses, at_budget b₃ l₃)
-    unfolding select.parts
-    parts_are = rw (body_is, keys_are (at_budget b₂ l₂), ungrouped, having_is (at_budget b₂ l₂), sorts_are)
+  named_is : select.named schema core by_order (limit, number 0) ≡ Ok answer
+  unfolding select.named select.assembled select.ungrouped
+  named_is = rw (parts_are, undistinct)
 
-    abbrev pub draft : Draft
-    draft = record {
-      from = Rattle.sqlite_draft.specs.Join.chain (Inner table.tree ∷ []);
-      filter = filter;
-      group = None;
-      project = map (λ (o : Output). o.term) shown;
-      distinct = false;
-      collations = [];
-      order = keys;
-      limit = limit;
-      offset = number 0;
-    }
+  -- no view, no part of a compound and no table of WITH comes into it
+  module _ (s : Select) (core_is : (out-Select s).first ≡ core) (order_is : (out-Select s).order ≡ by_order) (unlet : (out-Select s).with ≡ []) (uncompound : (out-Select s).others ≡ [])
+      (pages : select.paging schema s ≡ Ok (limit, number 0))
+      (sources_are : (query : Schema → Select → program.Building program.Shown) → program.sources query schema (out-Core core).from [] ≡ Ok (schema, [])) where
+    viewed : (query : Schema → Select → program.Building program.Shown) (d : ℕ) → program.viewing query schema core by_order (limit, number 0) (suc d) schema [] ≡ Ok ((answer, schema), [])
+    unfolding program.viewing
+    viewed query d = rw named_is
 
-    abbrev pub answer : Draft × List Name × List (Option Collation)
-    answer = (draft, map (λ (o : Output). o.name) shown, map (λ (o : Output). o.carried.collation) shown)
+    alone_is : (query : Schema → Select → program.Building program.Shown) → program.alone query schema core by_order (limit, number 0) [] ≡ Ok (answer, [])
+    unfolding program.alone program.single
+    alone_is query = rw (sources_are query, viewed query 63)
 
-    pub named_is : select.named schema core by_order (limit, number 0) ≡ Ok answer
-    unfolding select.named select.assembled select.ungrouped
-    named_is = rw (parts_are, undistinct)
+    whole_is : (query : Schema → Select → program.Building program.Shown) → program.whole query schema s [] ≡ Ok (answer, [])
+    unfolding program.whole
+    whole_is query = rw (pages, uncompound, core_is, order_is, alone_is query)
 
-    -- no view, no part of a compound and no table of WITH comes into it
-    module _ (s : Select) (core_is : (out-Select s).first ≡ core) (order_is : (out-Select s).order ≡ by_order) (unlet : (out-Select s).with ≡ []) (uncompound : (out-Select s).others ≡ [])
-        (pages : select.paging schema s ≡ Ok (limit, number 0)) where
-      sources_are : (query : Schema → Select → program.Building program.Shown) → program.sources query schema (out-Core core).from [] ≡ Ok (schema, [])
-      unfolding program.sources program.source
-      sources_are query = rw (from_is, origin_is)
+    level_is : (query : Schema → Select → program.Building program.Shown) → program.level query schema s [] ≡ Ok (answer, [])
+    unfolding program.level program.with
+    level_is query = rw (unlet, whole_is query)
 
-      viewed : (query : Schema → Select → program.Building program.Shown) (n : ℕ) → program.viewing query schema core by_order (limit, number 0) (suc n) schema [] ≡ Ok ((answer, schema), [])
-      unfolding program.viewing
-      viewed query n = rw named_is
+    to_is : (d : ℕ) → program.query_to (suc d) schema s [] ≡ Ok (answer, [])
+    unfolding program.query_to
+    to_is d = level_is (program.query_to d)
 
-      alone_is : (query : Schema → Select → program.Building program.Shown) → program.alone query schema core by_order (limit, number 0) [] ≡ Ok (answer, [])
-      unfolding program.alone program.single
-      alone_is query = rw (sources_are query, viewed query 63)
+    query_is : program.query schema s ≡ Ok (answer, [])
+    unfolding program.query
+    query_is = to_is 15
 
-      whole_is : (query : Schema → Select → program.Building program.Shown) → program.whole query schema s [] ≡ Ok (answer, [])
-      unfolding program.whole
-      whole_is query = rw (pages, uncompound, core_is, order_is, alone_is query)
+    module _ (text : List ℕ) (p : Parsed) (q : Program) (first_is : first text ≡ Ok p) (statement_is : p.statement ≡ written.Select s) (untimed : p.formats ≡ []) (program_is : program.program schema [] draft ≡ Ok q) where
+      abbrev meant : Command
+      meant = (compiled_to q shown p).command
 
-      level_is : (query : Schema → Select → program.Building program.Shown) → program.level query schema s [] ≡ Ok (answer, [])
-      unfolding program.level program.with
-      level_is query = rw (unlet, whole_is query)
+      abbrev result : Compiled
+      result = compiled_to q shown p
 
-      to_is : (d : ℕ) → program.query_to (suc d) schema s [] ≡ Ok (answer, [])
-      unfolding program.query_to
-      to_is d = level_is (program.query_to d)
+      reads : read schema s ≡ Ok meant
+      unfolding read
+      reads = rw (query_is, program_is)
 
-      query_is : program.query schema s ≡ Ok (answer, [])
-      unfolding program.query
-      query_is = to_is 15
+      commands : compile.command schema [] (small p.names + 0) p.statement ≡ Ok meant
+      unfolding compile.command
+      commands = rw (statement_is, reads)
 
-      module _ (text : List ℕ) (p : Parsed) (q : Program) (first_is : first text ≡ Ok p) (statement_is : p.statement ≡ written.Select s) (untimed : p.formats ≡ []) (program_is : program.program schema [] draft ≡ Ok q) where
-        abbrev meant : Command
-        meant = command.Select q (map (λ (o : Output). o.name) shown)
+      times : timed schema p.formats p.statement ≡ []
+      unfolding timed
+      times = rw (statement_is, untimed)
 
-        abbrev pub result : Compiled
-        result = record { command = meant; returning = None; names = p.names; formats = []; start = p.start; end = p.end; tail = p.tail }
+      shows_none : returning schema (small p.names + 0) p.statement ≡ Ok None
+      unfolding returning
+      shows_none = rw statement_is
 
-        reads : read schema s ≡ Ok meant
-        unfolding read
-        reads = rw (query_is, program_is)
+      means : meaning schema p (small p.names + 0) ≡ Ok (meant, None)
+      unfolding meaning
+      means = rw (shows_none, untimed, commands)
 
-        commands : compile.command schema [] (small p.names + 0) p.statement ≡ Ok meant
-        unfolding compile.command
-        commands = rw (statement_is, reads)
+      plans : planned schema p ≡ Ok ([], (meant, None))
+      unfolding planned
+      plans = rw (times, means)
 
-        times : timed schema p.formats p.statement ≡ []
-        unfolding timed
-        times = rw (statement_is, untimed)
-
-        shows_none : returning schema (small p.names + 0) p.statement ≡ Ok None
-        unfolding returning
-        shows_none = rw statement_is
-
-        means : meaning schema p (small p.names + 0) ≡ Ok (meant, None)
-        unfolding meaning
-        means = rw (shows_none, untimed, commands)
-
-        plans : planned schema p ≡ Ok ([], (meant, None))
-        unfolding planned
-        plans = rw (times, means)
-
-        pub compiles : compiled schema text ≡ Ok result
-        unfolding compiled
-        compiles = rw (first_is, plans)
-
-        pub select_means : understood schema text ≡ Ok result
-        unfolding understood
-        select_means = rw compiles
+      pub compiles : compiled schema text ≡ Ok result
+      unfolding compiled
+      compiles = rw (first_is, plans)

@@ -58,6 +58,13 @@ impl Disks {
         self.left_by_the_process(alloc)
     }
 
+    /// Whether the same bytes stand in these files as in those.
+    pub fn has_bytes_of(&self, other: &Disks) -> bool {
+        let (ours, theirs) = (&self.files, &other.files);
+        ours.log.inner().bytes() == theirs.log.inner().bytes()
+            && ours.db.inner().bytes() == theirs.db.inner().bytes()
+    }
+
     // The files, for a store.
     pub(crate) fn into_files(self) -> Files<Fuse<Memory>> {
         let Disks { files } = self;

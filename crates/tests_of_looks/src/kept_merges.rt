@@ -1,5 +1,8 @@
-//! An office that keeps no merge of a notice's releases: its record is the same, and the next publication keeps a merge.
+//! An office that keeps no merge of a notice's releases: its record is the same, and the next publication keeps a merge; where a release is no object,
+//! nothing is published, for the merge would lose it.
 use crate::copies::{LeftOut, copy_but};
+use crate::unreadable_texts::change_text;
+use crate::wrong_merges::NOT_GONE_ON;
 use office_base::shelf::Shelf;
 use office_memory::memory::MemoryShelf;
 use office_values::id::Id;
@@ -26,19 +29,27 @@ fn all_of(
     Some([one?, copied?, looked_at?, amended?])
 }
 
-// Publishes a notice in the one office, and puts it into the other without the merge of its releases. Whether the merge is kept in the one,
-// and in the other before all looks, behind looks at it, and behind an amendment.
-fn merges_kept<H: Shelf + Drop>(alloc: Global, one: H, other: H) -> Option<[bool; 4]> {
-    let (Some(line), Some(notice)) = (Id::read(b"1000"), Id::read(b"N1")) else {
-        return None;
-    };
+// The other office with the notice that is published in the one, without the merge of its releases; and whether the one keeps it.
+fn without_merge<H: Shelf + Drop>(
+    alloc: Global,
+    one: H,
+    other: H,
+    notice: &Id,
+) -> Option<(H, Option<bool>)> {
+    let line = Id::read(b"1000")?;
     let mut other = played(alloc, other, 0, &[TENDERERS]).ok()?;
     let mut one = played(alloc, one, 0, &[MONEY, TENDERERS, NOTICE]).ok()?;
-    if copy_but(alloc, &mut one, &mut other, &line, &notice, LeftOut::Merge).is_err() {
+    if copy_but(alloc, &mut one, &mut other, &line, notice, LeftOut::Merge).is_err() {
         return None;
     }
-    let in_one = keeps_merge(&mut one, &notice);
-    drop(one);
+    let in_one = keeps_merge(&mut one, notice);
+    Some((other, in_one))
+}
+
+// Whether the merge is kept in the one, and in the other before all looks, behind looks at it, and behind an amendment.
+fn merges_kept<H: Shelf + Drop>(alloc: Global, one: H, other: H) -> Option<[bool; 4]> {
+    let notice = Id::read(b"N1")?;
+    let (mut other, in_one) = without_merge(alloc, one, other, &notice)?;
     let copied = keeps_merge(&mut other, &notice);
     let mut other = played(alloc, other, 0, &[PUBLISHED]).ok()?;
     let looked_at = keeps_merge(&mut other, &notice);
@@ -65,6 +76,53 @@ fn are_right(first: Option<[bool; 4]>, second: Option<[bool; 4]>) -> bool {
         Some(kept) => kept == [true, false, false, true],
         None => false,
     }
+}
+
+// Whether nothing is published where no merge is kept and the release has this text, and no record is shown.
+fn isnt_merged<H: Shelf + Drop>(alloc: Global, one: H, other: H, text: &str) -> Option<bool> {
+    let notice = Id::read(b"N1")?;
+    let (mut other, _) = without_merge(alloc, one, other, &notice)?;
+    if change_text(alloc, &mut other, text).is_err() {
+        return None;
+    }
+    let mut other = played(alloc, other, 0, &[NOT_GONE_ON]).ok()?;
+    Some(!keeps_merge(&mut other, &notice)?)
+}
+
+fn isnt_merged_in_memory(alloc: Global, text: &str) -> Option<bool> {
+    isnt_merged(
+        alloc,
+        MemoryShelf::new(alloc),
+        MemoryShelf::new(alloc),
+        text,
+    )
+}
+
+fn isnt_merged_in_sql(alloc: Global, text: &str) -> Option<bool> {
+    match (in_sql(alloc), in_sql(alloc)) {
+        (Some(one), Some(other)) => isnt_merged(alloc, one, other, text),
+        _ => None,
+    }
+}
+
+// At a second try where the first isn't right: one allocation of a test may be refused.
+fn is_right_in_memory(alloc: Global, text: &str) -> bool {
+    matches!(isnt_merged_in_memory(alloc, text), Some(true))
+        || matches!(isnt_merged_in_memory(alloc, text), Some(true))
+}
+
+fn is_right_in_sql(alloc: Global, text: &str) -> bool {
+    matches!(isnt_merged_in_sql(alloc, text), Some(true))
+        || matches!(isnt_merged_in_sql(alloc, text), Some(true))
+}
+
+#[test]
+fn releases_that_are_no_objects_are_not_merged(rt: HostRuntime) {
+    let alloc = rt.alloc();
+    assert!(rt; is_right_in_memory(alloc, "5"));
+    assert!(rt; is_right_in_memory(alloc, "[]"));
+    assert!(rt; is_right_in_sql(alloc, "5"));
+    assert!(rt; is_right_in_sql(alloc, "[]"));
 }
 
 #[test]

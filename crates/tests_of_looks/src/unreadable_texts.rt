@@ -20,8 +20,12 @@ at 2026-02-01T09:00:00Z public GET /notices/N1/record
 = 503 {"name":"Unavailable","refusal":32}
 "#;
 
-// Gives the notice's first release this text; nothing where it has none.
-fn change_text<H: Shelf>(alloc: Global, shelf: &mut H, text: &str) -> Result<(), Refusal> {
+/// Gives the notice's first release this text; nothing where it has none.
+pub(crate) fn change_text<H: Shelf>(
+    alloc: Global,
+    shelf: &mut H,
+    text: &str,
+) -> Result<(), Refusal> {
     let (Some(notice), Some(first)) = (Id::read(b"N1"), Sequence::read(1)) else {
         return Ok(());
     };

@@ -13,8 +13,8 @@ use tests_transcripts::published::AMENDED;
 use tests_transcripts::session::{Wrong, played};
 use tests_transcripts::setup::{MONEY, NOTICE, TENDERERS};
 
-// Nothing is published over it, and no record is shown.
-static NOT_GONE_ON: &str = r#"
+/// Nothing is published over it, and no record is shown.
+pub(crate) static NOT_GONE_ON: &str = r#"
 at 2026-02-01T09:00:00Z public GET /notices/N1/record
 = 503 {"name":"Unavailable","refusal":32}
 
@@ -139,6 +139,7 @@ fn merges_that_are_no_objects_are_not_begun_anew(rt: HostRuntime) {
     let alloc = rt.alloc();
     assert!(rt; are_right_in_memory(alloc, &NO_OBJECTS));
     assert!(rt; is_right_in_sql(alloc, "5"));
+    assert!(rt; is_right_in_sql(alloc, "[]"));
 }
 
 fn carries_on_in_memory(alloc: Global) -> bool {

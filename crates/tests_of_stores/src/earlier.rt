@@ -176,12 +176,22 @@ fn others_lead_there(rt: HostRuntime) {
     }
 }
 
-// What was found of stops: how many left an office of version 1, with the table of late withdrawals or without, and how many one of version 2.
-#[derive(Clone, Copy)]
+// Files, whether they were of version 1, and whether they are the whole office, in their version and in version 2 once they were opened again.
+#[derive(Drop)]
+struct Looked {
+    disks: Disks,
+    is_first: bool,
+    is_whole: bool,
+}
+
+// What was found of stops: how many left an office of version 1, with the table of late withdrawals or without, and how many one of version 2; and the files
+// that were looked at last, since most stops leave the bytes that the one before them left.
+#[derive(Drop)]
 struct Found {
     is_late: bool,
     first: u64,
     second: u64,
+    last: Option<Looked>,
 }
 
 // The version of the office in these files.
@@ -191,21 +201,55 @@ fn version(alloc: Global, disks: &Disks) -> Result<Option<i64>, Wrong> {
     Ok(database.number("SELECT version FROM office"))
 }
 
+// Whether such files are the whole office with these rows, in their version, and in version 2 once they were opened again.
+fn look_over(alloc: Global, disks: Disks, is_late: bool, rows: &[u8]) -> Result<Looked, Wrong> {
+    let is_first = matches!(version(alloc, &disks)?, Some(1));
+    let is_there = if is_first {
+        rows_wanted(alloc, &disks, is_late)?.as_slice() == rows
+    } else {
+        is_complete(alloc, &disks, rows)?
+    };
+    let again = reopened(alloc, disks.left_by_the_process(alloc)?)?;
+    let is_whole = is_there && is_complete(alloc, &again, rows)?;
+    Ok(Looked {
+        disks,
+        is_first,
+        is_whole,
+    })
+}
+
 impl Found {
-    // Whether such files are the whole office with these rows, in either version, and in version 2 once they are opened again.
+    fn new(is_late: bool) -> Found {
+        Found {
+            is_late,
+            first: 0,
+            second: 0,
+            last: None,
+        }
+    }
+
+    fn is_last(&self, disks: &Disks) -> bool {
+        match &self.last {
+            Some(looked) => looked.disks.has_bytes_of(disks),
+            None => false,
+        }
+    }
+
+    // Looks at these files, where others were looked at last, and counts them. Whether they are whole.
     fn count(&mut self, alloc: Global, disks: Disks, rows: &[u8]) -> Result<bool, Wrong> {
-        let is_whole = match version(alloc, &disks)? {
-            Some(1) => {
-                self.first = self.first.saturating_add(1);
-                rows_wanted(alloc, &disks, self.is_late)?.as_slice() == rows
-            }
-            _ => {
-                self.second = self.second.saturating_add(1);
-                is_complete(alloc, &disks, rows)?
-            }
+        if !self.is_last(&disks) {
+            self.last = Some(look_over(alloc, disks, self.is_late, rows)?);
+        }
+        let Some(looked) = &self.last else {
+            return Ok(false);
         };
-        let again = reopened(alloc, disks)?;
-        Ok(is_whole && is_complete(alloc, &again, rows)?)
+        let is_whole = looked.is_whole;
+        if looked.is_first {
+            self.first = self.first.saturating_add(1);
+        } else {
+            self.second = self.second.saturating_add(1);
+        }
+        Ok(is_whole)
     }
 }
 
@@ -239,11 +283,7 @@ fn is_whole(
 // Opens the files on disks of which one takes ever more calls, until none is stopped.
 fn stops(alloc: Global, disks: &Disks, is_late: bool, of_log: bool) -> Result<Found, Wrong> {
     let rows = rows_wanted(alloc, disks, is_late)?;
-    let mut found = Found {
-        is_late,
-        first: 0,
-        second: 0,
-    };
+    let mut found = Found::new(is_late);
     for calls in 0..2000 {
         let fused = if of_log {
             disks.fused(alloc, calls, u64::MAX)?

@@ -72,21 +72,61 @@ fn change_of<'a>(alloc: Global, disks: &Disks, puts: &'a [Put]) -> Result<Change
     })
 }
 
-// What was found of stops: how many left the office as it was before, and how many as it is behind the command.
-#[derive(Clone, Copy)]
+// Files, and all rows of the office in them.
+#[derive(Drop)]
+struct Looked {
+    disks: Disks,
+    rows: Vec<u8>,
+}
+
+// What was found of stops: how many left the office as it was before, and how many as it is behind the command; and the files that were looked at last.
+// Most stops leave the bytes that the one before them left, since a disk's calls are reads for the most part: those aren't looked at once more.
+#[derive(Drop)]
 struct Found {
     before: u64,
     behind: u64,
+    last: Option<Looked>,
 }
 
 impl Found {
-    fn count(&mut self, change: &Change<'_>, is_done: bool, rows: &[u8]) -> bool {
-        if rows == change.behind.as_slice() {
-            self.behind = self.behind.saturating_add(1);
-            return true;
+    fn new() -> Found {
+        Found {
+            before: 0,
+            behind: 0,
+            last: None,
         }
-        self.before = self.before.saturating_add(1);
-        !is_done && rows == change.before.as_slice()
+    }
+
+    fn is_last(&self, disks: &Disks) -> bool {
+        match &self.last {
+            Some(looked) => looked.disks.has_bytes_of(disks),
+            None => false,
+        }
+    }
+
+    // Looks at these files, where others were looked at last.
+    fn look(&mut self, alloc: Global, disks: Disks) -> Result<(), Wrong> {
+        if !self.is_last(&disks) {
+            let rows = rows_left(alloc, &disks)?;
+            self.last = Some(Looked { disks, rows });
+        }
+        Ok(())
+    }
+
+    // Counts the files that were looked at last. Whether they are right.
+    fn count(&mut self, change: &Change<'_>, is_done: bool) -> bool {
+        let Some(looked) = &self.last else {
+            return false;
+        };
+        let rows = looked.rows.as_slice();
+        let is_behind = rows == change.behind.as_slice();
+        let is_before = rows == change.before.as_slice();
+        if is_behind {
+            self.behind = self.behind.saturating_add(1);
+        } else {
+            self.before = self.before.saturating_add(1);
+        }
+        is_behind || !is_done && is_before
     }
 }
 
@@ -97,10 +137,10 @@ fn look_at(
     change: &Change<'_>,
     ending: Ending,
 ) -> Result<bool, Wrong> {
-    let of_process = rows_left(alloc, &ending.disks)?;
-    let of_machine = rows_in(alloc, ending.disks.left_by_the_machine(alloc)?)?;
-    let is_right = found.count(change, ending.is_done, &of_process);
-    Ok(found.count(change, ending.is_done, &of_machine) && is_right)
+    found.look(alloc, ending.disks.left_by_the_process(alloc)?)?;
+    let is_right = found.count(change, ending.is_done);
+    found.look(alloc, ending.disks.left_by_the_machine(alloc)?)?;
+    Ok(found.count(change, ending.is_done) && is_right)
 }
 
 // Which disk stops.
@@ -134,10 +174,7 @@ fn stops(
     change: &Change<'_>,
     stopping: Stopping,
 ) -> Result<Found, Wrong> {
-    let mut found = Found {
-        before: 0,
-        behind: 0,
-    };
+    let mut found = Found::new();
     for calls in 0..2000 {
         let fused = match stopping {
             Stopping::Log => disks.fused(alloc, calls, u64::MAX)?,

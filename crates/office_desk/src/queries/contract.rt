@@ -1,8 +1,9 @@
 //! A contract with its entries, and what they come to.
-ghost use Rattle.std.specs.Prelude.{◌≡◌, true, false, IfOk, IfErr, OnOk, option_map};
+ghost use Rattle.std.specs.Prelude.{◌≡◌, ◌<◌, true, false, IfOk, IfErr, OnOk, option_map};
 ghost use Rattle.office_commands.specs.Rights.{may_look};
 ghost use Rattle.office_commands.specs.declared.command.QueryKind.TheVariants as kinds;
 ghost use Rattle.office_commands.specs.declared.queries.Query.TheVariants.{Contract};
+ghost use Rattle.office_values.specs.Money.{total_limit};
 ghost use Rattle.office_values.specs.declared.refusal.Refusal.TheVariants.{Unavailable};
 ghost use Rattle.office_base.specs.Joined.{is_overdrawn, outstanding, paid_under};
 ghost use Rattle.office_base.specs.Shelves.{Looks};
@@ -67,7 +68,7 @@ impl RowObject for ListedEntry {
 fn left_of(entries: &[EntryRow], row: &ContractRow) -> Result<Total, Refusal>
     ensures sum { IfOk result (λ sum. sum ≡ outstanding entries.now row.now) }
     ensures covered { IfOk result (λ _. is_overdrawn entries.now row.now ≡ false) }
-    ensures fault { IfErr result (λ e. e ≡ Unavailable) }
+    ensures fault { IfErr result (λ e. (e ≡ Unavailable) × (is_overdrawn entries.now row.now ≡ false → total_limit < outstanding entries.now row.now)) }
 {
     if is_overdrawn(entries, row) {
         return Err(Refusal::Unavailable);
@@ -78,7 +79,7 @@ fn left_of(entries: &[EntryRow], row: &ContractRow) -> Result<Total, Refusal>
 // What was paid under it. `Unavailable` where that is above every sum of money.
 fn paid_of(entries: &[EntryRow], row: &ContractRow) -> Result<Total, Refusal>
     ensures sum { IfOk result (λ sum. sum ≡ paid_under entries.now row.now) }
-    ensures fault { IfErr result (λ e. e ≡ Unavailable) }
+    ensures fault { IfErr result (λ e. (e ≡ Unavailable) × (total_limit < paid_under entries.now row.now)) }
 {
     Total::of_sum(paid(entries, row)).ok_or(Refusal::Unavailable)
 }

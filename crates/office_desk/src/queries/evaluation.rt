@@ -1,5 +1,5 @@
 //! How the awards of a notice came about: what was found of each tender, and what was decided.
-ghost use Rattle.std.specs.Prelude.{◌≡◌, ◌||◌, ◌++◌, true, IfOk, IfErr, map};
+ghost use Rattle.std.specs.Prelude.{◌≡◌, ◌||◌, ◌++◌, true, None, IfOk, IfErr, map};
 ghost use Rattle.std.specs.List.{flat_map, list_any};
 ghost use Rattle.office_commands.specs.Rights.{is_clerk, may_look};
 ghost use Rattle.office_commands.specs.declared.command.QueryKind.TheVariants as kinds;
@@ -37,7 +37,7 @@ fn points_told(weight: Weight, lowest: Amount, row: &EnvelopeRow) -> Option<u64>
 // What was found of a tender that was opened. In an office that commands lead to it was read.
 fn finding_of(weight: Weight, lowest: Amount, row: &EnvelopeRow) -> Result<Finding, Refusal>
     ensures found { IfOk result (λ finding. finding ≡ finding_of (evaluated_tender weight lowest row.now)) }
-    ensures fault { IfErr result (λ e. e ≡ Unavailable) }
+    ensures fault { IfErr result (λ e. (e ≡ Unavailable) × (row.now.reading ≡ None)) }
 {
     let Some(reading) = row.reading else {
         return Err(Refusal::Unavailable);

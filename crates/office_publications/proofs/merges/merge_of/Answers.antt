@@ -1,0 +1,33 @@
+use Rattle.std.proofs.Common.{rules, arith, ◌≡◌, ◌+◌, ◌++◌, [], ◌∷◌, take, map, ap, sym, subst, ◌∙◌, Result, Ok, Err, false}
+use Rattle.std.specs.Prelude.{List, OnOk, slice_index_or}
+use Rattle.std.specs.Result.{is_err}
+use Rattle.std.proofs.lemmas.List.{take_more, take_all, map-append}
+use Rattle.std.proofs.lemmas.List.Elements.{All-more}
+use Rattle.ocds_merge.specs.Merge.{merge_or_null}
+use Rattle.ocds_merge.specs.Stored.{IsObjectText}
+use Rattle.office_base.specs.declared.records.ReleaseRow.{ReleaseRow}
+use Rattle.office_publications.specs.Merges.{AreObjects, body_in}
+use Rattle.office_publications.proofs.merges.merge_of.Goals as goal
+
+-- what is said of a result that is no error
+of_ok : {T E : Type 0} (r : Result T E) (P : Type 0) → is_err r ≡ false → OnOk r P → P
+of_ok (Ok value) P is h = h
+of_ok (Err why) P is h = absurd cc
+
+pub rows-preserved : goal.rows-preserved
+rows-preserved c =
+    let rows : List ReleaseRow = c.args.rows.now in
+    let at = c.rows.row-index in
+    let row : ReleaseRow = c.row-item.result in
+    let more : take (at + 1) rows ≡ take at rows ++ (row ∷ []) = search (rules, take_more) in
+    let mapped = ap (map body_in) more ∙ map-append body_in (take at rows) (row ∷ []) in
+    let merged = of_ok c.merge_into.result _ (sym c.is_err.ensures.value ∙ c.if-is_err.false) c.merge_into.ensures.merges (map body_in (take at rows)) c.rows.invariant.0 in
+    let object : IsObjectText (slice_index_or rows at row).text = subst (λ (r : ReleaseRow). IsObjectText r.text) c.row-item.is c.in_ok-body.ensures.object in (
+      merged ∙ ap merge_or_null (ap (λ b. map body_in (take at rows) ++ (b ∷ [])) c.in_ok-body.ensures.body ∙ sym mapped),
+      All-more (λ (r : ReleaseRow). IsObjectText r.text) rows at row c.rows-test.true c.rows.invariant.1 object,
+    )
+
+pub returns-clause-objects : goal.returns-clause-objects
+returns-clause-objects c =
+    let all : take c.rows.row-index c.args.rows.now ≡ c.args.rows.now = take_all c.rows.row-index c.args.rows.now (omega arith) in
+    subst AreObjects all c.rows.invariant.1
