@@ -5,7 +5,8 @@
     bench/gate_model.py TABLE 8         for 8
 
 It plays the schedule of `rt ci` on paper: proofs and tests first, those with most lines behind them in front; the check that a crate's wrong bodies begin with
-and then these fill the lanes that are free. Where rt was told how many lanes there are, as `make test` does (scripts/lanes.py), each check takes one. Else a
+and then these fill the lanes that are free. An rt without such a check tries them one after another, as one task that takes its turn by the crate's lines, as
+proofs do (`in_turn` in the table). Where rt was told how many lanes there are, as `make test` does (scripts/lanes.py), each check takes one. Else a
 proof gets the lanes that no other proof waits for, four at most, fixed for its life; and what rt reckons that a check takes of memory holds it back where the
 others' leave too little, a proof the wrong bodies behind it too. Not in it: other work on the machine.
 Printed are the wall minutes for each number, and the longest chain of crates. `bench/gate` prints them too, beside the minutes that the run took.
@@ -99,6 +100,9 @@ def tasks_of(root, table, below):
         if row["seed"]:
             tasks[crate, "seed"] = Task(waits, row["seed"], needs, 0, ALONE)
             own.append((crate, "seed"))
+        if table.get("in_turn") and row["edits"]:
+            tasks[crate, "tries"] = Task(own, sum(row["edits"]) + row["last"], needs, lines)
+            continue
         edits = [(crate, "edits", number) for number in range(len(row["edits"]))]
         for key, minutes in zip(edits, row["edits"]):
             tasks[key] = Task(own, minutes, OVER * needs if row["seed"] else needs, lines)

@@ -122,9 +122,23 @@ class Watch(threading.Thread):
             self.seen[key].over = over
         return self.seen[key]
 
+    def in_turn(self):
+        """By crate, the tries of an rt that has no seed: it tries a crate's wrong bodies one after another in one folder, and then the crate itself."""
+        found = {}
+        for it in self.seen.values():
+            if it.kind in ("edits", "last") and "/rt-edits-" in it.over:
+                found.setdefault(it.crate, []).append(it)
+        return found
+
+    def name_last(self):
+        """Tells the check of the crate itself, behind its wrong bodies, from these: it is the last one in their folder."""
+        for tries in self.in_turn().values():
+            max(tries, key=lambda it: it.start).kind = "last"
+
     def table(self):
         """Minutes by crate and kind: a number of each kind, the list of each wrong body's, and of the proof with its builds the wall minutes and the jobs."""
         crates = {}
+        self.name_last()
         for it in self.seen.values():
             row = crates.setdefault(it.crate, {**dict.fromkeys(KINDS, 0.0), "edits": [], "jobs": 1})
             if it.kind == "edits":

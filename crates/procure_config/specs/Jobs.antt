@@ -40,9 +40,13 @@ over_store name = with_rule (over_settings name) (needed_rule (codes "DB"))
 abbrev pub over_notice : Text → App
 over_notice name = with_rule (over_store name) (needed_rule (codes "NOTICE"))
 
+-- over such a file at a port: `NAME CONFIG DB PORT`
+abbrev pub over_port : Text → App
+over_port name = with_rule (over_store name) (number_rule (codes "PORT") port_bound)
+
 -- `serve CONFIG DB PORT COUNT`
 abbrev pub serve : App
-serve = with_rule (with_rule (over_store (codes "serve")) (number_rule (codes "PORT") port_bound)) (number_rule (codes "COUNT") count_bound)
+serve = with_rule (over_port (codes "serve")) (number_rule (codes "COUNT") count_bound)
 
 -- the program's name, and that it tells its version: `procure --version`
 abbrev pub named : App

@@ -65,25 +65,33 @@ fn over_notice<'a>(alloc: Global, name: &'a str, about: &'a str) -> Result<Comma
     over_store(alloc, name, about)?.arg(notice)
 }
 
-// The subcommand `serve`.
-fn serve<'a>(alloc: Global) -> Result<Command<'a>, AllocError>
-    ensures shape { IfOk result (λ command. app_of command ≡ spec.serve) }
+// One over such a file at a port. (A command takes one argument a function: two that wait for it are let go at each end.)
+fn over_port<'a>(alloc: Global, name: &'a str, about: &'a str) -> Result<Command<'a>, AllocError>
+    ensures shape { IfOk result (λ command. app_of command ≡ spec.over_port name.entry.now) }
     ensures local { IfOk result (λ command. (fields_of command).has_globals ≡ false) }
 {
-    let about = "Serves connections on 127.0.0.1, one after another, from an office in a file";
     let port = number(
         alloc,
         "PORT",
         PORT_BOUND as u64,
         "The port, from 1 to 65535",
     );
+    over_store(alloc, name, about)?.arg(port)
+}
+
+// The subcommand `serve`.
+fn serve<'a>(alloc: Global) -> Result<Command<'a>, AllocError>
+    ensures shape { IfOk result (λ command. app_of command ≡ spec.serve) }
+    ensures local { IfOk result (λ command. (fields_of command).has_globals ≡ false) }
+{
+    let about = "Serves connections on 127.0.0.1, one after another, from an office in a file";
     let count = number(
         alloc,
         "COUNT",
         COUNT_BOUND as u64,
         "How many connections are served, from 1 to 1000000",
     );
-    over_store(alloc, "serve", about)?.arg(port)?.arg(count)
+    over_port(alloc, "serve", about)?.arg(count)
 }
 
 /// The program's command line, which tells this version.
