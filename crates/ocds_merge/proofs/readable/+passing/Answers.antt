@@ -1,28 +1,30 @@
 use Rattle.std.proofs.Common.{◌≤◌, ◌∙◌, ◌∷◌, ℕ, List, true, false, ap, arith}
 use Rattle.serde_json.specs.Data.{null, boolean, number, unsigned, no_items, item, no_members, member, items_depth, members_depth}
-use Rattle.ocds_merge.proofs.PassLaw.{string_passed, word_passed, array_passed, object_passed, item_before, member_before, in_turn, none_after}
+use Rattle.ocds_merge.proofs.PassLaw.{string_passed, word_passed, array_passed, object_passed, items_over, members_over, item_read, member_read, members_begun}
+use Rattle.ocds_merge.specs.Inside.Readable.{NextMember}
 use Rattle.ocds_merge.proofs.readable.+passing.Goals as goal
 
 pub passed_items-returns-in-Some : goal.passed_items-returns-in-Some
-passed_items-returns-in-Some t c = c.loop-turn.invariant no_items c.in-Some.rest.now tt (omega arith) c.in-Some.ensures
+passed_items-returns-in-Some t c = c.loop-turn.invariant c.in-Some.rest.now (items_over c.loop-turn.left.now c.in-Some.rest.now c.loop-turn.later c.args.depth c.in-Some.ensures)
 
 pub passed_items-loop-turn-preserved : goal.passed_items-loop-turn-preserved
-passed_items-loop-turn-preserved t c ds rest w deep e =
-    let v = c.in_ok-left.ensures in
-    let low : items_depth (item v.value ds) ≤ c.args.depth = omega (arith, v.shallow, deep) in
-    c.loop-turn.invariant (item v.value ds) rest (v.kept, w) low (item_before c.loop-turn.later v.value ds c.loop-turn.left.now c.in_ok-item.item.now c.in_ok-left.left.now rest c.in_ok-item.ensures v.is e)
+passed_items-loop-turn-preserved t c rest m =
+    c.loop-turn.invariant rest (item_read c.loop-turn.left.now c.in_ok-item.item.now c.in_ok-left.left.now c.loop-turn.later c.args.depth c.in_ok-item.ensures c.in_ok-left.ensures rest m)
 
 pub passed_members-returns-in-Some : goal.passed_members-returns-in-Some
-passed_members-returns-in-Some t c = c.loop-turn.invariant no_members c.in-Some.rest.now (none_after c.loop-turn.later c.loop-turn.last.now) (tt, tt) (omega arith) c.in-Some.ensures
+passed_members-returns-in-Some t c =
+    c.loop-turn.invariant c.in-Some.rest.now (members_over c.loop-turn.left.now c.loop-turn.last.now c.in-Some.rest.now c.loop-turn.later c.args.depth c.in-Some.ensures)
 
 pub passed_members-loop-turn-preserved : goal.passed_members-loop-turn-preserved
-passed_members-loop-turn-preserved t c ms rest above w deep e =
-    let v = c.in_ok-left.ensures in
-    let k = c.in_ok-name.name.now in
-    let low : members_depth (member k v.value ms) ≤ c.args.depth = omega (arith, v.shallow, deep) in
-    c.loop-turn.invariant (member k v.value ms) rest (in_turn c.loop-turn.later c.loop-turn.last.now k v.value ms c.if-not-is_in_turn.ensures above)
-    ((above, w.0), (v.kept, w.1)) low
-    (member_before c.loop-turn.later k v.value ms c.loop-turn.left.now c.in_ok-after_comma_if.field-0.now c.in_ok-name.value.now c.in_ok-left.left.now rest c.in_ok-after_comma_if.ensures c.in_ok-name.ensures v.is e)
+passed_members-loop-turn-preserved t c rest m =
+    let next : NextMember c.loop-turn.left.now c.loop-turn.later c.loop-turn.last.now c.in_ok-name.name.now c.in_ok-name.value.now = record {
+      whole = c.in_ok-after_comma_if.field-0.now;
+      comma = c.in_ok-after_comma_if.ensures;
+      form = c.in_ok-name.ensures.written;
+      turn = c.if-not-is_in_turn.ensures;
+    } in
+    c.loop-turn.invariant rest
+    (member_read c.loop-turn.left.now c.loop-turn.later c.loop-turn.last.now c.in_ok-name.name.now c.in_ok-name.value.now c.in_ok-left.left.now c.args.depth next c.in_ok-left.ensures rest m)
 
 pub passed_value-returns-in_ok-passed_string-in-34 : goal.passed_value-returns-in_ok-passed_string-in-34
 passed_value-returns-in_ok-passed_string-in-34 t c =
@@ -31,7 +33,8 @@ passed_value-returns-in_ok-passed_string-in-34 t c =
 
 pub passed_value-returns-in_ok-passed_members-in-123 : goal.passed_value-returns-in_ok-passed_members-in-123
 passed_value-returns-in_ok-passed_members-in-123 t c =
-    object_passed c.args.text.now c.in_ok-first.rest.now c.in_ok-passed_members-in-123.field-0.now c.in_ok-first.first.now c.args.depth c.in_ok-first.ensures.cases.0 c.in-123.is (λ e. omega arith) c.in_ok-passed_members-in-123.ensures
+    object_passed c.args.text.now c.in_ok-first.rest.now c.in_ok-passed_members-in-123.field-0.now c.in_ok-first.first.now c.args.depth c.in_ok-first.ensures.cases.0 c.in-123.is (λ e. omega arith)
+    (members_begun c.in_ok-first.rest.now c.all_members.result.text.now c.all_members.result.last.now c.in_ok-passed_members-in-123.field-0.now c.all_members.result.later _ c.all_members.ensures.from c.all_members.ensures.first c.in_ok-passed_members-in-123.ensures)
 
 pub passed_value-returns-in_ok-passed_items-in-91 : goal.passed_value-returns-in_ok-passed_items-in-91
 passed_value-returns-in_ok-passed_items-in-91 t c =
