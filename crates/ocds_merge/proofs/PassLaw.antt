@@ -1,5 +1,5 @@
 -- A value that a text begins with, by its first byte.
-use Rattle.std.proofs.Common.{◌≡◌, ℕ, ◌+◌, ◌-◌, ◌≤◌, suc, List, [], ◌∷◌, ◌++◌, Bool, true, false, Greater, refl, sym, ap, ◌∙◌, subst, arith, length, append_assoc}
+use Rattle.std.proofs.Common.{◌≡◌, ◌==◌, ℕ, ◌+◌, ◌-◌, ◌≤◌, suc, List, [], ◌∷◌, ◌++◌, Bool, true, false, Greater, refl, sym, ap, ◌∙◌, subst, arith, length, append_assoc}
 use Rattle.std.proofs.lemmas.List.{length-append}
 use Rattle.std.specs.Prelude.{IsTrue}
 use Rattle.json.specs.Print.{escape, quoted}
@@ -121,6 +121,14 @@ member_read text later last name value after deep n v rest m = record {
   where
     deeper : (k : List ℕ) (d : Data) (ms : Members) (deep : ℕ) → depth d ≤ deep → members_depth ms ≤ deep → members_depth (member k d ms) ≤ deep
     deeper k d ms deep low lower = omega arith
+
+-- what stands behind a comma that must be there
+pub no_comma_at : (later : Bool) (text whole s : List ℕ) (c : ℕ) → text ≡ comma_if later ++ whole → whole ≡ c ∷ s → (c == 44) ≡ false → no_comma text ≡ whole
+no_comma_at true text whole s c is form other = ap no_comma is
+no_comma_at false text whole s c is form other = ap no_comma (is ∙ form) ∙ led c s other ∙ sym form
+  where
+    led : (c : ℕ) (s : List ℕ) → (c == 44) ≡ false → no_comma (c ∷ s) ≡ c ∷ s
+    led c s other = rw other refl
 
 -- ---- where what was passed ends
 

@@ -79,15 +79,6 @@ pub(crate) fn next_in_turn<'a>(left: Remaining<'a>) -> Result<Option<Member<'a>>
     Ok(Some(Member { name, whole, value }))
 }
 
-/// The members behind this one, of which the text begins after its value.
-pub(crate) fn members_behind<'a>(member: Member<'a>, text: &'a [u8]) -> Remaining<'a>
-    ensures from { result.text.now ≡ text.now }
-    ensures later { result.later ≡ true }
-    ensures last { result.last.now ≡ member.entry.name.now }
-{
-    Remaining { text, later: true, last: member.name }
-}
-
 /// Whether a name comes after another.
 fn is_above(name: &str, other: &[u8]) -> bool
     ensures { MatchBool result (slice_cmp nat_cmp name.now other.now ≡ Ordering.Greater) (slice_cmp nat_cmp name.now other.now ≢ Ordering.Greater) }
@@ -119,7 +110,7 @@ pub(crate) fn copy_below<'a>(
         }
         let rest = skipped(member.value, depth)?;
         copy_span(member.whole, rest, later, out)?;
-        left = members_behind(member, rest);
+        left = Remaining { text: rest, later: true, last: member.name };
         later = true;
     }
     Ok((left, later))

@@ -14,7 +14,7 @@ use crate::identified::is_id_list;
 use crate::list_text::{
     close_list, distinct_places, id_in, next_item, none_done, note_done, place_in,
 };
-use crate::object_text::{copy_below, copy_rest, members_behind, old_member};
+use crate::object_text::{copy_below, copy_rest, old_member};
 use crate::places::Places;
 use crate::readable::{Remaining, all_members, skipped};
 use crate::scan::after_byte;
@@ -120,7 +120,10 @@ fn splice_member<'a>(
     let old = old_member(left, name)?;
     if is_null(value) {
         return match old {
-            Some(old) => Ok((members_behind(old, skipped(old.value, depth)?), later)),
+            Some(old) => {
+                let rest = skipped(old.value, depth)?;
+                Ok((Remaining { text: rest, later: true, last: old.name }, later))
+            }
             None => Ok((left, later)),
         };
     }
@@ -128,7 +131,7 @@ fn splice_member<'a>(
     match old {
         Some(old) => {
             let rest = splice_value(alloc, value, old.value, depth, out)?;
-            Ok((members_behind(old, rest), true))
+            Ok((Remaining { text: rest, later: true, last: old.name }, true))
         }
         None => {
             write_new(alloc, value, out)?;
