@@ -45,6 +45,17 @@ array_passed text after rest first deep e is some p = record {
     nested : (n deep : ℕ) → (deep ≡ 0 → ⊥) → n ≤ deep - 1 → suc n ≤ deep
     nested n deep some h = omega arith
 
+-- the same, where what is inside may nest one level less
+pub object_inside : (text after rest : List ℕ) (deep inside : ℕ) → text ≡ 123 ∷ after → deep ≡ inside + 1 → PassedMembers after rest inside → Passed text rest deep
+object_inside text after rest deep inside e more p =
+    let less : inside ≡ deep - 1 = omega (arith, more) in
+    object_passed text after rest 123 deep e refl (λ z. omega (arith, z, more)) (subst (λ (n : ℕ). PassedMembers after rest n) less p)
+
+pub array_inside : (text after rest : List ℕ) (deep inside : ℕ) → text ≡ 91 ∷ after → deep ≡ inside + 1 → PassedItems after rest inside → Passed text rest deep
+array_inside text after rest deep inside e more p =
+    let less : inside ≡ deep - 1 = omega (arith, more) in
+    array_passed text after rest 91 deep e refl (λ z. omega (arith, z, more)) (subst (λ (n : ℕ). PassedItems after rest n) less p)
+
 pub word_passed : (d : Data) (text after rest : List ℕ) (first deep : ℕ) → TextIsKept d → depth d ≤ deep → text ≡ first ∷ after → first ∷ after ≡ compact_text d ++ rest → Passed text rest deep
 word_passed d text after rest first deep w low e f = record { value = d; kept = w; shallow = low; is = e ∙ f }
 
