@@ -255,7 +255,7 @@ pub(crate) fn is_space(byte: u8) -> bool
     }
 }
 
-fn is_end(text: &[u8]) -> bool
+pub(crate) fn is_end(text: &[u8]) -> bool
     ensures { IsTrue result → text.now ≡ [] }
 {
     text.is_empty()

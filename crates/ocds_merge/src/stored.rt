@@ -12,7 +12,7 @@ ghost use Rattle.ocds_merge.specs.declared.stored.StoredFault.TheVariants.{NoMem
 
 use crate::kept_value::is_kept;
 use crate::merging::{NoMemory, carried_on};
-use crate::readable::{MAX_DEPTH, is_plain_object, is_space};
+use crate::readable::{MAX_DEPTH, is_end, is_plain_object, is_space};
 use crate::splice::splice_value;
 use crate::unspliced::Unspliced;
 use serde_json::Value;
@@ -163,7 +163,7 @@ fn spliced_bytes(alloc: Global, stored: &[u8], value: &Value) -> Result<Vec<u8>,
 {
     let mut out: Vec<u8> = Vec::with_capacity(alloc, stored.len())?;
     let rest = splice_value(alloc, value, stored, MAX_DEPTH, &mut out)?;
-    if !rest.is_empty() {
+    if !is_end(rest) {
         return Err(Unspliced::Unfit);
     }
     Ok(out)
