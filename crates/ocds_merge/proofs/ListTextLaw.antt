@@ -12,7 +12,7 @@ use Rattle.ocds_merge.specs.Identified.{text_id}
 use Rattle.ocds_merge.specs.Inside.Scan.{scan, between, IsPlain}
 use Rattle.ocds_merge.specs.Inside.Splice.{IsInRange, TextIsKept, AreItemsKept, EndsBefore, no_comma, StandAt, Searched, FoundAt}
 use Rattle.ocds_merge.proofs.MemberLemmas.{here, skips}
-use Rattle.ocds_merge.proofs.SpliceLaw.{heads, tails, plain_name, no_member_here, member_here, after_member, no_comma_members, scan-members}
+use Rattle.ocds_merge.proofs.SpliceLaw.{heads, tails, plain_name, no_member_here, member_here, after_member, no_comma_members}
 
 -- ---- the first byte of a value
 

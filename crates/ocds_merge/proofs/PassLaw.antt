@@ -6,7 +6,7 @@ use Rattle.json.specs.Print.{escape, quoted}
 use Rattle.serde_json.specs.Data.{Data, string, array, object, Items, no_items, item, Members, no_members, member, depth, items_depth, members_depth}
 use Rattle.serde_json.specs.Written.{compact_text, items_text, members_text, comma_if}
 use Rattle.ocds_merge.specs.Inside.Scan.{scan, between, IsPlain, AllStandForThemselves}
-use Rattle.ocds_merge.specs.Inside.Splice.{TextIsKept, AreMembersKept, AllAbove, EndsBefore, no_comma}
+use Rattle.ocds_merge.specs.Inside.Splice.{TextIsKept, AllAbove, EndsBefore, no_comma}
 use Rattle.ocds_merge.specs.Inside.Readable.{AllAfter, Passed, ItemsFrom, MembersFrom, NextMember, PassedItems, PassedMembers}
 use Rattle.ocds_merge.proofs.MemberLemmas.{bytes_cmp}
 use Rattle.ocds_merge.proofs.PlainLaw.{plain_escape, plain_of}

@@ -110,7 +110,11 @@ pub(crate) fn copy_below<'a>(
         }
         let rest = skipped(member.value, depth)?;
         copy_span(member.whole, rest, later, out)?;
-        left = Remaining { text: rest, later: true, last: member.name };
+        left = Remaining {
+            text: rest,
+            later: true,
+            last: member.name,
+        };
         later = true;
     }
     Ok((left, later))
@@ -145,7 +149,10 @@ pub(crate) fn copy_rest<'a>(
 }
 
 /// The old member of this name, among members of which none comes before it.
-pub(crate) fn old_member<'a>(left: Remaining<'a>, name: &str) -> Result<Option<Member<'a>>, Unspliced>
+pub(crate) fn old_member<'a>(
+    left: Remaining<'a>,
+    name: &str,
+) -> Result<Option<Member<'a>>, Unspliced>
     ensures reads { IfOk result (λ found. MatchOption found ⊤
         (λ m. NextMember left.entry.text.now left.entry.later left.entry.last.now m.name.now m.value.now)) }
     ensures finds { IfOk result (λ found. (ts : Members) (rest : List ℕ) → StandAt left.entry.text.now ts rest → StartsFrom name.now ts

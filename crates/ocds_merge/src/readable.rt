@@ -37,7 +37,11 @@ pub(crate) fn all_members(text: &[u8]) -> Remaining<'_>
     ensures from { result.text.now ≡ text.now }
     ensures first { result.later ≡ false }
 {
-    Remaining { text, later: false, last: b"" }
+    Remaining {
+        text,
+        later: false,
+        last: b"",
+    }
 }
 
 /// Whether a backslash and this byte are how a byte is written.

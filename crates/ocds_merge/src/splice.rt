@@ -122,7 +122,14 @@ fn splice_member<'a>(
         return match old {
             Some(old) => {
                 let rest = skipped(old.value, depth)?;
-                Ok((Remaining { text: rest, later: true, last: old.name }, later))
+                Ok((
+                    Remaining {
+                        text: rest,
+                        later: true,
+                        last: old.name,
+                    },
+                    later,
+                ))
             }
             None => Ok((left, later)),
         };
@@ -131,7 +138,14 @@ fn splice_member<'a>(
     match old {
         Some(old) => {
             let rest = splice_value(alloc, value, old.value, depth, out)?;
-            Ok((Remaining { text: rest, later: true, last: old.name }, true))
+            Ok((
+                Remaining {
+                    text: rest,
+                    later: true,
+                    last: old.name,
+                },
+                true,
+            ))
         }
         None => {
             write_new(alloc, value, out)?;

@@ -1,5 +1,5 @@
-use Rattle.std.proofs.Common.{◌≤◌, ◌∙◌, ◌∷◌, ℕ, List, true, false, ap, arith}
-use Rattle.serde_json.specs.Data.{null, boolean, number, unsigned, no_items, item, no_members, member, items_depth, members_depth}
+use Rattle.std.proofs.Common.{◌∙◌, ◌∷◌, ℕ, List, true, false, ap, arith}
+use Rattle.serde_json.specs.Data.{null, boolean, number, unsigned}
 use Rattle.ocds_merge.proofs.PassLaw.{string_passed, word_passed, array_passed, object_passed, items_over, members_over, item_read, member_read, members_begun}
 use Rattle.ocds_merge.specs.Inside.Readable.{NextMember}
 use Rattle.ocds_merge.proofs.readable.+passing.Goals as goal

@@ -10,8 +10,8 @@ pub returns : goal.returns
 returns c =
     let ends = c.is_end.ensures c.if-not-is_end.false in
     record {
-  readable = passed_reads c.args.stored.now c.in_ok-rest.rest.now c.in_ok-rest.ensures.reads ends;
-  splices = λ kept merge merge_kept is.
-      let r = c.in_ok-rest.ensures.splices kept merge [] merge_kept refl (is ∙ sym (append-nil (compact_text merge))) in
-      r.1 ∙ ap (λ (s : List ℕ). s ++ compact_text (unwrap_or (step (Some merge) (view c.args.value.now)) null)) c.in_ok-out.ensures.items;
-}
+      readable = passed_reads c.args.stored.now c.in_ok-rest.rest.now c.in_ok-rest.ensures.reads ends;
+      splices = λ kept merge merge_kept is.
+          let r = c.in_ok-rest.ensures.splices kept merge [] merge_kept refl (is ∙ sym (append-nil (compact_text merge))) in
+          r.1 ∙ ap (λ (s : List ℕ). s ++ compact_text (unwrap_or (step (Some merge) (view c.args.value.now)) null)) c.in_ok-out.ensures.items;
+    }
