@@ -139,14 +139,24 @@ fn after_word<'a>(text: &'a [u8], word: &str) -> Option<&'a [u8]>
     Some(rest)
 }
 
-/// What comes after a value; arrays and objects may nest `depth` deep.
+/// What comes after a value; arrays and objects may nest `depth` deep. Strings come first, since most values are.
 #[cycle(passing)]
 fn passed_value(text: &[u8], depth: usize) -> Option<&[u8]>
     ensures { MatchOption result ⊤ (λ rest. Passed text.now rest.now depth) }
 {
+    match after_byte(text, b'"') {
+        Some(inside) => Some(passed_string(inside)?),
+        None => Some(passed_other(text, depth)?),
+    }
+}
+
+/// What comes after a value that is no string.
+#[cycle(passing)]
+fn passed_other(text: &[u8], depth: usize) -> Option<&[u8]>
+    ensures { MatchOption result ⊤ (λ rest. Passed text.now rest.now depth) }
+{
     let (first, rest) = text.split_first()?;
     match *first {
-        b'"' => Some(passed_string(rest)?),
         b'{' => {
             if depth == 0 {
                 return None;
