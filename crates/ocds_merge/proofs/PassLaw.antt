@@ -74,20 +74,16 @@ member_before later k d ms left one value after rest a b v e =
     ∙ sym (group_member (comma_if later) (quoted k) (compact_text d) (members_text true ms) rest)
 
 -- a name of bytes that stand for themselves is written as it is
-pub name_passed : (text inside end after value name s : List ℕ) → text ≡ 34 ∷ inside → inside ≡ s ++ end → AllStandForThemselves s → name ≡ s → end ≡ 34 ∷ after → after ≡ 58 ∷ value
-    → text ≡ quoted name ++ 58 ∷ value
-name_passed text inside end after value name s e f plain is g h =
+pub name_passed : (text inside after value name : List ℕ) → text ≡ 34 ∷ inside → inside ≡ name ++ 34 ∷ after → AllStandForThemselves name → after ≡ 58 ∷ value → text ≡ quoted name ++ 58 ∷ value
+name_passed text inside after value name e f plain h =
     e ∙ ap (λ (t : List ℕ). 34 ∷ t)
-    (f ∙ ap (λ (t : List ℕ). s ++ t) (g ∙ ap (λ (t : List ℕ). 34 ∷ t) h)
-    ∙ ap (λ (t : List ℕ). t ++ 34 ∷ 58 ∷ value) (sym (ap escape is ∙ plain_escape s plain))
+    (f ∙ ap (λ (t : List ℕ). name ++ 34 ∷ t) h
+    ∙ ap (λ (t : List ℕ). t ++ 34 ∷ 58 ∷ value) (sym (plain_escape name plain))
     ∙ sym (append_assoc (escape name) (34 ∷ []) (58 ∷ value)))
 
-pub plain_passed : (text inside end after value name s : List ℕ) → text ≡ 34 ∷ inside → inside ≡ s ++ end → AllStandForThemselves s → name ≡ s → end ≡ 34 ∷ after → after ≡ 58 ∷ value
+pub plain_passed : (text inside after value name : List ℕ) → text ≡ 34 ∷ inside → inside ≡ name ++ 34 ∷ after → AllStandForThemselves name → after ≡ 58 ∷ value
     → (text ≡ 34 ∷ (name ++ 34 ∷ 58 ∷ value)) × IsPlain name
-plain_passed text inside end after value name s e f plain is g h = (
-  e ∙ ap (λ (t : List ℕ). 34 ∷ t) (f ∙ ap (λ (t : List ℕ). s ++ t) (g ∙ ap (λ (t : List ℕ). 34 ∷ t) h) ∙ ap (λ (t : List ℕ). t ++ 34 ∷ 58 ∷ value) (sym is)),
-  subst IsPlain (sym is) (plain_of s plain),
-)
+plain_passed text inside after value name e f plain h = (e ∙ ap (λ (t : List ℕ). 34 ∷ t) (f ∙ ap (λ (t : List ℕ). name ++ 34 ∷ t) h), plain_of name plain)
 
 -- a member of which the name comes after the last one, with those after it
 pub in_turn : (later : Bool) (last k : List ℕ) (d : Data) (ms : Members) → (IsTrue later → bytes_cmp k last ≡ Greater) → AllAbove k ms → AllAfter later last (member k d ms)

@@ -11,7 +11,7 @@ ghost use Rattle.ocds_merge.specs.Inside.Splice.{EndsBefore, no_comma, StandAt, 
 use crate::readable::{
     Remaining, after_comma_if, is_in_turn, passed_name, skipped, skipped_members,
 };
-use crate::scan::{after_byte, plain_string};
+use crate::scan::after_byte;
 use crate::unspliced::Unspliced;
 use crate::writes::copy_span;
 use std::cmp::Ordering;
@@ -42,18 +42,12 @@ pub(crate) fn next_member(text: &[u8]) -> Result<Option<Member<'_>>, Unspliced>
         (λ m. (no_comma text.now ≡ m.whole.now) × (m.whole.now ≡ 34 ∷ (m.name.now ++ 34 ∷ 58 ∷ m.value.now)) × IsPlain m.name.now)) }
 {
     let whole = after_comma(text);
-    match whole.split_first() {
-        Some((b'}', _)) => Ok(None),
-        Some((b'"', rest)) => {
-            let Some((name, rest)) = plain_string(rest) else {
-                return Err(Unspliced::Unfit);
-            };
-            match rest.split_first() {
-                Some((b':', value)) => Ok(Some(Member { name, whole, value })),
-                _ => Err(Unspliced::Unfit),
-            }
-        }
-        _ => Err(Unspliced::Unfit),
+    if let Some(_rest) = after_byte(whole, b'}') {
+        return Ok(None);
+    }
+    match passed_name(whole) {
+        Some((name, value)) => Ok(Some(Member { name, whole, value })),
+        None => Err(Unspliced::Unfit),
     }
 }
 

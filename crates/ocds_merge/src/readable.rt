@@ -12,7 +12,7 @@ ghost use Rattle.ocds_merge.specs.Inside.Readable.{Passed, PassedItems, MembersF
 ghost use Rattle.ocds_merge.specs.Inside.Scan.{scan, between, IsPlain};
 ghost use Rattle.ocds_merge.specs.Inside.Splice.{EndsBefore};
 
-use crate::scan::{after_byte, after_plain, span_before};
+use crate::scan::{after_byte, after_plain, plain_string};
 use crate::unspliced::Unspliced;
 use std::cmp::Ordering;
 
@@ -236,10 +236,9 @@ pub(crate) fn passed_name(text: &[u8]) -> Option<(&[u8], &[u8])>
     ensures plain { MatchOption result ⊤ (λ p. (text.now ≡ 34 ∷ (p.0.now ++ 34 ∷ 58 ∷ p.1.now)) × IsPlain p.0.now) }
 {
     let inside = after_byte(text, b'"')?;
-    let end = after_plain(inside);
-    let after = after_byte(end, b'"')?;
+    let (name, after) = plain_string(inside)?;
     let value = after_byte(after, b':')?;
-    Some((span_before(inside, end), value))
+    Some((name, value))
 }
 
 /// Whether a name comes after the last one, where there is a last one.

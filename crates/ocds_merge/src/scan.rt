@@ -110,19 +110,13 @@ pub(crate) fn after_value(text: &[u8], inside: usize) -> &[u8]
     left
 }
 
-/// A string without escapes, and what comes after it; the text begins after the opening quote.
+/// A string of bytes that stand for themselves, and what comes after it; the text begins after the opening quote.
 pub(crate) fn plain_string(text: &[u8]) -> Option<(&[u8], &[u8])>
-    ensures { MatchOption result ⊤ (λ p. (text.now ≡ p.0.now ++ 34 ∷ p.1.now) × IsPlain p.0.now) }
+    ensures { MatchOption result ⊤ (λ p. (text.now ≡ p.0.now ++ 34 ∷ p.1.now) × AllStandForThemselves p.0.now) }
 {
-    for (at, byte) in text.iter().enumerate() {
-        if *byte == b'\\' {
-            return None;
-        }
-        if *byte == b'"' {
-            return Some((&text[..at], &text[at + 1..]));
-        }
-    }
-    None
+    let end = after_plain(text);
+    let rest = after_byte(end, b'"')?;
+    Some((span_before(text, end), rest))
 }
 
 /// What comes after this byte, where a text begins with it.
