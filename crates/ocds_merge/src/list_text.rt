@@ -39,7 +39,7 @@ pub(crate) fn next_item(later: bool, text: &[u8]) -> Result<Option<&[u8]>, Unspl
     }
 }
 
-/// The value of the member `id`, from where it begins, among the members of an object.
+/// The value of the member `id`, from where it begins, among the members of an object. What is before it may be anything.
 fn id_value(text: &[u8]) -> Result<&[u8], Unspliced>
     ensures { IfOk result (λ value. (ts : Members) (rest : List ℕ) → StandAt text.now ts rest
         → FoundAt (codes "id") ts rest value.now) }
@@ -49,12 +49,12 @@ fn id_value(text: &[u8]) -> Result<&[u8], Unspliced>
         if member.name == b"id".as_slice() {
             return Ok(member.value);
         }
-        left = after_value(member.value, 0);
+        left = after_value(member.value);
     }
     Err(Unspliced::Unfit)
 }
 
-/// The text id of the object that begins a text. What is before it may be anything.
+/// The text id of the object that begins a text. It is only looked for: what is before it isn't checked, as whoever walks over the object does that.
 pub(crate) fn id_in(text: &[u8]) -> Result<&[u8], Unspliced>
     ensures { IfOk result (λ id. (d : Data) (rest : List ℕ) → TextIsKept d → EndsBefore rest → text.now ≡ compact_text d ++ rest
         → text_id d ≡ Some id.now) }

@@ -76,13 +76,12 @@ pub(crate) fn after_string(text: &[u8]) -> &[u8]
     left
 }
 
-/// What comes after a value, from inside so many arrays and objects of it: the next comma or closing bracket.
-pub(crate) fn after_value(text: &[u8], inside: usize) -> &[u8]
-    requires { inside ≤ 1 }
-    ensures scans { result.now ≡ scan inside between text.now }
+/// What comes after a value: the next comma or closing bracket. What doesn't begin with a value is scanned all the same.
+pub(crate) fn after_value(text: &[u8]) -> &[u8]
+    ensures scans { result.now ≡ scan 0 between text.now }
     ensures shorter { length result.now ≤ length text.now }
 {
-    let mut depth = inside;
+    let mut depth: usize = 0;
     let mut left = text;
     while let Some((first, rest)) = left.split_first() {
         match *first {
