@@ -12,7 +12,7 @@ use Rattle.ocds_merge.specs.Identified.{text_id}
 use Rattle.ocds_merge.specs.Inside.Scan.{scan, between, IsPlain}
 use Rattle.ocds_merge.specs.Inside.Splice.{IsInRange, TextIsKept, AreItemsKept, EndsBefore, no_comma, StandAt, Searched, FoundAt}
 use Rattle.ocds_merge.proofs.MemberLemmas.{here, skips}
-use Rattle.ocds_merge.proofs.SpliceLaw.{heads, tails, plain_name, no_member_here, member_here, after_member, no_comma_members, scan-members}
+use Rattle.ocds_merge.proofs.SpliceLaw.{heads, tails, plain_name, no_member_here, member_here, after_member, no_comma_members}
 
 -- ---- the first byte of a value
 
@@ -151,17 +151,15 @@ id_text : (ms : Members) (old : Data) (s id : List ℕ) → get_member (codes "i
 id_text ms old s id found is same =
     ap (option_and_then as_str) (found ∙ ap Some is) ∙ ap Some same
 
-pub id_at : (d : Data) (rest inside value quote id after : List ℕ) → EndsBefore rest → (o : Opened d rest inside) → FoundAt (codes "id") o.members rest value → value ≡ 34 ∷ quote
-    → quote ≡ id ++ 34 ∷ after → IsPlain id → (text_id d ≡ Some id) × (scan 1 between after ≡ rest)
-id_at d rest inside value quote id after ends o f starts form plain =
+pub id_at : (d : Data) (rest inside value quote id after : List ℕ) → (o : Opened d rest inside) → FoundAt (codes "id") o.members rest value → value ≡ 34 ∷ quote
+    → quote ≡ id ++ 34 ∷ after → IsPlain id → text_id d ≡ Some id
+id_at d rest inside value quote id after o f starts form plain =
     let tail = members_text true f.others ++ rest in
     let l = led f.old tail f.kept.0 in
     let s = not_string f.old l.first l.lead (heads l.first 34 l.after quote (sym l.is ∙ sym f.text ∙ starts)) in
     let inner : (escape s.0 ++ 34 ∷ []) ++ tail ≡ id ++ 34 ∷ after = tails 34 34 _ _ (sym (f.text ∙ ap (λ (x : Data). compact_text x ++ tail) s.1) ∙ starts) ∙ form in
-    let r = plain_name s.0 id tail after plain (sym (append_assoc (escape s.0) (34 ∷ []) tail) ∙ inner) in (
-      ap text_id o.is ∙ id_text o.members f.old s.0 id f.found s.1 r.0,
-      ap (scan 1 between) (sym r.1) ∙ scan-members 0 true f.others rest f.kept.1 ∙ ends,
-    )
+    let r = plain_name s.0 id tail after plain (sym (append_assoc (escape s.0) (34 ∷ []) tail) ∙ inner) in
+    ap text_id o.is ∙ id_text o.members f.old s.0 id f.found s.1 r.0
 
 -- ---- items in turn
 

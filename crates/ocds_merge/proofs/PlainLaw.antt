@@ -4,7 +4,7 @@ use Rattle.std.proofs.lemmas.Bool.{ne_eqb}
 use Rattle.std.proofs.lemmas.Grind.{flat_map-append}
 use Rattle.json.specs.Print.{escape_byte, escape}
 use Rattle.json.proofs.Printed.Strings.{escape_byte_plain}
-use Rattle.ocds_merge.specs.Inside.Scan.{scan, in_string, StandsForItself, AllStandForThemselves}
+use Rattle.ocds_merge.specs.Inside.Scan.{scan, in_string, IsPlain, StandsForItself, AllStandForThemselves}
 
 pub all_push : (s : List ℕ) (c : ℕ) → AllStandForThemselves s → StandsForItself c → AllStandForThemselves (s ++ c ∷ [])
 all_push [] c h k = (k, tt)
@@ -16,6 +16,10 @@ plain_byte n c r h = rw (ne_eqb c 92 h.2, ne_eqb c 34 h.1) refl
 pub plain_scan : (n : ℕ) (s r : List ℕ) → AllStandForThemselves s → scan n in_string (s ++ r) ≡ scan n in_string r
 plain_scan n [] r h = refl
 plain_scan n (c ∷ s) r h = plain_byte n c (s ++ r) h.0 ∙ plain_scan n s r h.1
+
+pub plain_of : (s : List ℕ) → AllStandForThemselves s → IsPlain s
+plain_of [] h = tt
+plain_of (c ∷ s) h = (h.0.1, h.0.2, plain_of s h.1)
 
 pub plain_escape : (s : List ℕ) → AllStandForThemselves s → escape s ≡ s
 plain_escape [] h = refl

@@ -1,5 +1,5 @@
 -- What reads as a value, by its parts.
-use Rattle.std.proofs.Common.{◌≡◌, ℕ, List, [], ◌∷◌, Option, Some, None, refl, sym, ap, ◌∙◌, subst, length, option_map, option_and_then}
+use Rattle.std.proofs.Common.{◌≡◌, ℕ, List, [], ◌∷◌, Option, Some, None, refl, sym, ap, ◌∙◌, length, option_map, option_and_then}
 use Rattle.json.specs.Token.{Token}
 use Rattle.json.specs.Lex.{tokens, lex, punctuate, between, fresh}
 use Rattle.json.specs.Json as json

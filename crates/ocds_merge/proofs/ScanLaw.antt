@@ -3,11 +3,7 @@ use Rattle.std.proofs.Common.{◌≡◌, ◌≢◌, ℕ, zero, suc, ◌<◌, ◌
 use Rattle.std.proofs.lemmas.Bool.{cases_eq, cases_lt, ne_eqb}
 use Rattle.json.specs.Print.{escape_byte, escape}
 use Rattle.json.proofs.Printed.Strings.{escape_byte_plain}
-use Rattle.ocds_merge.specs.Inside.Scan.{between, in_string, scan, IsPlain}
-
-pub plain_push : (s : List ℕ) (c : ℕ) → IsPlain s → c ≢ 34 → c ≢ 92 → IsPlain (s ++ c ∷ [])
-plain_push [] c h q b = (q, b, tt)
-plain_push (x ∷ s) c h q b = (h.0, h.1, plain_push s c h.2 q b)
+use Rattle.ocds_merge.specs.Inside.Scan.{between, in_string, scan}
 
 -- ---- strings
 

@@ -1,9 +1,9 @@
 //! The items of an id list, in turn, in the list's text.
-ghost use Rattle.std.specs.Prelude.{◌≡◌, ◌<◌, ℕ, List, [], ◌∷◌, ◌++◌, codes, true, false, length, map, take, set, get_or, replicate, MatchOption, IfOk, OnOk, IsTrue, Some};
+ghost use Rattle.std.specs.Prelude.{◌≡◌, ◌<◌, ℕ, List, [], ◌∷◌, ◌++◌, codes, true, false, length, map, take, set, get_or, replicate, MatchOption, IfOk, OnOk, IsTrue, Some, ⊤};
 ghost use Rattle.serde_json.specs.Data.{Data, Items, Members};
 ghost use Rattle.serde_json.specs.Find.{get_member};
 ghost use Rattle.serde_json.specs.View.{view, items_of, items_view};
-ghost use Rattle.serde_json.specs.Written.{compact_text, items_text, members_text};
+ghost use Rattle.serde_json.specs.Written.{comma_if, compact_text, items_text, members_text};
 ghost use Rattle.ocds_merge.specs.Identified.{text_id};
 ghost use Rattle.ocds_merge.specs.Inside.Scan.{scan, between};
 ghost use Rattle.ocds_merge.specs.Inside.Step.{Lacks};
@@ -12,38 +12,34 @@ ghost use Rattle.ocds_merge.specs.Inside.Splice.{TextIsKept, AreItemsKept, EndsB
 ghost use Rattle.ocds_merge.specs.Inside.Pending.{HaveDistinctIds, alone, unless, pending};
 
 use crate::identified::id_of;
-use crate::object_text::{after_comma, next_member};
+use crate::object_text::next_member;
 use crate::places::Places;
+use crate::readable::after_comma_if;
 use crate::scan::{after_byte, after_value, plain_string};
 use crate::unspliced::Unspliced;
 use crate::writes::{write_byte, write_comma, write_new};
 use serde_json::Value;
 use std::alloc::{AllocError, Global};
 
-/// The next item of an array of objects, `None` at the array's end.
-pub(crate) fn next_item(text: &[u8]) -> Result<Option<&[u8]>, Unspliced>
-    ensures { IfOk result (λ found. MatchOption found ((rest : List ℕ) × (no_comma text.now ≡ 93 ∷ rest))
+/// The next item of an array of objects, behind a comma if another is before it; `None` at the array's end.
+pub(crate) fn next_item(later: bool, text: &[u8]) -> Result<Option<&[u8]>, Unspliced>
+    ensures finds { IfOk result (λ found. MatchOption found ((rest : List ℕ) × (no_comma text.now ≡ 93 ∷ rest))
         (λ item. (no_comma text.now ≡ item.now) × (rest : List ℕ) × (item.now ≡ 123 ∷ rest))) }
+    ensures reads { IfOk result (λ found. MatchOption found ⊤ (λ item. text.now ≡ comma_if later ++ item.now)) }
 {
-    let whole = after_comma(text);
-    match whole.first() {
-        Some(b']') => Ok(None),
-        Some(b'{') => Ok(Some(whole)),
-        _ => Err(Unspliced::Unfit),
+    if let Some(_rest) = after_byte(text, b']') {
+        return Ok(None);
     }
-}
-
-/// What comes after an array, from before its closing bracket.
-fn after_list(text: &[u8]) -> Result<&[u8], Unspliced>
-    ensures { IfOk result (λ rest. no_comma text.now ≡ 93 ∷ rest.now) }
-{
-    match after_byte(after_comma(text), b']') {
-        Some(rest) => Ok(rest),
+    let Some(item) = after_comma_if(later, text) else {
+        return Err(Unspliced::Unfit);
+    };
+    match after_byte(item, b'{') {
+        Some(_inside) => Ok(Some(item)),
         None => Err(Unspliced::Unfit),
     }
 }
 
-/// The value of the member `id`, from where it begins, among the members of an object.
+/// The value of the member `id`, from where it begins, among the members of an object. What is before it may be anything.
 fn id_value(text: &[u8]) -> Result<&[u8], Unspliced>
     ensures { IfOk result (λ value. (ts : Members) (rest : List ℕ) → StandAt text.now ts rest
         → FoundAt (codes "id") ts rest value.now) }
@@ -53,15 +49,15 @@ fn id_value(text: &[u8]) -> Result<&[u8], Unspliced>
         if member.name == b"id".as_slice() {
             return Ok(member.value);
         }
-        left = after_value(member.value, 0);
+        left = after_value(member.value);
     }
     Err(Unspliced::Unfit)
 }
 
-/// The text id of the object that begins a text, and what comes after the id, inside the object.
-pub(crate) fn id_in(text: &[u8]) -> Result<(&[u8], &[u8]), Unspliced>
-    ensures { IfOk result (λ p. (d : Data) (rest : List ℕ) → TextIsKept d → EndsBefore rest → text.now ≡ compact_text d ++ rest
-        → (text_id d ≡ Some p.0.now) × (scan 1 between p.1.now ≡ rest)) }
+/// The text id of the object that begins a text. It is only looked for: what is before it isn't checked, as whoever walks over the object does that.
+pub(crate) fn id_in(text: &[u8]) -> Result<&[u8], Unspliced>
+    ensures { IfOk result (λ id. (d : Data) (rest : List ℕ) → TextIsKept d → EndsBefore rest → text.now ≡ compact_text d ++ rest
+        → text_id d ≡ Some id.now) }
 {
     let Some(inside) = after_byte(text, b'{') else {
         return Err(Unspliced::Unfit);
@@ -70,7 +66,7 @@ pub(crate) fn id_in(text: &[u8]) -> Result<(&[u8], &[u8]), Unspliced>
         return Err(Unspliced::Unfit);
     };
     match plain_string(quoted) {
-        Some(found) => Ok(found),
+        Some((id, _after)) => Ok(id),
         None => Err(Unspliced::Unfit),
     }
 }
@@ -184,11 +180,14 @@ pub(crate) fn close_list<'a>(
     out: &mut Vec<u8>,
 ) -> Result<&'a [u8], Unspliced>
     requires { length done.now ≡ length items.now }
-    ensures { IfOk result (λ rest. AreItemsKept (items_view items.now)
+    ensures reads { IfOk result (λ rest. text.now ≡ 93 ∷ rest.now) }
+    ensures closes { IfOk result (λ rest. AreItemsKept (items_view items.now)
         → (no_comma text.now ≡ 93 ∷ rest.now)
         × (out.new.items ≡ out.old.items ++ items_text later (items_of (map alone (pending (map view items.now) done.now))))) }
 {
     write_pending(alloc, items, done, later, out)?;
-    let rest = after_list(text)?;
-    Ok(rest)
+    match after_byte(text, b']') {
+        Some(rest) => Ok(rest),
+        None => Err(Unspliced::Unfit),
+    }
 }

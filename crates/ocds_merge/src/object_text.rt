@@ -1,18 +1,22 @@
 //! The members of an object, in turn, in the object's text.
-ghost use Rattle.std.specs.Prelude.{◌≡◌, ◌≢◌, ℕ, List, [], ◌∷◌, ◌++◌, false, MatchOption, MatchBool, IfOk};
+ghost use Rattle.std.specs.Prelude.{◌≡◌, ◌≢◌, ℕ, List, [], ◌∷◌, ◌++◌, true, false, MatchOption, MatchBool, IfOk, ⊤};
 ghost use Rattle.serde_json.specs.Data.{Data, Members};
 ghost use Rattle.serde_json.specs.Written.{members_text};
 ghost use Rattle.std.specs.Ordering.{nat_cmp};
 ghost use Rattle.std.specs.Cmp.Lexicographic.{slice_cmp};
+ghost use Rattle.ocds_merge.specs.Inside.Readable.{MembersFrom, MembersRead, NextMember};
 ghost use Rattle.ocds_merge.specs.Inside.Scan.{IsPlain};
 ghost use Rattle.ocds_merge.specs.Inside.Splice.{EndsBefore, no_comma, StandAt, AllAbove, StartsFrom, StartsWith, Passed};
 
-use crate::scan::{after_value, plain_string};
+use crate::readable::{
+    Remaining, after_comma_if, is_in_turn, passed_name, skipped, skipped_members,
+};
+use crate::scan::after_byte;
 use crate::unspliced::Unspliced;
 use crate::writes::copy_span;
 use std::cmp::Ordering;
 
-/// The next member of an object.
+/// A member of an object.
 #[derive(Clone, Copy)]
 pub(crate) struct Member<'a> {
     pub(crate) name: &'a [u8],
@@ -32,25 +36,41 @@ pub(crate) fn after_comma(text: &[u8]) -> &[u8]
     }
 }
 
-/// The next member, `None` at the object's end.
+/// The next member, `None` at the object's end. What is before it may be anything.
 pub(crate) fn next_member(text: &[u8]) -> Result<Option<Member<'_>>, Unspliced>
     ensures { IfOk result (λ found. MatchOption found ((rest : List ℕ) × (no_comma text.now ≡ 125 ∷ rest))
         (λ m. (no_comma text.now ≡ m.whole.now) × (m.whole.now ≡ 34 ∷ (m.name.now ++ 34 ∷ 58 ∷ m.value.now)) × IsPlain m.name.now)) }
 {
     let whole = after_comma(text);
-    match whole.split_first() {
-        Some((b'}', _)) => Ok(None),
-        Some((b'"', rest)) => {
-            let Some((name, rest)) = plain_string(rest) else {
-                return Err(Unspliced::Unfit);
-            };
-            match rest.split_first() {
-                Some((b':', value)) => Ok(Some(Member { name, whole, value })),
-                _ => Err(Unspliced::Unfit),
-            }
-        }
-        _ => Err(Unspliced::Unfit),
+    if let Some(_rest) = after_byte(whole, b'}') {
+        return Ok(None);
     }
+    match passed_name(whole) {
+        Some((name, value)) => Ok(Some(Member { name, whole, value })),
+        None => Err(Unspliced::Unfit),
+    }
+}
+
+/// The next member where it stands as it must: behind a comma if another is before it, and above that one's name.
+pub(crate) fn next_in_turn<'a>(left: Remaining<'a>) -> Result<Option<Member<'a>>, Unspliced>
+    ensures finds { IfOk result (λ found. MatchOption found ((rest : List ℕ) × (no_comma left.entry.text.now ≡ 125 ∷ rest))
+        (λ m. (no_comma left.entry.text.now ≡ m.whole.now) × (m.whole.now ≡ 34 ∷ (m.name.now ++ 34 ∷ 58 ∷ m.value.now)) × IsPlain m.name.now)) }
+    ensures reads { IfOk result (λ found. MatchOption found ⊤
+        (λ m. NextMember left.entry.text.now left.entry.later left.entry.last.now m.name.now m.value.now)) }
+{
+    if let Some(_rest) = after_byte(left.text, b'}') {
+        return Ok(None);
+    }
+    let Some(whole) = after_comma_if(left.later, left.text) else {
+        return Err(Unspliced::Unfit);
+    };
+    let Some((name, value)) = passed_name(whole) else {
+        return Err(Unspliced::Unfit);
+    };
+    if !is_in_turn(left.later, left.last, name) {
+        return Err(Unspliced::Unfit);
+    }
+    Ok(Some(Member { name, whole, value }))
 }
 
 /// Whether a name comes after another.
@@ -67,21 +87,28 @@ fn is_above(name: &str, other: &[u8]) -> bool
 /// Copies the members with names below this one.
 pub(crate) fn copy_below<'a>(
     name: &str,
-    text: &'a [u8],
+    from: Remaining<'a>,
     later: bool,
+    depth: usize,
     out: &mut Vec<u8>,
-) -> Result<(&'a [u8], bool), Unspliced>
-    ensures { IfOk result (λ p. (d : Data) (ms ts : Members) (rest : List ℕ) → StandAt text.now ts rest → AllAbove name.now ms
-        → (done : Passed name.now d ms ts rest out.old.items later p.0.now out.new.items p.1) × StartsFrom name.now done.others) }
+) -> Result<(Remaining<'a>, bool), Unspliced>
+    ensures reads { IfOk result (λ p. MembersRead from.entry.text.now from.entry.later from.entry.last.now p.0.text.now p.0.later p.0.last.now depth) }
+    ensures copies { IfOk result (λ p. (d : Data) (ms ts : Members) (rest : List ℕ) → StandAt from.entry.text.now ts rest → AllAbove name.now ms
+        → (done : Passed name.now d ms ts rest out.old.items later p.0.text.now out.new.items p.1) × StartsFrom name.now done.others) }
 {
-    let mut left = text;
+    let mut left = from;
     let mut later = later;
-    while let Some(member) = next_member(left)? {
+    while let Some(member) = next_in_turn(left)? {
         if !is_above(name, member.name) {
             return Ok((left, later));
         }
-        left = after_value(member.value, 0);
-        copy_span(member.whole, left, later, out)?;
+        let rest = skipped(member.value, depth)?;
+        copy_span(member.whole, rest, later, out)?;
+        left = Remaining {
+            text: rest,
+            later: true,
+            last: member.name,
+        };
         later = true;
     }
     Ok((left, later))
@@ -100,30 +127,36 @@ fn has_comma(later: bool, text: &[u8]) -> bool
 
 /// Copies the members that are left, and closes the object.
 pub(crate) fn copy_rest<'a>(
-    text: &'a [u8],
+    left: Remaining<'a>,
     later: bool,
+    depth: usize,
     out: &mut Vec<u8>,
 ) -> Result<&'a [u8], Unspliced>
-    ensures { IfOk result (λ left. (ts : Members) (rest : List ℕ) → StandAt text.now ts rest → EndsBefore rest
-        → (left.now ≡ rest) × (out.new.items ≡ out.old.items ++ members_text later ts)) }
+    ensures reads { IfOk result (λ rest. MembersFrom left.entry.text.now left.entry.later left.entry.last.now rest.now depth) }
+    ensures copies { IfOk result (λ after. (ts : Members) (rest : List ℕ) → StandAt left.entry.text.now ts rest → EndsBefore rest
+        → (after.now ≡ rest) × (out.new.items ≡ out.old.items ++ members_text later ts)) }
 {
-    let whole = after_comma(text);
-    // From inside the object: to its closing bracket, and past it to what follows.
-    let rest = after_value(whole, 1);
+    let whole = after_comma(left.text);
+    let rest = skipped_members(left, depth)?;
     copy_span(whole, rest, has_comma(later, whole), out)?;
     Ok(rest)
 }
 
-/// The old value of this name, from where it begins, among members of which none comes before it.
-pub(crate) fn old_value<'a>(text: &'a [u8], name: &str) -> Result<Option<&'a [u8]>, Unspliced>
-    ensures { IfOk result (λ found. (ts : Members) (rest : List ℕ) → StandAt text.now ts rest → StartsFrom name.now ts
-        → MatchOption found (AllAbove name.now ts) (λ value. StartsWith name.now value.now ts rest)) }
+/// The old member of this name, among members of which none comes before it.
+pub(crate) fn old_member<'a>(
+    left: Remaining<'a>,
+    name: &str,
+) -> Result<Option<Member<'a>>, Unspliced>
+    ensures reads { IfOk result (λ found. MatchOption found ⊤
+        (λ m. NextMember left.entry.text.now left.entry.later left.entry.last.now m.name.now m.value.now)) }
+    ensures finds { IfOk result (λ found. (ts : Members) (rest : List ℕ) → StandAt left.entry.text.now ts rest → StartsFrom name.now ts
+        → MatchOption found (AllAbove name.now ts) (λ m. StartsWith name.now m.value.now ts rest)) }
 {
-    let Some(member) = next_member(text)? else {
+    let Some(member) = next_in_turn(left)? else {
         return Ok(None);
     };
     if member.name == name.as_bytes() {
-        Ok(Some(member.value))
+        Ok(Some(member))
     } else {
         Ok(None)
     }

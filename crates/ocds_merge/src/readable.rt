@@ -1,5 +1,5 @@
 //! Whether a text is the compact text of a value that reads back from it, without a tree of it.
-ghost use Rattle.std.specs.Prelude.{◌≡◌, ◌≤◌, ◌<◌, ◌^◌, ℕ, List, ◌∷◌, ◌++◌, [], length, take, slice_index, decimal, IsTrue, MatchBool, MatchOption, Some, ⊤};
+ghost use Rattle.std.specs.Prelude.{◌≡◌, ◌≤◌, ◌<◌, ◌^◌, ℕ, List, ◌∷◌, ◌++◌, [], false, length, take, slice_index, decimal, IsTrue, IfOk, MatchBool, MatchOption, Some, ⊤};
 ghost use Rattle.std.specs.Ordering.{nat_cmp};
 ghost use Rattle.std.specs.Cmp.Lexicographic.{slice_cmp};
 ghost use Rattle.std.specs.Char.{digit_value};
@@ -8,16 +8,41 @@ ghost use Rattle.json.specs.Print.{escape, escape_byte, quoted};
 ghost use Rattle.serde_json.specs.Read.{read};
 ghost use Rattle.serde_json.specs.Written.{comma_if};
 ghost use Rattle.ocds_merge.specs.Stored.{IsObjectText};
-ghost use Rattle.ocds_merge.specs.Inside.Readable.{Passed, PassedItems, PassedMembers, Reads};
+ghost use Rattle.ocds_merge.specs.Inside.Readable.{Passed, PassedItems, MembersFrom};
+ghost use Rattle.ocds_merge.specs.Inside.Scan.{scan, between, IsPlain};
+ghost use Rattle.ocds_merge.specs.Inside.Splice.{EndsBefore};
 
-use crate::scan::{after_byte, after_plain, span_before};
+use crate::scan::{after_byte, after_plain, plain_string};
+use crate::unspliced::Unspliced;
 use std::cmp::Ordering;
 
 /// How deep a text may nest, in levels: no deeper than `Value::from_str` reads.
-const MAX_DEPTH: usize = 127;
+pub(crate) const MAX_DEPTH: usize = 127;
 
 /// The most digits that surely fit 64 bits.
 const MAX_DIGITS: usize = 19;
+
+/// What is left of an object's members, up to its closing bracket and past it.
+#[derive(Clone, Copy)]
+pub(crate) struct Remaining<'a> {
+    pub(crate) text: &'a [u8],
+    // Whether a member stands before, so that a comma must come first.
+    pub(crate) later: bool,
+    // The name of that member: the next one comes after it.
+    pub(crate) last: &'a [u8],
+}
+
+/// All members of an object, of which the text begins after the opening bracket.
+pub(crate) fn all_members(text: &[u8]) -> Remaining<'_>
+    ensures from { result.text.now ≡ text.now }
+    ensures first { result.later ≡ false }
+{
+    Remaining {
+        text,
+        later: false,
+        last: b"",
+    }
+}
 
 /// Whether a backslash and this byte are how a byte is written.
 fn is_escape(letter: u8) -> bool
@@ -114,19 +139,29 @@ fn after_word<'a>(text: &'a [u8], word: &str) -> Option<&'a [u8]>
     Some(rest)
 }
 
-/// What comes after a value; arrays and objects may nest `depth` deep.
+/// What comes after a value; arrays and objects may nest `depth` deep. Strings come first, since most values are.
 #[cycle(passing)]
 fn passed_value(text: &[u8], depth: usize) -> Option<&[u8]>
     ensures { MatchOption result ⊤ (λ rest. Passed text.now rest.now depth) }
 {
+    match after_byte(text, b'"') {
+        Some(inside) => Some(passed_string(inside)?),
+        None => Some(passed_other(text, depth)?),
+    }
+}
+
+/// What comes after a value that is no string.
+#[cycle(passing)]
+fn passed_other(text: &[u8], depth: usize) -> Option<&[u8]>
+    ensures { MatchOption result ⊤ (λ rest. Passed text.now rest.now depth) }
+{
     let (first, rest) = text.split_first()?;
     match *first {
-        b'"' => Some(passed_string(rest)?),
         b'{' => {
             if depth == 0 {
                 return None;
             }
-            Some(passed_members(rest, depth - 1)?)
+            Some(passed_members(all_members(rest), depth - 1)?)
         }
         b'[' => {
             if depth == 0 {
@@ -160,16 +195,16 @@ fn passed_items(text: &[u8], depth: usize) -> Option<&[u8]>
     None
 }
 
-/// What comes after an object, from after its opening bracket.
+/// What comes after an object, from among its members on.
 #[cycle(passing)]
-fn passed_members(text: &[u8], depth: usize) -> Option<&[u8]>
-    ensures { MatchOption result ⊤ (λ rest. PassedMembers text.now rest.now depth) }
+pub(crate) fn passed_members<'a>(from: Remaining<'a>, depth: usize) -> Option<&'a [u8]>
+    ensures { MatchOption result ⊤ (λ rest. MembersFrom from.entry.text.now from.entry.later from.entry.last.now rest.now depth) }
 {
-    let mut left = text;
-    let mut later = false;
-    let mut last: &[u8] = b"";
+    let mut left = from.text;
+    let mut later = from.later;
+    let mut last = from.last;
     // An object has no more members than bytes.
-    for _turn in 0..text.len() {
+    for _turn in 0..from.text.len() {
         if let Some(rest) = after_byte(left, b'}') {
             return Some(rest);
         }
@@ -185,7 +220,7 @@ fn passed_members(text: &[u8], depth: usize) -> Option<&[u8]>
 }
 
 /// The text after a comma, which stands where something is before it.
-fn after_comma_if(later: bool, text: &[u8]) -> Option<&[u8]>
+pub(crate) fn after_comma_if(later: bool, text: &[u8]) -> Option<&[u8]>
     ensures { MatchOption result ⊤ (λ rest. text.now ≡ comma_if later ++ rest.now) }
 {
     if later {
@@ -196,18 +231,18 @@ fn after_comma_if(later: bool, text: &[u8]) -> Option<&[u8]>
 }
 
 /// A name without escapes, and what comes after its colon.
-fn passed_name(text: &[u8]) -> Option<(&[u8], &[u8])>
-    ensures { MatchOption result ⊤ (λ p. text.now ≡ quoted p.0.now ++ 58 ∷ p.1.now) }
+pub(crate) fn passed_name(text: &[u8]) -> Option<(&[u8], &[u8])>
+    ensures written { MatchOption result ⊤ (λ p. text.now ≡ quoted p.0.now ++ 58 ∷ p.1.now) }
+    ensures plain { MatchOption result ⊤ (λ p. (text.now ≡ 34 ∷ (p.0.now ++ 34 ∷ 58 ∷ p.1.now)) × IsPlain p.0.now) }
 {
     let inside = after_byte(text, b'"')?;
-    let end = after_plain(inside);
-    let after = after_byte(end, b'"')?;
+    let (name, after) = plain_string(inside)?;
     let value = after_byte(after, b':')?;
-    Some((span_before(inside, end), value))
+    Some((name, value))
 }
 
 /// Whether a name comes after the last one, where there is a last one.
-fn is_in_turn(later: bool, last: &[u8], name: &[u8]) -> bool
+pub(crate) fn is_in_turn(later: bool, last: &[u8], name: &[u8]) -> bool
     ensures { MatchBool result (IsTrue later → slice_cmp nat_cmp name.now last.now ≡ Ordering.Greater) ⊤ }
 {
     if !later {
@@ -233,31 +268,61 @@ pub(crate) fn is_space(byte: u8) -> bool
     }
 }
 
-fn is_end(text: &[u8]) -> bool
+pub(crate) fn is_end(text: &[u8]) -> bool
     ensures { IsTrue result → text.now ≡ [] }
 {
     text.is_empty()
 }
 
-/// Whether a text is the compact text of a value with natural numbers alone, whose names have no escape and stand in order: where it isn't it may
-/// still be JSON.
-pub(crate) fn is_plain_json(text: &[u8]) -> bool
-    ensures { IsTrue result → Reads text.now }
+/// Whether a value can end before this text.
+fn ends_value(text: &[u8]) -> bool
+    ensures { IsTrue result → EndsBefore text.now }
 {
-    match passed_value(text, MAX_DEPTH) {
-        Some(rest) => is_end(rest),
-        None => false,
+    match text.first() {
+        Some(b',' | b'}' | b']') => true,
+        Some(_) => false,
+        None => true,
     }
 }
 
-/// Whether a text is the compact text of such an object: where it isn't it may still be one.
+/// What comes after the value that begins a text, if the value ends there.
+pub(crate) fn skipped(text: &[u8], depth: usize) -> Result<&[u8], Unspliced>
+    ensures reads { IfOk result (λ rest. Passed text.now rest.now depth) }
+    ensures scans { IfOk result (λ rest. rest.now ≡ scan 0 between text.now) }
+    ensures shorter { IfOk result (λ rest. length rest.now ≤ length text.now) }
+{
+    let Some(rest) = passed_value(text, depth) else {
+        return Err(Unspliced::Unfit);
+    };
+    if !ends_value(rest) {
+        return Err(Unspliced::Unfit);
+    }
+    Ok(rest)
+}
+
+/// What comes after an object, from among its members on, if it ends there.
+pub(crate) fn skipped_members<'a>(from: Remaining<'a>, depth: usize) -> Result<&'a [u8], Unspliced>
+    ensures reads { IfOk result (λ rest. MembersFrom from.entry.text.now from.entry.later from.entry.last.now rest.now depth) }
+    ensures ends { IfOk result (λ rest. EndsBefore rest.now) }
+{
+    let Some(rest) = passed_members(from, depth) else {
+        return Err(Unspliced::Unfit);
+    };
+    if !ends_value(rest) {
+        return Err(Unspliced::Unfit);
+    }
+    Ok(rest)
+}
+
+/// Whether a text is the compact text of an object with natural numbers alone, whose names have no escape and stand in order: where it isn't it may
+/// still be one.
 pub(crate) fn is_plain_object(text: &[u8]) -> bool
     ensures { IsTrue result → IsObjectText text.now }
 {
     let Some(inside) = after_byte(text, b'{') else {
         return false;
     };
-    match passed_members(inside, MAX_DEPTH - 1) {
+    match passed_members(all_members(inside), MAX_DEPTH - 1) {
         Some(rest) => is_end(rest),
         None => false,
     }

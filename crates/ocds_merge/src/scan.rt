@@ -76,13 +76,12 @@ pub(crate) fn after_string(text: &[u8]) -> &[u8]
     left
 }
 
-/// What comes after a value, from inside so many arrays and objects of it: the next comma or closing bracket.
-pub(crate) fn after_value(text: &[u8], inside: usize) -> &[u8]
-    requires { inside ≤ 1 }
-    ensures scans { result.now ≡ scan inside between text.now }
+/// What comes after a value: the next comma or closing bracket. What doesn't begin with a value is scanned all the same.
+pub(crate) fn after_value(text: &[u8]) -> &[u8]
+    ensures scans { result.now ≡ scan 0 between text.now }
     ensures shorter { length result.now ≤ length text.now }
 {
-    let mut depth = inside;
+    let mut depth: usize = 0;
     let mut left = text;
     while let Some((first, rest)) = left.split_first() {
         match *first {
@@ -110,19 +109,13 @@ pub(crate) fn after_value(text: &[u8], inside: usize) -> &[u8]
     left
 }
 
-/// A string without escapes, and what comes after it; the text begins after the opening quote.
+/// A string of bytes that stand for themselves, and what comes after it; the text begins after the opening quote.
 pub(crate) fn plain_string(text: &[u8]) -> Option<(&[u8], &[u8])>
-    ensures { MatchOption result ⊤ (λ p. (text.now ≡ p.0.now ++ 34 ∷ p.1.now) × IsPlain p.0.now) }
+    ensures { MatchOption result ⊤ (λ p. (text.now ≡ p.0.now ++ 34 ∷ p.1.now) × AllStandForThemselves p.0.now) }
 {
-    for (at, byte) in text.iter().enumerate() {
-        if *byte == b'\\' {
-            return None;
-        }
-        if *byte == b'"' {
-            return Some((&text[..at], &text[at + 1..]));
-        }
-    }
-    None
+    let end = after_plain(text);
+    let rest = after_byte(end, b'"')?;
+    Some((span_before(text, end), rest))
 }
 
 /// What comes after this byte, where a text begins with it.

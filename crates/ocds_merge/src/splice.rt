@@ -1,11 +1,12 @@
 //! The merge of a text and one more value: what the value doesn't touch is copied as it stands.
-ghost use Rattle.std.specs.Prelude.{◌≡◌, ◌<◌, ℕ, List, [], ◌∷◌, ◌++◌, Bool, true, false, length, map, is_some, MatchBool, IfOk, OnOk, unwrap_or, Some};
+ghost use Rattle.std.specs.Prelude.{◌≡◌, ◌<◌, ◌+◌, ℕ, List, [], ◌∷◌, ◌++◌, Bool, true, false, length, map, is_some, MatchBool, IfOk, OnOk, unwrap_or, Some};
 ghost use Rattle.serde_json.specs.Data.{Data, null, Members, member, Items, array, object};
 ghost use Rattle.serde_json.specs.View.{view, items_of, items_view, members_view};
 ghost use Rattle.serde_json.specs.Written.{compact_text, members_text, items_text};
 ghost use Rattle.ocds_merge.specs.Identified.{all_have_id, text_id};
 ghost use Rattle.ocds_merge.specs.Inside.Step.{step, step_members, step_items, id_list_of, items_list};
 ghost use Rattle.ocds_merge.specs.Inside.Places.{IndexServes};
+ghost use Rattle.ocds_merge.specs.Inside.Readable.{Passed, PassedItems, PassedMembers, ItemsRead, MembersRead};
 ghost use Rattle.ocds_merge.specs.Inside.Splice.{TextIsKept, AreItemsKept, EndsBefore, no_comma, StandAt, AllAbove, StartsFrom, SameText, SameItems};
 ghost use Rattle.ocds_merge.specs.Inside.Pending.{HaveDistinctIds, step_list, pending};
 
@@ -13,9 +14,10 @@ use crate::identified::is_id_list;
 use crate::list_text::{
     close_list, distinct_places, id_in, next_item, none_done, note_done, place_in,
 };
-use crate::object_text::{copy_below, copy_rest, old_value};
+use crate::object_text::{copy_below, copy_rest, old_member};
 use crate::places::Places;
-use crate::scan::{after_byte, after_value};
+use crate::readable::{Remaining, all_members, skipped};
+use crate::scan::after_byte;
 use crate::unspliced::Unspliced;
 use crate::writes::{copy_span, replace_value, write_byte, write_comma, write_name, write_new};
 use serde_json::{Map, Value};
@@ -30,33 +32,45 @@ fn is_null(value: &Value) -> bool
     }
 }
 
-/// Writes the merge of the value that begins a text and one more, which isn't null; the text after the old value.
+/// How deep may nest what is inside an array or object, where that may nest `depth` deep.
+fn depth_inside(depth: usize) -> Result<usize, Unspliced>
+    ensures { IfOk result (λ inside. depth ≡ inside + 1) }
+{
+    if depth == 0 {
+        return Err(Unspliced::Unfit);
+    }
+    Ok(depth - 1)
+}
+
+/// Writes the merge of the value that begins a text and one more, which isn't null; the text after the old value, which may nest `depth` deep.
 #[cycle(splicing)]
 pub(crate) fn splice_value<'a>(
     alloc: Global,
     value: &Value,
     text: &'a [u8],
+    depth: usize,
     out: &mut Vec<u8>,
 ) -> Result<&'a [u8], Unspliced>
+    ensures reads { IfOk result (λ left. Passed text.now left.now depth) }
     ensures splices { IfOk result (λ left. TextIsKept (view value.now) → (d : Data) (rest : List ℕ) → TextIsKept d → EndsBefore rest
         → text.now ≡ compact_text d ++ rest
         → (left.now ≡ rest) × (out.new.items ≡ out.old.items ++ compact_text (unwrap_or (step (Some d) (view value.now)) null))) }
 {
     match value {
         Value::Object(members) => match after_byte(text, b'{') {
-            Some(inside) => splice_members(alloc, members, inside, out),
-            None => Ok(replace_value(alloc, value, text, out)?),
+            Some(inside) => splice_members(alloc, members, inside, depth_inside(depth)?, out),
+            None => Ok(replace_value(alloc, value, text, depth, out)?),
         },
         Value::Array(items) => {
             if !is_id_list(items) {
-                return Ok(replace_value(alloc, value, text, out)?);
+                return Ok(replace_value(alloc, value, text, depth, out)?);
             }
             match after_byte(text, b'[') {
-                Some(inside) => splice_items(alloc, items, inside, out),
-                None => Ok(replace_value(alloc, value, text, out)?),
+                Some(inside) => splice_items(alloc, items, inside, depth_inside(depth)?, out),
+                None => Ok(replace_value(alloc, value, text, depth, out)?),
             }
         }
-        _ => Ok(replace_value(alloc, value, text, out)?),
+        _ => Ok(replace_value(alloc, value, text, depth, out)?),
     }
 }
 
@@ -66,21 +80,24 @@ fn splice_members<'a>(
     alloc: Global,
     members: &Map<String, Value>,
     text: &'a [u8],
+    depth: usize,
     out: &mut Vec<u8>,
 ) -> Result<&'a [u8], Unspliced>
+    ensures reads { IfOk result (λ left. PassedMembers text.now left.now depth) }
     ensures splices { IfOk result (λ left. TextIsKept (object (members_view members.now.entries)) → (ts : Members) (rest : List ℕ)
         → TextIsKept (object ts) → EndsBefore rest → text.now ≡ members_text false ts ++ rest
         → (left.now ≡ rest) × (out.new.items ≡ out.old.items ++ 123 ∷ members_text false (step_members ts (members_view members.now.entries)))) }
 {
     write_byte(b'{', out)?;
-    let mut left = text;
+    let mut left = all_members(text);
+    // Whether anything is written: of the old members some may be gone.
     let mut later = false;
     for (name, value) in members.iter() {
         let name = name.as_str();
-        (left, later) = copy_below(name, left, later, out)?;
-        (left, later) = splice_member(alloc, name, value, left, later, out)?;
+        (left, later) = copy_below(name, left, later, depth, out)?;
+        (left, later) = splice_member(alloc, name, value, left, later, depth, out)?;
     }
-    copy_rest(left, later, out)
+    copy_rest(left, later, depth, out)
 }
 
 /// Merges this member into the rest of an object, which has no names below its own.
@@ -89,28 +106,50 @@ fn splice_member<'a>(
     alloc: Global,
     name: &str,
     value: &Value,
-    text: &'a [u8],
+    left: Remaining<'a>,
     later: bool,
+    depth: usize,
     out: &mut Vec<u8>,
-) -> Result<(&'a [u8], bool), Unspliced>
+) -> Result<(Remaining<'a>, bool), Unspliced>
+    ensures reads { IfOk result (λ p. MembersRead left.entry.text.now left.entry.later left.entry.last.now p.0.text.now p.0.later p.0.last.now depth) }
     ensures splices { IfOk result (λ p. TextIsKept (view value.now) → (ms ts : Members) (rest : List ℕ)
-        → StandAt text.now ts rest → StartsFrom name.now ts → AllAbove name.now ms
-        → (others : Members) × StandAt p.0.now others rest
+        → StandAt left.entry.text.now ts rest → StartsFrom name.now ts → AllAbove name.now ms
+        → (others : Members) × StandAt p.0.text.now others rest
         × SameText out.old.items later (step_members ts (member name.now (view value.now) ms)) out.new.items p.1 (step_members others ms)) }
 {
-    let old = old_value(text, name)?;
+    let old = old_member(left, name)?;
     if is_null(value) {
         return match old {
-            Some(old) => Ok((after_value(old, 0), later)),
-            None => Ok((text, later)),
+            Some(old) => {
+                let rest = skipped(old.value, depth)?;
+                Ok((
+                    Remaining {
+                        text: rest,
+                        later: true,
+                        last: old.name,
+                    },
+                    later,
+                ))
+            }
+            None => Ok((left, later)),
         };
     }
     write_name(alloc, name, later, out)?;
     match old {
-        Some(old) => Ok((splice_value(alloc, value, old, out)?, true)),
+        Some(old) => {
+            let rest = splice_value(alloc, value, old.value, depth, out)?;
+            Ok((
+                Remaining {
+                    text: rest,
+                    later: true,
+                    last: old.name,
+                },
+                true,
+            ))
+        }
         None => {
             write_new(alloc, value, out)?;
-            Ok((text, true))
+            Ok((left, true))
         }
     }
 }
@@ -121,9 +160,11 @@ fn splice_items<'a>(
     alloc: Global,
     items: &Vec<Value>,
     text: &'a [u8],
+    depth: usize,
     out: &mut Vec<u8>,
 ) -> Result<&'a [u8], Unspliced>
     requires { all_have_id (items_view items.now.items) ≡ true }
+    ensures reads { IfOk result (λ left. PassedItems text.now left.now depth) }
     ensures splices { IfOk result (λ left. AreItemsKept (items_view items.now.items) → (ds : Items) (rest : List ℕ)
         → AreItemsKept ds → EndsBefore rest → text.now ≡ items_text false ds ++ rest
         → (left.now ≡ rest) × (out.new.items ≡ out.old.items
@@ -132,7 +173,7 @@ fn splice_items<'a>(
     let places = distinct_places(alloc, items)?;
     let mut done = none_done(alloc, items.len())?;
     write_byte(b'[', out)?;
-    let (left, later) = splice_old_items(alloc, items, &places, &mut done, text, out)?;
+    let (left, later) = splice_old_items(alloc, items, &places, &mut done, text, depth, out)?;
     drop(places);
     close_list(alloc, items, &done, left, later, out)
 }
@@ -145,6 +186,7 @@ fn splice_old_items<'a>(
     places: &Places,
     done: &mut Vec<bool>,
     text: &'a [u8],
+    depth: usize,
     out: &mut Vec<u8>,
 ) -> Result<(&'a [u8], bool), Unspliced>
     requires ids { all_have_id (items_view items.now.items) ≡ true }
@@ -152,6 +194,7 @@ fn splice_old_items<'a>(
     requires distinct { HaveDistinctIds (map view items.now.items) }
     requires marks { length done.old.items ≡ length items.now.items }
     ensures marks { OnOk result (length done.new.items ≡ length items.now.items) }
+    ensures reads { IfOk result (λ p. ItemsRead text.now false p.0.now p.1 depth) }
     ensures splices { IfOk result (λ p. AreItemsKept (items_view items.now.items) → (ds : Items) (rest : List ℕ)
         → AreItemsKept ds → text.now ≡ items_text false ds ++ rest
         → (no_comma p.0.now ≡ 93 ∷ rest) × (all_have_id ds ≡ true)
@@ -162,10 +205,10 @@ fn splice_old_items<'a>(
     let mut later = false;
     // A list has no more items than bytes.
     for _turn in 0..text.len() {
-        let Some(item) = next_item(left)? else {
+        let Some(item) = next_item(later, left)? else {
             return Ok((left, later));
         };
-        left = splice_item(alloc, items, places, done, item, later, out)?;
+        left = splice_item(alloc, items, places, done, item, later, depth, out)?;
         later = true;
     }
     Err(Unspliced::Unfit)
@@ -180,6 +223,7 @@ fn splice_item<'a>(
     done: &mut Vec<bool>,
     text: &'a [u8],
     later: bool,
+    depth: usize,
     out: &mut Vec<u8>,
 ) -> Result<&'a [u8], Unspliced>
     requires ids { all_have_id (items_view items.now.items) ≡ true }
@@ -187,20 +231,21 @@ fn splice_item<'a>(
     requires distinct { HaveDistinctIds (map view items.now.items) }
     requires marks { length done.old.items ≡ length items.now.items }
     ensures marks { OnOk result (length done.new.items ≡ length items.now.items) }
+    ensures reads { IfOk result (λ left. Passed text.now left.now depth) }
     ensures splices { IfOk result (λ left. AreItemsKept (items_view items.now.items) → (t : Data) (rest : List ℕ)
         → TextIsKept t → EndsBefore rest → text.now ≡ compact_text t ++ rest
         → (left.now ≡ rest) × (is_some (text_id t) ≡ true) × ((ts : List Data)
         → SameItems out.old.items later (step_list (t ∷ ts) (pending (map view items.now.items) done.old.items))
         out.new.items true (step_list ts (pending (map view items.now.items) done.new.items)))) }
 {
-    let (id, inside) = id_in(text)?;
+    let id = id_in(text)?;
     let Some(place) = place_in(places, items, id)? else {
-        let left = after_value(inside, 1);
+        let left = skipped(text, depth)?;
         copy_span(text, left, later, out)?;
         return Ok(left);
     };
     note_done(done, place)?;
     write_comma(later, out)?;
-    let left = splice_value(alloc, &items[place], text, out)?;
+    let left = splice_value(alloc, &items[place], text, depth, out)?;
     Ok(left)
 }

@@ -12,7 +12,7 @@ ghost use Rattle.ocds_merge.specs.declared.stored.StoredFault.TheVariants.{NoMem
 
 use crate::kept_value::is_kept;
 use crate::merging::{NoMemory, carried_on};
-use crate::readable::{is_plain_json, is_plain_object, is_space};
+use crate::readable::{MAX_DEPTH, is_end, is_plain_object, is_space};
 use crate::splice::splice_value;
 use crate::unspliced::Unspliced;
 use serde_json::Value;
@@ -144,7 +144,8 @@ fn spliced(alloc: Global, stored: &str, value: &Value) -> Result<String, Unsplic
         return Err(Unspliced::Unfit);
     }
     let bytes = stored.as_bytes();
-    if !is_plain_json(bytes) {
+    // Before any memory is asked for.
+    if bytes.is_empty() {
         return Err(Unspliced::Unfit);
     }
     let text = spliced_bytes(alloc, bytes, value)?;
@@ -156,12 +157,13 @@ fn spliced(alloc: Global, stored: &str, value: &Value) -> Result<String, Unsplic
 
 /// The bytes of that text.
 fn spliced_bytes(alloc: Global, stored: &[u8], value: &Value) -> Result<Vec<u8>, Unspliced>
-    ensures { IfOk result (λ bytes. TextIsKept (view value.now) → (merge : Data) → TextIsKept merge → stored.now ≡ compact_text merge
+    ensures readable { OnOk result (Reads stored.now) }
+    ensures splices { IfOk result (λ bytes. TextIsKept (view value.now) → (merge : Data) → TextIsKept merge → stored.now ≡ compact_text merge
         → bytes.items ≡ compact_text (unwrap_or (step (Some merge) (view value.now)) null)) }
 {
     let mut out: Vec<u8> = Vec::with_capacity(alloc, stored.len())?;
-    let rest = splice_value(alloc, value, stored, &mut out)?;
-    if !rest.is_empty() {
+    let rest = splice_value(alloc, value, stored, MAX_DEPTH, &mut out)?;
+    if !is_end(rest) {
         return Err(Unspliced::Unfit);
     }
     Ok(out)

@@ -5,10 +5,13 @@ ghost use Rattle.serde_json.specs.View.{view};
 ghost use Rattle.serde_json.specs.Written.{compact_text, comma_if, has_float};
 ghost use Rattle.json.specs.Print.{quoted};
 ghost use Rattle.ocds_merge.specs.Inside.Step.{step};
+ghost use Rattle.ocds_merge.specs.Inside.Readable.{Passed};
 ghost use Rattle.ocds_merge.specs.Inside.Splice.{TextIsKept, EndsBefore};
 
-use crate::scan::{after_value, span_before};
+use crate::readable::skipped;
+use crate::scan::span_before;
 use crate::step::merge_value;
+use crate::unspliced::Unspliced;
 use serde_json::Value;
 use std::alloc::{AllocError, Global};
 
@@ -77,12 +80,14 @@ pub(crate) fn replace_value<'a>(
     alloc: Global,
     value: &Value,
     text: &'a [u8],
+    depth: usize,
     out: &mut Vec<u8>,
-) -> Result<&'a [u8], AllocError>
-    ensures { IfOk result (λ left. TextIsKept (view value.now) → (d : Data) (rest : List ℕ) → TextIsKept d → EndsBefore rest
+) -> Result<&'a [u8], Unspliced>
+    ensures reads { IfOk result (λ left. Passed text.now left.now depth) }
+    ensures splices { IfOk result (λ left. TextIsKept (view value.now) → (d : Data) (rest : List ℕ) → TextIsKept d → EndsBefore rest
         → text.now ≡ compact_text d ++ rest
         → (left.now ≡ rest) × (out.new.items ≡ out.old.items ++ compact_text (unwrap_or (step None (view value.now)) null))) }
 {
     write_new(alloc, value, out)?;
-    Ok(after_value(text, 0))
+    Ok(skipped(text, depth)?)
 }

@@ -1,4 +1,5 @@
 use Rattle.ocds_merge.proofs.ListTextLaw.{opened, id_at}
+use Rattle.ocds_merge.proofs.PlainLaw.{plain_of}
 use Rattle.ocds_merge.proofs.list_text.id_in.Goals as goal
 
 pub returns-in-Some-plain_string : goal.returns-in-Some-plain_string
@@ -6,5 +7,5 @@ returns-in-Some-plain_string c d rest kept ends is =
     let p = c.in-Some-plain_string in
     let inside = c.in-Some.inside.now in
     let o = opened d rest c.args.text.now inside kept is c.in-Some.ensures in
-    id_at d rest inside c.in_ok-id_value.field-0.now c.in-Some-after_byte.quoted.now p.found.0.now p.found.1.now ends o
-    (c.in_ok-id_value.ensures o.members rest o.stand) c.in-Some-after_byte.ensures p.ensures.0 p.ensures.1
+    id_at d rest inside c.in_ok-id_value.field-0.now c.in-Some-after_byte.quoted.now p.id.now p._after.now o
+    (c.in_ok-id_value.ensures o.members rest o.stand) c.in-Some-after_byte.ensures p.ensures.0 (plain_of p.id.now p.ensures.1)

@@ -1,12 +1,15 @@
 use Rattle.std.proofs.Common.{List, ℕ, length}
 use Rattle.serde_json.specs.Data.{Data, Members}
+use Rattle.ocds_merge.specs.Inside.Readable.{MembersRead}
 use Rattle.ocds_merge.specs.Inside.Splice.{StandAt, AllAbove, Passed}
 use Rattle.ocds_merge.proofs.object_text.copy_below.Given as goal
 
 abbrev pub invariant-loop-member : goal.invariant-loop-member
-invariant-loop-member l =
-    (d : Data) (ms ts : Members) (rest : List ℕ) → StandAt l.text ts rest → AllAbove l.name ms
-    → Passed l.name d ms ts rest l.fn.out.items l.fn.later l.left l.out.items l.later
+invariant-loop-member l = record {
+  reads : MembersRead l.from.text.now l.from.later l.from.last.now l.left.text.now l.left.later l.left.last.now l.depth;
+  copies : (d : Data) (ms ts : Members) (rest : List ℕ) → StandAt l.from.text.now ts rest → AllAbove l.name ms
+      → Passed l.name d ms ts rest l.fn.out.items l.fn.later l.left.text.now l.out.items l.later;
+}
 
 abbrev pub decreases-loop-member : goal.decreases-loop-member
-decreases-loop-member l = length l.left
+decreases-loop-member l = length l.left.text.now

@@ -1,23 +1,21 @@
-use Rattle.std.proofs.Common.{◌≡◌, ◌++◌, ◌*◌, ◌+◌, ◌≤◌, ℕ, List}
-use Rattle.serde_json.specs.Data.{object, Items, Members, items_depth, members_depth}
-use Rattle.serde_json.specs.Written.{items_text, members_text}
-use Rattle.ocds_merge.specs.Inside.Splice.{TextIsKept, AreItemsKept}
-use Rattle.ocds_merge.specs.Inside.Readable.{AllAfter, PassedItems, PassedMembers}
+use Rattle.std.proofs.Common.{◌*◌, ◌+◌, false}
+use Rattle.ocds_merge.specs.Inside.Readable.{ItemsRead, MembersRead}
 use Rattle.ocds_merge.proofs.readable.+passing.Given as goal
 
 abbrev pub decreases-passed_value : goal.decreases-passed_value
-decreases-passed_value l = 2 * l.depth
+decreases-passed_value l = 3 * l.depth + 1
+
+abbrev pub decreases-passed_other : goal.decreases-passed_other
+decreases-passed_other l = 3 * l.depth
 
 abbrev pub decreases-passed_items : goal.decreases-passed_items
-decreases-passed_items l = 2 * l.depth + 1
+decreases-passed_items l = 3 * l.depth + 2
 
 abbrev pub decreases-passed_members : goal.decreases-passed_members
-decreases-passed_members l = 2 * l.depth + 1
+decreases-passed_members l = 3 * l.depth + 2
 
 abbrev pub invariant-passed_items-loop-turn : goal.invariant-passed_items-loop-turn
-invariant-passed_items-loop-turn l =
-    (ds : Items) (rest : List ℕ) → AreItemsKept ds → items_depth ds ≤ l.depth → l.left ≡ items_text l.later ds ++ rest → PassedItems l.text rest l.depth
+invariant-passed_items-loop-turn l = ItemsRead l.text false l.left l.later l.depth
 
 abbrev pub invariant-passed_members-loop-turn : goal.invariant-passed_members-loop-turn
-invariant-passed_members-loop-turn l =
-    (ms : Members) (rest : List ℕ) → AllAfter l.later l.last ms → TextIsKept (object ms) → members_depth ms ≤ l.depth → l.left ≡ members_text l.later ms ++ rest → PassedMembers l.text rest l.depth
+invariant-passed_members-loop-turn l = MembersRead l.from.text.now l.from.later l.from.last.now l.left l.later l.last l.depth

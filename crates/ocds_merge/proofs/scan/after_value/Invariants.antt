@@ -4,9 +4,9 @@ use Rattle.ocds_merge.proofs.scan.after_value.Given as goal
 
 abbrev pub invariant-loop-first : goal.invariant-loop-first
 invariant-loop-first l = record {
-  scans : scan l.depth between l.left ≡ scan l.inside between l.text;
+  scans : scan l.depth between l.left ≡ scan 0 between l.text;
   shorter : length l.left ≤ length l.text;
-  deep : l.depth + length l.left ≤ l.inside + length l.text;
+  deep : l.depth + length l.left ≤ length l.text;
 }
 
 abbrev pub decreases-loop-first : goal.decreases-loop-first
