@@ -1,8 +1,8 @@
 # make run    the first run: an import and a look, in memory, without waiting for proofs
 # make build  the proved program, at build/procure, without the wrong bodies
 # make try    the whole program without proofs, at build/try/procure, with its checks in
-# make test   the gate: every proof from nothing, the wrong bodies that must be refused, the tests and the stored runs; it leaves build/procure too. And a few
-#             requests with memory refused, where python3 and cc are there
+# make test   the gate: every proof from nothing, the wrong bodies that must be refused, the tests and the stored runs; it leaves build/procure too, and tells
+#             how long it took. And a few requests with memory refused, where python3 and cc are there
 # make check  what needs build/procure and no proof, in some minutes: the documents, the interface, the public page in a browser, the audit, files that are
 #             refused, files of version 1, kills, a disk that fails, the scripts themselves (tools/check --help)
 # make docs   what scripts make of the sources, anew: docs/INDEX.md, docs/READING.md, docs/CALLS.md
@@ -28,7 +28,8 @@ try:
 	@tools/try
 
 test:
-	$(RT) ci
+	@began=$$(date +%s); $(RT) ci; status=$$?; \
+	awk -v s=$$(($$(date +%s) - began)) 'BEGIN { printf "the gate took %.1f minutes\n", s / 60 }'; exit $$status
 	@mkdir -p build && cp crates/procure/out/procure build/procure.new && mv build/procure.new build/procure
 	@if command -v python3 >/dev/null && command -v cc >/dev/null; then tests/refused_rows --short; \
 	else echo 'tests/refused_rows was not run: it wants python3 and cc'; fi

@@ -8,6 +8,7 @@ import re
 import statistics
 
 HEADS = ("wall", "proof", "builds", "tests", "wrong bodies", "tries", "around these", "runs", "all")
+IN_TURN = "This rt tries a crate's wrong bodies one after another: the first takes the whole check with it that they begin with elsewhere."
 AIMS = {4: 75, 2: 135}
 INTRO = """# The gate, measured
 
@@ -98,6 +99,7 @@ def page_of(table, names, allowed):
     out = [INTRO, f"The run: {run_of(table)}. The machine: {table['machine']}.", "", "| Measured | | Aim |", "|---|---|---|"]
     out += [f"| {' | '.join(line)} |" for line in totals_of(table)]
     out += ["", f"The chain: {' > '.join(f'`{name}`' for name in table['chain'][1])}.", *(f"\n{it}." for it in lines_of_bodies(table)), LEGEND]
+    out += [f"{IN_TURN}\n"] if table.get("in_turn") else []
     out += [f"| Crate | {' | '.join(HEADS)} | budget |", f"|{'---|' * (len(HEADS) + 2)}"]
     for name, cells in lines_of(names, crates).items():
         most = allowed.get(name.strip("`"), sum(allowed.values()) if name == "all" else None)
