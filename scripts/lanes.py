@@ -2,7 +2,8 @@
 """Prints how many checks the gate has side by side: one a processor, where there are 5 GB of free memory for each; else an empty line.
 
 `make test` and `bench/gate` tell rt so, by RT_JOBS. Left to itself, as behind an empty line, rt begins a check only where what it reckons that this one and
-those that run take of memory is there. That is 2 to 8 GB for each where 1 to 5 are taken, so on 24 GB processors stood idle for a fifth of the gate.
+those that run take of memory is there. That is 2 to 8 GB for each where 1 to 7 are taken and four at a time take 13 at most, so on 24 GB processors
+stood idle for a fifth of the gate.
 """
 import os
 import sys
