@@ -124,9 +124,9 @@ class Watch(threading.Thread):
 
     def in_turn(self):
         """By crate, the tries of an rt that has no seed: it tries a crate's wrong bodies one after another in one folder, and then the crate itself."""
-        found = {}
+        found, seeded = {}, {it.crate for it in self.seen.values() if it.kind == "seed"}
         for it in self.seen.values():
-            if it.kind in ("edits", "last") and "/rt-edits-" in it.over:
+            if it.kind in ("edits", "last") and "/rt-edits-" in it.over and it.crate not in seeded:
                 found.setdefault(it.crate, []).append(it)
         return found
 

@@ -98,29 +98,24 @@ fn serve<'a>(alloc: Global) -> Result<Command<'a>, AllocError>
 pub(crate) fn procure<'a>(alloc: Global, version: &'a str) -> Result<Command<'a>, AllocError>
     ensures { IfOk result (λ command. app_of command ≡ spec.procure) }
 {
-    let desk = over_settings(
-        alloc,
-        "desk",
-        "Answers the requests of the standard input, from an empty office in memory",
-    )?;
-    let ledger = over_store(alloc, "ledger", "Prints the ledger of an office in a file")?;
-    let minutes = over_notice(alloc, "minutes", "Prints the minutes of an opening")?;
-    let record = over_notice(alloc, "record", "Prints the record of a notice")?;
-    let notices = over_store(alloc, "notices", "Prints a line for each notice")?;
-    let evaluation = over_notice(
-        alloc,
-        "evaluation",
-        "Prints how the awards of a notice came about",
-    )?;
+    // Each subcommand is made where it is added: of one that waited, each later end would let it go, and each such end is proved.
     let procure = Command::new(alloc, "procure")
         .about("A public procurement office")
         .version(version)
-        .subcommand(desk)?
+        .subcommand(over_settings(
+            alloc,
+            "desk",
+            "Answers the requests of the standard input, from an empty office in memory",
+        )?)?
         .subcommand(serve(alloc)?)?
-        .subcommand(ledger)?
-        .subcommand(minutes)?
-        .subcommand(record)?
-        .subcommand(notices)?
-        .subcommand(evaluation)?;
+        .subcommand(over_store(alloc, "ledger", "Prints the ledger of an office in a file")?)?
+        .subcommand(over_notice(alloc, "minutes", "Prints the minutes of an opening")?)?
+        .subcommand(over_notice(alloc, "record", "Prints the record of a notice")?)?
+        .subcommand(over_store(alloc, "notices", "Prints a line for each notice")?)?
+        .subcommand(over_notice(
+            alloc,
+            "evaluation",
+            "Prints how the awards of a notice came about",
+        )?)?;
     Ok(procure.subcommand_required(true))
 }

@@ -1,12 +1,12 @@
 //! The decision on the cancellation of a notice.
-ghost use Rattle.std.specs.Prelude.{◌≡◌, ◌∷◌, ◌++◌, [], IfOk, IfErr, IfSome, IfNone, OnOk, Some, true, false};
+ghost use Rattle.std.specs.Prelude.{◌≡◌, ◌∷◌, ◌++◌, [], IfOk, IfErr, IfSome, IfNone, OnOk, Some, filter, map, true, false};
 ghost use Rattle.std.specs.List.{list_any};
 ghost use Rattle.office_values.specs.declared.refusal.Refusal.TheVariants.{Unavailable};
 ghost use Rattle.office_base.specs.Deciding.{Decides};
 ghost use Rattle.office_base.specs.Rules.{first_of};
-ghost use Rattle.office_base.specs.Transitions.{has_all_releases, clock_put};
+ghost use Rattle.office_base.specs.Transitions.{has_all_releases, clock_put, security_returned};
 ghost use Rattle.office_base.specs.declared.puts.Put.TheVariants as puts;
-ghost use Rattle.tender_core.specs.Rules.Cancel.{is_open_lot, cancelled_notice, cancel_lacks, cancel_tests, cancel_puts};
+ghost use Rattle.tender_core.specs.Rules.Cancel.{award_put, cancel_lacks, cancel_puts, cancel_tests, cancelled_lot_put, cancelled_notice, drop_put, envelope_put, freed_line_put, is_ended_award, is_ended_envelope, is_ended_security, is_open_lot};
 
 use crate::ended::{
     is_open, push_awards, push_drops, push_envelopes, push_lines, push_lots, push_securities,
@@ -94,6 +94,28 @@ fn push_notice(
     Ok(())
 }
 
+// The lines, the lots that end, their awards, their tenders with the bytes of these, and their securities, behind what is there. (It owns nothing that each
+// early end would let go.)
+fn push_ended(made: &mut Vec<Put>, rows: &CancelRows) -> Result<(), Refusal>
+    ensures puts { OnOk result (made.new.items ≡ ((((((made.old.items
+        ++ map (freed_line_put rows.now.lines (filter is_open_lot rows.now.lots)) (filter is_open_lot rows.now.lots))
+        ++ map cancelled_lot_put (filter is_open_lot rows.now.lots))
+        ++ map award_put (filter (is_ended_award rows.now.lots) rows.now.awards))
+        ++ map envelope_put (filter (is_ended_envelope rows.now.lots) rows.now.envelopes))
+        ++ map drop_put (filter (is_ended_envelope rows.now.lots) rows.now.envelopes))
+        ++ map security_returned (filter (is_ended_security rows.now.lots) rows.now.securities))) }
+    ensures fault { IfErr result (λ e. e ≡ Unavailable) }
+{
+    let lots = rows.lots.as_slice();
+    push_lines(made, &rows.lines, lots)?;
+    push_lots(made, lots)?;
+    push_awards(made, lots, rows.awards.as_slice())?;
+    push_envelopes(made, lots, rows.envelopes.as_slice())?;
+    push_drops(made, lots, rows.envelopes.as_slice())?;
+    push_securities(made, lots, rows.securities.as_slice())?;
+    Ok(())
+}
+
 /// What the cancellation of a notice puts: the lines, the lots, their awards, their tenders and the securities of these, the notice and
 /// the clock. `Unavailable` where the notice or the line of a lot that ends isn't there, the notice counts no more releases, or a line
 /// would have more free than 10^15.
@@ -102,19 +124,12 @@ pub fn puts(alloc: Global, t: Moment, rows: CancelRows) -> Result<Vec<Put>, Refu
     ensures whole { IfOk result (λ _. cancel_lacks rows ≡ false) }
     ensures fault { IfErr result (λ e. e ≡ Unavailable) }
 {
-    let notice = rows.notice.ok_or(Refusal::Unavailable)?;
-    let lots = rows.lots.as_slice();
-    if some_lacks_line(&rows.lines, lots) {
+    if rows.notice.is_none() || some_lacks_line(&rows.lines, rows.lots.as_slice()) {
         return Err(Refusal::Unavailable);
     }
     let mut made = Vec::new(alloc);
-    push_lines(&mut made, &rows.lines, lots)?;
-    push_lots(&mut made, lots)?;
-    push_awards(&mut made, lots, rows.awards.as_slice())?;
-    push_envelopes(&mut made, lots, rows.envelopes.as_slice())?;
-    push_drops(&mut made, lots, rows.envelopes.as_slice())?;
-    push_securities(&mut made, lots, rows.securities.as_slice())?;
-    push_notice(&mut made, t, rows.clock, notice)?;
+    push_ended(&mut made, &rows)?;
+    push_notice(&mut made, t, rows.clock, rows.notice.unwrap())?;
     Ok(made)
 }
 
