@@ -1,22 +1,23 @@
-# make run    the first run: an import and a look, in memory, without waiting for proofs
-# make build  the proved program, at build/procure, without the wrong bodies
-# make try    the whole program without proofs, at build/try/procure, with its checks in
-# make test   the gate: every proof from nothing, the wrong bodies that must be refused, the tests and the stored runs; it leaves build/procure too, and tells
-#             how long it took. And a few requests with memory refused, where python3 and cc are there
-# make check  what needs build/procure and no proof, in some minutes: the documents, the interface, the public page in a browser, the audit, files that are
-#             refused, files of version 1, kills, a disk that fails, the scripts themselves (tools/check --help)
-# make docs   what scripts make of the sources, anew: docs/INDEX.md, docs/READING.md, docs/CALLS.md
-# make edits  the wrong bodies that the gate leaves out, edits/
-# make soak   what takes too long for the gate, after `make test`: plays, refused memory, kills, a disk that fails, large files of version 1, the screens with
-#             all pictures, the programs and measures of bench/, the wrong bodies of edits/ (tools/soak --help)
-# make release  an archive and a Debian package of build/procure, in build/release (tools/release --help)
-# make bench  measures build/procure (bench/desk --help)
+# make run       one import and one query, in memory, without proofs: the first thing to try
+# make try       compiles the whole program without proofs, with its checks, to build/try/procure
+# make build     proves the program and leaves it at build/procure, without mutants and tests
+# make test      the gate: every proof, the mutants that the proofs must reject, the tests and the stored runs. It leaves
+#                build/procure too, says how long it took, and runs some requests with too little memory (python3, cc)
+# make check     tries build/procure in minutes and proves nothing: documents, interface, web pages, audit, damaged and old
+#                files, kills, a failing disk, and the scripts themselves (tools/check --help)
+# make docs      writes docs/READING.md, and to build/docs an index of definitions and the list of public calls
+# make pictures  draws docs/pictures again; this needs graphviz (tools/pictures --help)
+# make edits     tries the mutants that the gate leaves out, edits/
+# make soak      the long forms, after `make test`: hours of plays, kills, failing disks, large old files, all pictures of
+#                the screens, measures, and the mutants of edits/ (tools/soak --help)
+# make release   packs build/procure as an archive and a Debian package, to build/release (tools/release --help)
+# make bench     measures build/procure (bench/desk --help)
 RT ?= rt
-# How many checks run side by side (scripts/lanes.py); where it is empty, rt reckons by itself.
+# How many checks run side by side (scripts/lanes.py). If it is empty, rt decides.
 RT_JOBS ?= $(shell scripts/lanes.py)
 export RT RT_JOBS
 
-.PHONY: run build try test check docs edits soak release bench
+.PHONY: run build try test check docs pictures edits soak release bench
 
 run:
 	@sh tools/first_run/run.sh
@@ -32,13 +33,16 @@ test:
 	awk -v s=$$(($$(date +%s) - began)) 'BEGIN { printf "the gate took %.1f minutes\n", s / 60 }'; exit $$status
 	@mkdir -p build && cp crates/procure/out/procure build/procure.new && mv build/procure.new build/procure
 	@if command -v python3 >/dev/null && command -v cc >/dev/null; then tests/refused_rows --short; \
-	else echo 'tests/refused_rows was not run: it wants python3 and cc'; fi
+	else echo 'tests/refused_rows was not run: it needs python3 and cc'; fi
 
 check:
 	@tools/check
 
 docs:
-	@tools/index && tools/reading && tools/calls
+	@tools/reading && tools/index && tools/calls
+
+pictures:
+	@tools/pictures
 
 edits:
 	tools/edits

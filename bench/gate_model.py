@@ -1,16 +1,16 @@
 #!/usr/bin/env python3
-"""Tells how long the gate takes on so many processors, from the minutes of a run on any number of them.
+"""Computes how long the gate takes on a given number of processors, from the minutes of a run on any number of them.
 
-    bench/gate_model.py TABLE           TABLE is what `bench/gate --save TABLE` left; for 4 and 2 processors
+    bench/gate_model.py TABLE           TABLE is what `bench/gate --save TABLE` wrote; for 4 and 2 processors
     bench/gate_model.py TABLE 8         for 8
 
-It plays the schedule of `rt ci` on paper: proofs and tests first, those with most lines behind them in front; the check that a crate's wrong bodies begin with
-and then these fill the lanes that are free. An rt without such a check tries them one after another, as one task that takes its turn by the crate's lines, as
-proofs do (`in_turn` in the table). Where rt was told how many lanes there are, as `make test` does (scripts/lanes.py), each check takes one. Else a
-proof gets the lanes that no other proof waits for, four at most, fixed for its life; and what rt reckons that a check takes of memory holds it back where the
-others' leave too little, a proof the wrong bodies behind it too. Not in it: other work on the machine.
-Printed are the wall minutes for each number, and the longest chain of crates. `bench/gate` prints them too, beside the minutes that the run took.
-Exit status: 0 where they are told, 1 where the table can't be read or lacks what the model wants, 2 for wrong arguments.
+It plays the schedule of `rt ci` on paper. Proofs and tests come first, those first on which most lines depend. The check with which a crate's mutants begin,
+and then the mutants, fill the free lanes. An rt without such a check tries the mutants one after another, as one task that takes its turn by the crate's lines,
+as proofs do (`in_turn` in the table). If rt knows the number of lanes, as with `make test` (scripts/lanes.py), each check takes one lane. Otherwise a proof
+gets the lanes for which no other proof waits, at most four, fixed for its life. A check also waits if rt expects it to need more memory than others leave, and
+a proof if the mutants before it leave too little. The model leaves out other work on the machine. It prints the wall minutes for each number, and the longest
+chain of crates. `bench/gate` prints them too, beside the minutes of the run. Exit status: 0 they are printed, 1 the table can't be read or lacks something that
+the model needs, 2 wrong arguments.
 """
 import json
 import os
@@ -23,16 +23,16 @@ from common import ROOT, fail, options_of
 from crates import crates_of
 from gate_table import is_raw
 
-# What a check takes of processor time where so many run side by side, to one that runs alone.
+# The processor time of a check while this many run side by side, compared with one that runs alone.
 SLOWER = {1: 1.0, 2: 1.12, 3: 1.19, 4: 1.25}
-# The part of a check that only one of its jobs can do, where the table doesn't tell it.
+# The part of a check that only one of its jobs can do, if the table doesn't say.
 ALONE = 0.35
 PROOFS, FILLS = ("proof", "tests"), ("seed", "edits")
 # What rt reckons that a check takes of memory, in bytes: of itself, for each line of the crate, of its specs and proofs, and of the crates below; and for the
 # kit's libraries that it names so many times what these are, with a bound. Each further job takes a part of it more, a wrong body over the first check less.
 ITSELF, LINE, PROOF_LINE, LINE_BELOW, LIBRARY, LIBRARIES = 1e9, 1e6, 2e5, 8e4, 5, 2.5e9
 JOB, OVER = 0.6, 0.7
-# The memory that it shares out, in bytes, where the table doesn't tell it.
+# The memory that it shares out, in bytes, if the table doesn't say.
 MEMORY = 0.85 * 24e9
 
 
@@ -57,7 +57,7 @@ def libraries_of(root):
 
 
 def needs_of(root):
-    """What rt reckons that a check of each crate takes of memory, in bytes."""
+    """The memory in bytes that rt expects a check of each crate to take."""
     below, libraries = crates_of(root), libraries_of(root)
     kit = os.path.join(os.path.dirname(os.path.dirname(os.path.realpath(shutil.which(os.environ.get("RT", "rt")) or ""))), "rlibs")
     size = lambda it: os.path.getsize(it) if os.path.exists(it) else 0
@@ -200,7 +200,7 @@ def main():
     except (OSError, ValueError) as error:
         fail(f"{choice.table}: {error}")
     if not is_raw(table):
-        fail(f"{choice.table} doesn't tell the minutes of each wrong body, which the model wants: it was written down from a printed table")
+        fail(f"{choice.table} doesn't have the minutes of each mutant, which the model needs: it was written down from a printed table")
     tell(ROOT, table, choice.numbers or [4, 2])
 
 

@@ -1,7 +1,7 @@
-"""The table of a run of the gate: its figures by crate, the budgets beside them, and docs/GATE.md. Read by bench/gate.
+"""Makes the table of a run of the gate: its figures by crate, the budgets beside them, and docs/GATE.md. Used by bench/gate.
 
-A row is what gate_watch tells of a crate, with each wrong body's minutes, or a row of sums that was written down by hand from a printed table: there `edits`
-is their sum, `tries` their number, `around` the checks around them, and `all` the sum that was printed.
+A row is what gate_watch reports for a crate, with the minutes of each mutant. Or it is a row of sums written down by hand from a printed table: then `edits` is
+their sum, `tries` their number, `around` the checks around them, and `all` the printed sum.
 """
 import os
 import re
@@ -25,7 +25,7 @@ the number of wrong bodies, `around these` the check that they begin with and th
 
 
 def cells_of(row):
-    """The figures of a crate's line: the wall minutes, how many wrong bodies were tried, and the processor minutes by kind and in all."""
+    """The figures of a crate's line: the wall minutes, the number of mutants tried, and the processor minutes by kind and in total."""
     if isinstance(row["edits"], list):
         edits, tries, around = sum(row["edits"], 0.0), len(row["edits"]), row["seed"] + row["last"]
     else:
@@ -35,7 +35,7 @@ def cells_of(row):
 
 
 def is_raw(table):
-    """Whether a table tells each wrong body's minutes, as the model of rt's schedule wants them."""
+    """Whether a table has the minutes of each mutant, which the model of rt's schedule needs."""
     return all(isinstance(row["edits"], list) for row in table["crates"].values())
 
 
@@ -68,7 +68,7 @@ def above_budget(crates, allowed):
 
 
 def lines_of_bodies(table):
-    """What the wrong bodies came to, in a line, and a line for each that wasn't simply refused; nothing where the run didn't tell."""
+    """The results of the mutants in a line, and a line for each that wasn't simply rejected; nothing if the run didn't report them."""
     if "came" in table:
         kinds = [kind for _, _, kind in table["came"]]
         counts = ", ".join(f"{kinds.count(kind)} {kind}" for kind in sorted({*kinds}, key=lambda it: (it != "refused", it)))

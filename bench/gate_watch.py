@@ -1,6 +1,7 @@
-"""Reads from /proc, twice a second, what the processes of a running `rt ci` have used, and for which crate and what. Read by bench/gate.
+"""Reads from /proc, twice a second, what the processes of a running `rt ci` have used, and for which crate and what. Used by bench/gate.
 
-Processor seconds are those at the last look, so a process may have used half a second more than is told; what ends between two looks isn't seen here.
+Processor seconds are those at the last reading. So a process may have used half a second more than is reported, and one that lives only between two readings
+isn't seen.
 """
 import os
 import re

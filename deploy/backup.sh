@@ -1,30 +1,31 @@
 #!/bin/sh
-# Copies an office's file while the office is served, and checks the copy. Where no whole copy can be had so, it stops the service for as long as the copying
-# takes.
+# Copies an office's file while the office is served, and checks the copy. If no whole copy can be made that way, it stops the service for as long as the
+# copying takes.
 #
 #     deploy/backup.sh CONFIG FILE FOLDER
 #     deploy/backup.sh /etc/procure/office.toml /var/lib/procure/office.db /var/backups/procure
 #
-# It reads the first 32 bytes of the log, FILE-wal; copies FILE, and then the log; and reads those bytes again. Where they are what they were, and begin with
-# 0x37, the two copies are what a stop at that time could have left. Else it waits and tries again, $TRIES times (5), a second longer each time; then it stops
-# the service, copies both, and starts it. What it can't write is no reason to stop anything.
+# 1. It reads the first 32 bytes of the log FILE-wal, copies FILE, copies the log, and reads those bytes again. If they are unchanged and begin with 0x37, the
+#    two copies are what a stop at that time could have left. Otherwise it waits and tries again, $TRIES times (5), a second longer each time. Then it stops
+#    the service, copies both files and starts it. If it can't write the copy, it stops nothing for that.
+# 2. It checks the copy: `procure ledger` must open a copy of it as an office, and sqlite3, which moves the log into it, must find no fault
+#    (`PRAGMA integrity_check`).
+# 3. It leaves FOLDER/office-MOMENT.db, one file with the log in it, which `procure` hasn't opened, and its ledger, office-MOMENT.ledger. A bad copy stays as
+#    office-MOMENT.wrong, the newest three of them.
+# 4. After a good copy it deletes older ones. The newest $KEEP stay (48), and of earlier ones the last of each day, for $DAYS days (30).
 #
-# It checks the copy: `procure ledger` reads a copy of it as an office, and sqlite3, which moves the log into it, finds no fault (`PRAGMA integrity_check`). It
-# leaves FOLDER/office-MOMENT.db, one file with the log in it, which `procure` hasn't opened, and its ledger as office-MOMENT.ledger. A copy that isn't good
-# stays as office-MOMENT.wrong, the newest three of them. Behind a good copy older ones go: the newest $KEEP stay (48), and of earlier ones the last of each
-# day, for $DAYS days (30).
+# The commands are $STOP, $START and $PROCURE if these are set, otherwise `systemctl stop procure`, `systemctl start procure` and `procure`. With STOP=false
+# nothing is stopped.
+# Exit status: 0 with a good copy and the service running, 1 without one of them, 2 for wrong arguments or a missing tool.
 #
-# The commands are $STOP, $START and $PROCURE where these are set, else `systemctl stop procure`, `systemctl start procure` and `procure`. With STOP=false
-# nothing is ever stopped.
-# Exit status: 0 with a good copy and the service running, 1 without one of them, 2 for wrong arguments or a tool that is missing.
-#
-# Why equal heads are enough. The program writes to FILE only as it moves the log into it: pages that the log has, whole and synced. It keeps them in the log
-# until all are in FILE, and synced there too. Only then it begins the log anew: the first byte becomes 0, then come a head with other salts, which count up,
-# and the first byte, 0x37, last. As long as the head is the same, the log only grows: each command is written behind the last one, and one byte of its first
-# page, the gate, last, so that nobody takes the command before it is there. So what changed in FILE while it was copied stands in the log's copy, which was
-# begun later; and that copy, made from front to back, has each command that was answered before, and of later ones the first few, whole. (Of a command whose
-# first page is written at the very moment when it is read the checksum fails: then it isn't there.) With the log copied first, pages of FILE may be newer
-# than the log that goes with them; without the second look the log's copy may lack what was moved into FILE behind FILE's copy.
+# Why equal heads are enough. The program writes to FILE only while it moves the log into it: pages that the log has, whole and synced. It keeps them in the
+# log until all of them are in FILE and synced there too. Only then does it restart the log: the first byte becomes 0, then a head with other salts is written,
+# which count up, and last the first byte, 0x37. As long as the head is the same, the log only grows: each command is written after the last one, and one byte
+# of its first page, the gate, is written last, so that nobody reads the command before it is complete. So everything that changed in FILE while it was copied
+# is in the log's copy, which was begun later. That copy was made from front to back: it has each command that was answered before, and the first few of the
+# later ones, whole. (If a command's first page is being written at the moment when it is read, its checksum fails, and the command isn't in the copy.) If the
+# log were copied first, FILE could have newer pages than that log. Without the second look, the log's copy could lack what was moved into FILE after FILE was
+# copied.
 set -eu
 umask 077
 # cron's PATH is shorter than a shell's.
@@ -43,12 +44,12 @@ fail() {
     exit "$2"
 }
 
-# (`procure ledger` would make an office where there is none)
-[ -f "$file" ] || fail "there is no file $file" 2
+# (Without FILE, `procure ledger` would make a new office.)
+[ -f "$file" ] || fail "there is no file $file to copy" 2
 [ -r "$config" ] || fail "the settings $config can't be read" 2
-[ -d "$folder" ] || fail "there is no folder $folder" 2
+[ -d "$folder" ] || fail "there is no folder $folder for the copies: make it" 2
 for tool in sqlite3 od "$procure"; do
-    command -v "$tool" >/dev/null || fail "there is no $tool here" 2
+    command -v "$tool" >/dev/null || fail "$tool isn't installed here: install it, then run this again" 2
 done
 
 copy=$folder/office-$(date -u +%Y%m%dT%H%M%SZ)
@@ -56,11 +57,11 @@ is_stopped='' is_whole='' is_started=yes
 
 milliseconds() { echo $(($(date +%s%N) / 1000000)); }
 
-# What is done however this ends: the service runs, and what is no whole copy is gone.
+# Runs however this ends: it starts the service if it was stopped, and deletes what is no whole copy.
 settle() {
     if [ -n "$is_stopped" ]; then
         is_stopped=''
-        $start || echo "backup: the service could not be started: $start" >&2
+        $start || echo "backup: the service could not be started: $start. Start it by hand" >&2
     fi
     [ -n "$is_whole" ] || rm -f "$copy.part" "$copy.part-wal"
     rm -f "$copy.trial" "$copy.trial-wal"
@@ -69,20 +70,20 @@ trap settle EXIT
 trap 'exit 130' INT
 trap 'exit 143' TERM HUP
 
-# The first 32 bytes of the log, in hexadecimal digits; nothing where it has fewer, or isn't there.
+# Prints the first 32 bytes of the log in hexadecimal digits; nothing if it has fewer or doesn't exist.
 head_of_log() {
     head=$(head -c 32 "$file-wal" 2>/dev/null | od -An -v -tx1 | tr -d ' \n')
     [ ${#head} != 64 ] || echo "$head"
 }
 
-# Both files, FILE first. The log is read from front to back.
+# Copies both files, FILE first. The log is read from front to back.
 copy_both() {
-    cp --reflink=auto "$file" "$copy.part" || fail "the copy can't be written: $copy" 1
+    cp --reflink=auto "$file" "$copy.part" || fail "the copy can't be written: $copy. Free space in its folder, or correct its rights" 1
     rm -f "$copy.part-wal"
-    [ ! -e "$file-wal" ] || cat "$file-wal" > "$copy.part-wal" || fail "the copy can't be written: $copy" 1
+    [ ! -e "$file-wal" ] || cat "$file-wal" > "$copy.part-wal" || fail "the copy can't be written: $copy. Free space in its folder, or correct its rights" 1
 }
 
-# Whether both files were copied while the log had one head.
+# Succeeds if both files were copied while the log had one head.
 copy_served() {
     before=$(head_of_log)
     case $before in 37*) ;; *) return 1 ;; esac
@@ -93,11 +94,11 @@ copy_served() {
 copy_stopped() {
     since=$(milliseconds)
     is_stopped=yes
-    $stop || fail "the service could not be stopped: $stop" 1
+    $stop || fail "the service could not be stopped: $stop. Nothing was copied" 1
     copy_both
     is_stopped=''
     $start || is_started=''
-    echo "backup: the service was stopped for $(($(milliseconds) - since)) ms, since the log was moved, or had no head, at each of $tries tries"
+    echo "backup: the service was stopped for $(($(milliseconds) - since)) ms, because the log was moved or had no head at each of $tries tries"
 }
 
 try=1
@@ -115,7 +116,7 @@ if [ -z "$is_whole" ]; then
     is_whole=yes
 fi
 
-# Deletes the copies of this ending whose names come, each on a line.
+# Deletes the copies whose names it reads, one on each line, with their logs and ledgers.
 delete() {
     while read -r name; do
         rm -f "$folder/$name" "$folder/$name-wal" "$folder/${name%.*}.ledger"
@@ -128,19 +129,19 @@ wrong() {
     mv "$copy.part" "$copy.wrong"
     [ ! -e "$copy.part-wal" ] || mv "$copy.part-wal" "$copy.wrong-wal"
     named wrong | tail -n +4 | delete
-    fail "$1: $copy.wrong" 1
+    fail "$1: $copy.wrong. Earlier good copies stay" 1
 }
 
-# An opening moves the log, and makes an office of an earlier version one of this: so it has a copy of its own.
+# Opening a file moves its log into it, and migrates an office of an earlier version. So `procure` opens a copy of the copy.
 no_room() {
     is_whole=''
-    fail "the copy can't be tried, and is deleted: there must be room for two" 1
+    fail "the copy can't be checked and is deleted: free space for two copies" 1
 }
 cp --reflink=auto "$copy.part" "$copy.trial" || no_room
 [ ! -e "$copy.part-wal" ] || cp --reflink=auto "$copy.part-wal" "$copy.trial-wal" || no_room
 "$procure" ledger "$config" "$copy.trial" > "$copy.ledger" || wrong 'the copy is no office'
 rm -f "$copy.trial" "$copy.trial-wal"
-# As sqlite3 closes the file it moves the log into it.
+# When sqlite3 closes the file it moves the log into it.
 told=$(sqlite3 "$copy.part" 'PRAGMA integrity_check; PRAGMA foreign_key_check;') || wrong 'sqlite3 cannot read the copy'
 [ "$told" = ok ] || wrong "the copy is broken: $told"
 [ ! -s "$copy.part-wal" ] || wrong 'the log could not be moved into the copy'
@@ -150,10 +151,10 @@ mv "$copy.part" "$copy.db"
 sync "$folder"
 echo "backup: $copy.db, $(stat -c %s "$copy.db") bytes, is good"
 
-# (newest first; a day is eight digits behind `office-`)
+# (Newest first. The day is the eight digits after `office-`.)
 named db | awk -v keep="$keep" -v days="$days" '
     { day = substr($0, 8, 8) }
     NR <= keep { last = day; next }
     day != last && days > 0 { last = day; days--; next }
     { print }' | delete
-[ -n "$is_started" ] || fail "the service could not be started: $start" 1
+[ -n "$is_started" ] || fail "the service could not be started: $start. Start it by hand" 1

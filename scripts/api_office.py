@@ -1,4 +1,4 @@
-"""docs/openapi.yaml, an office that is served, and requests whose answers are compared with the document: what tools/check_api is made of."""
+"""Serves an office and compares its answers with docs/openapi.yaml. Used by tools/check_api."""
 import json
 import os
 import re

@@ -1,4 +1,4 @@
-"""Random requests of each operation of docs/openapi.yaml, over the office that scripts/api_walk.py leaves: what tools/check_api asks last."""
+"""Sends random requests of each operation of docs/openapi.yaml to the office that scripts/api_walk.py leaves. tools/check_api does this last."""
 import random
 from collections.abc import Iterator
 from typing import Any

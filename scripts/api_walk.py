@@ -1,10 +1,10 @@
-"""A walk through all commands of an office that is served, by the clock, with all that is refused on the way: the requests that tools/check_api sends beside
-those that it makes from schemas. `want` is the refusal that is asked for, else the command is accepted. Examples are those of docs/openapi.yaml; in a notice
-the deadline is another, and the standstill where a contract is to be signed.
+"""Walks through all commands of an office that is served, by the clock, with everything that is refused on the way. tools/check_api sends these requests
+besides those that it makes from schemas. `want` is the expected refusal; without it the command must be accepted. The examples are those of
+docs/openapi.yaml; in a notice the deadline is different, and the standstill if a contract will be signed.
 
-Eight notices: N1 is that of the examples, from its publication to the end of its contract. N2 has ten days of standstill, N3 asks for no security, N4 is
-cancelled unopened, N5 has a winner who is passed over and a contract with a performance security, N6 points, N7 too little money, N8 a tender that is withdrawn
-late. Their deadline is SECONDS ahead; all that comes before it must be sent by then.
+There are eight notices. N1 is that of the examples, from its publication to the end of its contract. N2 has ten days of standstill, N3 requires no
+security, N4 is cancelled unopened, N5 has a winner who is passed over and a contract with a performance security, N6 has points, N7 too little money, N8 a
+tender that is withdrawn late. Their deadline is SECONDS ahead; everything before it must be sent by then.
 """
 import time
 from typing import Any

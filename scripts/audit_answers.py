@@ -1,7 +1,7 @@
-"""What `tools/audit` reads of an office's answers: the files of a folder, or what an address is asked for.
+"""Reads an office's answers for `tools/audit`: the files of a folder, or the answers of an address.
 
-A front that is asked too often says so (429), and an office that can't answer now too (502, 503, 504): then the same is asked again, after as long as
-`Retry-After` says (RFC 9110, section 10.2.3), or after 1, 2, 4 .. seconds where it says nothing.
+If a front answers that it is asked too often (429), or an office that it can't answer now (502, 503, 504), the same is asked again after as long as
+`Retry-After` says (RFC 9110, section 10.2.3), or after 1, 2, 4 .. seconds without it.
 """
 import email.utils
 import glob
@@ -18,12 +18,14 @@ from audit_office import Json, Unreadable, json_object
 # presenting, changing or `GET /tenders/R` answers its tenderer; securities and contracts are shown to the clerk and to their tenderer.
 OF_NOTICES = {"releases": ".json", "record": ".json", "minutes": ".txt", "terms": ".json", "evaluation": ".txt", "register": ".txt"}
 HELD = ("receipt", "security", "performance", "contract")
-# The folders of what `tools/mirror` keeps.
+# The folders of a mirror.
 MIRRORED = {"record": "records", "minutes": "minutes", "terms": "terms", "evaluation": "evaluations"}
 
 # Seconds that one answer is waited for in all, seconds of the longest wait that isn't asked for, and how often an office that can't answer is asked again.
 PATIENCE, LONGEST, AGAIN = 600, 30, 5
 TOO_MANY, NOT_NOW = 429, (502, 503, 504)
+# A front may keep an answer for a while, and says by `Last-Modified` when the office gave it: for how long one of now is asked for, and how often.
+KEPT, BETWEEN = 300, 2.0
 
 
 def seconds_of(retry_after: str | None, tried: int, now: Callable[[], float] = time.time) -> float:
@@ -37,22 +39,32 @@ def seconds_of(retry_after: str | None, tried: int, now: Callable[[], float] = t
         return float(min(LONGEST, 1 << tried))
 
 
+def moment_in(field: str | None) -> float | None:
+    """The moment of a field as `Date`, in seconds, or None where it says none."""
+    try:
+        return email.utils.parsedate_to_datetime(field or "").timestamp()
+    except (TypeError, ValueError, OverflowError):
+        return None
+
+
 def fields_in(path: str) -> dict[str, str]:
     """The fields of a head that a file has, a line each, as `curl -H @FILE` takes them."""
     with open(path, encoding="utf-8") as file:
         pairs = [line.split(":", 1) for line in file.read().splitlines() if line.strip()]
     if not pairs or any(len(pair) != 2 for pair in pairs):
-        raise Unreadable(f"{path}: no lines as Office-Caller: clerk")
+        raise Unreadable(f"{path}: it has no lines such as `Office-Caller: clerk`")
     return {name.strip(): value.strip() for name, value in pairs}
 
 
 class Answers:
-    """What an office answered: the files of a folder, or what an address is asked for, each once. With the clerk's fields it is asked for contracts too."""
+    """An office's answers: the files of a folder, or the answers of an address, each asked for once. With the clerk's fields it is asked for contracts too."""
 
     def __init__(self, folder: str | None, base: str | None, key: str | None = None) -> None:
         self.folder, self.base, self.place = folder or "", base or "", folder or base or ""
         self.fields = fields_in(key) if key else {}
         self.asked: dict[str, str | None] = {}
+        self.given: float | None = None
+        self.date: float | None = None
         self.list: list[Json] | None = None
         self.is_mirror = os.path.exists(os.path.join(self.folder, "mirror.json")) if self.folder else False
 
@@ -77,11 +89,11 @@ class Answers:
         text = self.perhaps(path, name)
         page = json_object(text) if text is not None else None
         if text is not None and not (page and isinstance(page.get("notices"), list) and all(isinstance(it, dict) for it in page["notices"])):
-            raise Unreadable(f"{self.place}: {path}: no page of the list of notices")
+            raise Unreadable(f"{self.place}: {path}: this is no page of the list of notices")
         return page
 
     def listed(self) -> list[Json] | None:
-        """The list of notices, page by page; None where there is none, as of the office of an earlier program."""
+        """The list of notices, page by page; None if there is none, as in an office of an earlier program."""
         page, behind = self.page("/notices", "notices.json"), ""
         found: list[Json] = []
         while page is not None:
@@ -90,11 +102,11 @@ class Answers:
                 self.list = found
                 return found
             if str(page["next"]) <= behind:
-                raise Unreadable(f"{self.place}: behind {behind} the list goes on at {page['next']}")
+                raise Unreadable(f"{self.place}: after {behind} the list continues at {page['next']}")
             behind = str(page["next"])
             page = self.page(f"/notices?after={behind}", f"notices-{behind}.json")
         if behind:
-            raise Unreadable(f"{self.place}: there is no page of the list behind {behind}")
+            raise Unreadable(f"{self.place}: there is no page of the list after {behind}")
         return None
 
     def listed_before(self) -> list[Json] | None:
@@ -131,8 +143,22 @@ class Answers:
             self.asked[path] = self.ask(path)
         return self.asked[path]
 
+    def renewed(self, path: str, name: str) -> str | None:
+        """The same, asked for now, and given by the office since: not an answer that a front kept from before."""
+        if not self.base:
+            return self.saved(name)
+        begun, end = None, time.monotonic() + KEPT
+        while True:
+            self.asked[path] = self.ask(path)
+            begun = begun or self.date
+            if self.given is None or begun is None or self.given >= begun:
+                return self.asked[path]
+            if time.monotonic() > end:
+                raise Unreadable(f"{self.base + path}: for {KEPT} s its front gives an answer from before")
+            time.sleep(BETWEEN)
+
     def saved(self, name: str) -> str | None:
-        """The text of a file of the folder, or None where it isn't there."""
+        """The text of a file of the folder, or None if it doesn't exist."""
         if not self.folder or not os.path.exists(self.path_of(name)):
             return None
         with open(self.path_of(name), encoding="utf-8", newline="") as file:
@@ -168,7 +194,7 @@ class Answers:
         return package, record
 
     def forget(self, *paths: str) -> None:
-        """Asks for these anew when they are looked at again."""
+        """Asks for these again when they are needed again."""
         for path in paths:
             self.asked.pop(path, None)
 
@@ -191,7 +217,7 @@ class Answers:
             if status != TOO_MANY and status not in NOT_NOW or failed > AGAIN:
                 return status, body
             if waited + wait > PATIENCE:
-                raise Unreadable(f"{self.base + path}: status {status}, and to wait for {wait:.0f} s, after {waited:.0f} s")
+                raise Unreadable(f"{self.base + path}: status {status}, which asks to wait {wait:.0f} s more after {waited:.0f} s: try again later")
             waited += wait
             time.sleep(wait)
 
@@ -207,4 +233,5 @@ class Answers:
             connection.close()
         except (OSError, http.client.HTTPException, ValueError) as why:
             raise Unreadable(f"{self.base + path}: {why!r}")
+        self.given, self.date = moment_in(response.getheader("Last-Modified")), moment_in(response.getheader("Date"))
         return response.status, response.getheader("Retry-After"), body

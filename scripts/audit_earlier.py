@@ -1,6 +1,6 @@
-"""The rules of `tools/audit` on witnesses: answers that were saved, and copies of the file that were made, before the file or the answers that are audited.
+"""The rules of `tools/audit` for witnesses: answers that were saved, and copies of the file that were made, before the audited file or answers.
 
-What an office has told, and most of what its rows say, no command takes back. So a witness shows what was changed with everything that hangs together.
+No command takes back what an office has said, or most of what its rows say. So a witness exposes changes even if everything related was changed too.
 """
 from collections.abc import Callable, Collection, Iterator
 
@@ -9,17 +9,17 @@ from audit_office import TABLES, Found, Json, Office, Row, rule, text_of
 from audit_releases import compiled_of, difference, record_in, releases_in
 from audit_rows import MOMENTS
 
-# What no command changes in a row that is there.
+# The columns that no command changes in an existing row.
 FIXED = {
     "batches": "moment rows", "tenderers": "name address key", "notices": "title published validity standstill weight performance",
     "lots": "title line estimate security items", "envelopes": "notice lot tenderer moment length digest security", "seals": "bytes",
     "securities": "tenderer notice lot reference amount", "awards": "notice lot receipt price moment", "contracts": "notice lot tenderer signed moment",
     "entries": "kind amount moment rationale", "releases": "moment text", "performance": "reference amount", "lines": "", "compiled": "", "late_rules": ""}
-# What is none until it is set, once.
+# The columns that are empty until they are set, once.
 ONCE = {"notices": "opened", "envelopes": "reading stated corrected corrections responsive quality", "contracts": "ended how"}
-# What only grows.
+# The columns that only grow.
 GROWS = {"notices": "deadline amendments releases", "envelopes": "failed", "contracts": "released", "office": "moment receipts awards"}
-# The states from which a row may go on. From an awarded lot's every other may be reached, since its award may fail.
+# The states after which another can follow. From an awarded lot's every other may be reached, since its award may fail.
 GOES_ON = {"notices": "receiving", "lots": "undecided awarded", "envelopes": "sealed", "securities": "held", "awards": "active", "performance": "held"}
 # Rows that are put in with another row, and never into it later: the table of that, and its key as the columns of this one.
 WITH = {"lots": ("notices", "notice"), "late_rules": ("notices", "notice"), "seals": ("envelopes", "receipt"), "securities": ("envelopes", "security"),
@@ -41,11 +41,11 @@ def short(value: object) -> str:
 
 @rule("copies")
 def rows_of_an_earlier_copy_stay(later: Office, earlier: Office) -> Found:
-    """Each row of an earlier copy is there, with what no command changes in it; the bytes of a tender alone are taken out, when it is given back."""
+    """Each row of an earlier copy exists, with everything that no command changes; only the bytes of a tender go, when it is returned."""
     for table, columns in FIXED.items():
         for row, before, here in both(table, later, earlier):
             if here is None:
-                yield from [(row, f"was there in {earlier.path}")] if table != "seals" else []
+                yield from [(row, f"is missing, and was in {earlier.path}")] if table != "seals" else []
                 continue
             for column in columns.split():
                 if here[column] != before[column]:
@@ -54,7 +54,7 @@ def rows_of_an_earlier_copy_stay(later: Office, earlier: Office) -> Found:
 
 @rule("copies")
 def what_is_decided_stays(later: Office, earlier: Office) -> Found:
-    """What an earlier copy had decided is so: states that are final, readings, examinations, openings and ends; deadlines, counts and the clock only grow."""
+    """What an earlier copy had decided is unchanged: final states, readings, examinations, openings and ends; deadlines, counts and the clock only grow."""
     for table in TABLES:
         for row, before, here in both(table, later, earlier):
             for column in went_back(table, before, here) if here else []:
@@ -71,17 +71,17 @@ def went_back(table: str, before: Row, here: Row) -> Iterator[str]:
 
 @rule("copies")
 def tenders_stay_from_the_deadline_on(later: Office, earlier: Office) -> Found:
-    """A tender that was sealed in an earlier copy, at its notice's deadline or behind it, isn't withdrawn."""
+    """A tender that was sealed in an earlier copy, at its notice's deadline or after it, isn't withdrawn."""
     (clock,), = earlier.rows("SELECT moment FROM office")
     for row, before, here in both("envelopes", later, earlier):
         deadline = later.table("notices").get((before["notice"],), {}).get("deadline")
         if here and deadline is not None and clock >= deadline and (before["state"], here["state"]) == ("sealed", "withdrawn"):
-            yield row, f"is withdrawn, and was sealed at {text_of(clock)}, behind the deadline {text_of(deadline)}, in {earlier.path}"
+            yield row, f"is withdrawn, and was sealed at {text_of(clock)}, after the deadline {text_of(deadline)}, in {earlier.path}"
 
 
 @rule("copies")
 def nothing_is_put_in_behind(later: Office, earlier: Office) -> Found:
-    """What is put in with another row isn't there where an earlier copy has that row without it."""
+    """A row that is added together with another one doesn't exist if an earlier copy has that other row without it."""
     for table, (parent, column) in WITH.items():
         before, parents = earlier.table(table), earlier.table(parent)
         for key, row in later.table(table).items():
@@ -91,24 +91,25 @@ def nothing_is_put_in_behind(later: Office, earlier: Office) -> Found:
 
 @rule("copies")
 def what_is_new_is_later(later: Office, earlier: Office) -> Found:
-    """What an earlier copy hasn't is of its last moment or a later one."""
+    """Rows that an earlier copy doesn't have are of its last moment or later."""
     (clock,), = earlier.rows("SELECT moment FROM office")
     for place in MOMENTS.split(", "):
         table, column = place.split()
         before = earlier.table(table)
         for key, row in later.table(table).items():
             if row[column] is not None and row[column] < clock and before.get(key, {}).get(column) is None:
-                yield f"{table} {'/'.join(map(str, key))}", f"{column} is {text_of(row[column])}, before {text_of(clock)}, and {earlier.path} hasn't it"
+                yield f"{table} {'/'.join(map(str, key))}", f"{column} is {text_of(row[column])}, before {text_of(clock)}, and {earlier.path} doesn't have it"
 
 
 @rule("copies")
 def appropriations_come_from_batches(later: Office, earlier: Office) -> Found:
-    """Since an earlier copy no more lines got another appropriation or title than rows of budget files came in."""
+    """Since an earlier copy no more lines changed appropriation or title than rows of budget files were imported."""
     came = sum(row["rows"] for key, row in later.table("batches").items() if key not in earlier.table("batches"))
     told, before = (({key: (row["title"], row["appropriation"]) for key, row in of.table("lines").items()}) for of in (later, earlier))
     moved = [key for key, row in told.items() if row != before.get(key)]
     for line, in moved if len(moved) > came else []:
-        yield f"lines {line}", f"{len(moved)} lines have another title or appropriation than in {earlier.path}, since which {came} rows of budget files came in"
+        yield f"lines {line}", (f"{len(moved)} lines have another title or appropriation than in {earlier.path}, "
+                                f"and only {came} rows of budget files were imported since")
 
 
 # ---- Answers that were saved.
@@ -123,14 +124,14 @@ class Later:
 
 @rule("witness")
 def saved_notices_are_there(later: Later, office: Office | None, saved: Answers, notice: str) -> Found:
-    """A notice of which somebody saved an answer is there."""
+    """A notice for which somebody saved an answer exists."""
     if notice not in later.notices:
-        yield f"notices {notice}", f"{saved.place} has answers of it, and it isn't there"
+        yield f"notices {notice}", f"{saved.place} has answers of it, and it doesn't exist"
 
 
 @rule("saved")
 def saved_releases_stay(later: Later, office: Office | None, saved: Answers, notice: str) -> Found:
-    """Releases that were saved, alone or with a record, are still the first ones of their notice, each as it was."""
+    """Saved releases, alone or in a record, are still the first ones of their notice, unchanged."""
     package, record = saved.package(notice, "releases"), saved.package(notice, "record")
     for kind, releases in (("releases", releases_in(package or {})), ("record", releases_in(record_in(record or {})))):
         found = difference(later.releases(notice)[:len(releases)], releases) if notice in later.notices else None
@@ -140,7 +141,7 @@ def saved_releases_stay(later: Later, office: Office | None, saved: Answers, not
 
 @rule("saved")
 def saved_records_are_merges(later: Later, office: Office | None, saved: Answers, notice: str) -> Found:
-    """The compiled release of a record that was saved is the merge of its releases."""
+    """The compiled release of a saved record is the merge of its releases."""
     record = saved.package(notice, "record")
     if record is not None:
         found = difference(record_in(record).get("compiledRelease"), compiled_of(releases_in(record_in(record))))
@@ -150,7 +151,7 @@ def saved_records_are_merges(later: Later, office: Office | None, saved: Answers
 
 @rule("saved")
 def saved_minutes_stay(later: Later, office: Office | None, saved: Answers, notice: str) -> Found:
-    """Minutes that were saved are still the minutes: nothing changes them."""
+    """Saved minutes are still the minutes: nothing changes them."""
     before, here = saved.of_notice(notice, "minutes"), later.minutes(notice) if notice in later.notices else None
     if before is not None and here is not None and before != here:
         lines, there = before.split("\n"), here.split("\n")
@@ -160,7 +161,7 @@ def saved_minutes_stay(later: Later, office: Office | None, saved: Answers, noti
 
 @rule("witness")
 def registers_are_of_the_rows(later: Later, office: Office | None, saved: Answers, notice: str) -> Found:
-    """Each tender of a register that the clerk saved is there, of its lot, moment and length, its state such as follows, and none was put in between."""
+    """Each tender of a saved register exists with its lot, moment and length, in a state that can follow, and none was added between them."""
     text = saved.saved(f"register-{notice}.txt")
     if office is None or text is None:
         return
@@ -178,11 +179,11 @@ def registers_are_of_the_rows(later: Later, office: Office | None, saved: Answer
 
 @rule("held")
 def receipts_are_of_the_rows(office: Office, saved: Answers) -> Found:
-    """A receipt that was kept has its tender, of its digest, moment and security, given back if it came late, and else only by a cancellation."""
+    """A saved receipt has its tender, with its digest, moment and security; it was returned if it came late, otherwise only by a cancellation."""
     for number, receipt in saved.held("receipt"):
         row = office.table("envelopes").get((receipt.get("receipt"),))
         if row is None:
-            yield f"envelopes {receipt.get('receipt')}", f"{saved.place} has a receipt of it, and it isn't there"
+            yield f"envelopes {receipt.get('receipt')}", f"{saved.place} has a receipt of it, and it doesn't exist"
             continue
         here = {**row, "moment": text_of(row["moment"]), "digest": row["digest"].hex()}
         # (The answer to a withdrawal has its own moment, and no digest.)
@@ -198,7 +199,7 @@ def receipts_are_of_the_rows(office: Office, saved: Answers) -> Found:
 
 @rule("held")
 def securities_are_as_shown(office: Office, saved: Answers) -> Found:
-    """A security that the clerk or its tenderer was shown is there, of its amount, reference and tenderer, and in a state that follows; so is a contract's."""
+    """A security that the clerk or its tenderer saw exists with its amount, reference and tenderer, in a state that can follow; so does a contract's."""
     for kind, table in (("security", "securities"), ("performance", "performance")):
         for number, shown in saved.held(kind):
             key = shown.get("security" if kind == "security" else "contract")
@@ -212,8 +213,8 @@ def securities_are_as_shown(office: Office, saved: Answers) -> Found:
 
 @rule("ledgers")
 def paid_never_falls(here: str, before: str, place: str) -> Found:
-    """Each line of a ledger that was saved is there, and no less is paid of it."""
+    """Each line of a saved ledger exists, and no less is paid on it."""
     lines = {line.split("\t")[0]: line.split("\t") for line in here.split("\n")[2:-1]}
     for name, *_, paid in (line.split("\t") for line in before.split("\n")[2:-1]):
         if name not in lines or int(lines[name][-1]) < int(paid):
-            yield f"lines {name}", f"{paid} were paid in {place}, and {lines.get(name, ['', 'none: it is not there'])[-1]} now"
+            yield f"lines {name}", f"{paid} were paid in {place}, and {lines.get(name, ['', 'none: it does not exist'])[-1]} now"

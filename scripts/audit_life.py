@@ -1,4 +1,6 @@
-"""The office that `tests/audit` audits: procurements of every end, made by a program that serves. Most of its five seconds it waits for a deadline."""
+"""Makes the office that `tests/audit` audits: procurements with every possible end, made by a program that serves. It takes five seconds, mostly waiting for a
+deadline.
+"""
 import math
 import time
 from collections.abc import Mapping

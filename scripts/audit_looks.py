@@ -1,5 +1,5 @@
-"""The rules of `tools/audit` on what anybody may look at beside the releases: the list of notices, their terms, and the evaluation of their tenders; and on
-contracts, as the clerk or their tenderers are shown them. With a file each is held against its rows, and else against the releases; what was saved must stay.
+"""The rules of `tools/audit` for public answers besides the releases: the list of notices, their terms, and the evaluation of their tenders; and for contracts,
+as the clerk or their tenderers see them. With a file each is compared with its rows, otherwise with the releases; what was saved must stay the same.
 """
 from collections.abc import Iterator
 from typing import Any
@@ -21,7 +21,7 @@ FINAL = OUTCOMES[1:]
 # ---- What is due by the rows.
 
 def listed_of(office: Office) -> dict[str, Json]:
-    """What the list says of each notice, by the rows."""
+    """The list's entry for each notice, from the rows."""
     return {notice: {"amendments": row["amendments"], "deadline": text_of(row["deadline"]), "notice": notice, "opened": text_of(row["opened"]),
                      "published": text_of(row["published"]), "releases": row["releases"], "state": row["state"], "title": row["title"]}
             for (notice,), row in office.table("notices").items()}
@@ -78,7 +78,7 @@ def evaluation_of(office: Office, notice: str, is_whole: bool = False) -> str | 
 
 
 def contract_of(office: Office, contract: int) -> Json | None:
-    """What is shown of a contract, by the rows, or None."""
+    """The answer about a contract, from the rows, or None."""
     row = office.table("contracts").get((contract,))
     if row is None:
         return None
@@ -95,7 +95,7 @@ def contract_of(office: Office, contract: int) -> Json | None:
 
 @rule("list")
 def listed_notices_are_of_the_rows(office: Office, listed: list[Json]) -> Found:
-    """The list of notices has each notice of the file, in order, once, with what the file says of it."""
+    """The list of notices has each notice of the file once, sorted, with what the file says of it."""
     due, names = listed_of(office), [str(it.get("notice")) for it in listed]
     there = dict(zip(names, listed))
     for name in sorted({*due, *names}):
@@ -103,7 +103,7 @@ def listed_notices_are_of_the_rows(office: Office, listed: list[Json]) -> Found:
         if found:
             yield f"notices {name}", "in the list {} is {}, and the file says {}".format(*found)
     if names != sorted(set(names)):
-        yield "office 1", "the list isn't in order, or has a notice twice"
+        yield "office 1", "the list isn't sorted, or has a notice twice"
 
 
 @rule("looks")
@@ -118,7 +118,7 @@ def terms_are_of_the_rows(office: Office, answers: Answers, notice: str) -> Foun
 
 @rule("looks")
 def evaluations_are_of_the_rows(office: Office, answers: Answers, notice: str) -> Found:
-    """The evaluation of an opened notice shows what the file says of each lot with an outcome, and of others nothing, but for one that the clerk saved."""
+    """An opened notice's evaluation shows what the file says of each lot with an outcome, and nothing of others, except one that the clerk saved."""
     due, text = evaluation_of(office, notice), answers.of_notice(notice, "evaluation")
     if due is None:
         yield from [(f"notices {notice}", "an evaluation is answered, and it isn't opened")] if text is not None else []
@@ -140,7 +140,7 @@ def contracts_are_of_the_rows(office: Office, answers: Answers) -> Found:
 # ---- Without the file.
 
 def due_in_list(notice: str, releases: list[Json]) -> Json:
-    """What the list says of a notice once these releases were made."""
+    """The list's entry for a notice after these releases."""
     story = Story(notice, releases)
     state = "opened" if story.opened else "cancelled" if story.status() == "cancelled" else "receiving"
     amendments = sum("tenderAmendment" in release.get("tag", []) for release in releases)
@@ -150,11 +150,11 @@ def due_in_list(notice: str, releases: list[Json]) -> Json:
 
 @rule("outside")
 def listed_notices_are_of_the_releases(seen: Seen) -> Found:
-    """The list says of each notice what its releases say; where all notices are there, it has these and no others."""
+    """The list says of each notice what its releases say; with all notices, it has exactly these."""
     for it in seen.listed or []:
         releases = seen.releases.get(str(it.get("notice")))
         if releases is None:
-            yield from [(f"notices {it.get('notice')}", "is in the list, and there are no releases of it")] if seen.complete else []
+            yield from [(f"notices {it.get('notice')}", "is in the list, and has no releases")] if seen.complete else []
         elif found := difference(it, due_in_list(it["notice"], releases[:it["releases"]])):
             yield f"notices {it['notice']}", "in the list {} is {}, and its releases say {}".format(*found)
     names = [it.get("notice") for it in seen.listed or []]
@@ -163,7 +163,7 @@ def listed_notices_are_of_the_releases(seen: Seen) -> Found:
 
 
 def due_in_terms(releases: list[Json]) -> dict[str, object]:
-    """What terms say of a notice that its first release says too."""
+    """The terms of a notice that are also in its first release."""
     first = releases[0]["tender"]
     items = {lot["id"]: [{"id": item["id"].removeprefix(lot["id"] + "/"), "quantity": item["quantity"], "title": item["description"]}
                          for item in first["items"] if item["relatedLot"] == lot["id"]] for lot in first["lots"]}
@@ -173,7 +173,7 @@ def due_in_terms(releases: list[Json]) -> dict[str, object]:
 
 
 def went_back(terms: Json, due: Json, complete: bool) -> Iterator[str]:
-    """What of the terms that commands change isn't as the releases say. (They were asked for behind these, so it may have gone on where not all was told.)"""
+    """The terms that commands change and that differ from the releases. (They were asked for behind these, so it may have gone on where not all was told.)"""
     goes_on = {"deadline": str(terms.get("deadline")) > str(due["deadline"]), "opened": due["opened"] is None, "state": due["state"] == "receiving"}
     for name in CHANGES:
         if terms.get(name) != due[name] and (complete or not goes_on[name]):
@@ -182,7 +182,7 @@ def went_back(terms: Json, due: Json, complete: bool) -> Iterator[str]:
 
 @rule("outside")
 def terms_are_of_the_releases(seen: Seen) -> Found:
-    """Terms say of title, publication, criteria, lots and items what the first release says, and of deadline, opening and state what all of them say."""
+    """Terms and the first release agree on title, publication, criteria, lots and items; terms and all releases on deadline, opening and state."""
     for notice, terms in seen.terms.items():
         due = due_in_terms(seen.releases[notice])
         told: Json = {name: terms.get(name) for name in due}
@@ -221,7 +221,7 @@ def read_evaluation(text: str) -> Evaluation | None:
 
 
 def evaluation_found(evaluation: Evaluation, story: Story, tenders: list[Tender] | None, complete: bool) -> Iterator[str]:
-    """What doesn't go together in the evaluation, the releases and the minutes of a notice. (It was asked for behind these, so it may have an award more.)"""
+    """Contradictions between the evaluation, the releases and the minutes of a notice. (It was asked for behind these, so it may have an award more.)"""
     if evaluation.notice != story.notice or list(evaluation.states) != sorted(story.lots):
         yield f"the evaluation is of {evaluation.notice} and the lots {list(evaluation.states)}"
     for lot, awards in evaluation.awards.items():
@@ -238,10 +238,10 @@ def evaluation_found(evaluation: Evaluation, story: Story, tenders: list[Tender]
 
 @rule("outside")
 def evaluations_are_of_the_minutes(seen: Seen) -> Found:
-    """An evaluation, of an opened notice alone, has the lots and awards of the releases, and of each lot with an outcome the tenders of the minutes."""
+    """Only an opened notice has an evaluation: with the lots and awards of its releases and, for lots with an outcome, the tenders of its minutes."""
     for notice, text in seen.evaluations.items():
         if seen.stories[notice].opened is None:
-            yield f"notices {notice}", "an evaluation is answered, and no release tells of its opening"
+            yield f"notices {notice}", "an evaluation is answered, and no release has its opening"
             continue
         evaluation, minutes = read_evaluation(text), read_minutes(seen.minutes[notice] or "")
         if evaluation is None:
@@ -254,25 +254,25 @@ def evaluations_are_of_the_minutes(seen: Seen) -> Found:
 # ---- Saved before.
 
 def fixed_in(terms: Json) -> Json:
-    """What no command changes of terms."""
+    """The terms that no command changes."""
     lots = [{**lot, "state": None} for lot in terms.get("lots", [])]
     return {**{name: value for name, value in terms.items() if name not in CHANGES}, "lots": lots}
 
 
 @rule("saved")
 def saved_terms_stay(later: Later, office: Office | None, saved: Answers, notice: str) -> Found:
-    """Terms that were saved are still the terms: of a notice its deadline alone may have been moved, and it and its lots may have gone on."""
+    """Saved terms are still the terms: only the notice's deadline may have moved later, and the notice and its lots may have progressed."""
     before, here = saved.terms(notice), later.terms(notice) if notice in later.notices else None
     if before is not None and here is not None:
         found = difference(fixed_in(here), fixed_in(before))
         if found:
             yield f"notices {notice}", "its terms at {} are {}, and were {} in {}".format(*found, saved.place)
         if str(here.get("deadline")) < str(before.get("deadline")) or before.get("opened") not in (None, here.get("opened")):
-            yield f"notices {notice}", f"its deadline or its opening was another in the terms of {saved.place}"
+            yield f"notices {notice}", f"its deadline or its opening was different in the terms of {saved.place}"
 
 
 def went_otherwise(before: Evaluation, here: Evaluation) -> Iterator[str]:
-    """What can't have come of an evaluation. (What the clerk is shown may have tenders of a lot of which others aren't shown any yet.)"""
+    """Changes of an evaluation that are impossible. (What the clerk is shown may have tenders of a lot of which others aren't shown any yet.)"""
     for lot, tenders in before.tenders.items():
         state, there = here.states.get(lot), here.tenders.get(lot, {})
         if state != before.states[lot] and before.states[lot] in FINAL:
@@ -290,7 +290,7 @@ def went_otherwise(before: Evaluation, here: Evaluation) -> Iterator[str]:
 
 @rule("saved")
 def saved_evaluations_stay(later: Later, office: Office | None, saved: Answers, notice: str) -> Found:
-    """What an evaluation that was saved shows is so: who presented what, what was found of it, and the awards."""
+    """What a saved evaluation shows is unchanged: who submitted what, what was found, and the awards."""
     before, here = saved.of_notice(notice, "evaluation"), later.evaluation(notice) if notice in later.notices else None
     if before is not None and here is not None:
         was, now = read_evaluation(before), read_evaluation(here)
@@ -300,15 +300,15 @@ def saved_evaluations_stay(later: Later, office: Office | None, saved: Answers, 
 
 @rule("held")
 def contracts_are_as_shown(office: Office, saved: Answers) -> Found:
-    """A contract that the clerk or its tenderer was shown is there, with each change and payment of then; one that had ended is as it was."""
+    """A contract that the clerk or its tenderer saw exists with each change and payment it had; one that had ended is unchanged."""
     for _, shown in saved.held("contract"):
         here = contract_of(office, shown.get("contract", 0))
         if here is None:
-            yield f"contracts {shown.get('contract')}", f"{saved.place} has what was shown of it, and it isn't there"
+            yield f"contracts {shown.get('contract')}", f"{saved.place} has what was shown of it, and it doesn't exist"
             continue
         entries = {it["entry"]: it for it in here["entries"]}
         stays = [name for name in ("lot", "moment", "notice", "signed", "tenderer") if shown.get(name) != here[name]]
         stays += [f"entry {it.get('entry')}" for it in shown.get("entries", []) if it != entries.get(it.get("entry"))]
         stays += ["end"] if shown.get("ended") is not None and shown != here else []
         for what in stays:
-            yield f"contracts {here['contract']}", f"{what} is another than was shown in {saved.place}"
+            yield f"contracts {here['contract']}", f"{what} differs from what was shown in {saved.place}"

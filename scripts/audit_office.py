@@ -1,4 +1,4 @@
-"""What `tools/audit` reads of a copy of an office's file, and what its rules share."""
+"""Reads a copy of an office's file for `tools/audit`, and has what its rules share."""
 import datetime
 import glob
 import hashlib
@@ -14,7 +14,7 @@ Json = dict[str, Any]
 Row = dict[str, Any]
 # Parts of a file, each with its size and the time of the last change.
 Stamp = list[tuple[str, int, int]]
-# What a rule finds: a row, as its table and key, and what is wrong with it.
+# A finding of a rule: a row, by its table and key, and its fault.
 Found = Iterator[tuple[str, str]]
 Check = Callable[..., Found]
 
@@ -41,7 +41,7 @@ TABLES = {
 # Version 2 keeps notices under another name, and their table of version 1 empty. Here they are `notices`, whatever the version.
 ON_DISK = {"notices": "notices_2"}
 
-# What makes the tables that an office of version 1 lacks until it is opened: the copy gets them.
+# The SQL of the tables that an office of version 1 doesn't have until it is opened. The copy gets them.
 LATER = {name: f"CREATE TABLE {name} ({columns}) STRICT" for name, columns in (
     ("late_rules", "notice TEXT NOT NULL PRIMARY KEY CHECK (length(notice) BETWEEN 1 AND 32)"),
     ("notices_2",
@@ -91,7 +91,7 @@ RULES: dict[str, list[Check]] = {it: [] for it in (
 
 
 class Unreadable(Exception):
-    """What can't be read, and why."""
+    """Something can't be read, and why."""
 
 
 def rule(of: str) -> Callable[[Check], Check]:
@@ -126,7 +126,7 @@ def json_object(text: str) -> Json | None:
 
 
 def stamp(path: str) -> Stamp:
-    """The file, its log and its journal, as far as they are there, with size and time of the last change."""
+    """The file, its log and its journal, if they exist, with size and time of the last change."""
     parts = [path + end for end in ("", "-wal", "-journal") if not end or os.path.exists(path + end)]
     return [(part, os.stat(part).st_size, os.stat(part).st_mtime_ns) for part in parts]
 
@@ -141,7 +141,7 @@ def copied(path: str, folder: str) -> Stamp:
             shutil.copyfile(part, os.path.join(folder, "office.db" + part[len(path):]))
         if stamp(path) == before:
             return before
-    raise Unreadable(f"{path}: it was written to while it was copied, five times over")
+    raise Unreadable(f"{path}: somebody wrote to it while it was copied, five times: run this again when nobody gives commands")
 
 
 class Office:
@@ -160,7 +160,7 @@ class Office:
         self.complete("office")
         version = self.rows("SELECT version FROM office")
         if version not in ([(1,)], [(2,)]):
-            raise Unreadable(f"{path}: it is no office of version 1 or 2")
+            raise Unreadable(f"{path}: it isn't an office of version 1 or 2")
         if version == [(1,)]:
             self.migrate()
         for table in TABLES:
@@ -171,10 +171,10 @@ class Office:
         return {row[1] for row in self.rows(f"PRAGMA table_info({table})")}
 
     def complete(self, table: str) -> None:
-        """Sees to it that the table is there with its columns."""
+        """Checks that the table exists with its columns."""
         name = ON_DISK.get(table, table)
         if not self.columns(name) >= set(" ".join(TABLES[table]).split()):
-            raise Unreadable(f"{self.path}: it is no office: the table {name} isn't there, or lacks a column")
+            raise Unreadable(f"{self.path}: it isn't an office: the table {name} or one of its columns is missing")
 
     def migrate(self) -> None:
         """Makes of the copy what the program makes of an office of version 1 when it opens it."""
@@ -182,7 +182,7 @@ class Office:
             if not self.columns(table):
                 self.base.execute(made)
         if not self.columns("notices") >= set(" ".join(TABLES["notices"]).split()) - {"performance"}:
-            raise Unreadable(f"{self.path}: it is no office: the table notices isn't there, or lacks a column")
+            raise Unreadable(f"{self.path}: it isn't an office: the table notices or one of its columns is missing")
         self.base.executescript("""
             INSERT INTO notices_2 SELECT notice, title, published, deadline, validity, standstill, weight, state, opened, amendments, releases, 0 FROM notices;
             DELETE FROM notices; UPDATE office SET version = 2""")
@@ -199,7 +199,7 @@ class Office:
         return self.tables[name]
 
     def find(self, table: str, sql: str, *values: object) -> Found:
-        """A finding for each row that is asked for: the key of a row of the table, and what is wrong with it."""
+        """A finding for each row of the query: the key of a row of the table, and its fault."""
         for *key, what in self.rows(sql, *values):
             yield f"{table} {'/'.join(map(str, key))}", what
 

@@ -1,4 +1,4 @@
-"""The rules of `tools/audit` on what anybody is answered, where there is no file: minutes and ledger against releases, notices against one another."""
+"""The rules of `tools/audit` for public answers without a file: minutes and ledger compared with releases, notices with one another."""
 import re
 from collections.abc import Iterator
 
@@ -22,7 +22,7 @@ class Seen:
 
 
 class Minutes:
-    """What minutes say: the title, deadline and opening, of each lot its title, and of each tender its fields."""
+    """The content of minutes: title, deadline and opening, the title of each lot, and the fields of each tender."""
 
     def __init__(self, text: str) -> None:
         lines = [line.split("\t") for line in text.split("\n")]
@@ -38,7 +38,7 @@ class Minutes:
 
 
 class Tender:
-    """A tender that minutes tell."""
+    """A tender in the minutes."""
 
     def __init__(self, lot: str, receipt: str, tenderer: str, name: str, address: str, reading: str, *figures: str) -> None:
         self.lot, self.receipt, self.tenderer, self.known, self.reading = lot, int(receipt), "T-" + tenderer, (name, address), reading
@@ -70,7 +70,7 @@ def pots_of(ledger: str) -> dict[str, int] | None:
 # ---- Minutes.
 
 def minutes_found(minutes: Minutes, story: Story) -> Iterator[str]:
-    """What doesn't go together in minutes and releases of a notice."""
+    """Contradictions between minutes and releases of a notice."""
     said, told = [minutes.notice, minutes.title, minutes.deadline, minutes.opened], [story.notice, story.title, story.deadline, str(story.opened)]
     if said != told:
         yield f"the minutes say {', '.join(said)}, and the releases {', '.join(told)}"
@@ -87,7 +87,7 @@ def minutes_found(minutes: Minutes, story: Story) -> Iterator[str]:
         here = [tender for tender in minutes.tenders if tender.lot == lot]
         receipts = [tender.receipt for tender in here]
         if sorted(set(receipts)) != receipts or len({tender.tenderer for tender in here}) < len(here):
-            yield f"the tenders of lot {lot} aren't in order, or two are of one tenderer"
+            yield f"the tenders of lot {lot} aren't sorted, or two are of one tenderer"
     for number, award in story.awards.items():
         prices = [tender.corrected for tender in minutes.tenders if (tender.lot, tender.tenderer) == (award["lot"], award["tenderer"])]
         if prices != [award["price"]]:
@@ -96,11 +96,11 @@ def minutes_found(minutes: Minutes, story: Story) -> Iterator[str]:
 
 @rule("outside")
 def minutes_are_of_the_releases(seen: Seen) -> Found:
-    """Minutes say of title, deadline, opening, lots, tenderers and awarded prices what the releases say, and are answered of opened notices alone."""
+    """Minutes and releases agree on title, deadline, opening, lots, tenderers and awarded prices; only opened notices have minutes."""
     for notice, story in seen.stories.items():
         text = seen.minutes[notice]
         if text is not None and story.opened is None:
-            yield f"notices {notice}", "minutes are answered, and no release tells of its opening"
+            yield f"notices {notice}", "minutes are answered, and no release has its opening"
         elif text is not None:
             minutes = read_minutes(text)
             for what in ["the minutes have another form"] if minutes is None else minutes_found(minutes, story):
@@ -111,7 +111,7 @@ def minutes_are_of_the_releases(seen: Seen) -> Found:
 
 @rule("outside")
 def ledger_covers_the_releases(seen: Seen) -> Found:
-    """No more is reserved, contracted or paid by the releases than the ledger has of all lines; where all notices are there, as much."""
+    """Releases reserve, contract and pay no more than all lines of the ledger have; with all notices, exactly as much."""
     before, after = (pots_of(ledger or "") for ledger in seen.ledgers)
     if before is None or after is None:
         return
@@ -119,14 +119,14 @@ def ledger_covers_the_releases(seen: Seen) -> Found:
     for pot, told in sums.items():
         # What is paid only grows; what is reserved and contracted comes and goes, so it's compared where nothing moved meanwhile.
         if (pot == "paid" or before == after) and not (before[pot] if seen.complete else 0) <= told <= after[pot]:
-            yield "office 1", f"{pot}: the releases of {'all' if seen.complete else 'these'} notices tell of {told}, and the ledger of {after[pot]}"
+            yield "office 1", f"{pot}: the releases of {'all' if seen.complete else 'these'} notices say {told}, and the ledger {after[pot]}"
 
 
 # ---- The notices together.
 
 @rule("outside")
 def awards_are_told_in_turn(seen: Seen) -> Found:
-    """Each award's number is told by one notice, and along the numbers dates never fall; where all notices are there, none is left out."""
+    """Each award number occurs in one notice, and in the order of the numbers dates never fall; with all notices, none is missing."""
     told = sorted((int(number), award["date"], notice) for notice, story in seen.stories.items() for number, award in story.awards.items())
     for (before, earlier, other), (number, date, notice) in zip(told, told[1:]):
         if number == before or date < earlier:
@@ -134,19 +134,19 @@ def awards_are_told_in_turn(seen: Seen) -> Found:
     numbers = {number for number, _, _ in told}
     left = sorted(set(range(1, max(numbers, default=0))) - numbers)
     if seen.complete and left:
-        yield "office 1", f"awards {left} are told by no notice"
+        yield "office 1", f"no notice has the awards {left}"
 
 
 @rule("outside")
 def receipts_are_told_in_turn(seen: Seen) -> Found:
-    """Each receipt is in one notice's minutes; a later one isn't of a notice whose deadline came before the other's notice was published."""
+    """Each receipt is in one notice's minutes; a later one isn't in a notice whose deadline came before the other's notice was published."""
     minutes = {notice: read_minutes(text) for notice, text in seen.minutes.items() if text is not None}
     told = sorted((tender.receipt, notice) for notice, found in minutes.items() if found for tender in found.tenders)
     latest, last = ("", 0, ""), 0
     for receipt, notice in told:
         story = seen.stories[notice]
         if receipt == last:
-            yield f"notices {notice}", f"receipt {receipt} is told twice"
+            yield f"notices {notice}", f"receipt {receipt} occurs twice"
         if story.deadline < latest[0]:
             yield f"notices {notice}", f"receipt {receipt} came by {story.deadline}, and receipt {latest[1]} of {latest[2]} from {latest[0]} on"
         latest, last = max(latest, (story.published, receipt, notice)), receipt
@@ -154,7 +154,7 @@ def receipts_are_told_in_turn(seen: Seen) -> Found:
 
 @rule("outside")
 def tenderers_are_known_alike(seen: Seen) -> Found:
-    """A tenderer has the same name and address in all notices: what was registered is never changed."""
+    """A tenderer has the same name and address in all notices: a registration never changes."""
     known: dict[str, tuple[str, tuple[str, str]]] = {}
     for notice, story in seen.stories.items():
         for tenderer, what in story.tenderers.items():
@@ -164,5 +164,5 @@ def tenderers_are_known_alike(seen: Seen) -> Found:
 
 
 def lacks_minutes(answers: Answers, notice: str, releases: list[Json]) -> bool:
-    """Whether the releases of a notice tell of its opening, and there are no minutes."""
+    """Whether the releases of a notice have its opening, and there are no minutes."""
     return Story(notice, releases).opened is not None and answers.of_notice(notice, "minutes") is None

@@ -1,4 +1,4 @@
-"""The rules of `tools/audit` on releases: those that the file keeps, and what an office answers to anybody; and the merge of releases, written anew."""
+"""The rules of `tools/audit` for releases: those in the file, and those that an office answers to anybody; with a merge of releases of its own."""
 import collections
 import json
 import re
@@ -115,7 +115,7 @@ def difference(here: Any, there: Any, path: str = "") -> tuple[str, str, str] | 
 # ---- What releases tell.
 
 def events_told(release: Json) -> list[str]:
-    """What a release tells, a text for each event: its name, a colon and the rest."""
+    """The events of a release, a text for each: its name, a colon and the rest."""
     try:
         return [event for tag in release["tag"] for event in told_by(tag, release)]
     except (KeyError, TypeError, IndexError, AttributeError):
@@ -123,7 +123,7 @@ def events_told(release: Json) -> list[str]:
 
 
 def told_by(tag: str, release: Json) -> list[str]:
-    """What a release tells by one of its tags."""
+    """The events of a release by one of its tags."""
     date, tender, awards, contracts = release["date"], release.get("tender", {}), release.get("awards", []), release.get("contracts", [])
     match tag:
         case "tender":
@@ -174,7 +174,7 @@ def facts_told(merge: Json) -> dict[str, Any]:
 
 @rule("file")
 def releases_are_counted(office: Office) -> Found:
-    """A notice counts a release for its publication, opening, cancellation, each amendment, award, failing, lot without winner, signing, entry, end."""
+    """The notice's count of releases is one each for publication, opening, cancellation, amendment, award, lot without winner, failing, signing, entry, end."""
     yield from office.find("notices", """
         WITH counted AS (SELECT notice, 1 + amendments + (state = 'opened')
             + (SELECT count(*) + count(*) FILTER (WHERE state = 'failed') FROM awards AS a WHERE a.notice = n.notice)
@@ -186,10 +186,10 @@ def releases_are_counted(office: Office) -> Found:
 
 @rule("file")
 def releases_are_numbered(office: Office) -> Found:
-    """Of each notice the releases from 1 to its count are kept, and no other."""
+    """Each notice has exactly the releases from 1 to its count."""
     yield from office.find("releases", """
         WITH RECURSIVE number(n) AS (SELECT 1 UNION ALL SELECT n + 1 FROM number WHERE n < (SELECT max(releases) FROM notices))
-        SELECT notice, n, 'isn''t kept' FROM notices AS i JOIN number ON n <= releases
+        SELECT notice, n, 'is missing' FROM notices AS i JOIN number ON n <= releases
         WHERE NOT EXISTS (SELECT 1 FROM releases AS r WHERE r.notice = i.notice AND seq = n)
         UNION ALL SELECT r.notice, seq, 'is above the count of its notice' FROM releases AS r JOIN notices AS i ON i.notice = r.notice
         WHERE seq > i.releases""")
@@ -197,7 +197,7 @@ def releases_are_numbered(office: Office) -> Found:
 
 @rule("kept")
 def kept_texts_are_releases(office: Office, notice: str, releases: list[Json]) -> Found:
-    """The text of a kept release is a JSON object, dated by its row's moment."""
+    """The text of a stored release is a JSON object, dated by its row's moment."""
     for seq, moment, text in office.rows("SELECT seq, moment, text FROM releases WHERE notice = ? ORDER BY seq", notice):
         if (json_object(text) or {}).get("date") != text_of(moment):
             yield f"releases {notice}/{seq}", f"isn't a JSON object of the date {text_of(moment)}"
@@ -205,7 +205,7 @@ def kept_texts_are_releases(office: Office, notice: str, releases: list[Json]) -
 
 @rule("kept")
 def kept_texts_are_compact(office: Office, notice: str, releases: list[Json]) -> Found:
-    """The text of a release or a merge that is kept is written as the office writes JSON: compactly, members in the byte order of their names."""
+    """The text of a stored release or merge is written as the office writes JSON: compactly, members sorted by the bytes of their names."""
     for table in ("releases", "compiled"):
         for *key, text in office.rows(f"SELECT {'notice, seq' if table == 'releases' else 'notice'}, text FROM {table} WHERE notice = ?", notice):
             value = json_object(text)
@@ -215,19 +215,19 @@ def kept_texts_are_compact(office: Office, notice: str, releases: list[Json]) ->
 
 @rule("kept")
 def rows_have_their_releases(office: Office, notice: str, releases: list[Json]) -> Found:
-    """The releases of a notice tell what its rows say that happened, each event once, and nothing else."""
+    """The releases of a notice say exactly what its rows say, each event once."""
     told = collections.Counter(event for release in releases for event in events_told(release))
     done = collections.Counter(event for event, in office.rows(EVENTS, notice))
     done["amendment"] = office.rows("SELECT amendments FROM notices WHERE notice = ?", notice)[0][0]
     for event in (done - told).elements():
-        yield f"notices {notice}", f"no release tells of {event}"
+        yield f"notices {notice}", f"no release has {event}"
     for event in (told - done).elements():
-        yield f"notices {notice}", f"a release tells what no row says, {event}"
+        yield f"notices {notice}", f"a release says what no row says: {event}"
 
 
 @rule("kept")
 def merges_are_of_their_releases(office: Office, notice: str, releases: list[Json]) -> Found:
-    """Where a merge of a notice's releases is kept, it is their merge."""
+    """If a merge of a notice's releases is stored, it is their merge."""
     for text, in office.rows("SELECT text FROM compiled WHERE notice = ?", notice):
         found = difference(json_object(text), merge_of(releases))
         if found:
@@ -236,7 +236,7 @@ def merges_are_of_their_releases(office: Office, notice: str, releases: list[Jso
 
 @rule("kept")
 def merges_say_what_the_rows_say(office: Office, notice: str, releases: list[Json]) -> Found:
-    """Merged, the releases of a notice say of its terms, status, lots, tenderers, awards, contracts and payments what the rows say."""
+    """The merge of a notice's releases and the rows agree on terms, status, lots, tenderers, awards, contracts and payments."""
     kept = dict(office.rows(FACTS, notice))
     try:
         told = facts_told(merge_of(releases))
@@ -251,20 +251,20 @@ def merges_say_what_the_rows_say(office: Office, notice: str, releases: list[Jso
 
 @rule("releases")
 def heads_are_in_sequence(notice: str, releases: list[Json]) -> Found:
-    """A release's ocid is a prefix, a dash and the notice, the same in all; its id is that with its number; its date isn't before the one in front of it."""
+    """A release's ocid is a prefix, a dash and the notice, the same in all; its id adds its number; its date isn't before that of the previous one."""
     ocid, date, due = releases[0].get("ocid") if releases else None, "", 1
     right = re.fullmatch(r"ocds-[0-9A-Za-z]{6}-" + re.escape(notice), str(ocid))
     for release in releases:
         here = [str(release.get(name)) for name in ("ocid", "id", "date")]
         if not right or here[:2] != [ocid, f"{ocid}-{due:04}"] or here[2] < date:
-            yield f"releases {notice}/{due}", f"ocid {here[0]}, id {here[1]} and date {here[2]}, where number {due} of {ocid} is due, not before {date}"
+            yield f"releases {notice}/{due}", f"ocid {here[0]}, id {here[1]} and date {here[2]}, but number {due} of {ocid} is next, not before {date}"
         number = re.fullmatch(r".*-([0-9]{4})", here[1])
         date, due = here[2], int(number[1]) + 1 if number else due + 1
 
 
 @rule("releases")
 def tags_are_of_events(notice: str, releases: list[Json]) -> Found:
-    """The first release has the tags planning and tender, and each other those of an event of the office."""
+    """The first release has the tags planning and tender, and every other those of an event of the office."""
     for seq, release in enumerate(releases, 1):
         if release.get("tag") not in (TAGS if seq > 1 else [["planning", "tender"]]):
             yield f"releases {notice}/{seq}", f"has the tags {release.get('tag')}"
@@ -272,11 +272,11 @@ def tags_are_of_events(notice: str, releases: list[Json]) -> Found:
 
 @rule("releases")
 def events_come_once(notice: str, releases: list[Json]) -> Found:
-    """Each award, its end, each signing, entry and end of a contract is told by one release."""
+    """Each award, its end, and each signing, entry and end of a contract is in exactly one release."""
     told = collections.Counter(event.split(":")[0] for release in releases for event in events_told(release) if ":" in event)
     for event, count in told.items():
         if count > 1:
-            yield f"notices {notice}", f"{event} is told {count} times"
+            yield f"notices {notice}", f"{event} occurs {count} times"
 
 
 # ---- Rules of answers.
@@ -295,7 +295,7 @@ def record_in(package: Json) -> Json:
 
 @rule("answers")
 def answered_releases_are_kept(office: Office | None, answers: Answers, notice: str, package: Json, record: Json) -> Found:
-    """The releases that are answered are those that the file keeps."""
+    """The answered releases are those in the file."""
     found = office and difference(package.get("releases"), office.releases(notice))
     if found:
         yield f"notices {notice}", "its releases at {} answer {}, and the file has {}".format(*found)
@@ -303,7 +303,7 @@ def answered_releases_are_kept(office: Office | None, answers: Answers, notice: 
 
 @rule("answers")
 def records_have_the_releases(office: Office | None, answers: Answers, notice: str, package: Json, record: Json) -> Found:
-    """A record package has one record, of the notice's ocid, with the releases of the release package."""
+    """A record package has one record, with the notice's ocid and the releases of the release package."""
     found = difference(record_in(record).get("releases"), package.get("releases"))
     if found:
         yield f"notices {notice}", "its record's releases at {} are {}, and its releases {}".format(*found)
@@ -321,7 +321,7 @@ def compiled_is_the_merge(office: Office | None, answers: Answers, notice: str, 
 
 @rule("answers")
 def packages_have_their_heads(office: Office | None, answers: Answers, notice: str, package: Json, record: Json) -> Found:
-    """A package is of version 1.1, of the address of its route, and of the date of its last release."""
+    """A package has version 1.1, the address of its route, and the date of its last release."""
     last = max((str(release.get("date")) for release in releases_in(package)), default=None)
     for kind, value in (("releases", package), ("record", record)):
         if value.get("version") != "1.1" or not str(value.get("uri")).endswith(f"/notices/{notice}/{kind}") or value.get("publishedDate") != last:
@@ -345,7 +345,7 @@ def minutes_of(office: Office, notice: str) -> str | None:
 
 @rule("minutes")
 def minutes_are_of_the_rows(office: Office, answers: Answers, notice: str) -> Found:
-    """The minutes of an opened notice say what the file says, and no others are answered."""
+    """The minutes of an opened notice say what the file says, and no other notice has minutes."""
     due, text = minutes_of(office, notice), answers.of_notice(notice, "minutes")
     if due is None:
         yield from [(f"notices {notice}", "minutes are answered, and it isn't opened")] if text is not None else []
@@ -357,14 +357,14 @@ def minutes_are_of_the_rows(office: Office, answers: Answers, notice: str) -> Fo
 
 @rule("lacking")
 def kept_notices_are_answered(office: Office | None, notice: str) -> Found:
-    """An address answers on each notice that the file has."""
+    """An address answers for each notice in the file."""
     if office and notice in office.notices():
-        yield f"notices {notice}", "is in the file, and nothing is answered of it"
+        yield f"notices {notice}", "is in the file, and the address answers nothing for it"
 
 
 @rule("ledger")
 def ledger_is_of_the_rows(office: Office | None, text: str) -> Found:
-    """The ledger that is answered adds up, line by line, and says what the file says."""
+    """The answered ledger adds up, line by line, and says what the file says."""
     for line in text.split("\n")[2:-1]:
         name, *numbers = line.split("\t")
         if len(numbers) != 5 or not all(number.isdigit() for number in numbers) or sum(map(int, numbers[1:])) != int(numbers[0]):

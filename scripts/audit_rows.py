@@ -1,4 +1,4 @@
-"""The rules of `tools/audit` that hold the rows of an office's file against one another. Each is named for what must hold, and says it in a sentence."""
+"""The rules of `tools/audit` that compare the rows of an office's file with one another. Each is named for what must hold, and says it in a sentence."""
 import hashlib
 import re
 from typing import Any
@@ -34,7 +34,7 @@ def key_of(table: str, before: str = "") -> str:
 
 @rule("file")
 def file_is_sound(office: Office) -> Found:
-    """SQLite finds the file whole, each value of its column's type, and each check of the tables kept."""
+    """SQLite finds no fault in the file; each value has its column's type and passes each check of its table."""
     for what, in office.rows("PRAGMA integrity_check"):
         if what != "ok":
             yield "file", what
@@ -42,22 +42,22 @@ def file_is_sound(office: Office) -> Found:
 
 @rule("file")
 def tables_are_as_made(office: Office) -> Found:
-    """The tables of an office and their indexes are made by the office's SQL, and have no other column, index or trigger. (Other tables may be beside them.)"""
+    """The office's tables and indexes are those that its SQL makes, with no other column, index or trigger. (Tables of others may be beside them.)"""
     there = office.rows("SELECT name, type, sql, lower(tbl_name) FROM sqlite_master WHERE name NOT LIKE 'sqlite!_%' ESCAPE '!' ORDER BY name")
     there = [(name, kind, sql) for name, kind, sql, table in there if table in TABLES or table in ON_DISK.values()]
     for name, kind, sql in there:
         if name not in MADE:
-            yield f"{kind} {name}", "no office has it"
+            yield f"{kind} {name}", "belongs to no office"
         elif not hashlib.sha256(sql.encode("utf-8", "surrogateescape")).hexdigest().startswith(MADE[name]):
-            yield f"{kind} {name}", "is made otherwise"
+            yield f"{kind} {name}", "has another form"
     for name in sorted(set(MADE) - {name for name, _, _ in there}):
-        yield f"{'table' if name in (*TABLES, *ON_DISK.values()) else 'index'} {name}", "isn't there"
+        yield f"{'table' if name in (*TABLES, *ON_DISK.values()) else 'index'} {name}", "is missing"
 
 
 @rule("file")
 def notices_stand_in_one_table(office: Office) -> Found:
-    """No notice stands in the table of version 1, which version 2 keeps empty."""
-    yield from office.find("notices", "SELECT notice, 'stands in the table of version 1' FROM main.notices ORDER BY notice")
+    """No notice is in the table of version 1, which version 2 keeps empty."""
+    yield from office.find("notices", "SELECT notice, 'is in the table of version 1' FROM main.notices ORDER BY notice")
 
 
 @rule("file")
@@ -65,7 +65,7 @@ def keys_come_once(office: Office) -> Found:
     """No two rows of a table have the same key."""
     for table in TABLES:
         key = key_of(table)
-        yield from office.find(table, f"SELECT {key}, 'stands there ' || count(*) || ' times' FROM {table} GROUP BY {key} HAVING count(*) > 1")
+        yield from office.find(table, f"SELECT {key}, 'occurs ' || count(*) || ' times' FROM {table} GROUP BY {key} HAVING count(*) > 1")
 
 
 @rule("file")
@@ -78,20 +78,20 @@ def words_are_known(office: Office) -> Found:
 
 @rule("file")
 def parents_are_there(office: Office) -> Found:
-    """Each row that a row speaks of is there, and each notice has a lot."""
+    """Each row to which another row refers exists, and each notice has a lot."""
     for place in PARENTS.split(", "):
         child, columns, parent = place.split()
         here = ["c." + column for column in columns.split("|")]
         same = " AND ".join(f"p.{there} = {column}" for there, column in zip(TABLES[parent][0].split(), here))
         named = " || '/' || ".join(here)
-        yield from office.find(child, f"""SELECT {key_of(child, 'c.')}, '{parent} ' || {named} || ' isn''t there' FROM {child} AS c
+        yield from office.find(child, f"""SELECT {key_of(child, 'c.')}, '{parent} ' || {named} || ' doesn''t exist' FROM {child} AS c
             WHERE {here[0]} IS NOT NULL AND NOT EXISTS (SELECT 1 FROM {parent} AS p WHERE {same})""")
     yield from office.find("notices", "SELECT notice, 'has no lot' FROM notices WHERE notice NOT IN (SELECT notice FROM lots)")
 
 
 @rule("file")
 def nothing_is_after_the_clock(office: Office) -> Found:
-    """No row is of a later moment than the last accepted command, whose moment the table office has."""
+    """No row has a later moment than the last accepted command, whose moment is in the table office."""
     for place in MOMENTS.split(", "):
         table, column = place.split()
         yield from office.find(table, f"""SELECT {key_of(table)}, '{column} is ' || text_of({column}) || ', after the clock' FROM {table}
@@ -100,17 +100,17 @@ def nothing_is_after_the_clock(office: Office) -> Found:
 
 @rule("file")
 def numbers_are_given_in_turn(office: Office) -> Found:
-    """Each receipt, and each number of an award, from 1 to the last that was given out, is there, and no other."""
+    """Receipts and award numbers are exactly those from 1 to the last one assigned."""
     for table, key, last in (("envelopes", "receipt", "receipts"), ("awards", "award", "awards")):
         yield from office.find(table, f"""
             WITH RECURSIVE number(n) AS (SELECT 1 UNION ALL SELECT n + 1 FROM number WHERE n < (SELECT {last} FROM office))
-            SELECT n, 'was given out, and isn''t there' FROM number WHERE n <= (SELECT {last} FROM office) AND n NOT IN (SELECT {key} FROM {table})
+            SELECT n, 'was assigned but is missing' FROM number WHERE n <= (SELECT {last} FROM office) AND n NOT IN (SELECT {key} FROM {table})
             UNION ALL SELECT {key}, 'wasn''t given out' FROM {table} WHERE {key} > (SELECT {last} FROM office) OR {key} < 1""")
 
 
 @rule("file")
 def numbers_follow_time(office: Office) -> Found:
-    """Along the numbers of tenders, of awards and of each notice's releases, moments never fall."""
+    """In the order of the numbers of tenders, of awards and of each notice's releases, moments never fall."""
     for table, group in (("envelopes", "1"), ("awards", "1"), ("releases", "notice")):
         key = key_of(table)
         yield from office.find(table, f"""SELECT {key}, 'is earlier than the one before it' FROM
@@ -124,19 +124,19 @@ PLACED = {"lines": None, "batches": "moment", "tenderers": None, "notices": None
 
 @rule("file")
 def rows_came_one_after_another(office: Office) -> Found:
-    """Rows that are never taken out stand at the places (rowid) 1, 2, 3 and so on, and along them moments never fall."""
+    """Rows that are never deleted have the places (rowid) 1, 2, 3 and so on, and in that order moments never fall."""
     for table, moment in PLACED.items():
         key, name = key_of(table), ON_DISK.get(table, table)
-        yield from office.find(table, f"""SELECT {key}, 'stands at place ' || place || ', behind ' || earlier || ': what was between is gone' FROM
+        yield from office.find(table, f"""SELECT {key}, 'has place ' || place || ', after ' || earlier || ': rows between them are gone' FROM
             (SELECT {key}, rowid AS place, lag(rowid, 1, 0) OVER (ORDER BY rowid) AS earlier FROM {name}) WHERE place <> earlier + 1""")
         if moment:
-            yield from office.find(table, f"""SELECT {key}, 'is of ' || text_of(moment) || ', and was put in behind one of ' || text_of(earlier) FROM
+            yield from office.find(table, f"""SELECT {key}, 'is of ' || text_of(moment) || ', and was added after one of ' || text_of(earlier) FROM
                 (SELECT {key}, moment, lag(moment) OVER (ORDER BY rowid) AS earlier FROM {name}) WHERE moment < earlier""")
 
 
 @rule("file")
 def lines_come_from_batches(office: Office) -> Found:
-    """There are no more lines than rows of budget files that were taken in."""
+    """There are no more lines than rows in the imported budget files."""
     yield from office.find("office", """SELECT version, printf('has %d lines, and its batches %d rows', lines, rows) FROM office,
         (SELECT count(*) AS lines FROM lines), (SELECT coalesce(sum(rows), 0) AS rows FROM batches) WHERE lines > rows""")
 
@@ -145,7 +145,7 @@ def lines_come_from_batches(office: Office) -> Found:
 
 @rule("file")
 def pots_add_up(office: Office) -> Found:
-    """What is free, reserved, contracted and paid of a line, summed from joined rows, is its appropriation."""
+    """For each line, free, reserved, contracted and paid, summed from joined rows, add up to its appropriation."""
     yield from office.find("lines", """
         SELECT line, printf('free %d, reserved %d, contracted %d and paid %d add up to %d, and its appropriation is %d',
             free, reserved, contracted, paid, free + reserved + contracted + paid, appropriation)
@@ -154,7 +154,7 @@ def pots_add_up(office: Office) -> Found:
 
 @rule("file")
 def contracts_are_not_overdrawn(office: Office) -> Found:
-    """No more was cut, paid and released of a contract than was signed and raised."""
+    """No contract was cut, paid and released by more than was signed and raised."""
     yield from office.find("contracts", """
         SELECT contract, printf('signed %d and raised %d, but cut %d, paid %d and released %d', signed, raised, cut, paid, released)
         FROM sums WHERE cut + paid + released > signed + raised""")
@@ -162,7 +162,7 @@ def contracts_are_not_overdrawn(office: Office) -> Found:
 
 @rule("file")
 def contracts_end_settled(office: Office) -> Found:
-    """A contract that runs has released nothing; of one that ended nothing is outstanding, and how it ended is told."""
+    """A running contract has released nothing; an ended one has nothing outstanding, and says how it ended."""
     yield from office.find("contracts", """
         SELECT contract, 'when and how it ended don''t go together' FROM contracts WHERE (ended IS NULL) <> (how IS NULL)
         UNION ALL SELECT contract, printf('it runs, and has released %d', released) FROM contracts WHERE ended IS NULL AND released <> 0
@@ -172,7 +172,7 @@ def contracts_end_settled(office: Office) -> Found:
 
 @rule("file")
 def reservations_fit_their_lots(office: Office) -> Found:
-    """An undecided or awarded lot reserves the price of its last award, or else its estimate; any other lot reserves nothing."""
+    """An undecided or awarded lot reserves the price of its last award, or its estimate without one; any other lot reserves nothing."""
     yield from office.find("lots", """
         WITH due AS (SELECT notice, lot, CASE WHEN state IN ('undecided', 'awarded') THEN coalesce((SELECT price FROM awards AS a
             WHERE a.notice = l.notice AND a.lot = l.lot ORDER BY award DESC LIMIT 1), estimate) ELSE 0 END AS due FROM lots AS l)
@@ -183,7 +183,7 @@ def reservations_fit_their_lots(office: Office) -> Found:
 
 @rule("file")
 def notices_keep_their_time(office: Office) -> Found:
-    """A notice is published before its deadline; it has a moment of opening, not before the deadline, where it is opened and nowhere else."""
+    """A notice is published before its deadline; exactly if it is opened, it has a moment of opening, not before the deadline."""
     yield from office.find("notices", """
         SELECT notice, 'published when its deadline had come' FROM notices WHERE published >= deadline
         UNION ALL SELECT notice, 'opened before its deadline' FROM notices WHERE opened < deadline
@@ -193,7 +193,7 @@ def notices_keep_their_time(office: Office) -> Found:
 
 @rule("file")
 def lots_fit_their_notices(office: Office) -> Found:
-    """All lots of a notice that receives tenders are undecided, and all of a cancelled one are cancelled."""
+    """All lots of a notice that receives tenders are undecided, and all lots of a cancelled notice are cancelled."""
     yield from office.find("lots", """
         SELECT l.notice, lot, printf('is %s, and its notice %s', l.state, n.state) FROM lots AS l JOIN notices AS n ON n.notice = l.notice
         WHERE (n.state = 'receiving' AND l.state <> 'undecided') OR (n.state = 'cancelled' AND l.state <> 'cancelled')""")
@@ -201,7 +201,7 @@ def lots_fit_their_notices(office: Office) -> Found:
 
 @rule("file")
 def lots_fit_their_awards(office: Office) -> Found:
-    """The last award of an awarded lot is active, of a contracted one signed, of any other failed, or cancelled with the lot; earlier awards have failed."""
+    """A lot's last award is active if it is awarded, signed if contracted, else failed, or cancelled with the lot; earlier awards have failed."""
     yield from office.find("lots", """
         SELECT l.notice, l.lot, printf('is %s, and its last award is %s', l.state, coalesce(a.state, 'none')) FROM lots AS l
         LEFT JOIN awards AS a ON a.award = (SELECT max(award) FROM awards WHERE notice = l.notice AND lot = l.lot)
@@ -214,18 +214,18 @@ def lots_fit_their_awards(office: Office) -> Found:
 
 @rule("file")
 def contracts_are_signed_awards(office: Office) -> Found:
-    """Each signed award, and no other, has a contract of its number, for its lot, at its price and with its tender's tenderer."""
+    """Exactly the signed awards have a contract, with the same number, lot and price, and the tenderer of the award's tender."""
     yield from office.find("awards", """
-        SELECT award, 'is ' || state || ', and a contract of its number ' || iif(contract IS NULL, 'isn''t', 'is') || ' there'
+        SELECT award, 'is ' || state || ', and a contract of its number ' || iif(contract IS NULL, 'doesn''t exist', 'exists')
         FROM awards LEFT JOIN contracts ON contract = award WHERE (state = 'signed') <> (contract IS NOT NULL)""")
     yield from office.find("contracts", """
-        SELECT contract, 'isn''t what its award says' FROM contracts AS c LEFT JOIN awards AS a ON award = contract
+        SELECT contract, 'differs from its award' FROM contracts AS c LEFT JOIN awards AS a ON award = contract
         LEFT JOIN envelopes AS e ON e.receipt = a.receipt WHERE (c.notice, c.lot, c.signed, c.tenderer) IS NOT (a.notice, a.lot, a.price, e.tenderer)""")
 
 
 @rule("file")
 def awards_keep_their_time(office: Office) -> Found:
-    """A lot is awarded once its notice is opened, and while tenders are in effect."""
+    """A lot is awarded after its notice is opened, and while tenders are in effect."""
     yield from office.find("awards", """
         SELECT award, 'awarded before the opening, or when tenders were no longer in effect' FROM awards AS a JOIN notices AS n ON n.notice = a.notice
         WHERE n.opened IS NULL OR a.moment < n.opened OR a.moment >= n.deadline + 86400 * n.validity""")
@@ -233,9 +233,9 @@ def awards_keep_their_time(office: Office) -> Found:
 
 @rule("file")
 def contracts_keep_their_time(office: Office) -> Found:
-    """A contract is signed behind the standstill and while tenders are in effect; its entries lie between its signing and its end."""
+    """A contract is signed after the standstill and while tenders are in effect; its entries come between its signing and its end."""
     yield from office.find("contracts", """
-        SELECT contract, 'signed in the standstill, or when tenders were no longer in effect' FROM contracts AS c JOIN awards AS a ON award = contract
+        SELECT contract, 'signed during the standstill, or when tenders were no longer in effect' FROM contracts AS c JOIN awards AS a ON award = contract
         JOIN notices AS n ON n.notice = c.notice WHERE c.moment < a.moment + 86400 * n.standstill OR c.moment >= n.deadline + 86400 * n.validity
         UNION ALL SELECT contract, 'ended before it was signed' FROM contracts WHERE ended < moment""")
     yield from office.find("entries", """
@@ -245,7 +245,7 @@ def contracts_keep_their_time(office: Office) -> Found:
 
 @rule("file")
 def awards_go_to_the_best(office: Office) -> Found:
-    """An award is of the best tender of its lot that may win, hasn't failed before and wasn't withdrawn late, at that tender's corrected price."""
+    """An award goes to its lot's best tender that can win, that hasn't failed before and wasn't withdrawn late, at its corrected price."""
     for award, notice, lot, receipt, price, weight in office.rows(
             "SELECT award, a.notice, lot, receipt, price, weight FROM awards AS a JOIN notices AS n ON n.notice = a.notice ORDER BY award"):
         offers = office.rows("""SELECT corrected, receipt, coalesce(quality, 0) FROM offers WHERE notice = ? AND lot = ? AND receipt NOT IN
@@ -270,7 +270,7 @@ def best_of(offers: list[Any], weight: int) -> Any:
 
 @rule("file")
 def lots_without_a_winner_have_no_offer(office: Office) -> Found:
-    """An unsuccessful lot has no tender that may win."""
+    """An unsuccessful lot has no tender that can win."""
     yield from office.find("lots", """
         SELECT l.notice, l.lot, 'is unsuccessful, and tender ' || receipt || ' may win' FROM lots AS l
         JOIN offers AS o ON o.notice = l.notice AND o.lot = l.lot WHERE l.state = 'unsuccessful' AND o.failed = 0""")
@@ -280,7 +280,7 @@ def lots_without_a_winner_have_no_offer(office: Office) -> Found:
 
 @rule("file")
 def late_tenders_stay_shut(office: Office) -> Found:
-    """A tender that came behind the deadline was given back: it isn't sealed, and wasn't opened."""
+    """A tender that came after the deadline was returned: it isn't sealed, and wasn't opened."""
     yield from office.find("envelopes", """
         SELECT receipt, printf('is %s, and came at %s, after the deadline %s', e.state, text_of(moment), text_of(deadline))
         FROM envelopes AS e JOIN notices AS n ON n.notice = e.notice WHERE e.state IN ('sealed', 'opened') AND moment > deadline""")
@@ -288,7 +288,7 @@ def late_tenders_stay_shut(office: Office) -> Found:
 
 @rule("file")
 def tenders_have_their_fate(office: Office) -> Found:
-    """A tender is sealed while its notice receives, opened where that is, withdrawn if it came before the deadline, and returned if late or cancelled."""
+    """A tender is sealed while its notice receives, opened once that is, withdrawn if it came before the deadline, and returned if late or cancelled."""
     yield from office.find("envelopes", """
         SELECT receipt, printf('is %s, and its notice %s', e.state, n.state) FROM envelopes AS e JOIN notices AS n ON n.notice = e.notice
         WHERE NOT CASE e.state WHEN 'sealed' THEN n.state = 'receiving' WHEN 'opened' THEN n.state = 'opened' AND moment <= n.opened
@@ -299,7 +299,7 @@ def tenders_have_their_fate(office: Office) -> Found:
 
 @rule("file")
 def tenderers_have_one_tender_a_lot(office: Office) -> Found:
-    """A tenderer has at most one tender for a lot that is sealed or opened."""
+    """A tenderer has at most one sealed or opened tender for a lot."""
     yield from office.find("envelopes", """
         SELECT max(receipt), printf('%s has %d tenders for %s/%s that are sealed or opened', tenderer, count(*), notice, lot)
         FROM envelopes WHERE state IN ('sealed', 'opened') GROUP BY notice, lot, tenderer HAVING count(*) > 1""")
@@ -307,7 +307,7 @@ def tenderers_have_one_tender_a_lot(office: Office) -> Found:
 
 @rule("file")
 def tenders_of_a_lot_follow_each_other(office: Office) -> Found:
-    """A tenderer presents for a lot only while nothing of theirs is sealed for it: of those that came in time all but the last are withdrawn."""
+    """A tenderer submits for a lot only without a sealed tender for it: of those that came in time all but the last are withdrawn."""
     yield from office.find("envelopes", """
         SELECT later, printf('came while tender %d of %s, which is %s, was sealed for the lot', receipt, tenderer, state) FROM
             (SELECT receipt, tenderer, e.state, lead(receipt) OVER (PARTITION BY e.notice, lot, tenderer ORDER BY receipt) AS later
@@ -317,7 +317,7 @@ def tenders_of_a_lot_follow_each_other(office: Office) -> Found:
 
 @rule("file")
 def seals_fit_their_tenders(office: Office) -> Found:
-    """The bytes of a tender are kept where it is sealed or opened, and of no other."""
+    """The bytes of a tender are kept exactly while it is sealed or opened."""
     yield from office.find("envelopes", """
         SELECT e.receipt, printf('is %s, and its bytes are %s', state, iif(bytes IS NULL, 'not kept', 'kept'))
         FROM envelopes AS e LEFT JOIN seals AS s ON s.receipt = e.receipt WHERE (state IN ('sealed', 'opened')) <> (bytes IS NOT NULL)""")
@@ -325,7 +325,7 @@ def seals_fit_their_tenders(office: Office) -> Found:
 
 @rule("file")
 def digests_are_of_the_bytes(office: Office) -> Found:
-    """The digest of a tender is the SHA-256 of the bytes that are kept (FIPS 180-4), and its length is theirs."""
+    """A tender's digest is the SHA-256 of its stored bytes (FIPS 180-4), and its length is theirs."""
     yield from office.find("seals", """
         SELECT s.receipt, 'the bytes aren''t of the digest, or not of the length, that the receipt has'
         FROM seals AS s JOIN envelopes AS e ON e.receipt = s.receipt WHERE sha256(bytes) <> digest OR length(bytes) <> length""")
@@ -333,7 +333,7 @@ def digests_are_of_the_bytes(office: Office) -> Found:
 
 @rule("file")
 def readings_are_of_the_bytes(office: Office) -> Found:
-    """A tender was read where it was opened, and as its bytes are read here; one with quotation marks is left out, and the last line counts it."""
+    """Exactly the opened tenders were read, as this tool reads their bytes; those with quotation marks are skipped and counted in the last line."""
     yield from office.find("envelopes", """
         SELECT receipt, 'is ' || state || ', and was read: ' || coalesce(reading, 'not') FROM envelopes WHERE (state = 'opened') <> (reading IS NOT NULL)""")
     for receipt, data, items, *reading in office.rows("""
@@ -369,10 +369,10 @@ def reading_of(data: bytes, items: str) -> tuple[Any, ...]:
 
 @rule("file")
 def examinations_fit_their_tenders(office: Office) -> Found:
-    """Priced tenders alone are examined, all that haven't failed before a lot is decided; quality is given where points decide, within what price leaves."""
+    """Only priced tenders are examined, and all before a lot is decided, except failed ones; quality is given if points decide, within its bounds."""
     yield from office.find("envelopes", """
         SELECT receipt, 'was examined, and has no price' FROM envelopes WHERE responsive IS NOT NULL AND reading IS NOT 'priced'
-        UNION ALL SELECT receipt, 'its quality isn''t what its notice asks for' FROM envelopes AS e JOIN notices AS n ON n.notice = e.notice
+        UNION ALL SELECT receipt, 'its quality isn''t what its notice requires' FROM envelopes AS e JOIN notices AS n ON n.notice = e.notice
         WHERE (quality IS NOT NULL) <> (weight > 0 AND responsive IS 1) OR weight + quality > 100
         UNION ALL SELECT receipt, 'wasn''t examined, and its lot is decided' FROM envelopes AS e JOIN lots AS l ON l.notice = e.notice AND l.lot = e.lot
         WHERE reading = 'priced' AND responsive IS NULL AND NOT failed AND (l.state IN ('awarded', 'contracted', 'unsuccessful')
@@ -381,7 +381,7 @@ def examinations_fit_their_tenders(office: Office) -> Found:
 
 @rule("file")
 def failures_are_of_awards(office: Office) -> Found:
-    """A tender has failed where an award of it has, or its notice lets tenders be withdrawn late, and nowhere else; an award is of a tender for its lot."""
+    """A tender has failed only if an award of it has, or its notice allows late withdrawals; an award is of a tender for its lot."""
     yield from office.find("envelopes", """
         SELECT receipt, iif(failed, 'has failed, and no award of it has, nor may it be withdrawn late', 'hasn''t failed, and an award of it has') FROM envelopes
         WHERE failed <> (receipt IN (SELECT receipt FROM awards WHERE state = 'failed')) AND NOT (failed AND notice IN (SELECT notice FROM late_rules))""")
@@ -392,7 +392,7 @@ def failures_are_of_awards(office: Office) -> Found:
 
 @rule("file")
 def securities_come_with_tenders(office: Office) -> Found:
-    """A security has the number of the receipt that it came with; the tenders that carry it are of its tenderer and lot, all but the last withdrawn."""
+    """A security has the number of its first receipt; its tenders are of its tenderer and lot, all but the last withdrawn."""
     yield from office.find("securities", """
         SELECT s.security, 'the tender of its number doesn''t carry it' FROM securities AS s LEFT JOIN envelopes AS e ON e.receipt = s.security
         WHERE e.security IS NOT s.security""")
@@ -406,7 +406,7 @@ def securities_come_with_tenders(office: Office) -> Found:
 
 @rule("file")
 def securities_are_as_asked(office: Office) -> Found:
-    """A tender in time has a security of at least what its lot asks for, and none where that asks for none."""
+    """A tender in time has a security of at least the amount that its lot requires, and none if the lot requires none."""
     yield from office.find("envelopes", """
         SELECT receipt, printf('its lot asks for a security of %d, and it carries one of %d', l.security, coalesce(amount, 0)) FROM envelopes AS e
         JOIN lots AS l ON l.notice = e.notice AND l.lot = e.lot JOIN notices AS n ON n.notice = e.notice LEFT JOIN securities AS s ON s.security = e.security
@@ -416,7 +416,7 @@ def securities_are_as_asked(office: Office) -> Found:
 
 @rule("file")
 def securities_have_their_fate(office: Office) -> Found:
-    """A security is forfeited where its tender failed, held while that is sealed or its lot undecided or awarded, and else returned."""
+    """A security is forfeited if its tender failed, held while that is sealed or its lot undecided or awarded, otherwise returned."""
     yield from office.find("securities", """
         WITH last AS (SELECT security, max(receipt) AS receipt FROM envelopes WHERE security IS NOT NULL GROUP BY security),
             fate AS (SELECT last.security, CASE WHEN e.failed THEN 'forfeited' WHEN e.state = 'sealed' OR (e.state = 'opened'
@@ -427,7 +427,7 @@ def securities_have_their_fate(office: Office) -> Found:
 
 @rule("file")
 def performances_are_as_asked(office: Office) -> Found:
-    """A contract has a performance security of at least what its notice asks for, and none where that asks for none."""
+    """A contract has a performance security of at least the amount that its notice requires, and none if the notice requires none."""
     yield from office.find("contracts", """
         SELECT contract, printf('its notice asks for a performance security of %d, and it has one of %d', n.performance, coalesce(amount, 0))
         FROM contracts AS c JOIN notices AS n ON n.notice = c.notice LEFT JOIN performance AS p USING (contract)
@@ -436,7 +436,7 @@ def performances_are_as_asked(office: Office) -> Found:
 
 @rule("file")
 def performances_have_their_fate(office: Office) -> Found:
-    """A performance security is held while its contract runs, forfeited where that ended by default, and else returned."""
+    """A performance security is held while its contract runs, forfeited if that ended by default, otherwise returned."""
     yield from office.find("performance", """
         WITH fate AS (SELECT contract, CASE WHEN ended IS NULL THEN 'held' WHEN how = 'default' THEN 'forfeited' ELSE 'returned' END AS due FROM contracts)
         SELECT contract, printf('is %s in place of %s', state, due) FROM performance JOIN fate USING (contract) WHERE state <> due""")

@@ -1,6 +1,6 @@
-"""What the releases of a notice tell, one after another, for `tools/audit`: how each lot, award and contract goes on, and what doesn't follow from before.
+"""Reads what the releases of a notice say, in order, for `tools/audit`: how each lot, award and contract develops, and what doesn't follow from before.
 
-It wants nothing but the releases, so it is put to those that a file keeps and to those that anybody is answered.
+It needs only the releases, so it serves for those in a file and for those that anybody is answered.
 """
 import re
 from collections.abc import Callable
@@ -12,7 +12,7 @@ RANKS = ("active", "complete", "cancelled")
 
 
 class Misfit(Exception):
-    """What a release tells, and can't be so after those before it."""
+    """A release says something that can't follow the releases before it."""
 
 
 def want(holds: bool, what: str) -> None:
@@ -26,7 +26,7 @@ def amount_in(value: Json) -> int:
 
 
 class Story:
-    """What was told of a notice so far. A release that doesn't fit is kept in `misfits`, by its number and the reason, and may be taken in by half."""
+    """Everything that the releases of a notice have said so far. `misfits` has those that don't fit, by number, with the reason; half of one may count."""
 
     def __init__(self, notice: str, releases: list[Json]) -> None:
         self.notice, self.title, self.published, self.deadline = notice, "", "", ""
@@ -46,7 +46,7 @@ class Story:
                 self.misfits.append((seq, f"can't be read: {why!r}"))
 
     def take(self, seq: int, release: Json) -> None:
-        """Takes in what a release tells, by its tags."""
+        """Adds what a release says, by its tags."""
         for tag in release["tag"]:
             if tag in TELLERS:
                 TELLERS[tag](self, seq, release)
@@ -148,16 +148,16 @@ class Story:
             may_be = award["status"] == "active" and lot["status"] == "active" and told["awardID"] == told["id"]
             lot["status"] = "complete"
             ended = [(it["id"], it["status"]) for it in release["tender"]["lots"]]
-            want(may_be, f"contract {told['id']} is of no active award")
-            want(amount_in(told) == award["price"], f"contract {told['id']} comes to {amount_in(told)}, and its award to {award['price']}")
+            want(may_be, f"contract {told['id']} has no active award")
+            want(amount_in(told) == award["price"], f"contract {told['id']} has the value {amount_in(told)}, and its award {award['price']}")
             want(told["dateSigned"] == release["date"], f"contract {told['id']} is signed at {told['dateSigned']}")
             want(ended == [(award["lot"], "complete")], f"contract {told['id']} of lot {award['lot']} completes {ended}")
 
     def running(self, told: Json, entry: str) -> Json:
         """The contract, which must run, with an entry of a new identifier."""
         contract: Json = self.contracts[told["id"]]
-        want(contract["runs"] and told["awardID"] == told["id"], f"contract {told['id']} has ended before")
-        want(entry not in contract["entries"], f"contract {told['id']} has an entry {entry} before")
+        want(contract["runs"] and told["awardID"] == told["id"], f"contract {told['id']} had already ended")
+        want(entry not in contract["entries"], f"contract {told['id']} already has an entry {entry}")
         contract["entries"].add(entry)
         return contract
 
@@ -170,14 +170,14 @@ class Story:
             may_be = by is not None and after - before == (-int(by[2]) if by[1] else int(by[2]))
             want(may_be, f"contract {told['id']} goes from {before} to {after}: {entry['description']}")
             want(entry["date"] == release["date"], f"entry {entry['id']} is of {entry['date']}")
-            want(after >= contract["paid"], f"contract {told['id']} is cut to {after}, and {contract['paid']} is paid")
+            want(after >= contract["paid"], f"contract {told['id']} is cut to {after}, but {contract['paid']} is paid")
 
     def payment(self, seq: int, release: Json) -> None:
         for told in release["contracts"]:
             for paid in told["implementation"]["transactions"]:
                 contract, way = self.running(told, paid["id"]), (paid["payer"]["id"], paid["payee"]["id"])
                 contract["paid"] += amount_in(paid)
-                want(contract["paid"] <= contract["value"], f"contract {told['id']} comes to {contract['value']}, and {contract['paid']} is paid")
+                want(contract["paid"] <= contract["value"], f"contract {told['id']} has the value {contract['value']}, and {contract['paid']} is paid")
                 want(way == (release["buyer"]["id"], contract["tenderer"]), f"payment {paid['id']} goes from {way[0]} to {way[1]}")
                 want(paid["date"] == release["date"], f"payment {paid['id']} is of {paid['date']}")
 
@@ -185,7 +185,7 @@ class Story:
         for told in release["contracts"]:
             contract = self.contracts[told["id"]]
             runs, contract["runs"] = contract["runs"], False
-            want(runs and told["status"] == "terminated", f"contract {told['id']} has ended before, or becomes {told['status']}")
+            want(runs and told["status"] == "terminated", f"contract {told['id']} had already ended, or becomes {told['status']}")
 
     # ---- What it comes to.
 
@@ -195,7 +195,7 @@ class Story:
         return next((status for status in RANKS if status in there), "unsuccessful")
 
     def sums(self) -> tuple[int, int, int]:
-        """What is reserved, contracted and paid by all that was told."""
+        """The sums reserved, contracted and paid, by all releases so far."""
         reserved = sum(lot["reserved"] for lot in self.lots.values() if lot["status"] == "active")
         running = sum(contract["value"] - contract["paid"] for contract in self.contracts.values() if contract["runs"])
         return reserved, running, sum(contract["paid"] for contract in self.contracts.values())
@@ -209,6 +209,6 @@ TELLERS: dict[str, Callable[[Story, int, Json], None]] = {
 
 @rule("releases")
 def releases_follow_each_other(notice: str, releases: list[Json]) -> Found:
-    """What a release tells can be so after those before it: deadlines, lots, awards, contracts, and what is paid of them."""
+    """What a release says can follow the releases before it: deadlines, lots, awards, contracts and payments."""
     for seq, what in Story(notice, releases).misfits:
         yield f"releases {notice}/{seq}", what

@@ -1,6 +1,6 @@
 """The trials of `tests/broken_tables`: the office that it makes, each command, and each row or sum that the command's rule needs.
 
-Which rows a rule looks at stands in `crates/tender_core/specs/Rules` and `crates/award_core/specs/Rules`, those of a publication in `office_publications`.
+`crates/tender_core/specs/Rules` and `crates/award_core/specs/Rules` say which rows a rule reads, `office_publications` which rows a publication reads.
 """
 from collections.abc import Callable
 from dataclasses import dataclass

@@ -1,4 +1,4 @@
-"""A browser without a window: Chromium, told what to do by its DevTools protocol, which it speaks over two descriptors (--remote-debugging-pipe)."""
+"""Runs a browser without a window: Chromium, controlled by its DevTools protocol over two descriptors (--remote-debugging-pipe)."""
 import base64
 import json
 import os
@@ -206,16 +206,10 @@ class Page:
         if not self.browser.pictures:
             return
         size = self.ask("Page.getLayoutMetrics")["cssContentSize"]
-        self.take(path, size["width"], size["height"], 1)
-
-    def small_picture(self, path: str) -> None:
-        """A small picture of the top of a page, for README."""
-        if self.browser.pictures:
-            self.shape(1280)
-            self.take(path, 1280, 860, 0.6)
-
-    def take(self, path: str, width: int, height: int, scale: float) -> None:
-        clip = {"x": 0, "y": 0, "width": width, "height": height, "scale": scale}
+        clip = {"x": 0, "y": 0, "width": size["width"], "height": size["height"], "scale": 1}
         with open(path, "wb") as file:
-            shot = self.ask("Page.captureScreenshot", format="png", captureBeyondViewport=True, optimizeForSpeed=scale == 1, clip=clip)
-            file.write(base64.b64decode(shot["data"]))
+            file.write(self.shot(clip, optimizeForSpeed=True))
+
+    def shot(self, clip: Mapping[str, float], **how: bool) -> bytes:
+        """A part of the page as a PNG."""
+        return base64.b64decode(self.ask("Page.captureScreenshot", format="png", captureBeyondViewport=True, clip=clip, **how)["data"])

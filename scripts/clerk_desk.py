@@ -109,7 +109,7 @@ class Desk:
         self.go("key")
         self.field("Your name", "Anna")
         self.field("Key", f"Office-Key: {key}")
-        self.press("Begin with this key")
+        self.press("Use this key")
 
     def give_key_by(self, language: str) -> None:
         """The key, in a language that the hand doesn't read."""
@@ -127,8 +127,6 @@ class Desk:
 
     def picture(self, name: str) -> None:
         """The screen, narrow and wide, light and dark: within the window, and with contrast."""
-        if name == "evaluation":
-            self.page.small_picture(os.path.join(self.scene.pictures, "clerk.png"))
         for width in WIDTHS:
             self.page.shape(width)
             page_checks.is_within(name, width, self.page)

@@ -1,12 +1,12 @@
-"""One client for whatever asks an office: a method for each of its sixteen commands and sixteen queries, over what carries requests.
+"""The client of everything that asks an office: a method for each of its sixteen commands and sixteen queries, over a choice of transports.
 
     Client(Port(port))              a connection for each request, over the loopback
-    Client(Front(base, context))    a server of HTTP before the office, by TLS or not: who is told 429 waits as long as it is told, and asks again
-    Client(Blocks(moment))          blocks of `procure desk`: each method gives the block, `sent` keeps all, and `answers` runs them as one input
-    Client(Requests())              nothing is asked: each method gives the bytes of its request
+    Client(Front(base, context))    an HTTP server in front of the office, with or without TLS; after a 429 it waits as long as it is told and asks again
+    Client(Blocks(moment))          blocks of `procure desk`: each method returns the block, `sent` keeps all, and `answers` runs them as one input
+    Client(Requests())              asks nothing: each method returns the bytes of its request
 
-Over a connection a method gives the office's `Answer`, whose members are read as `answer["receipt"]`; one of another status than 200 ends the script, unless
-the transport was told not to be strict. Beside it stand what requests are made of: `lot`, `notice`, `tender`, `text_of`.
+Over a connection a method returns the office's `Answer`, whose members are read as `answer["receipt"]`. An answer with another status than 200 ends the script,
+unless the transport was told not to be strict. `lot`, `notice`, `tender` and `text_of` make the parts of requests.
 """
 import hashlib
 import http.client
@@ -107,7 +107,7 @@ class Transport(Protocol[Given]):
     """Carries requests."""
 
     def send(self, method: str, target: str, body: bytes, caller: Caller | None) -> Given:
-        """What becomes of a request. A caller is a name and a key; without one the public asks."""
+        """The result of a request. A caller is a name and a key; without one the public asks."""
 
 
 class Requests:
@@ -129,7 +129,7 @@ class Blocks(Requests):
         return self.sent[-1]
 
     def answers(self, program: str, settings: str = CONFIG) -> list[Answer]:
-        """What the program answers to all that was kept, in turn."""
+        """The program's answers to everything that was kept, in order."""
         ran = subprocess.run([program, "desk", settings], input=b"".join(self.sent), capture_output=True)
         told = parts_of(ran.stdout)
         if ran.returncode or len(told) != len(self.sent):
@@ -138,7 +138,7 @@ class Blocks(Requests):
 
 
 class Asking:
-    """What carries requests over connections."""
+    """Sends requests over connections."""
 
     def __init__(self, strict: bool) -> None:
         self.strict = strict
@@ -166,7 +166,7 @@ class Port(Asking):
 
 
 class Front(Asking):
-    """An office behind a front, at an address without a path; a context for TLS where its certificate is one's own."""
+    """An office behind a front, at an address without a path; a context for TLS if its certificate is self-signed."""
 
     def __init__(self, base: str, context: ssl.SSLContext | None = None, source: str | None = None, strict: bool = True) -> None:
         super().__init__(strict)
@@ -179,7 +179,7 @@ class Front(Asking):
         return http.client.HTTPConnection(host, port, timeout=PATIENCE, source_address=self.source)
 
     def exchange(self, method: str, target: str, body: bytes, caller: Caller | None) -> Answer:
-        """The answer; behind a 429 another one, once the time of its Retry-After is over, or a second."""
+        """The answer; after a 429 the next one, when the time of its Retry-After is over, or a second."""
         for _ in range(TRIES):
             answer = self.ask(method, target, body, caller)
             if answer.status != 429:
@@ -200,7 +200,7 @@ class Front(Asking):
 
 
 def behind(after: str | None) -> str:
-    """The query that says behind which one a page begins."""
+    """The query that says after which one a page begins."""
     return "" if after is None else f"?after={after}"
 
 
@@ -228,7 +228,7 @@ class Client(Generic[Told]):
     def clerk(self, target: str, body: Body = "") -> Told:
         return self.command("clerk", target, body)
 
-    # What the clerk does.
+    # The clerk's commands.
 
     def import_budget(self, batch: str, rows: str | bytes) -> Told:
         return self.clerk(f"/budget/{batch}", rows)
@@ -269,7 +269,7 @@ class Client(Generic[Told]):
     def end(self, contract: int, how: str = "regular") -> Told:
         return self.clerk(f"/contracts/{contract}/end", {"how": how})
 
-    # What tenderers do.
+    # The tenderers' commands.
 
     def present(self, who: str, name: str, lot_name: str, body: str | bytes, security: str | None = None, amount: int = 0) -> Told:
         query = f"?security={security}&amount={amount}" if security else ""
@@ -281,7 +281,7 @@ class Client(Generic[Told]):
     def withdraw(self, who: str, receipt: int) -> Told:
         return self.command(who, f"/tenders/{receipt}/withdraw")
 
-    # What is looked at: by anybody, by the clerk, and by who is named.
+    # The queries: of anybody, of the clerk, and of a named caller.
 
     def line(self, line: str) -> Told:
         return self.query(None, f"/lines/{line}")

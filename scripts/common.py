@@ -1,7 +1,7 @@
 """What the scripts of bench/, tests/ and tools/ share: the program and its settings, requests, connections, servers, responses, and timed runs.
 
-The program is $PROCURE, or build/procure where that isn't set. A fault of a run ends the script with status 1 and a line that says what is wrong; a tool that
-is missing ends it with status 3 and a line that says how to get it.
+The program is $PROCURE, or build/procure if that isn't set. A fault of a run ends the script with status 1 and a line that says what is wrong. A missing tool
+ends it with status 3 and a line that says how to get it.
 """
 import argparse
 import contextlib
@@ -48,7 +48,7 @@ def check(said: str, holds: object) -> None:
 
 
 def place_of(tool: str) -> str | None:
-    """Where a tool stands, also one that is root's, or None."""
+    """The path of a tool, even one for root only, or None."""
     return shutil.which(tool) or shutil.which(tool, path="/usr/sbin:/sbin")
 
 
@@ -72,7 +72,7 @@ def add_program(options: argparse.ArgumentParser) -> None:
 
 
 def runnable(path: str) -> str:
-    """The path, where a program stands there."""
+    """The path, if there is a program."""
     found = shutil.which(path)
     if not found:
         raise argparse.ArgumentTypeError(NO_PROGRAM.format(path))
@@ -91,7 +91,7 @@ def request(method: bytes, target: bytes, body: bytes = b"", caller: Caller | No
 
 
 def look(target: bytes) -> bytes:
-    """What the public asks."""
+    """The request of the public."""
     return b"GET %s HTTP/1.1\r\n\r\n" % target
 
 
@@ -118,7 +118,7 @@ def parts_of(stream: bytes) -> list[bytes]:
 
 
 def is_whole(response: bytes) -> bool:
-    """Whether a response of status 200 is there to its end."""
+    """Whether a response of status 200 is complete."""
     head, _, body = response.partition(b"\r\n\r\n")
     return head.startswith(OK) and b"\r\nContent-Length: %d\r\n" % len(body) in head + b"\r\n"
 
@@ -164,7 +164,7 @@ def connect(port: int, patience: float = 0) -> socket.socket:
 
 
 def read_all(stream: socket.socket) -> bytes:
-    """What comes until the server closes the connection."""
+    """Everything until the server closes the connection."""
     parts = []
     while part := stream.recv(1 << 16):
         parts.append(part)
@@ -182,7 +182,7 @@ def exchange(port: int, text: bytes, patience: float = 0, ends: bool = False) ->
 
 
 def what_came(port: int, text: bytes) -> bytes:
-    """The response to these bytes, or what came of it before the connection broke: nothing where there was none."""
+    """The response to these bytes, or the part that came before the connection broke; empty without a connection."""
     parts = []
     try:
         with socket.create_connection((HOST, port)) as stream:
@@ -220,14 +220,14 @@ def running(words: Sequence[str], **how: Any) -> Iterator["subprocess.Popen[byte
 
 
 def stand_in(path: str, script: str) -> str:
-    """The path, where this script of the shell stands then as a program that a test runs in place of another. (Another process writes it: a program that one's
+    """The path of a new program with this shell script, which a test runs instead of another program. (Another process writes it: a program that one's
     own threads still hold open, in processes that they just begin, can't be run.)"""
     subprocess.run(["install", "-m", "755", "/dev/stdin", path], input=f"#!/bin/sh\n{script}\n", text=True, check=True)
     return path
 
 
 def made_shim(source: str, folder: str) -> str:
-    """A library that is made of this C in the folder, to stand before the C library (LD_PRELOAD)."""
+    """A library made from this C in the folder, to be loaded before the C library (LD_PRELOAD)."""
     need("cc", "gcc")
     file, shim = os.path.join(folder, "shim.c"), os.path.join(folder, "shim.so")
     with open(file, "w") as out:

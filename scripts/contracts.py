@@ -1,6 +1,6 @@
 """The functions of crates/*/src/**/*.rt: their owners, their doc comments, and the clauses of their contracts.
 
-Read by tools/calls, scripts/reached.py and tools/check_promises.
+Used by tools/calls, scripts/reached.py and tools/check_promises.
 """
 import re
 from collections.abc import Sequence

@@ -24,7 +24,7 @@ def make_key(scene: Scene, name: str, firm: str, address: str) -> tender_page.De
     desk.at("key", "Key")
     for field, text in (("tenderer", name), ("name", firm), ("address", address)):
         desk.fill(f"key-{field}", text)
-    desk.press("Make the key")
+    desk.press("Make a key")
     desk.saved(f"{name}.key")
     desk.press("Save the sheet as a file for the clerk")
     desk.saved(f"registration-{name}.json")
@@ -38,18 +38,18 @@ def register(clerk: clerk_desk.Desk, scene: Scene, name: str) -> None:
     clerk.go("tenderers")
     with open(scene.path(f"registration-{name}.json")) as file:
         clerk.drop(file.read(), f"registration-{name}.json")
-    clerk.says("The file was read into the fields below.")
+    clerk.says("The fields below are filled in from the file.")
     clerk.press("Register a tenderer")
-    clerk.confirm("Register", f"{name} is registered.")
+    clerk.confirm("Register the tenderer", f"{name} is registered.")
 
 
 def hand_in(desk: tender_page.Desk) -> int:
     """Looks at an offer, and sends it: its receipt, which must be green."""
-    desk.press("Look at it")
-    desk.shows("Before it is sent")
-    desk.press("Send the tender")
+    desk.press("Check before submitting")
+    desk.shows("Check before submitting")
+    desk.press("Submit the tender")
     receipt = desk.receipt()
-    check(f"the receipt says {desk.page.text()}", desk.has("good", "The office received exactly what was sent.") and not desk.has("bad", ""))
+    check(f"the receipt says {desk.page.text()}", desk.has("good", "The office received exactly what you submitted.") and not desk.has("bad", ""))
     return receipt
 
 
@@ -60,7 +60,7 @@ def secure(desk: tender_page.Desk, reference: str) -> None:
 
 def offers(desks: dict[str, tender_page.Desk], scene: Scene) -> None:
     """The first firm types prices for both lots, the second drops a sheet's file; the third has its prices ready, and waits too long."""
-    desks["T1"].at("offer", "Make an offer")
+    desks["T1"].at("offer", "Prepare a tender")
     desks["T1"].press("Road repair")
     desks["T1"].shows("Road repair")
     desks["T1"].prices("N1", "L1", 150, 12)
@@ -68,16 +68,16 @@ def offers(desks: dict[str, tender_page.Desk], scene: Scene) -> None:
     first = hand_in(desks["T1"])
     desks["T1"].prices("N1", "L2", 290)
     hand_in(desks["T1"])
-    desks["T2"].at("offer/N1/L1", "Offer for")
-    desks["T2"].press("Take a file")
+    desks["T2"].at("offer/N1/L1", "Tender for")
+    desks["T2"].press("Use a file")
     desks["T2"].page.choose("offer-file", scene.put("sheet.csv", SHEET))
-    desks["T2"].says("was made to what the office reads: 540 EUR")
+    desks["T2"].says("was converted to the form that the office reads: 540 EUR")
     secure(desks["T2"], "G2")
     hand_in(desks["T2"])
     desks["T1"].at("tenders", "My tenders")
-    desks["T1"].says("2 tenders, the newest first")
+    desks["T1"].says("2 tenders, newest first")
     desks["T1"].at(f"tender/{first}", "Tender with")
-    check("what a withdrawal costs isn't told", desks["T1"].has("look", "Nothing: the security of 50 EUR (G1) goes back."))
+    check("what a withdrawal costs isn't told", desks["T1"].has("look", "Nothing: the security of 50 EUR (G1) is returned."))
     desks["T3"].prices("N1", "L1", 100, 10)
     secure(desks["T3"], "G3")
 
@@ -85,51 +85,51 @@ def offers(desks: dict[str, tender_page.Desk], scene: Scene) -> None:
 def too_late(desk: tender_page.Desk, deadline: float) -> None:
     """What comes behind the deadline is warned of, recorded, and given back."""
     wait_until(deadline + 1.1)
-    desk.press("Look at it")
-    desk.shows("Before it is sent")
-    check("a late tender can be sent without a tick", desk.has("bad", "The deadline has passed") and not desk.can_press("Send the tender"))
+    desk.press("Check before submitting")
+    desk.shows("Check before submitting")
+    check("a late tender can be sent without a tick", desk.has("bad", "The deadline has passed") and not desk.can_press("Submit the tender"))
     desk.tick("send-late")
-    desk.press("Send the tender")
+    desk.press("Submit the tender")
     desk.receipt()
-    check("a late tender is green", desk.has("bad", "The tender came late and was given back."))
+    check("a late tender is green", desk.has("bad", "The tender came late, and the office returned it."))
 
 
 def decide(clerk: clerk_desk.Desk) -> None:
     """The opening, the examinations, the awards and the contracts."""
     clerk.go("today")
-    clerk.says("The tenders are to be opened.")
+    clerk.says("Open the tenders: the deadline passed")
     clerk.go("notice/N1")
     clerk.press("Open the tenders …")
-    clerk.confirm("Open them", "3 tenders of notice N1 were opened.")
+    clerk.confirm("Open the tenders", "3 tenders of notice N1 are open.")
     for name, receipt in (("Alpha & Söhne", 1), ("Alpha & Söhne", 2), ("Beta Ltd", 3)):
-        clerk.press("Responsive …", place=f"Examination of {name}, receipt {receipt}")
-        clerk.confirm("That is what was found", f"The tender of {name} is examined.")
+        clerk.press("Requirements met …", place=f"Examination of {name}, receipt {receipt}")
+        clerk.confirm("Record the result", f"The tender of {name} is examined.")
     for lot, price in (("L1", 540), ("L2", 290)):
-        clerk.press("Award …", place=f"Lot {lot}")
-        clerk.confirm("Award it", f"Lot {lot} is decided. Price: {price}")
+        clerk.press("Award the lot …", place=f"Lot {lot}")
+        clerk.confirm("Award the lot", f"Lot {lot} is decided. Price: {price}")
     for lot, contract in (("L1", 1), ("L2", 2)):
         clerk.field("Reference of the performance security", f"P{contract}", place=f"Lot {lot}")
-        clerk.field("Its amount", "70", place=f"Lot {lot}")
-        clerk.press("Sign …", place=f"Lot {lot}")
-        clerk.confirm("Sign", f"Contract {contract} is signed.")
+        clerk.field("Amount of the performance security", "70", place=f"Lot {lot}")
+        clerk.press("Sign the contract …", place=f"Lot {lot}")
+        clerk.confirm("Sign the contract", f"Contract {contract} is signed.")
 
 
 def pay(clerk: clerk_desk.Desk) -> None:
     """Two payments of the first contract, which ends then; the second one ends by default, in red."""
     for number, amount, left in (("I-1", "300", "240"), ("I-2", "240", "0")):
-        clerk.field("Number of the invoice or the change", number, place="Lot L1")
+        clerk.field("Number of the invoice or change", number, place="Lot L1")
         clerk.field("Amount", amount, place="Lot L1")
-        clerk.press("Pay …", place="Lot L1")
-        clerk.confirm("Pay", f"Paid. Outstanding: {left}.")
-    clerk.says("Lot L1: contract 1 is paid in full, and is to be ended")
-    clerk.field("Number of the invoice or the change", "I-1", place="Lot L2")
-    clerk.says("Careful: the number I-1 was used in contract 1 too.")
+        clerk.press("Record the payment …", place="Lot L1")
+        clerk.confirm("Record the payment", f"Paid. Outstanding: {left}.")
+    clerk.says("Lot L1: end contract 1, which is paid in full")
+    clerk.field("Number of the invoice or change", "I-1", place="Lot L2")
+    clerk.says("Careful: the number I-1 is also used in contract 1.")
     clerk.press("End the contract", place="Lot L1")
-    clerk.press("End as agreed …", place="Lot L1")
-    clerk.confirm("End it", "Contract 1 has ended.")
+    clerk.press("End the contract as agreed …", place="Lot L1")
+    clerk.confirm("End the contract", "Contract 1 has ended.")
     clerk.press("End the contract", place="Lot L2")
-    clerk.press("End by the contractor's default …", place="Lot L2")
-    clerk.confirm("End it", "Contract 2 has ended.", "look")
+    clerk.press("End the contract by default …", place="Lot L2")
+    clerk.confirm("End the contract", "Contract 2 has ended.", "look")
     clerk.says("Ended by default")
     check("a default is green", not clerk.page.run("document.querySelector('main :is(.good, .badge.done)') !== null"))
     shown = clerk.page.run("[...document.querySelectorAll('.contract h4 .badge')].map((at) => [at.className, at.innerText])")
@@ -151,13 +151,13 @@ def life(scene: Scene) -> None:
     # (The front keeps public answers for a second.)
     time.sleep(2.1)
     offers(desks, scene)
-    clerk.says("In time, by lots: L1: 2, L2: 1.")
+    clerk.says("Tenders in time, by lot: L1: 2, L2: 1.")
     too_late(desks["T3"], deadline)
     decide(clerk)
     pay(clerk)
     time.sleep(2.1)
     desks["T2"].at("tender/3", "Tender with receipt 3")
-    for text in ("The contract was signed.", "Ended as agreed", "P1: Given back"):
+    for text in ("The contract was signed.", "Ended as agreed", "P1: Returned"):
         desks["T2"].says(text)
     desks["T1"].at("tender/2", "Tender with receipt 2")
     desks["T1"].says("P2: Forfeited")
@@ -165,7 +165,7 @@ def life(scene: Scene) -> None:
     check(f"a default isn't red: {red}", str(red).endswith("Ended by default"))
     check("a default is green", not desks["T1"].page.run("document.querySelector('main .badge.done') !== null"))
     page = page_checks.page_of(scene, "#notice/N1")
-    for text in ("Its price wasn't the lowest.", "540 EUR", "All contracts ended", "Given back", "Contract 2 ended, 0 EUR of 290 EUR paid."):
+    for text in ("Its price wasn't the lowest.", "540 EUR", "All contracts ended", "Returned", "Contract 2 ended: 0 EUR of 290 EUR was paid."):
         check(f"the public sees {page.text()}", text in page.text())
     for one in (clerk.page, *(desk.page for desk in desks.values())):
         page_checks.keeps_nothing(scene, one)
@@ -182,15 +182,15 @@ def lost_key(scene: Scene) -> None:
     desk.page.run("document.querySelector('main details').open = true")
     desk.says("let the clerk register it under another identifier")
     desk.page.choose("key-file", scene.put("wrong.key", b"Office-Caller: T1\nOffice-Key: " + b"0" * 64 + b"\n"))
-    desk.says("The key of T1 is in this tab")
+    desk.says("This tab holds the key of T1")
     desk.press("Ask whether")
-    desk.says("The name and the key don't go together.")
+    desk.says("The name and the key don't belong together. Check both.")
     other = make_key(scene, "T4", "Alpha & Söhne", "High Street 1")
     register(clerk, scene, "T4")
     other.press("Ask whether")
     other.says("The office knows T4 by this key.")
     other.at("tenders", "My tenders")
-    other.says("None of your tenders was found.")
+    other.says("None of your tenders was found in the notices that were searched.")
     other.page.run("location.hash = '#tender/1'")
     other.says("This belongs to another tenderer.")
     page_checks.is_quiet(other.page)

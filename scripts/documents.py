@@ -6,6 +6,8 @@ end with status 0. curl shows no meter there. What a document left running is en
 """
 import difflib
 import functools
+import glob
+import json
 import os
 import re
 import shutil
@@ -21,6 +23,8 @@ TOOLS = {"curl": "curl", "sqlite3": "sqlite3", "jq": "jq", "openssl": "openssl",
 # What a block may take, in seconds.
 PATIENCE = 60
 SKIPPED = {".git", "build", "out"}
+# The pages that name the buttons to press: each bold text in them is a text of these modules. A {value} of a text matches anything.
+SCREENS = {"docs/CLERK.md": ("web/clerk/en*.js", "web/common/en*.js"), "docs/TENDERER.md": ("web/tender/en*.js", "web/common/en*.js")}
 
 
 class Wrong(Exception):
@@ -226,3 +230,29 @@ def check_link(path: str, line: int, target: str) -> None:
             raise Wrong(path, line, f"the link to {target}: {file} has no headings")
         if anchor not in anchors_of(file):
             raise Wrong(path, line, f"the link to {target}: {file} has no heading of that anchor")
+
+
+def texts_of(patterns: Iterable[str]) -> list[re.Pattern[str]]:
+    """The texts of a screen, each as a pattern."""
+    texts = []
+    for path in (path for pattern in patterns for path in sorted(glob.glob(os.path.join(ROOT, pattern)))):
+        with open(path, encoding="utf-8") as file:
+            texts += [json.loads(found) for found in re.findall(r'"(?:[^"\\\n]|\\.)*"', file.read())]
+    parts = [re.split(r"\{\w+\}", text) for text in texts]
+    return [re.compile(".+".join(map(re.escape, it))) for it in parts if re.search(r"\w", "".join(it))]
+
+
+def labels_of(path: str) -> Iterator[tuple[int, str]]:
+    """The bold texts of a document, each with its line."""
+    prose = fences_of(path)[1]
+    text = "\n".join(line for _, line in prose)
+    for found in re.finditer(r"\*\*(.+?)\*\*", text, re.S):
+        yield prose[text.count("\n", 0, found.start())][0], " ".join(found[1].split())
+
+
+def check_labels(path: str) -> Iterator[Wrong]:
+    """The bold texts of a page about screens that aren't texts of these screens."""
+    texts = texts_of(SCREENS[path])
+    for line, label in labels_of(path):
+        if not any(text.fullmatch(label) for text in texts):
+            yield Wrong(path, line, f"**{label}** is no text of {', '.join(SCREENS[path])}")

@@ -1,4 +1,4 @@
-"""What tests/faults plays: commands, each with its moment, that an office accepts one after another and refuses a second time where that would do harm."""
+"""The plays of tests/faults: commands, each with its moment, that an office accepts one after another and refuses a second time if that would do harm."""
 from typing import Any, NamedTuple
 
 from client import Client, Requests, lot, notice, tender

@@ -1,10 +1,9 @@
 """Disks that fail, for tests/faults: one that fails once, and one that is full.
 
-The first is a library of C that stands before the C library (LD_PRELOAD), and the block of memory by which it is steered.
-
-The library counts the flushes of the program (fdatasync, fsync) and its writes (pwrite). The one whose number is given fails with EIO. A write that fails
-writes nothing. Behind a flush that fails, of what was written to that file since its last good flush all is kept, or nothing, or each second write, as a disk
-may leave it. All else goes to the C library. It also tells the program the time, so that deadlines come when they are wanted.
+The first is a C library that is loaded before the C library (LD_PRELOAD), and the block of memory that controls it. It counts the program's flushes (fdatasync,
+fsync) and writes (pwrite). The call whose number is given fails with EIO. A write that fails writes nothing. After a flush that fails, of what was written to
+that file since its last good flush all is kept, or nothing, or each second write, as a disk may leave it. Everything else goes to the C library. It also sets
+the program's time, so that deadlines come when the test needs them.
 """
 import mmap
 import os

@@ -15,12 +15,14 @@ OUTSIDE = "127.0.0.2"
 # Addresses from which a clerk may ask, each as 127.0.1.N.
 CLERKS = "127.0.1.0/24"
 PATIENCE = 60
+# For tests that look at the ledger right after a command: it is kept for a second, and isn't shown while it is asked again.
+LEDGER_OF_NOW = [("proxy_cache_valid 200 1m;", 1, "proxy_cache_valid 200 1s;"), ("        proxy_cache_background_update on;\n", 1, "")]
 MAIN = """
 daemon off;
 worker_processes 2;
 pid {folder}/nginx.pid;
 error_log {folder}/errors.log warn;
-events {{ }}
+events {{ worker_connections 4096; }}
 http {{
     include /etc/nginx/mime.types;
     access_log off;
@@ -55,7 +57,7 @@ class Front:
     """nginx over the office at a port, with a certificate that it signed itself; ended behind a `with`. More of its file may be changed."""
 
     def __init__(self, folder: str, office: int, more: Iterable[tuple[str, int, str]] = ()) -> None:
-        self.folder, self.office, self.port, self.plain_port = folder, office, free_port(), free_port()
+        self.folder, self.office, self.port, self.plain_port, self.ways = folder, office, free_port(), free_port(), free_port()
         self.key, self.certificate = os.path.join(folder, "key.pem"), os.path.join(folder, "certificate.pem")
         subprocess.run([need("openssl", "openssl"), "req", "-x509", "-newkey", "ec", "-pkeyopt", "ec_paramgen_curve:prime256v1", "-nodes", "-days", "2",
                         "-subj", "/CN=office", "-addext", f"subjectAltName=IP:{HOST}", "-keyout", self.key, "-out", self.certificate],
@@ -73,7 +75,9 @@ class Front:
         """What of the file is adapted. (Of IPv6 not every machine has something.)"""
         return [("listen [::]:80;", 1, ""), ("listen [::]:443 ssl", 1, "# "), ("listen 80;", 1, f"listen {HOST}:{self.plain_port};"),
                 ("listen 443 ssl", 1, f"listen {HOST}:{self.port} ssl"), ("server_name office.example;", 2, f"server_name {HOST};"),
-                ("server 127.0.0.1:8080 ", 1, f"server {HOST}:{office} "), ("127.0.0.0/8 1;", 1, f"{HOST} 1; {CLERKS} 1;"),
+                ("server 127.0.0.1:8080", 1, f"server {HOST}:{office}"),
+                ("server 127.0.0.1:8081 ", 16, f"server {HOST}:{self.ways} "), ("listen 127.0.0.1:8081;", 1, f"listen {HOST}:{self.ways};"),
+                ("127.0.0.0/8 1;", 1, f"{HOST} 1; {CLERKS} 1;"),
                 ("/usr/share/procure/web;", 1, f"{ROOT}/web;"), ("/usr/share/procure;", 1, f"{ROOT}/docs;"),
                 ("/etc/nginx/procure;", 1, f"{self.folder}/city;"), ("/var/lib/procure-mirror;", 2, f"{self.folder}/mirror;"),
                 ("/etc/procure/tls/certificate.pem;", 1, f"{self.certificate};"), ("/etc/procure/tls/key.pem;", 1, f"{self.key};"),

@@ -1,9 +1,9 @@
 #!/usr/bin/env python3
-"""Prints how many checks the gate has side by side: one a processor, where there are 5 GB of free memory for each; else an empty line.
+"""Prints how many checks the gate runs side by side: one for each processor, if there are 5 GB of free memory for each; otherwise an empty line.
 
-`make test` and `bench/gate` tell rt so, by RT_JOBS. Left to itself, as behind an empty line, rt begins a check only where what it reckons that this one and
-those that run take of memory is there. That is 2 to 8 GB for each where 1 to 7 are taken and four at a time take 13 at most, so on 24 GB processors
-stood idle for a fifth of the gate.
+`make test` and `bench/gate` give this to rt in RT_JOBS. On its own, as with an empty line, rt begins a check only if the memory that it expects for this and
+the running checks is free. It expects 2 to 8 GB for each, but they take 1 to 7, and four at a time take 13 at most. So on 24 GB processors were idle for a
+fifth of the gate.
 """
 import os
 import sys

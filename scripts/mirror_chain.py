@@ -1,8 +1,8 @@
-"""The chain of `tools/mirror`: a line for each release that was ever seen, each with the digest of all lines before it, and what is compared with it.
+"""The chain of `tools/mirror`: a line for each release that was ever seen, each with the digest of all lines before it; and what is compared with it.
 
-A line is `CHAIN\tMOMENT\tNOTICE\tNUMBER\tDIGEST`: when the release was seen first, which one it is, and the SHA-256 of its text as the office writes it
-(compact JSON, members in the order of their names, in UTF-8). CHAIN is the SHA-256 of the line before's CHAIN, a tab, and the rest of this line; before the
-first line it is 64 zeros. A release that is gone, or has changed, and was accepted so has one line more, with the word `gone` or its new digest.
+A line is `CHAIN\tMOMENT\tNOTICE\tNUMBER\tDIGEST`: when the release was first seen, which one it is, and the SHA-256 of its text as the office writes it
+(compact JSON, members sorted by name, in UTF-8). CHAIN is the SHA-256 of the previous line's CHAIN, a tab, and the rest of this line; before the first line it
+is 64 zeros. If a release is gone or has changed, and that was accepted, it has another line, with the word `gone` or its new digest.
 """
 import hashlib
 from typing import Any, NamedTuple

@@ -1,4 +1,4 @@
-"""What `tools/mirror` asks of an office, and what it keeps of it: of each notice its row in the list, its record, terms, minutes and evaluation."""
+"""Asks an office for `tools/mirror`, and keeps of each notice its row in the list, its record, terms, minutes and evaluation."""
 import json
 import os
 import re
@@ -76,7 +76,7 @@ class Office:
     def must(self, path: str) -> str:
         text = self.ask(path)
         if text is None:
-            raise Unreadable(f"{self.base}{path}: not there")
+            raise Unreadable(f"{self.base}{path}: the office has no such page")
         return text
 
     def notices(self) -> list[Json]:
@@ -89,7 +89,7 @@ class Office:
             # (Names become those of files, and what is asked for may be anybody's answer.)
             names = [after, *(row["notice"] for row in page["notices"])]
             if not all(IDENTIFIER.fullmatch(name) for name in names[1:]) or names != sorted(set(names)):
-                raise Unreadable(f"{self.base}/notices: these are no notices in their order: {names[:5]}")
+                raise Unreadable(f"{self.base}/notices: these aren't notices sorted by name: {names[:5]}")
             if page["next"] is None:
                 return found
             if page["next"] != names[-1]:
@@ -103,12 +103,12 @@ class Office:
         for _ in range(TRIES):
             texts = {folder: self.ask(f"/notices/{name}/{path}") for folder, path in paths.items()}
             if texts["records"] is None or texts["terms"] is None:
-                raise Unreadable(f"{self.base}: {name} is in the list, and has no record or no terms")
+                raise Unreadable(f"{self.base}: {name} is in the list but has no record or no terms")
             found = Notice(row, now(), {folder: text for folder, text in texts.items() if text is not None})
             again = json.loads(self.must(f"/notices/{name}/terms"))
             if again == found.terms and (found.terms["state"] != "opened" or "evaluations" in texts and "minutes" in texts):
                 return found
-        raise Unreadable(f"{self.base}: {name} moves on and on")
+        raise Unreadable(f"{self.base}: {name} changed during each of {TRIES} tries: run this again later")
 
     def budget(self) -> tuple[str, list[Json]]:
         """The ledger, and its lines, each with its title."""

@@ -1,18 +1,19 @@
-"""What `tools/mirror` leaves for readers: an index, which is a table of all procurements that needs no script, and a feed of what happened last."""
+"""The pages of `tools/mirror` for readers: an index, a table of all procurements that needs no script, and a feed of the latest events."""
 import html
 from xml.sax.saxutils import escape, quoteattr
 
 from mirror_office import Json, Notice
 
-# So many entries has the feed, the newest first.
+# The number of entries in the feed, the newest first.
 NEWEST = 100
-# Where a procurement stands, by the status of its tender; before the opening it receives tenders.
+# The state of a procurement, by the status of its tender. Before the opening it receives tenders.
 STATES = {"active": "opened", "complete": "contracted", "cancelled": "cancelled", "unsuccessful": "ended without a contract"}
-WORDS = """<p>All that this office published: the procurements below, and files to download. Amounts are whole units of the currency, moments are UTC.</p>
-<p lang="de">Alles, was diese Vergabestelle veröffentlicht hat: unten die Vergaben, dazu Dateien zum Herunterladen. Beträge sind ganze Einheiten der Währung,
-Zeiten UTC.</p>"""
-WITNESS = """<p>The chain has a line for each release that was ever seen here, each with the SHA-256 of all lines before it. Who keeps its last line from today
-can show later whether anything published until now was changed. <code>tools/mirror URL FOLDER</code> keeps such a copy by itself and tells.</p>"""
+WORDS = """<p>Everything that this office has published: the procurements below, and files to download. Amounts are whole units of the currency. Times
+are UTC.</p>
+<p lang="de">Alles, was diese Vergabestelle veröffentlicht hat: unten die Vergaben, dazu Dateien zum Herunterladen. Beträge sind ganze Einheiten der
+Währung. Zeiten sind UTC.</p>"""
+WITNESS = """<p>The chain has a line for each release that was seen here. Each line has the SHA-256 of all lines before it. Keep today's last line, and you can
+show later whether anything published until now was changed. <code>tools/mirror URL FOLDER</code> keeps such a copy for you and reports changes.</p>"""
 
 
 def page(base: str, moment: str, files: list[tuple[str, int, str]], notices: list[Notice], head: str) -> str:
@@ -34,7 +35,7 @@ def page(base: str, moment: str, files: list[tuple[str, int, str]], notices: lis
 <main>
 <h1>Open data of the procurement office</h1>
 {WORDS}
-<p>From <a href={quoteattr(base)}>{html.escape(base)}</a>, looked at {moment}.</p>
+<p>From <a href={quoteattr(base)}>{html.escape(base)}</a>, asked at {moment}.</p>
 <h2>Procurements</h2>
 <table>
 <thead><tr><th>Procurement</th><th>State</th><th>Deadline</th><th>Estimate</th></tr></thead>
@@ -47,8 +48,8 @@ def page(base: str, moment: str, files: list[tuple[str, int, str]], notices: lis
 <tbody>
 {"".join(rows)}</tbody>
 </table>
-<p>Beside them are <code>records/NOTICE.json</code>, <code>terms/NOTICE.json</code>, <code>minutes/NOTICE.txt</code> and <code>evaluations/NOTICE.txt</code>, as
-the office answered them. In the tables a text that begins with = + - or @ has an apostrophe in front, so that no sheet takes it for a formula.</p>
+<p>There are also <code>records/NOTICE.json</code>, <code>terms/NOTICE.json</code>, <code>minutes/NOTICE.txt</code> and <code>evaluations/NOTICE.txt</code>, as
+the office answered them. In the tables a text that begins with = + - or @ has an apostrophe before it, so that no spreadsheet reads it as a formula.</p>
 <h2>The chain</h2>
 {WITNESS}
 <p>Its last digest: <code>{head}</code></p>

@@ -1,4 +1,4 @@
-"""The tables of `tools/mirror`: what each has of a notice, by its record, terms, minutes and evaluation."""
+"""The tables of `tools/mirror`: what each has of a notice, from its record, terms, minutes and evaluation."""
 import csv
 import io
 from collections.abc import Iterable, Iterator

@@ -1,14 +1,14 @@
-"""What OCDS 1.1 asks of what the office publishes: members, types and codes, as tables, and what joins one place to another.
+"""What OCDS 1.1 requires of what the office publishes: members, types and codes, as tables, and what connects one place to another.
 
 Source: the Open Contracting Data Standard 1.1, `release-schema.json`, `release-package-schema.json`, `record-package-schema.json` and its codelists
-(standard.open-contracting.org/1.1/en/schema), and its extension for lots, whose members are known where a package's `extensions` name it, and nowhere else.
-There these are required: of a release `ocid`, `id`, `date`, `tag` and `initiationType`;
-of a tender, an item, a lot, an award and a transaction `id`; of a contract `id` and `awardID`; of a package `uri`, `publishedDate`, `publisher` with its
-`name`, `version`, and `releases` or `records`; of a record `ocid` and `releases`. What else must be there here is what the office gives whenever it gives the
-object at all. Members of OCDS that the office never gives, as `milestones` and `documents`, stand in no table, and neither do codes that it never uses.
+(standard.open-contracting.org/1.1/en/schema), and its extension for lots, whose members are known only if a package's `extensions` name it. It requires: of a
+release `ocid`, `id`, `date`, `tag` and `initiationType`; of a tender, an item, a lot, an award and a transaction `id`; of a contract `id` and `awardID`; of a
+package `uri`, `publishedDate`, `publisher` with its `name`, `version`, and `releases` or `records`; of a record `ocid` and `releases`. Other members are
+required here if the office writes them whenever it writes the object at all. Members of OCDS that the office never writes, such as `milestones` and
+`documents`, are in no table, and neither are codes that it never uses.
 
-A place is the names on the way to it, as `tender/lots`: of a list each item is looked at, and it is told by its number, as `tender/lots/0`. An object has the
-members that the table lists at its place, and no others. A member is `NAME KIND`, and `NAME? KIND` where it may be missing.
+A place is the names on the way to it, such as `tender/lots`. Of a list each item is checked and reported by its number, such as `tender/lots/0`. An object has
+the members that the table lists at its place, and no others. A member is `NAME KIND`, or `NAME? KIND` if it may be missing.
 """
 import re
 from collections.abc import Mapping

@@ -1,8 +1,8 @@
-"""What OpenAPI 3.1 asks of a document, as far as one of this repository goes: a schema of the objects of its section 4.8, and what no schema tells.
+"""What OpenAPI 3.1 requires of a document, as far as this repository's document uses it: a schema of the objects of its section 4.8, and what no schema says.
 
-META has the fields of each object that may stand in docs/openapi.yaml, with those that must: another field, or one that is lacking, is a fault. (Fields of
-callbacks, links, encodings and webhooks are left out: a document with them is refused here, though OpenAPI knows them.) Schemas are JSON Schema 2020-12, as
-OpenAPI 3.1 takes them by its dialect.
+META has the fields of each object that may be in docs/openapi.yaml, with the required ones: another field, or a missing one, is a fault. (Fields of callbacks,
+links, encodings and webhooks are left out: a document with them is refused here, although OpenAPI has them.) Schemas are JSON Schema 2020-12, as OpenAPI 3.1
+uses them by its dialect.
 """
 import re
 from collections.abc import Iterator

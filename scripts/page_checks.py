@@ -81,8 +81,6 @@ def views(scene: Scene) -> None:
         page.go(scene.front.address(place))
         page.wait("[...document.querySelectorAll('.lines h3')].every((heading) => heading.textContent.includes(':'))")
         differences += difference(scene, name, page)
-        if name == "running":
-            page.small_picture(os.path.join(scene.pictures, "portal.png"))
         # (Colours go by light and dark, and not by the width: each is looked at once, and wherever pictures are asked for.)
         for shape, dark in (("narrow", False), ("wide", True), *((("narrow", True), ("wide", False)) if page.browser.pictures else ())):
             page.shape(WIDTHS[shape], dark=dark)
@@ -219,7 +217,7 @@ def keyboard(scene: Scene) -> None:
     page.press("Tab")
     check(f"behind the lines is {focused(page)}", focused(page)[0].startswith("Show more"))
     page.press("Enter")
-    check(f"the button for more lines leads to {focused(page)}", focused(page)[0] == "Line 3100")
+    check(f"the button for more lines leads to {focused(page)}", focused(page)[0] == "Budget line 3100")
     are_shown = page.run("document.querySelectorAll('main h3').length === 22 && !document.querySelector('.more').checkVisibility()")
     check("the other lines are shown, and the button is gone", are_shown)
     page.go(scene.front.address())
@@ -323,7 +321,7 @@ def each_refusal(scene: Scene) -> None:
     page.ask("Fetch.disable")
     for text in ("N 1", "a/b", "..", "x" * 33, "<b>", "%00", "é"):
         page.run(f"location.hash = '#notice/' + encodeURIComponent({json.dumps(text)})")
-        page.wait("document.querySelector('main').textContent.includes('no number of the office')")
+        page.wait("document.querySelector('main').textContent.includes('not a valid number')")
         page.run("location.hash = '#about'")
         page.wait("document.querySelector('h1').textContent.startsWith('About')")
 
@@ -392,7 +390,7 @@ def office_away(scene: Scene) -> None:
     answer = scene.front.ask("GET", "/lines/78")
     check(f"a look without an office: {answer}", answer.status == 502 and b"front" in answer.body)
     said = page_of(scene, "#notice/N78").text()
-    check(f"the page says {said!r}", said == "Not shown\nThe office isn't answering at the moment.\nProcurements\n")
+    check(f"the page says {said!r}", said == "Not shown\nThe office isn't answering at the moment. Try again in a few minutes.\nProcurements\n")
 
 
 def too_often(scene: Scene) -> None:
@@ -405,7 +403,7 @@ def too_often(scene: Scene) -> None:
                 break
     check(f"of {MANY} looks at a time all are taken", answer.status == 429 and b"front" in answer.body)
     said = page_of(scene, "#notice/N77").text()
-    check(f"the page says {said!r}", said.startswith("Not shown\nThere is no notice of this number."))
+    check(f"the page says {said!r}", said.startswith("Not shown\nThere is no notice with this number."))
 
 
 FIRST, LAST = [views, keyboard, plants, each_refusal, long_texts, without_scripts, injected], [too_often, office_away]

@@ -1,7 +1,7 @@
-"""The office that `tests/page` shows: six notices, and texts that no page may take for markup. N1 is paid and ended, N2 awarded, N3 open, N4 cancelled before
-its opening; N5 is cancelled after an award by points, and of N6 one lot waits and one is paid in part.
+"""The office that `tests/page` shows: six notices, with texts that no page may treat as markup. N1 is paid and ended, N2 awarded, N3 open, N4 cancelled before
+its opening. N5 is cancelled after an award by points; of N6 one lot is undecided and one is partly paid.
 
-All is asked through the front, with the keys of who asks. Most of its five seconds it waits for a deadline.
+Everything is asked through the front, with the callers' keys. It takes five seconds, mostly waiting for a deadline.
 """
 import time
 from collections.abc import Mapping

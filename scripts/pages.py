@@ -1,7 +1,6 @@
-"""The sizes of the pages of an office's file: what the program gives a new one, and what files have that were made before.
+"""The page sizes of an office's file: that of a new file, and that of files made earlier.
 
-A file keeps the size that it has, so a test or a measure tries both: where the file isn't to have the program's own size, an empty database of the other one
-stands there before the program comes.
+A file keeps its page size, so a test or a measure tries both. To give a file the other size, it puts an empty database of that size there before the program.
 """
 import argparse
 import sqlite3

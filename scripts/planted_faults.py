@@ -1,7 +1,7 @@
 """The faults that `tests/audit` plants in an office that `audit_life.py` made, and where `tools/audit` must find each.
 
-A plain fault is one change of the file, or of what was answered. A forgery changes all rows, releases and merges that hang together, so that the file alone
-shows nothing: that is tried too, and then which witnesses show it, and which don't. What docs/AUDITOR.md calls unseen is shown to be so by these.
+A plain fault is one change of the file, or of an answer. A forgery changes all related rows, releases and merges, so that the file alone shows nothing. The
+test tries that too, and which witnesses expose it and which don't. These forgeries show that what docs/AUDITOR.md calls unseen is unseen.
 """
 import hashlib
 import json

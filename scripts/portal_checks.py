@@ -112,7 +112,7 @@ def search(scene: Scene) -> None:
     page.go(scene.front.address("#firms?name=gamma"))
     check("a firm is found by the address", page.run("[...document.querySelectorAll('tbody th a')].map((at) => at.textContent)") == ["Gamma O'Neill"])
     page.go(scene.front.address("#ledger"))
-    for words, line in (("POOL", "Line 2000"), ("3100", "Line 3100")):
+    for words, line in (("POOL", "Budget line 2000"), ("3100", "Budget line 3100")):
         type_words(page, words, "by-line")
         found = page.run("[...document.querySelectorAll('.lines h3 a')].map((at) => at.textContent)")
         check(f"{words} finds the lines {found}", found == [line])
@@ -227,12 +227,12 @@ def without_mirror(scene: Scene) -> None:
     page.answer_for({f"/data/{name}.csv": (404, b"{}") for name in ("notices", "lots", "tenders", "awards", "contracts", "payments", "budget")})
     for place in ("#list", "#firms", "#firm/T1", "#figures", "#line/1100"):
         page.go(scene.front.address(place))
-        check(f"{place} says {page.text()!r}", "open data isn't here" in page.text())
+        check(f"{place} says {page.text()!r}", "open data isn't available" in page.text())
     page.go(scene.front.address("#list"))
     check("all notices are there", len(page.run(FOUND)) == 6)
     page.go(scene.front.address("#ledger"))
     page.wait("[...document.querySelectorAll('.lines h3')].every((at) => at.textContent.includes(': '))")
-    check("lines have their titles", "Line 1100: Roads and bridges" in page.text())
+    check("lines have their titles", "Budget line 1100: Roads and bridges" in page.text())
     is_quiet(page)
 
 

@@ -1,6 +1,6 @@
-"""What a reader must believe for the promises: the definitions that clauses use, and from each what it uses, to the last one.
+"""Finds the definitions that a reader must believe for the promises: those that the clauses use, directly or through others.
 
-Read by tools/reading and tools/check_names. A variable that has the name of such a definition counts as it.
+Used by tools/reading and tools/check_names. A variable that has the name of such a definition counts as it.
 """
 from collections.abc import Iterable, Mapping, Sequence
 from pathlib import Path

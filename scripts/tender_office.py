@@ -1,5 +1,6 @@
-"""The office that `tests/tender_desk` uses: notices whose tenders come by the desk, and two whose deadline comes meanwhile. T1 and T2 are registered, with
-their keys in files; T9 isn't, until the test of the key registers it."""
+"""The office that `tests/tender_desk` uses: notices to which the desk submits tenders, and two whose deadline comes meanwhile. T1 and T2 are registered, with
+their keys in files. T9 isn't, until the test of the key registers it.
+"""
 import hashlib
 import os
 import subprocess

@@ -77,7 +77,7 @@ class Desk:
 
     def prices(self, notice: str, lot: str, *units: int) -> None:
         """Types prices for a lot."""
-        self.at(f"offer/{notice}/{lot}", "Offer for")
+        self.at(f"offer/{notice}/{lot}", "Tender for")
         for at, unit in enumerate(units):
             self.fill(f"unit-{at}", str(unit))
 

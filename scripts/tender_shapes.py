@@ -1,5 +1,4 @@
-"""What `tests/tender_desk` asks of how the tenderer's desk is seen, heard, used by the keyboard and printed; and faults that are planted in it, each of which
-must be found."""
+"""Checks of `tests/tender_desk`: how the tenderer's desk looks, sounds, prints and is used by keyboard. It also plants faults, and each must be found."""
 import base64
 import json
 import os
@@ -39,22 +38,22 @@ def keyboard(scene: Scene) -> None:
     """A tender is handed in by the keyboard alone, and the focus is seen at each step."""
     desk = Desk(scene, "T1")
     page = desk.page
-    desk.at("offer", "Make an offer")
-    check(f"the focus is at {focused(page)}", focused(page)[0] == "Make an offer")
+    desk.at("offer", "Prepare a tender")
+    check(f"the focus is at {focused(page)}", focused(page)[0] == "Prepare a tender")
     tab_to(page, "offer-notice")
     page.type("N4")
     page.press("Enter")
     desk.shows("Things of all kinds")
-    tab_to(page, "Offer for lot L1")
+    tab_to(page, "Prepare a tender for lot L1")
     page.press("Enter")
-    desk.shows("Offer for lot L1")
+    desk.shows("Tender for lot L1")
     for at in range(50):
         tab_to(page, f"unit-{at}")
         page.type(str(at))
-    tab_to(page, "Look at it")
+    tab_to(page, "Check before submitting")
     page.press("Enter")
-    desk.shows("Before it is sent")
-    tab_to(page, "Send the tender")
+    desk.shows("Check before submitting")
+    tab_to(page, "Submit the tender")
     page.press("Enter")
     receipt = desk.receipt()
     check(f"the focus is at {focused(page)}", focused(page)[0].startswith("Receipt"))
@@ -114,7 +113,7 @@ def shapes(scene: Scene) -> None:
 
 def is_sent(scene: Scene, desk: Desk, language: str) -> None:
     """The receipt; and where a tender is there already, the refusal."""
-    desk.press("Send the tender" if language == "en" else "Angebot senden")
+    desk.press("Submit the tender" if language == "en" else "Angebot abgeben")
     desk.page.wait("document.querySelector('main .good, main .bad')")
     looked_at(scene, desk, "receipt" if language == "en" else "already", language)
 
@@ -135,8 +134,6 @@ def with_file(scene: Scene, desk: Desk, language: str) -> None:
 def looked_at(scene: Scene, desk: Desk, name: str, language: str) -> None:
     """One view in all widths, light and dark."""
     page, called = desk.page, f"{name}, {language}"
-    if (name, language) == ("send", "en"):
-        page.small_picture(os.path.join(scene.pictures, "tender.png"))
     for width in WIDTHS:
         page.shape(width)
         is_within(called, width, page)
@@ -157,7 +154,7 @@ def printed(scene: Scene) -> None:
     desk.at("key", "Key")
     for name in ("tenderer", "name", "address"):
         desk.fill(f"key-{name}", "T8")
-    desk.press("Make the key")
+    desk.press("Make a key")
     desk.says("Now drop the file T8.key")
     looked_at(scene, desk, "registration", "en")
     seen = on_paper(scene, desk, "registration")
@@ -165,7 +162,7 @@ def printed(scene: Scene) -> None:
     check(f"on paper stands {seen}", "SHA-256 of the key" in seen and "signature" in seen and is_alone)
     beta = Desk(scene, "T2")
     beta.at(f"tender/{receipt}", "Tender with")
-    check("a view without a sheet is printed whole", "Withdraw it" in on_paper(scene, beta, "tender", is_sheet=False))
+    check("a view without a sheet is printed whole", "Withdraw the tender" in on_paper(scene, beta, "tender", is_sheet=False))
 
 
 def on_paper(scene: Scene, desk: Desk, name: str, is_sheet: bool = True) -> str:
@@ -188,19 +185,19 @@ def without_scripts(scene: Scene) -> None:
     page.ask("Emulation.setScriptExecutionDisabled", value=True)
     page.ask("Page.navigate", url=scene.front.address("tender/"))
     page.wait("document.readyState === 'complete' && document.querySelector('main')")
-    check(f"the page says {page.text()!r}", "needs scripts" in page.text() and "braucht dafür Skripte" in page.text())
+    check(f"the page says {page.text()!r}", "needs scripts" in page.text() and "braucht sie Skripte" in page.text())
 
 
 def other_digest(scene: Scene, desk: Desk) -> None:
     """A receipt that tells another digest is never green."""
     desk.prices("N4", "L1", *range(50))
-    desk.press("Look at it")
-    desk.shows("Before it is sent")
+    desk.press("Check before submitting")
+    desk.shows("Check before submitting")
     body = {"digest": "0" * 64, "moment": "2026-01-01T00:00:00Z", "receipt": 77, "security": None, "state": "sealed"}
     desk.page.answer_for({"/notices/N4/lots/L1/tenders": (200, json.dumps(body).encode()), "/tenders/77": (404, b"{}")})
-    desk.press("Send the tender")
+    desk.press("Submit the tender")
     desk.receipt()
-    check("another digest is green", desk.has("bad", "something else") and not desk.has("good", ""))
+    check("another digest is green", desk.has("bad", "something other than this file") and not desk.has("good", ""))
 
 
 def sums(_: Scene, desk: Desk) -> None:
@@ -220,11 +217,11 @@ def wants_tick(scene: Scene, desk: Desk) -> None:
 
 def cannot_send(scene: Scene, desk: Desk) -> None:
     """A file without a price can't be sent."""
-    desk.at("offer/N1/L2", "Offer for")
-    desk.press("Take a file")
+    desk.at("offer/N1/L2", "Tender for")
+    desk.press("Use a file")
     desk.page.choose("offer-file", scene.put("bad.csv", b"item,quantity,unit,total\nI1,2,5,10\nTOTAL,,,10\n"))
     desk.says("bad.csv")
-    check("a file without a price can be sent", not desk.can_press("Look at it") and desk.has("bad", "can't be sent"))
+    check("a file without a price can be sent", not desk.can_press("Check before submitting") and desk.has("bad", "can't be used"))
 
 
 def stores_nothing(scene: Scene, desk: Desk) -> None:

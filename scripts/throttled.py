@@ -1,4 +1,4 @@
-"""A front for tests that answers what is saved in a folder, and now and then that it is asked too often, or that no answer can be had."""
+"""A front for tests. It answers what is saved in a folder, and now and then that it is asked too often, or that no answer can be had."""
 import contextlib
 import http.server
 import os
@@ -14,9 +14,12 @@ NOT_THERE = {404: b'{"name":"NoSuch","refusal":9,"what":"notice"}', 409: b'{"nam
 
 class Front:
     """What is answered: the files of a folder, of notices K0, K1 and so on those of the notice that is `copied`, of the notice that is `lacking` nothing. After
-    `burst` requests it says 429, and `wait` seconds later takes as many again; so many of the first requests as are `failing` get 503."""
+    `burst` requests it says 429, and `wait` seconds later takes as many again; so many of the first requests as are `failing` get 503. Each ledger is from
+    so many seconds ago as `old` says next, and then of now."""
 
-    def __init__(self, folder: str, copied: str = "", burst: int = 1 << 30, wait: int = 1, failing: int = 0, lacking: str = "") -> None:
+    def __init__(self, folder: str, copied: str = "", burst: int = 1 << 30, wait: int = 1, failing: int = 0, lacking: str = "",
+                 old: tuple[int, ...] = ()) -> None:
+        self.old, self.ledgers = list(old), 0
         self.folder, self.copied, self.burst, self.wait, self.failing, self.lacking = folder, copied, burst, wait, failing, lacking
         self.left, self.until, self.refused, self.hasty, self.address, self.lock = burst, 0.0, 0, 0, "", threading.Lock()
 
@@ -68,6 +71,9 @@ def handler_of(front: Front) -> type[http.server.BaseHTTPRequestHandler]:
             self.send_response(status)
             if refused:
                 self.send_header("Retry-After", refused[1])
+            if self.path == "/ledger" and status == 200:
+                front.ledgers += 1
+                self.send_header("Last-Modified", self.date_time_string(int(time.time()) - (front.old.pop(0) if front.old else 0)))
             data = NOT_THERE[status] if body is None else body
             self.send_header("Content-Length", str(len(data)))
             self.end_headers()

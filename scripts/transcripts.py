@@ -1,4 +1,4 @@
-"""Files of transcripts, read by their form, which is told at the head of crates/tests_of_runs/data/setup.txt."""
+"""Reads files of transcripts by their form, which the head of crates/tests_of_runs/data/setup.txt describes."""
 import os
 import re
 

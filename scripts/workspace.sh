@@ -1,7 +1,7 @@
 # shellcheck shell=sh
-# Read by scripts of bench/merge and tests: makes a workspace with `ocds_merge` and the program $1, which lies beside the script, and stands in that program's
-# folder. The programs are no crates of the repository, so that its gate does not prove and run them; they end in `.in`, since the gate refuses a `.rt` file
-# of no crate.
+# Used by scripts of bench/merge and tests: makes a workspace with `ocds_merge` and the program $1, which is beside the script, and changes to that program's
+# folder. The programs aren't crates of the repository, so that the gate doesn't prove and run them. They end in `.in`, because the gate rejects a `.rt` file
+# outside a crate.
 here=$(cd "$(dirname "$0")" && pwd)
 root=$(cd "$here" && until [ -f crates.txt ] || [ "$PWD" = / ]; do cd ..; done && pwd)
 work=$(mktemp -d)

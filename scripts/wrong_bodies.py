@@ -1,5 +1,13 @@
-"""What rt says of wrong bodies: read by bench/gate and tools/edits."""
+"""Reads what rt says of mutants. Used by bench/gate and tools/edits.
+
+A contract refuses a mutant if a goal of it can't be proved. Some refusals name no goal: if the borrow checker doesn't cover the changed function yet,
+nothing was proved. Then rt counts the mutant as refused. These scripts count it as a failure.
+"""
 import re
+
+# The words of a refusal that names no goal.
+NO_GOAL = "the borrow checker does not cover"
+UNTRIED = "REFUSED BY NO GOAL"
 
 # What rt says of one, and what it is called here; the first that fits counts.
 SAID = {
@@ -19,5 +27,5 @@ def came_to(line: str) -> tuple[str, str, str] | None:
     if found:
         for said, kind in SAID.items():
             if found[3].startswith(said):
-                return found[1], found[2], kind
+                return found[1], found[2], UNTRIED if kind in REFUSED and NO_GOAL in found[3] else kind
     return None

@@ -1,6 +1,6 @@
 #!/bin/sh
-# Merges 2,000 random lists of releases by `merge_all` and one by one as text, and compares the bytes; it prints what differs, and ends with 0 only if
-# nothing does. It takes a few minutes, most of it proofs, more where `ocds_merge` was not checked before.
+# Merges 2,000 random lists of releases, at once by `merge_all` and one by one as text, and compares the bytes. It prints what differs, and ends with 0 only if
+# nothing does. It takes a few minutes, most of it proofs, more if `ocds_merge` wasn't checked before.
 set -eu
 set -- merge_differences.rt.in
 . "$(dirname "$0")/../scripts/workspace.sh"

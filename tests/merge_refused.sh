@@ -1,6 +1,6 @@
 #!/bin/sh
-# Merges `{"p":null}` into `{"p":1,"q":2}` with the Nth allocation refused, N counting up until none is. Where `merge_into` was refused memory the target
-# must be what it was; where another step was, the program ends with that error. About half a minute for each N.
+# Merges `{"p":null}` into `{"p":1,"q":2}` with the Nth allocation refused, for N = 1, 2 and so on until none is. If `merge_into` was refused memory, the
+# target must be unchanged; if another step was, the program ends with that error. About half a minute for each N.
 set -eu
 set -- merge_refused.rt.in
 . "$(dirname "$0")/../scripts/workspace.sh"

@@ -1,4 +1,5 @@
-// The city's own words: its name, imprint, contact, privacy and accessibility, from the file that it fills in; and what this page is made of.
+// The city's own words (name, imprint, contact, privacy, accessibility) from `city.json`, and what this page
+// is made of.
 import { file } from "./common/office.js";
 import { language, say } from "./common/texts.js";
 import { element, given, link, section, title } from "./common/draw.js";
@@ -6,7 +7,7 @@ import { element, given, link, section, title } from "./common/draw.js";
 const PARTS = ["imprint", "contact", "privacy", "accessibility"];
 let city = null;
 
-/** The city's file, asked for once; one that isn't there, or can't be read, has nothing in it. */
+/** The city's file, fetched once. A file that is missing or can't be read counts as empty. */
 async function cityFile() {
   try {
     city ??= JSON.parse((await file("/city.json")) ?? "{}");
@@ -17,19 +18,19 @@ async function cityFile() {
   return city;
 }
 
-/** What the city says of a part, in the language that is spoken or in another one. */
+/** What the city says about a part, in the spoken language, or else in another one. */
 function wordsOf(part) {
   const told = Object.entries(part ?? {}).filter(([, words]) => words.length > 0);
   return (told.find(([tag]) => tag === language()) ?? told[0] ?? [language(), []]);
 }
 
-/** The name of the page: the city's, else a plain one. */
+/** The name of the page: the city's, or else a plain one. */
 export async function siteName() {
   const [, name] = wordsOf((await cityFile()).name);
   return typeof name === "string" ? name : say("see.site");
 }
 
-// An address in the city's words is one to follow: of the web, or of mail.
+// Addresses in the city's words that become links: of the web, and of mail.
 const ADDRESS = /(https?:\/\/[^\s<>"]+[^\s<>".,;)]|[^\s<>"@]+@[^\s<>"@]+\.[a-z]{2,})/i;
 
 function paragraph(text) {
@@ -37,7 +38,7 @@ function paragraph(text) {
     : link(part, part.includes("://") ? part : `mailto:${part}`))));
 }
 
-/** The view of all of it. */
+/** The view. */
 export async function drawAbout() {
   const words = await cityFile();
   const parts = PARTS.map((name) => {

@@ -1,4 +1,5 @@
-// Charts: bars of SVG between their names and their figures, so that words stay as large as all others, on a phone too. Kinds are told apart by patterns.
+// Charts: SVG bars between names and figures that are words of the page, so that they keep their size on a
+// phone. Patterns tell the kinds apart.
 import { element } from "./common/draw.js";
 
 const SPACE = "http://www.w3.org/2000/svg";
@@ -12,7 +13,7 @@ function drawn(name, attributes, ...children) {
   return made;
 }
 
-// A pattern of each kind that isn't plain, as wide as high, with what is drawn in it.
+// The pattern of each kind that isn't plain: its size, and what is drawn in it.
 const PATTERNS = {
   contracted: () => [9, drawn("path", { d: "M-2 11 11 -2 M-2 2 2 -2 M7 11 11 7", class: "stripe" })],
   reserved: () => [8, drawn("circle", { cx: "4", cy: "4", r: "2.5", class: "dot" })],
@@ -28,7 +29,7 @@ function patternsOf(chart, kinds) {
   return defined.length > 0 ? [drawn("defs", {}, ...defined)] : [];
 }
 
-/** One bar, whose length stands for the sum of its parts, where `most` is as wide as the chart. */
+/** One bar. Its length is the sum of its parts; a sum of `most` is as wide as the chart. */
 function barOf(chart, parts, most) {
   let at = 0;
   const pieces = parts.filter(({ amount }) => amount > 0).map(({ kind, amount }) => {
@@ -41,8 +42,8 @@ function barOf(chart, parts, most) {
   return drawn("svg", { width: "100%", height: "22", class: "chart", "aria-hidden": "true" }, ...patternsOf(chart, parts.map(({ kind }) => kind)), ...pieces);
 }
 
-/** Bars below each other. A row has a `name` (a text or elements), `parts` of a kind and an amount, and what is `told` of it behind the bar. They are a list
- * of names and figures to who doesn't see them. */
+/** Bars below each other. A row has a `name` (a text or elements), `parts` with a kind and an amount, and the
+ * text `told` after the bar. Screen readers get a list of names and figures. */
 export function bars(label, rows) {
   charts += 1;
   const most = Math.max(1, ...rows.map(({ parts }) => parts.reduce((sum, { amount }) => sum + amount, 0)));

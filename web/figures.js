@@ -1,4 +1,5 @@
-// Figures of all procurements: money by line, tenders a lot, and how long it took from the notice to the contract.
+// Figures of all procurements: money by budget line, tenders for each lot, and the time from the notice to
+// the contract.
 import { bars } from "./chart.js";
 import { sum, tables } from "./common/data.js";
 import { element, given, key, link, placeOf, section, title } from "./common/draw.js";
@@ -8,7 +9,7 @@ import { pots } from "./common/pots.js";
 import { say } from "./common/texts.js";
 
 const DAY = 86_400_000;
-// Up to how many days each bar of the third chart tells.
+// The longest time of each bar in the third chart, in days.
 const DAYS = [30, 60, 90, 120, 180, Infinity];
 const MOST = 5;
 
@@ -35,7 +36,7 @@ function tendersALot(lots) {
   return card(say("see.chart.tenders"), element("p", {}, told), bars(say("see.chart.tenders"), rows));
 }
 
-/** The days from the publication of a notice to the signing of each of its contracts. */
+/** The days from a notice's publication to the signing of each of its contracts. */
 function daysToContract(notices, contracts) {
   const published = new Map(notices.map((row) => [row.notice, Date.parse(row.published)]));
   return contracts.filter(({ notice }) => published.has(notice)).map(({ notice, signed }) => Math.ceil((Date.parse(signed) - published.get(notice)) / DAY))
@@ -61,7 +62,7 @@ function charts(data, year) {
   return [tendersALot(own(data.lots)), timeToContract(daysToContract(notices, own(data.contracts)))];
 }
 
-/** The view of all charts; the year, of which the notices are, stands in the address. */
+/** The view of all charts. The address holds the year of the notices. */
 export async function drawFigures(text) {
   const data = await tables("notices", "lots", "contracts", "budget");
   const heading = title(say("see.page.figures"));

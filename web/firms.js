@@ -1,4 +1,4 @@
-// Firms: what each tendered for, what it won, and what it was paid; by the tables of the mirror.
+// Firms: what each tendered for, what it won and what it was paid, from the mirror's tables.
 import { grouped, sum, tables, worthNow } from "./common/data.js";
 import { badge, below, element, facts, given, link, placeOf, title } from "./common/draw.js";
 import { plain } from "./common/filters.js";
@@ -12,7 +12,7 @@ function amount(value) {
   return value === null ? "–" : number(value);
 }
 
-/** Each firm with its sums, who was paid most first. */
+/** The firms with their sums, the highest payments first. */
 function firmsOf({ tenders, contracts, payments }) {
   const [contracted, paid] = [grouped(contracts, ({ tenderer }) => tenderer), grouped(payments, ({ tenderer }) => tenderer)];
   const firms = [...grouped(tenders, ({ tenderer }) => tenderer)].map(([tenderer, own]) => {
@@ -35,7 +35,7 @@ function without() {
     content: [title(say("see.page.firms")), element("p", { class: "note" }, say("see.nodata"))] };
 }
 
-/** All firms that tendered; what is looked for stands in the address. */
+/** All firms that tendered. The address holds the search. */
 export async function drawFirms(text) {
   const data = await tables("tenders", "contracts", "payments");
   if (data === null) {
@@ -55,7 +55,7 @@ export async function drawFirms(text) {
       firms.length === 0 ? element("p", {}, say("see.firms.none")) : [made, found]] };
 }
 
-/** What became of a tender, by the tables alone: by its award where it had one, else by what was found of it. */
+/** The result of a tender, from the tables only: that of its award, else that of its examination. */
 function outcome(tender, lot, award, contract) {
   const [kind, name] = contract ? [kindOfSigned(contract), "signed"] : award?.status === "active" ? ["running", "won"]
     : award ? ["stopped", tender.standing === "failed" ? "passed" : "awardended"] : withoutAward(tender, lot);
@@ -72,7 +72,7 @@ function withoutAward({ reading, standing, answer }, lot) {
   return lot.status === "active" ? ["running", "waits"] : ["stopped", "unexamined"];
 }
 
-/** A firm, with each of its tenders. */
+/** A firm, with all its tenders. */
 export async function drawFirm(tenderer) {
   const data = await tables("notices", "lots", "tenders", "awards", "contracts", "payments");
   if (data === null) {

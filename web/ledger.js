@@ -1,4 +1,5 @@
-// The budget: a bar for each line, of what is paid, contracted, reserved and free of its appropriation; and a line with its procurements.
+// The budget: for each budget line a bar of its paid, contracted, reserved and free money; and one line with
+// its procurements.
 import { grouped, rows, sum, tables, worthNow } from "./common/data.js";
 import { bar, element, given, key, link, placeOf, section, title } from "./common/draw.js";
 import { entriesOf, plain } from "./common/filters.js";
@@ -16,7 +17,8 @@ function potsOf(name, line) {
   return [element("p", {}, say("see.appropriation"), " ", element("b", {}, number(line.appropriation))), bar(name, parts), key(parts, "")];
 }
 
-/** The title of a line: as the mirror has it, else as the office tells it; where it can't be had, the line goes by its identifier alone. */
+/** The title of a budget line, from the mirror or else from the office. If it can't be fetched, only the
+ * identifier is shown. */
 function addTitle(heading, line, titles) {
   const told = titles.has(line) ? Promise.resolve(titles.get(line)) : lookAtLine(line).then(({ title: text }) => text);
   told.then((text) => heading.append(": ", given(text)), () => heading.append(": –"));
@@ -31,7 +33,7 @@ function card(line, titles, counts) {
     counts ? element("p", { class: "quiet" }, say("see.line.procurements", { count })) : null);
 }
 
-/** All lines; where they are many, those whose number or title has what is typed. */
+/** All budget lines. If there are many, a field searches numbers and titles. */
 function search(lines, titles, counts) {
   const shown = (some) => growing(element("ul", { class: "lines" }), some, (line) => card(line, titles, counts), AT_ONCE);
   const { made, input, value } = field(say("see.budget.search"), { id: "by-line", kind: "search" });
@@ -75,7 +77,7 @@ function lotTable(lots, entries, currency) {
     say("see.paid")], cells, { figures: [3, 4, 5] });
 }
 
-/** A line, and what is bought of it. */
+/** One budget line, and the lots that it pays for. */
 export async function drawLine(name) {
   const [line, list, data] = await Promise.all([lookAtLine(part(name)), notices(), tables("notices", "lots")]);
   const own = (data?.lots ?? []).filter((lot) => lot.line === name);

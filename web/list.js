@@ -1,4 +1,5 @@
-// The list of all procurements: newest first, those that take tenders above with a clock to their deadline; what is looked for stands in the address.
+// The list of all procurements: open ones first, with a clock to the deadline, then newest first. The address
+// holds the filters.
 import { tables } from "./common/data.js";
 import { element, fresh, given, link, placeOf, title } from "./common/draw.js";
 import { NAMES, STATES, addressOf, chosen, entriesOf, filtersOf, noticeOf } from "./common/filters.js";
@@ -36,7 +37,7 @@ function drawFound(entries, all) {
     part("rest", entries.filter(({ state }) => state !== "open")), entries.length === 0 ? element("p", {}, say("see.list.none")) : null].filter(Boolean);
 }
 
-/** The fields of the filters. Those that need the mirror's tables aren't there without it. */
+/** The filter fields. Those that need the mirror's tables are left out without it. */
 function fieldsOf(filters, entries, data) {
   const any = ["", say("see.any")];
   const made = (name, options = {}) => field(say(`see.by.${name}`), { id: `by-${name}`, value: filters[name], ...options });
@@ -49,7 +50,8 @@ function fieldsOf(filters, entries, data) {
     to: made("to", { kind: "number", min: "0", inputmode: "numeric" }) } : fields;
 }
 
-/** The search, and what it finds as one types; Enter leads to a notice where its number was typed, whatever letters are capital. */
+/** The search field, which finds while one types. If a notice number was typed, Enter goes to the notice, in
+ * whatever case. */
 function search(filters, entries, data) {
   const found = element("div", { id: "found" });
   const fields = fieldsOf(filters, entries, data);
@@ -77,7 +79,7 @@ function search(filters, entries, data) {
   return [asks, found];
 }
 
-/** The view of the list. `text` is what the address asks for. */
+/** The view of the list. `text` is the part of the address with the filters. */
 export async function drawList(text) {
   const [list, data] = await Promise.all([notices(), tables("notices", "lots", "tenders", "budget")]);
   const entries = entriesOf(list, data, officeNow());
@@ -87,7 +89,7 @@ export async function drawList(text) {
     data ? element("p", {}, link(say("see.list.feed"), "/data/feed.atom"), " · ", link(say("see.about.data"), "/data/")) : null] };
 }
 
-/** The notice that is meant by a number whose letters are otherwise, or null. */
+/** The notice whose number differs from this one only in case, or null. */
 export async function meant(text) {
   return noticeOf(await notices(), text);
 }

@@ -1,4 +1,4 @@
-// Which view of the portal is shown, by the address, in the language that is spoken.
+// Chooses the portal's view by the address, in the spoken language.
 import { decoded, drawAround, refused, showViews } from "./common/frame.js";
 import { link } from "./common/draw.js";
 import { drawNotice } from "./common/process.js";
@@ -10,13 +10,14 @@ import { drawBudget, drawLine } from "./ledger.js";
 import { drawList, meant } from "./list.js";
 
 await addTexts({ en: () => import("./en.js"), de: () => import("./de.js") });
-// The views by the first word of the address, each with the page of the menu that it belongs to. What stands behind the word is given to them.
+// The views by the first word of the address, each with its page in the menu. The other words are their
+// arguments.
 const VIEWS = { list: [drawList, "list"], notice: [drawNotice, "list"], ledger: [drawBudget, "ledger"], line: [drawLine, "ledger"], firms: [drawFirms, "firms"],
   firm: [drawFirm, "firms"], figures: [drawFigures, "figures"], about: [drawAbout, "about"] };
 const PAGES = ["list", "ledger", "firms", "figures", "about"];
 let site = "";
 
-/** The address as a view and what is told of it: `#notice/N1`, `#list?words=road`. */
+/** The address as a view and its arguments: `#notice/N1`, `#list?words=road`. */
 function place() {
   const [, word, name, query] = /^#?([a-z]*)(?:\/([^?]*))?(?:\?(.*))?$/s.exec(location.hash) ?? [];
   return Object.hasOwn(VIEWS, word ?? "") ? [word, name === undefined ? query ?? "" : decoded(name)] : ["list", ""];
@@ -28,7 +29,7 @@ async function around([word]) {
     current: `#${VIEWS[word][1]}` });
 }
 
-/** The view that is asked for. A notice's number leads there too where its letters are otherwise small or capital. */
+/** The requested view. A notice number works in whatever case. */
 async function view([word, text]) {
   try {
     return await VIEWS[word][0](text);

@@ -1,5 +1,5 @@
 #!/bin/sh
-# Builds the benchmark of the merge and prints its ratios. It takes a few minutes, more where `ocds_merge` was not checked before.
+# Builds the benchmark of the merge and prints its ratios. It takes a few minutes, more if `ocds_merge` wasn't checked before.
 set -eu
 set -- ratios.rt.in
 . "$(dirname "$0")/../../scripts/workspace.sh"

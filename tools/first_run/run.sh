@@ -1,9 +1,9 @@
 #!/bin/sh
-# The first run (`make run`): an import and a look, crates/procure/stdin, and the two responses to them, without waiting for proofs.
-# Where `make build` or `make test` left build/procure, the proved program answers them. Else a smaller program does, compiled from the same sources (`rt try`,
-# which proves nothing): an office in memory whose settings stand in office.rt.in, without the file store and the command line, whose libraries take longer to
-# compile than all of the office. It is no crate of the repository, so that the gate does not prove it; its files end in `.in`, since the gate refuses a `.rt`
-# file of no crate. On standard error it says which of the two it is. It ends with the program's status.
+# The first run (`make run`): an import and a query, crates/procure/stdin, and the two responses to them, without waiting for proofs.
+# If `make build` or `make test` has left build/procure, the proved program answers them. Otherwise a smaller program does, compiled from the same sources
+# (`rt try`, which proves nothing): an office in memory with the settings of office.rt.in, without the file store and the command line, whose libraries take
+# longer to compile than the whole office. It isn't a crate of the repository, so that the gate doesn't prove it. Its files end in `.in`, because the gate
+# rejects a `.rt` file outside a crate. On standard error it says which of the two programs runs. It ends with the program's status.
 set -eu
 here=$(cd "$(dirname "$0")" && pwd)
 root=$(cd "$here/../.." && pwd)
@@ -11,8 +11,8 @@ if [ -x "$root/build/procure" ]; then
     echo 'build/procure, the proved program, over crates/procure/stdin:' >&2
     exec "$root/build/procure" desk "$root/crates/procure/data/office.toml" < "$root/crates/procure/stdin"
 fi
-echo 'There is no build/procure yet (make build, which proves it first). So the office in memory is compiled from its sources, nothing is proved, and it' >&2
-echo 'answers crates/procure/stdin: one to three minutes with nothing to see, and then at once. Behind the two answers rt says how its runs ended.' >&2
+echo 'There is no build/procure yet (make build proves and builds it). So an office in memory is now compiled from the sources, without proofs. This takes' >&2
+echo 'one to three minutes in which nothing is printed. Then it answers crates/procure/stdin, and after the two answers rt says how its runs ended.' >&2
 folder=$(mktemp -d)
 trap 'rm -rf "$folder"' EXIT
 trap 'exit 130' INT

@@ -1,4 +1,5 @@
-// A lot from the opening to its contract: its tenders are examined, it is awarded, its standstill runs, and the award is signed or passed over.
+// A lot from the opening to its contract: examinations, the award, the standstill, and then the signing or
+// the passing over.
 import { isId } from "../common/csv.js";
 import { element, given, link, placeOf } from "../common/draw.js";
 import { DIGITS, ID, areRight, button, field, form, note, steps } from "../common/forms.js";
@@ -8,10 +9,11 @@ import { say, sayParts } from "../common/texts.js";
 import { ofExamination, ofRelease, own } from "./fate.js";
 import { momentAndSpan } from "./load.js";
 import { jsonBody, send, sendThen } from "./send.js";
+import { caller } from "./session.js";
 import { isWaiting, outlookOf } from "./stage.js";
 import { MOST, digitsOf, wholeNumber } from "./values.js";
 
-/** The tenders of a lot that wait for their examination, each with what can be said of it. */
+/** The tenders of a lot that aren't examined yet, each with its two buttons. */
 export function examinations(notice, lot, again) {
   const waiting = lot.tenders.filter(isWaiting);
   if (lot.state !== "undecided" || waiting.length === 0) {
@@ -29,7 +31,7 @@ function examination(notice, one, again) {
     const points = responsive && byPoints ? wholeNumber(quality.value(), 0, most) : 0;
     if (areRight([[quality, points === null ? say("examine.quality.wrong", { most }) : ""]])) {
       await send(examinationOrder(notice, one, responsive && byPoints ? { responsive, quality: points } : { responsive }));
-      // (that it was decided elsewhere is news too)
+      // (drawn again in any case: someone else may have decided meanwhile)
       again();
     }
   };
@@ -45,7 +47,7 @@ function examinationOrder(notice, { name, receipt }, body) {
     again: "AlreadyDecided", find: () => ofExamination(notice.name, receipt, body.responsive) };
 }
 
-/** What a lot is waiting for. */
+/** What a lot needs next. */
 export function awardPart(notice, lot, again) {
   return { undecided, awarded }[lot.state]?.(notice, lot, again) ?? (lot.active ? element("p", {}, letters(notice, lot)) : null);
 }
@@ -59,7 +61,7 @@ function letters({ name }, lot) {
   return link(say("letters.link"), placeOf("letter", name, lot.id));
 }
 
-/** The button lights where the office would take the award; beside it stands what it would do. */
+/** The button is on if the office would accept the award; the text beside it says what the award would do. */
 function undecided(notice, lot, again) {
   const { stage, currency } = notice;
   const outlook = outlookOf(lot);
@@ -74,9 +76,10 @@ function undecided(notice, lot, again) {
     isOver ? element("p", { class: "wrong" }, say("award.expired")) : null, lacking, steps(award));
 }
 
-/** What a price is above what the lot has reserved, its line must have free: else the office takes no award. */
+/** If the price is above the lot's reserved money, the budget line must have the difference free. Otherwise
+ * the office refuses the award. */
 async function tellLacking(lot, more, currency, award, place) {
-  const { free } = await line(lot.line);
+  const { free } = await line(lot.line, caller());
   if (free < more) {
     award.disabled = true;
     place.textContent = say("award.short", { more: money(more, currency), line: lot.line, free: money(free, currency) });
@@ -116,19 +119,20 @@ function awarded(notice, lot, again) {
     signing(notice, lot, again, isRunning), passing(notice, lot, again, isRunning));
 }
 
-/** What stands in the titles of a lot's award that was made. */
+/** The values for the titles of windows about a lot's award. */
 function valuesOf({ name }, { id, active }) {
   return { award: active.id, lot: id, notice: name, name: active.suppliers[0].name };
 }
 
-/** The signing, with the performance security where the notice asks for one. */
+/** The signing, with the performance security if the notice requires one. */
 function signing(notice, lot, again, isRunning) {
   const { performance } = notice.terms;
   const security = field(say("sign.security"), { hint: say("sign.security.hint"), ...ID });
   const amount = field(say("sign.amount"), { hint: say("sign.asked", { amount: money(performance, notice.currency) }), ...DIGITS });
   const run = () => {
     const named = { security: security.value(), amount: wholeNumber(digitsOf(amount.value()) ?? "", 1, MOST.amount) };
-    if (performance === 0 || areRight([[security, isId(named.security) ? "" : say("id.wrong")], [amount, amountFault(named.amount, performance)]])) {
+    const fault = amountFault(named.amount, performance, notice.currency);
+    if (performance === 0 || areRight([[security, isId(named.security) ? "" : say("id.wrong")], [amount, fault]])) {
       return sendThen(signOrder(notice, lot, performance > 0 ? named : null), again);
     }
   };
@@ -138,8 +142,8 @@ function signing(notice, lot, again, isRunning) {
   return element("div", {}, element("h5", {}, say("step.signing")), made);
 }
 
-function amountFault(amount, asked) {
-  return amount === null ? say("amount.wrong") : amount < asked ? say("sign.small", { amount: asked }) : "";
+function amountFault(amount, asked, currency) {
+  return amount === null ? say("amount.wrong") : amount < asked ? say("sign.small", { amount: money(asked, currency) }) : "";
 }
 
 function signOrder(notice, lot, named) {
@@ -151,7 +155,7 @@ function signOrder(notice, lot, named) {
     again: "AlreadyDecided", find: () => ofRelease(name, releases.length, own.sign(active.id)) };
 }
 
-/** A winner who doesn't sign is passed over. */
+/** Passes over a winner that doesn't sign. */
 function passing(notice, lot, again, isRunning) {
   const pass = button(say("fail.send"), () => sendThen(failOrder(notice, lot), again), "harm");
   pass.disabled = isRunning || notice.stage.isExpired;

@@ -1,18 +1,19 @@
-// A budget file as the office takes it in: its rows, what is wrong in each record, what the office would answer, and what the file would change.
+// A budget file as the office reads it: its rows, the faults of each record, what the office would answer,
+// and what the file would change.
 import { binaryOf, contentOf, isId, isTextLine, isUtf8, numberOf, recordsOf, textOf, whyNoNumber } from "../common/csv.js";
 import { bytesOf } from "../common/digest.js";
 import { MOST } from "./values.js";
 
 const HEAD = ["line", "kind", "amount", "title"];
 const SEPARATORS = { ";": "separator.semicolons", "\t": "separator.tabs", "|": "separator.strokes" };
-// How files begin that are no text of this kind.
+// How files begin that aren't CSV.
 const KINDS = [[[0x50, 0x4b, 3, 4], "workbook"], [[0xd0, 0xcf, 0x11, 0xe0], "workbook"], [[0x25, 0x50, 0x44, 0x46], "pdf"], [[0xff, 0xfe], "utf16"],
   [[0xfe, 0xff], "utf16"]];
-// What is wrong with a file as a whole: what its rows lack then is an echo of it.
+// Faults of the whole file. If there is one, the faults of single rows are only its echo.
 const WHOLE = [...Object.values(SEPARATORS), ...KINDS.map(([, kind]) => kind)];
 
-/** What stands in a budget file: `rows` in order, and `faults`, each with the number of its record (the head is 1), the line of the file, a code and what it is
- * about. The first fault is the one that the office names. */
+/** The content of a budget file: `rows` in order, and `faults`. A fault has the number of its record (the
+ * header is 1), the line of the file, a code, and a value. The office names the first fault. */
 export function readBudget(bytes) {
   const { records, isOpen } = recordsOf(contentOf(binaryOf(bytes)));
   const faults = headFaults(bytes, records);
@@ -35,7 +36,7 @@ export function readBudget(bytes) {
   return { bytes: bytes.length, rows, faults };
 }
 
-/** Why the first record isn't the head; nothing where it is. */
+/** Why the first record isn't the header, or nothing. */
 function headFaults(bytes, records) {
   const kind = KINDS.find(([sign]) => sign.every((byte, at) => bytes[at] === byte))?.[1];
   const [first] = records;
@@ -56,13 +57,13 @@ function isHead(fields) {
   return fields.length === HEAD.length && fields.every((field, at) => field === HEAD[at]);
 }
 
-/** A field as it is told, cut short. */
+/** A field as messages show it, cut short. */
 function shown(field) {
   const text = textOf(field);
   return text.length > 40 ? `${text.slice(0, 39)}…` : text;
 }
 
-/** The row that a record is, or what is wrong in it. */
+/** The row in a record, or its faults. */
 function rowOf({ fields }) {
   if (fields.length !== HEAD.length) {
     return { code: "fields", value: fields.length };
@@ -73,13 +74,13 @@ function rowOf({ fields }) {
   return wrong ? { code: wrong[0], value: shown(wrong[1]) } : { id, kind, amount: numberOf(amount), title: textOf(title) };
 }
 
-/** Why a field is no amount of at least 1. */
+/** Why a field isn't an amount of at least 1. */
 function amountFault(field) {
   const why = whyNoNumber(field);
   return why ? `amount.${why}` : numberOf(field) === 0 ? "amount.zero" : null;
 }
 
-/** Why a field is no title. */
+/** Why a field isn't a title. */
 function titleFault(field) {
   if (isTextLine(field)) {
     return null;
@@ -87,8 +88,9 @@ function titleFault(field) {
   return field === "" ? "title.empty" : field.length > MOST.text ? "title.long" : isUtf8(field) ? "title.control" : "title.coding";
 }
 
-/** Takes the rows in order over the lines that are there (a map from identifiers to `appropriation` and `free`): what each line has before and after, and what
- * is refused at which rows. Amounts of the lines are BigInt, since sums of rows may pass what a Number holds. */
+/** Applies the rows in order to the existing budget lines (a map from identifiers to `appropriation` and
+ * `free`): the state of each line before and after, and the rows that the office would refuse. Amounts are
+ * BigInt, because sums of rows may exceed what a Number holds exactly. */
 export function changesOf(rows, lines) {
   const changes = new Map();
   const faults = [];
@@ -105,8 +107,8 @@ export function changesOf(rows, lines) {
   return { changes: [...changes.values()], faults };
 }
 
-/** By what a file may be one that was taken in before: the names under which entries of the journal have the same amounts of the same lines, and the lines that
- * would have twice what they have. */
+/** Signs that the file was already imported: the names of journal entries with the same amounts of the same
+ * lines, and the lines that would have twice their money. */
 export function repeatsOf(rows, changes, entries) {
   const amounts = (some) => JSON.stringify(some.map(({ id, kind, amount }) => [id, kind, amount]).sort());
   const isSame = ({ path, status, found, body }) => path.startsWith("/budget/") && (status === 200 || found === "done") && body !== null
@@ -115,13 +117,13 @@ export function repeatsOf(rows, changes, entries) {
   return { names: entries.filter(isSame).map(({ path }) => path.slice("/budget/".length)), lines: changes.filter(isDouble).map(({ id }) => id) };
 }
 
-/** A line before the first of its rows. */
+/** A budget line before its first row. */
 function begun(id, held) {
   const [appropriation, free] = [BigInt(held?.appropriation ?? 0), BigInt(held?.free ?? 0)];
   return { id, isNew: held === undefined, isThere: held !== undefined, before: { appropriation, free }, appropriation, free, title: null };
 }
 
-/** What the office refuses at a row of this line. */
+/** What the office refuses at a row for this budget line. */
 function wrongAt(line, amount, kind) {
   if (kind === "add") {
     return line.appropriation + amount > BigInt(MOST.line) ? "past" : null;
@@ -129,7 +131,7 @@ function wrongAt(line, amount, kind) {
   return !line.isThere ? "unknown" : line.free < amount ? "short" : null;
 }
 
-/** Adds to a line, or cuts from it, what a row says; below 0 nothing goes. */
+/** Applies a row to a budget line. Nothing goes below 0. */
 function take(line, amount, kind) {
   const after = (held) => (kind === "add" ? held + amount : held > amount ? held - amount : 0n);
   line.appropriation = after(line.appropriation);

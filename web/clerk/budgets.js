@@ -1,4 +1,5 @@
-// The budget: its lines, and a file that is checked row by row and shown with what it would change before it is sent.
+// The budget: its lines, and a budget file that is checked row by row and shown with its changes before it is
+// sent.
 import { bytesOfFile } from "../common/digest.js";
 import { bar, below, element, given, key as legend, section, title } from "../common/draw.js";
 import { ID, areRight, drop, field, form, note, table } from "../common/forms.js";
@@ -10,24 +11,25 @@ import { changesOf, readBudget, repeatsOf } from "./budget.js";
 import { ofBudget } from "./fate.js";
 import { isUsed } from "./journal.js";
 import { sendThen } from "./send.js";
-import { journal } from "./session.js";
+import { caller, journal } from "./session.js";
 import { MOST, isAskable } from "./values.js";
 
 const MOST_SHOWN = 50, MOST_NAMED = 5;
 const COLUMNS = POTS.toReversed();
-// The titles of lines, which change with a budget file alone: the front takes only so many looks a second.
+// The titles of budget lines. Only a budget file changes them, so they are fetched once: nginx limits queries
+// per second.
 const titles = new Map();
 
-/** The title of a line, or null where it can't be had. */
+/** The title of a budget line, or null if it can't be fetched. */
 async function titleOf(name) {
   if (!titles.has(name)) {
-    titles.set(name, await lineOf(name).then(({ title: text }) => text, () => null));
+    titles.set(name, await lineOf(name, caller()).then(({ title: text }) => text, () => null));
   }
   return titles.get(name);
 }
 
 export async function drawBudget(again) {
-  const lines = await ledger();
+  const lines = await ledger(caller());
   const place = element("div", { "aria-live": "polite" });
   const take = async (file) => {
     place.replaceChildren(...await checked(file.name, await bytesOfFile(file), new Map(lines.map((one) => [one.line, one])), again));
@@ -38,13 +40,13 @@ export async function drawBudget(again) {
     section(say("budget.lines"), lineTable(lines))] };
 }
 
-/** The form of a budget file, by two lines of one. */
+/** The form of a budget file, as two example lines. */
 function formHint() {
   const lines = ["line,kind,amount,title", say("budget.drop.row")].map((text) => element("span", { class: "code below" }, text));
   return [say("budget.drop.hint"), lines];
 }
 
-/** The lines that are there, with a bar of their four pots. */
+/** The existing budget lines, each with a bar of its four balances. */
 function lineTable(lines) {
   if (lines.length === 0) {
     return element("p", {}, say("see.budget.none"));
@@ -55,25 +57,25 @@ function lineTable(lines) {
   return [table(say("budget.table"), heads, rows, { figures: [1, 2, 3, 4, 5] }), andMore(lines), sums(lines)];
 }
 
-/** That there are more than are shown. */
+/** A note that there are more entries than the table shows. */
 function andMore(list) {
   return list.length > MOST_SHOWN ? element("p", { class: "quiet" }, say("budget.more", { count: list.length - MOST_SHOWN })) : null;
 }
 
-/** What all lines have together, where a Number holds it. */
+/** The sums over all budget lines, as long as a Number holds them exactly. */
 function sums(lines) {
   const all = pots((kind) => lines.reduce((sum, one) => sum + one[kind], 0));
   return all.every(({ amount }) => Number.isSafeInteger(amount)) ? [element("p", { class: "quiet" }, say("budget.sums")), legend(all, "")] : [];
 }
 
-/** A line's identifier, with its title once that has come. */
+/** A budget line's identifier, and its title when that has arrived. */
 function titled(name) {
   const place = below();
   titleOf(name).then((title) => place.append(given(title ?? "")));
   return [name, place];
 }
 
-/** What a file says, what is wrong in it, what it would change, and the form that sends it. */
+/** The content of a file, its faults or its changes, and the form that sends it. */
 async function checked(name, bytes, lines, again) {
   const reading = readBudget(bytes);
   const size = say("budget.size", { bytes: bytes.length, rows: reading.rows.length, count: reading.rows.length });
@@ -88,7 +90,7 @@ async function checked(name, bytes, lines, again) {
     sending(name, bytes, changes, warnings, again)];
 }
 
-/** That a file may have been taken in before. */
+/** Warnings that the file may already be imported. */
 function warningsOf({ names, lines }) {
   const some = lines.length > MOST_NAMED ? [...lines.slice(0, MOST_NAMED), "…"] : lines;
   return [names.length > 0 ? say("budget.again", { names: names.join(", ") }) : "",
@@ -110,7 +112,7 @@ function values({ value = "", free = 0n, amount = 0 }) {
   return { value, free, amount, count: Number(value) };
 }
 
-/** Of a number that is none, the sentence is that of all desks. */
+/** The sentences for wrong numbers are the same on all desks. */
 function wrongText(fault) {
   const { code, value = "" } = fault;
   const name = `budget.fault.${code}`;
@@ -123,7 +125,7 @@ function mendText(fault) {
   return say(names.find(hasText), values(fault));
 }
 
-/** What each line has before and after, and its title where another one comes. */
+/** Each budget line before and after, and its new title if the file changes it. */
 async function changeTable(changes) {
   const before = await Promise.all(changes.slice(0, MOST_SHOWN).map(({ id, isNew }) => (isNew ? null : titleOf(id))));
   const heads = [say("see.line"), say("see.appropriation"), say("budget.difference"), say("see.pot.free"), say("column.title")];
@@ -138,7 +140,7 @@ async function changeTable(changes) {
   return element("div", {}, table(say("budget.changes"), heads, rows, { figures: [1, 2, 3] }), andMore(changes));
 }
 
-/** The name that a file may have in the office, from that which it has here. */
+/** A name for the file at the office, made from its name here. */
 function nameOf(file) {
   return file.replace(/\.csv$/i, "").replace(/[^A-Za-z0-9_.-]/g, "-").slice(0, 32);
 }

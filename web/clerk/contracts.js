@@ -1,4 +1,4 @@
-// Contracts: raised and cut, paid, and ended.
+// Contracts: raise and cut, payments, and the end.
 import { isId } from "../common/csv.js";
 import { rows } from "../common/data.js";
 import { element } from "../common/draw.js";
@@ -9,16 +9,18 @@ import { line } from "../common/office.js";
 import { say } from "../common/texts.js";
 import { ofRelease, own } from "./fate.js";
 import { jsonBody, sendThen } from "./send.js";
+import { caller } from "./session.js";
 import { MOST, digitsOf, wholeNumber } from "./values.js";
 
-/** What can be done with a contract that runs; `behind` gives what is done then, of its lot. */
+/** What the clerk can do with a running contract. `behind` gives the function that runs after a command for
+ * its lot. */
 export function contractPart(notice, contract, behind) {
   if (contract.status === "terminated") {
     return null;
   }
   const worth = contract.value.amount;
   const lot = notice.stage.lots.find((one) => one.contract?.id === contract.id);
-  // What stands in the texts of this contract, and in its orders.
+  // The values for the texts and the orders of this contract.
   const contracted = { notice, lot, contract, worth, outstanding: worth - paidOf(contract), again: behind(lot),
     amount: (units) => money(units, notice.currency) };
   return [payPart(contracted), changePart(contracted), endPart(contracted)];
@@ -36,7 +38,7 @@ function unitsOf(one) {
   return wholeNumber(digitsOf(one.value()) ?? "", 1, MOST.amount);
 }
 
-/** Why an amount is none, or more than may be. */
+/** Why an amount is wrong, or too much. */
 function amountFault(units, most, tooMuch) {
   return units === null ? say("amount.wrong") : units > most ? tooMuch : "";
 }
@@ -50,7 +52,8 @@ function idFault(one, contract) {
   return !isId(typed) ? say("id.wrong") : [...paymentsOf(contract), ...(contract.amendments ?? [])].some(({ id }) => id === typed) ? say("contract.used") : "";
 }
 
-/** That a payment's identifier, or its amount, was there before; or nothing. `paid` are the payments of all contracts, as far as the mirror has them. */
+/** A warning if a payment's number or amount was used before, or ''. `paid` are the payments of all contracts
+ * that the mirror knows. */
 function warningOf({ contract, amount }, paid, typed, units) {
   const elsewhere = [...new Set(paid.filter((one) => one.payment === typed && one.contract !== contract.id).map((one) => one.contract))];
   const same = paymentsOf(contract).find((one) => one.amount === units);
@@ -81,7 +84,8 @@ function payPart(contracted) {
   return element("div", {}, element("h4", {}, say("pay.title")), form(say("pay.title"), [id.made, sum.made, warning], say("pay.send"), run));
 }
 
-/** What all orders of a contract share: whose it is, and that its release is one behind those that were seen. */
+/** What all orders for a contract share. The release of the order is one of those after the releases that
+ * were shown. */
 function orderOf({ notice, lot, contract }, kind, path, body, isOwn, { says, ...rest }) {
   const whose = say("contract.with", { contract: contract.id, lot: lot.id, name: lot.active.suppliers[0].name });
   return { kind, values: { contract: contract.id }, path: `/contracts/${contract.id}/${path}`, body: jsonBody(body), says: [whose, ...says],
@@ -95,7 +99,7 @@ function payOrder(contracted, body, warning) {
   return orderOf(contracted, "pay", "pay", body, own.pay(contract.id, body.id), { says, isFinal: true, again: "Exists" });
 }
 
-/** A raise takes what the line has free; a cut frees what is outstanding. */
+/** A raise takes free money of the budget line; a cut frees outstanding money. */
 function changePart(contracted) {
   const { contract, outstanding, again, amount } = contracted;
   const options = [["raise", say("contract.raise")], ["cut", say("contract.cut")]];
@@ -114,10 +118,10 @@ function changePart(contracted) {
     form(say("change.title"), [kind.made, id.made, sum.made, why.made], say("change.send"), run));
 }
 
-/** What the lot's line has free. */
+/** The free money of the lot's budget line. */
 function freePart({ lot, amount }) {
   const place = element("p", { class: "quiet" });
-  line(lot.line).then((one) => place.append(say("change.free", { line: lot.line, free: amount(one.free) })), () => {});
+  line(lot.line, caller()).then((one) => place.append(say("change.free", { line: lot.line, free: amount(one.free) })), () => {});
   return place;
 }
 
@@ -134,7 +138,7 @@ function endPart(contracted) {
     steps(button(say("end.regular"), end("regular")), button(say("end.default"), end("default"), "harm")));
 }
 
-/** A default is confirmed by its word: the security is lost. */
+/** A default must be confirmed by typing a word, because the security is forfeited. */
 function endOrder(contracted, how) {
   const { contract, outstanding, amount } = contracted;
   const freed = outstanding > 0 ? [say("end.frees", { amount: amount(outstanding) })] : [];

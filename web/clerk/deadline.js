@@ -1,4 +1,5 @@
-// Up to the opening: the deadline is moved, the register grows, and tenders are opened; and all that isn't contracted is cancelled.
+// Up to the opening: move the deadline, watch the register, open the tenders; and cancel every lot that has
+// no contract.
 import { element, given, link, section } from "../common/draw.js";
 import { areRight, button, field, form, lineText, note, steps, table } from "../common/forms.js";
 import { clock, money, moment, number } from "../common/money.js";
@@ -10,10 +11,10 @@ import { jsonBody, sendThen } from "./send.js";
 import { caller } from "./session.js";
 import { localMilliseconds, localText, momentText } from "./values.js";
 
-// Seconds between two looks at the register.
+// Seconds between two queries for the register.
 const BETWEEN = 15;
 
-/** A field for a moment of this place, with the same in UTC below it. */
+/** A field for a moment in local time, with the same moment in UTC below it. */
 export function momentField(label, hint, milliseconds, changed) {
   const made = field(label, { hint, kind: "datetime-local", value: localText(milliseconds), step: "1" });
   const told = element("p", { class: "quiet" });
@@ -49,7 +50,7 @@ export function movePart(notice, again) {
 function moveOrder({ name, releases }, body) {
   return { kind: "amend", values: { notice: name }, path: `/notices/${name}/amend`, body: jsonBody(body), isFinal: true,
     says: [[say("editor.does.deadline"), " ", moment(body.deadline)], say("published.reason"), say("move.stays")],
-    // (sent again it would be moved again)
+    // (a second request would move the deadline again)
     again: null, find: () => ofRelease(name, releases.length, own.amend(body.deadline)) };
 }
 
@@ -72,20 +73,20 @@ function cancelOrder({ name, stage, releases }, ending, body) {
     again: "NothingToCancel", find: () => ofRelease(name, releases.length, own.cancel()) };
 }
 
-/** The opening, by a button that is there from the deadline on. */
+/** The opening. Its button is on from the deadline. */
 export function openingPart({ name, stage, terms }, again) {
   const isDue = stage.deadline <= officeNow();
   const order = { kind: "open", values: { notice: name }, path: `/notices/${name}/open`, body: null, isFinal: true, again: "AlreadyOpened",
     find: () => ofOpening(name), says: [say("open.does"), say("open.late"), say("open.minutes")] };
   const open = button(say("open.send"), () => sendThen(order, again));
   open.disabled = !isDue;
-  // (a second later the office's own clock has come there too)
+  // (one second later the office's own clock has passed the deadline too)
   const told = isDue ? [say("open.now"), " ", ...momentAndSpan(stage.deadline)]
     : [say("see.deadline"), ": ", clock(terms.deadline, () => setTimeout(again, 1000))];
   return section(say("step.opening"), element("p", {}, say("open.what")), element("p", {}, told), steps(open));
 }
 
-/** The register and the securities, asked again while they are shown and may grow. */
+/** The register and the securities, fetched again while they are shown and can grow. */
 export function registerPart({ name, currency, stage }) {
   if (caller() === null) {
     return section(say("register.title"), element("p", {}, say("register.key"), " ", link(say("key.give"), "#key")));
@@ -95,7 +96,7 @@ export function registerPart({ name, currency, stage }) {
   const look = async () => {
     try {
       const [text, held] = await Promise.all([registerText(name, caller()), securities(name, caller())]);
-      // Where nothing came, what was looked at stays.
+      // If nothing changed, the tables stay, so that a selection in them stays too.
       if (text + JSON.stringify(held) !== shown) {
         shown = text + JSON.stringify(held);
         place.replaceChildren(...registerTable(text), ...securityTable(held, currency));
@@ -134,7 +135,7 @@ function registerTable(text) {
   return [element("p", {}, say("register.counts", { counts: told })), table(say("register.table", { count: rows.length }), heads, cells, { figures: [0, 3] })];
 }
 
-/** Whose each security is isn't told before the opening. */
+/** Before the opening the office doesn't say whose a security is. */
 function securityTable(held, currency) {
   const heads = [say("see.security"), say("see.lot.short"), say("contract.amount"), say("see.state"), say("see.tenderer")];
   return held.length === 0 ? [] : [table(say("register.securities", { count: held.length }), heads, held.map(({ reference, lot, amount, state, tenderer }) =>

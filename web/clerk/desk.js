@@ -1,4 +1,4 @@
-// Which screen is shown, by the address; and the bar that says whether the tab holds the key.
+// Chooses the screen by the address, and shows whether this tab holds the key.
 import { element, link } from "../common/draw.js";
 import { button } from "../common/forms.js";
 import { drawAround, showViews, words } from "../common/frame.js";
@@ -9,15 +9,16 @@ import { drawToday } from "./today.js";
 
 await addTexts({ en: () => import("./en.js"), de: () => import("./de.js") });
 const MENU = ["today", "budget", "tenderers", "new", "journal"];
-// The screens that are loaded where they are wanted, each with what draws it there.
+// Screens that are loaded on demand, each with the function that draws it.
 const LATER = { budget: [() => import("./budgets.js"), "drawBudget"], tenderers: [() => import("./tenderers.js"), "drawTenderers"],
   new: [() => import("./editor.js"), "drawEditor"], preview: [() => import("./preview.js"), "drawPreview"],
   journal: [() => import("./journals.js"), "drawJournal"], notice: [() => import("./procurement.js"), "drawProcurement"],
   minutes: [() => import("./printed.js"), "drawMinutes"], letter: [() => import("./printed.js"), "drawLetter"] };
-// The screens by the first word of the address; what stands behind it is given to them.
+// The screens by the first word of the address. The other words are their arguments.
 const SCREENS = { today: drawToday, key: drawKey,
   ...Object.fromEntries(Object.entries(LATER).map(([page, [load, name]]) => [page, async (...asked) => (await load())[name](...asked)])) };
-// Seconds until all others are loaded too: the first screen is there then, and a line that breaks later takes none away in the middle of the work.
+// Seconds until all other screens are loaded too. The first screen is there by then, and a lost connection
+// later takes no screen away.
 const BEHIND = 1;
 let redraw = () => {};
 

@@ -1,4 +1,4 @@
-// A notice is written: its terms, its lots, what the office would refuse of it, what one should think of, and how large it is.
+// The editor of a notice: its terms and lots, what the office would refuse, warnings, and its size.
 import { element, link, placeOf, section, title } from "../common/draw.js";
 import { DIGITS, ID, button, field, steps } from "../common/forms.js";
 import { moment } from "../common/money.js";
@@ -9,11 +9,11 @@ import { ofNotice } from "./fate.js";
 import { bound, drawLots, drawMoney, pasting } from "./lots.js";
 import { bodyBytes, draftOf, faultsOf, newDraft, warningsOf } from "./notice.js";
 import { sendThen } from "./send.js";
-import { draft as kept, keepDraft } from "./session.js";
+import { caller, draft as kept, keepDraft } from "./session.js";
 import { MOST, momentText } from "./values.js";
 
 export async function drawEditor(again) {
-  const [ledgerLines, list] = await Promise.all([ledger(), notices()]);
+  const [ledgerLines, list] = await Promise.all([ledger(caller()), notices()]);
   const draft = kept() ?? newDraft();
   keepDraft(draft);
   const editor = { draft, lines: new Map(ledgerLines.map((one) => [one.line, one])), list, isChecked: false, again, inputs: new Map(),
@@ -29,7 +29,7 @@ export async function drawEditor(again) {
   return { title: say("page.new"), content };
 }
 
-/** A notice that was published before, to begin with. */
+/** Copies a notice that was published before. */
 function earlier({ list, again }) {
   if (list.length === 0) {
     return null;
@@ -67,7 +67,7 @@ function faultText({ code, value = "", least = 0, most = 0, amount = 0, free = 0
   return say(code.startsWith("text.") ? code : `fault.${code}`, { value, least, most, amount, free });
 }
 
-/** Where a fault is, in words. */
+/** The place of a fault, in words. */
 function placeText(editor, path) {
   const [, lot, , item] = path.split(".");
   const label = editor.inputs.get(path)?.made.querySelector("label")?.textContent ?? say("editor.lots");
@@ -79,7 +79,7 @@ function placeText(editor, path) {
   return parts.filter(Boolean).join(", ");
 }
 
-/** Beside what is written: its size, the money, what would be refused, and what one should think of. */
+/** Beside the fields: the notice's size, its money, its faults and warnings. */
 function drawSummary(editor) {
   const { draft, lines, summary } = editor;
   drawMoney(editor);
@@ -101,14 +101,14 @@ function drawSummary(editor) {
     steps(button(say("editor.publish"), () => publish(editor, faults)), preview, empty));
 }
 
-/** The way to the preview where there is none yet, and why. */
+/** The preview button while there is no preview yet, and why. */
 function noPreview() {
   const off = button(say("editor.preview"), () => {}, "second");
   off.disabled = true;
   return [off, element("span", { class: "quiet" }, say("editor.nopreview"))];
 }
 
-/** How large the notice is, in words and as a bar. */
+/** The size of the notice, as words and as a bar. */
 function sizePart(bytes) {
   const meter = element("meter", { min: "0", max: String(MOST.body), high: String(MOST.body * 0.9), value: String(Math.min(bytes, MOST.body)),
     "aria-label": say("editor.sizename") });
@@ -131,7 +131,7 @@ function faultList(editor, faults) {
     element("ul", { class: "plain" }, listed), more);
 }
 
-/** Goes to the field of a fault, where it has one. */
+/** Goes to the field of a fault, if it has one. */
 function focusOn(editor, fault) {
   const at = editor.inputs.get(fault.field);
   at?.input.closest("details")?.setAttribute("open", "");
@@ -158,7 +158,7 @@ function publish(editor, faults) {
   });
 }
 
-/** The order by which a draft is published. */
+/** The order that publishes a draft. */
 function publication(draft) {
   const sum = draft.lots.reduce((all, { estimate }) => all + Number(estimate), 0);
   const items = draft.lots.reduce((all, lot) => all + lot.items.length, 0);

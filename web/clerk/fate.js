@@ -1,9 +1,10 @@
-// What became of a command to which no answer came, as looks tell it: true where it is done, false where it isn't, null where that can't be told.
+// What happened to a command that got no answer, found by queries: true if it is done, false if it isn't,
+// null if the data doesn't show it.
 import { evaluationOf } from "../common/findings.js";
 import { Refused, evaluationText, line, minutesText, releases, tenderers } from "../common/office.js";
 import { caller } from "./session.js";
 
-/** What a look says, or null where what is asked for isn't there. */
+/** The result of a query, or null if the thing doesn't exist. */
 async function unlessMissing(look) {
   try {
     return await look;
@@ -15,16 +16,17 @@ async function unlessMissing(look) {
   }
 }
 
-/** A budget file: each of its lines has what it has then, and not what it had. Others may have moved the lines meanwhile: that can't be told. */
+/** A budget file is done if each of its lines has the new amount, and not done if each has the old one.
+ * Otherwise others changed the lines meanwhile, and nothing is known. */
 export async function ofBudget(changes) {
   const told = changes.filter(({ before, appropriation }) => before.appropriation !== appropriation);
-  const now = await Promise.all(told.map(({ id }) => unlessMissing(line(id))));
+  const now = await Promise.all(told.map(({ id }) => unlessMissing(line(id, caller()))));
   const is = (name) => told.length > 0 && told.every((change, at) => BigInt(now[at]?.appropriation ?? 0) === (name === "after" ? change.appropriation
     : change.before.appropriation));
   return is("after") ? true : is("before") ? false : null;
 }
 
-/** A notice: its releases are there. */
+/** A publication is done if the notice has releases. */
 export async function ofNotice(notice) {
   return (await unlessMissing(releases(notice))) !== null;
 }
@@ -33,26 +35,26 @@ export async function ofOpening(notice) {
   return (await minutesText(notice)) !== null;
 }
 
-/** An examination: the evaluation tells what was answered. Where it was answered otherwise, that was elsewhere. */
+/** An examination: the evaluation shows the answer. Another answer came from somebody else. */
 export async function ofExamination(notice, receipt, responsive) {
   const lots = [...evaluationOf(await evaluationText(notice, caller()), true).values()];
   const answer = lots.map(({ tenders }) => tenders.get(receipt)?.answer).find(Boolean);
   return answer === "-" ? false : answer === (responsive ? "responsive" : "unresponsive") ? true : null;
 }
 
-/** A registration: the tenderer is there, by this name and at this address. (By another one it is another's.) */
+/** A registration is done if the tenderer has this name and this address. With others it is somebody else's. */
 export async function ofRegistration(tenderer, { name, address }) {
   return (await tenderers(caller())).some((one) => one.tenderer === tenderer && one.name === name && one.address === address);
 }
 
-/** What publishes: one of the releases behind those that were there before is its own. */
+/** Whether one of the releases after the first `before` is the command's own. */
 export async function ofRelease(notice, before, isOwn) {
   return (await releases(notice)).slice(before).some(isOwn);
 }
 
 const has = (tag) => (release) => release.tag.includes(tag);
 
-/** The release of each kind of command. */
+/** How to recognise the release of each command. */
 export const own = {
   amend: (deadline) => (release) => has("tenderAmendment")(release) && release.tender.tenderPeriod.endDate === deadline,
   cancel: () => has("tenderCancellation"),

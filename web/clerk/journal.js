@@ -1,5 +1,5 @@
-// The journal of what was sent from this desk: an entry for each command, as a line of JSON that holds the digest of the line before it. Pure: runs in node
-// too.
+// The journal of what this desk sent: one entry for each command, a line of JSON with the digest of the line
+// before it. Runs in node too.
 import { bytesOf, sha256 } from "../common/digest.js";
 import { textOf } from "./values.js";
 
@@ -7,13 +7,13 @@ const KIND = "procure clerk's journal";
 const VERSION = 1;
 const NONE = "0".repeat(64);
 
-/** A journal without an entry, of the office at this address. */
+/** An empty journal, for the office at this address. */
 export function newJournal(office) {
   return { office, entries: [], saved: 0 };
 }
 
-/** Adds an entry: when it was sent by the office's clock as far as it is known, who sat at the desk, what was sent, and what came back. `answer` is `{ status,
- * text }`, or null where none came; `found` is what was found out then. */
+/** Adds an entry: the moment by the office's clock, the clerk's name, the request, and the answer. `answer`
+ * is `{ status, text }`, or null if none came; `found` is what queries showed then. */
 export async function addEntry(journal, { moment, who, title, method, path, body, answer, found }) {
   const bytes = body ?? new Uint8Array();
   const entry = { number: journal.entries.length + 1, moment, who, title, method, path, bytes: bytes.length, digest: await sha256(bytes),
@@ -22,8 +22,8 @@ export async function addEntry(journal, { moment, who, title, method, path, body
   return entry;
 }
 
-/** The file of a journal: a line that tells what it is, one for each entry, and one that ends it. Each holds the digest of the line before, so that a file in
- * which something was changed or is missing is known by it. */
+/** The file of a journal: a header, a line for each entry, and a line that ends it. Each line holds the
+ * digest of the line before it, so that changed or missing lines are found. */
 export async function fileOf(journal) {
   let before = NONE;
   let text = "";
@@ -35,7 +35,8 @@ export async function fileOf(journal) {
   return text;
 }
 
-/** What a file that was saved holds: a journal, or the first line that is wrong and why (`none`, `chain`, `body`, `end`). */
+/** The journal in a saved file, or the number of the first wrong line and why it is wrong (`none`, `chain`,
+ * `body`, `end`). */
 export async function readFile(text) {
   const lines = text.replace(/\n$/, "").split("\n");
   const journal = newJournal(null);
@@ -83,7 +84,8 @@ function endFault(part, before, count) {
   return part?.end !== count ? "end" : part.before === before ? null : "chain";
 }
 
-/** Puts what a file holds in front of what was done since: a journal goes on from it. Null where both are of different offices. */
+/** Puts the entries of a saved journal before those of this tab, so that it continues. Null if the two belong
+ * to different offices. */
 export function joined(earlier, later) {
   if (later.office !== null && earlier.office !== later.office) {
     return null;
@@ -94,12 +96,12 @@ export function joined(earlier, later) {
   return { office: earlier.office, entries, saved: more.length === 0 ? entries.length : earlier.entries.length };
 }
 
-/** What tells an entry from another. */
+/** What distinguishes one entry from another. */
 function keyOf({ moment, method, path, digest, status, answer }) {
   return JSON.stringify([moment, method, path, digest, status, answer]);
 }
 
-/** Whether a command at this path was accepted, or its name was used, as far as this journal tells. */
+/** Whether a command at this path was accepted, or its name was already used, as far as this journal shows. */
 export function isUsed(journal, path) {
   return journal.entries.some((entry) => entry.path === path && (entry.status === 200 || entry.found === "done" || /"name":"Exists"/.test(entry.answer ?? "")));
 }

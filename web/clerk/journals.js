@@ -1,4 +1,5 @@
-// The journal: what was sent from this desk and what came back; saved as a file, and taken up again from one.
+// The screen of the journal: the requests and answers of this desk; saves the journal as a file, and
+// continues one from a file.
 import { bytesOfFile, inGroups } from "../common/digest.js";
 import { below, element, section, title } from "../common/draw.js";
 import { button, drop, note, printButton, save, steps } from "../common/forms.js";
@@ -26,7 +27,7 @@ export function drawJournal(again) {
     section(say("journal.entries"), list)] };
 }
 
-/** Whether something would be lost with the tab. */
+/** Whether closing the tab would lose entries. */
 function savedNote(count, saved) {
   if (count === saved) {
     return count === 0 ? null : note("good", say("journal.saved"));
@@ -34,7 +35,7 @@ function savedNote(count, saved) {
   return note("look", say("journal.unsaved", { count: count - saved }), say("journal.unsaved.do"));
 }
 
-/** What a file holds goes in front of what was done since. */
+/** Puts the entries of a file before those of this tab. */
 async function taken(text, again) {
   const { journal: earlier, fault } = text === null ? { fault: { line: 1, code: "none" } } : await readFile(text);
   if (fault) {
@@ -48,7 +49,7 @@ async function taken(text, again) {
   return note("good", say("journal.taken", { count: earlier.entries.length }));
 }
 
-/** What came of an entry: a kind and a sentence. */
+/** The result of an entry: a kind and a sentence. */
 function outcome({ status, found }) {
   if (status === 200 || found === "done") {
     return ["right", say("journal.done")];

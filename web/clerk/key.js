@@ -1,11 +1,11 @@
-// The key: asked for, tried at the office, and held by this tab alone.
+// The clerk's key: typed here, checked at the office, and held only by this tab.
 import { element, title } from "../common/draw.js";
 import { areRight, field, form, note } from "../common/forms.js";
 import { sentenceOf } from "../common/office.js";
 import { say } from "../common/texts.js";
 import { holdKey } from "./session.js";
 
-/** A key as it stands in a file for curl, or alone. */
+/** A key from a file for curl, or the bare key. */
 function keyIn(text) {
   return /^Office-Key:\s*(\S.*?)\s*$/im.exec(text)?.[1] ?? text.trim();
 }

@@ -1,4 +1,4 @@
-// A notice as the desk sees it: what the looks show of it, to the clerk where the key is held, and where it stands.
+// A notice as the desk sees it: what the queries return (with the clerk's key, everything), and its stage.
 import { badge, element, given } from "../common/draw.js";
 import { evaluationOf } from "../common/findings.js";
 import { moment, span } from "../common/money.js";
@@ -9,13 +9,13 @@ import { caller } from "./session.js";
 import { stageOf, stepOf, tasksOf } from "./stage.js";
 import { DAY, momentText } from "./values.js";
 
-/** What there is to see of a notice, and its stage. */
+/** Everything about a notice, and its stage. */
 export async function stagedOf(name) {
   const seen = await seenOf(name, caller());
   return { ...seen, currency: seen.compiled.tender.value.currency, stage: stageOf(seen, officeNow()) };
 }
 
-/** Where an opened notice stands, by as few looks as tell it: the front takes only so many at a time. */
+/** The stage of an opened notice, with as few queries as possible: nginx limits them. */
 export async function stageOfOpened(name) {
   const [compiled, own, text] = await Promise.all([record(name), terms(name), evaluationText(name, caller())]);
   const evaluation = evaluationOf(text, caller() !== null);
@@ -36,7 +36,7 @@ async function heldOf(number) {
   }
 }
 
-/** The same, with what is shown to the clerk alone: its securities, and its contracts with theirs. */
+/** The same with what only the clerk may see: the securities, and the contracts with theirs. */
 export async function loadNotice(name) {
   const notice = await stagedOf(name);
   if (caller() === null) {
@@ -54,17 +54,17 @@ export function stageBadge(stage) {
   return stepOf(stage) === "over" ? badge("ended", say("stage.over")) : badge(KINDS[stage.kind], say(`stage.${stage.kind}`));
 }
 
-/** A moment in milliseconds, with how far away it is. */
+/** A moment (in milliseconds), with the time until or since it. */
 export function momentAndSpan(milliseconds) {
   const seconds = Math.round((milliseconds - officeNow()) / 1000);
   const away = seconds >= 0 ? say("in", { span: span(seconds) }) : say("ago", { span: span(-seconds) });
   return [moment(momentText(milliseconds) ?? ""), " ", element("span", { class: "quiet" }, away)];
 }
 
-// So long before tenders cease to bind it presses.
+// This long before the validity of the tenders ends, its date is marked as urgent.
 const CLOSE = 14 * DAY;
 
-/** What is to be done next, each as a sentence. */
+/** The next tasks, each as a sentence. */
 export function tasks(stage) {
   const now = officeNow();
   const shown = (milliseconds) => (milliseconds ? element("span", {}, momentAndSpan(milliseconds)) : "");

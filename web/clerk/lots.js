@@ -1,4 +1,4 @@
-// The lots of a notice that is written: typed, or pasted from a sheet; the free money of each line beside its estimates.
+// The lots in the editor: typed, or pasted from a spreadsheet; with the free money of each budget line.
 import { element } from "../common/draw.js";
 import { DIGITS, ID, button, field, note, steps } from "../common/forms.js";
 import { number } from "../common/money.js";
@@ -7,12 +7,13 @@ import { newLot, wantedOf } from "./notice.js";
 import { COLUMNS, lotsOf } from "./sheet.js";
 import { MOST, digitsOf } from "./values.js";
 
-// So many lots are shown unfolded, and so many budget lines to be chosen; of more one types the name, and is shown those that begin so.
+// At most this many lots are unfolded, and at most this many budget lines are offered in a menu. Beyond that,
+// the field completes what is typed.
 const UNFOLDED = 3;
 const MOST_CHOSEN = 100;
 
-/** A field of the draft: what is typed is in the draft at once, a number by its digits alone, which the field shows once it is left. `path` is the field's name
- * in the faults. */
+/** A field of the draft. The draft changes with each key; a number loses its separators when the field loses
+ * the focus. `path` is the field's name in the faults. */
 export function bound(editor, path, object, name, label, options) {
   const made = field(label, { ...options, value: object[name] });
   made.input.addEventListener("input", () => {
@@ -24,7 +25,7 @@ export function bound(editor, path, object, name, label, options) {
   return made;
 }
 
-/** A table that is pasted takes the place of the lots. */
+/** A pasted table, which replaces the lots. */
 export function pasting(editor) {
   const columns = Object.keys(COLUMNS).map((name) => say(`column.${name}`)).join(", ");
   const text = field(say("lots.paste"), { hint: say("lots.paste.hint", { columns }), kind: "lines" });
@@ -42,7 +43,7 @@ export function pasting(editor) {
 
 const MOST_TOLD = 20;
 
-/** What came of a pasted table. */
+/** The result of a pasted table. */
 function outcome(lots, faults, changes) {
   const items = lots.reduce((sum, lot) => sum + lot.items.length, 0);
   const wrong = faults.slice(0, MOST_TOLD).map(({ line, code, value = "", name = "", told = "" }) =>
@@ -54,7 +55,7 @@ function outcome(lots, faults, changes) {
     changed.length > 0 ? note("look", say("paste.read", { count: changes.length }), element("ul", {}, changed)) : null].filter(Boolean);
 }
 
-/** Draws all lots anew. */
+/** Draws all lots again. */
 export function drawLots(editor) {
   for (const path of [...editor.inputs.keys()].filter((it) => it.startsWith("lots"))) {
     editor.inputs.delete(path);
@@ -72,14 +73,14 @@ export function drawLots(editor) {
     steps(lots.length < MOST.lots ? add : ""));
 }
 
-/** Goes to a field, and unfolds what it stands in. */
+/** Moves the focus to a field, and unfolds the lot around it. */
 function unfold(editor, path) {
   const { input } = editor.inputs.get(path);
   input.closest("details").open = true;
   input.focus();
 }
 
-/** The next identifier that no other has, as `L3`. */
+/** The next free identifier, such as `L3`. */
 function nextId(letter, list) {
   let count = list.length + 1;
   while (list.some(({ id }) => id === `${letter}${count}`)) {
@@ -111,7 +112,8 @@ function lotPart(editor, lot, at) {
     steps(addItem(editor, lot, path), editor.draft.lots.length > 1 ? away : ""));
 }
 
-/** The budget lines as what is chosen, each with its free money; one that isn't there stays, so that it can be told. */
+/** The budget lines as a menu, each with its free money. A line that doesn't exist stays in it, so that the
+ * fault can be shown. */
 function lineOptions({ lines }, held) {
   if (lines.size > MOST_CHOSEN) {
     return { ...ID, list: "lines", hint: say("lots.noline") };
@@ -128,7 +130,7 @@ function addItem(editor, lot, path) {
   }, "second");
 }
 
-/** The items of a lot: a row of fields for each. */
+/** The items of a lot, one row of fields each. */
 function itemTable(editor, lot, path) {
   const rows = lot.items.map((item, at) => {
     const own = (name, column, options) => bound(editor, `${path}.items.${at}.${name}`, item, name, say(`column.${column}`), options).made;
@@ -143,7 +145,7 @@ function itemTable(editor, lot, path) {
   return element("div", { class: "items" }, element("p", { class: "quiet" }, say("lots.items.hint")), rows);
 }
 
-/** Below each budget line: what it has free, and what is left when the notice is published. */
+/** Below each budget line: its free money, and what the notice leaves of it. */
 export function drawMoney(editor) {
   const wanted = wantedOf(editor.draft);
   for (const [at, place] of editor.money) {

@@ -1,9 +1,10 @@
-// A notice before it is published: its body as it is sent, what the office would refuse of it, and what one should think of. Pure: runs in node too.
+// A notice before its publication: the body of the request, what the office would refuse, and warnings. Runs
+// in node too.
 import { isId, lineFault } from "../common/csv.js";
 import { bytesOf } from "../common/digest.js";
 import { DAY, MOST, isAskable, momentText, wholeNumber } from "./values.js";
 
-/** What the editor begins with: all values are texts, as they are typed. */
+/** The empty draft. All its values are texts, as they are typed. */
 export function newDraft() {
   return { name: "", title: "", deadline: null, validity: "90", standstill: "10", criteria: "price", weight: "60", late: "refused", performance: "0",
     lots: [newLot("L1")] };
@@ -13,12 +14,13 @@ export function newLot(id) {
   return { id, title: "", line: "", estimate: "", security: "0", items: [{ id: "I1", title: "", quantity: "" }] };
 }
 
-/** A number of the body, or the text as it stands, of which the faults tell. */
+/** A number for the body, or the unchanged text, which the faults then report. */
 function numeric(text) {
   return wholeNumber(text, 0, 10 ** 15) ?? text;
 }
 
-/** The body of the publication, its members in the order in which the office tests them. `deadline` is in milliseconds, or null. */
+/** The body of the publication. Its members are in the order in which the office checks them. `deadline` is
+ * in milliseconds, or null. */
 export function bodyOf(draft) {
   const byPoints = draft.criteria === "points";
   return {
@@ -35,8 +37,8 @@ export function bodyBytes(draft) {
   return bytesOf(JSON.stringify(bodyOf(draft)));
 }
 
-/** What the office would refuse, in its order: each fault has the field, a code, and what it is about. `lines` are the budget lines that are there, `now` the
- * office's time. */
+/** What the office would refuse, in its order. A fault has the field, a code and values. `lines` are the
+ * existing budget lines; `now` is the office's time. */
 export function faultsOf(draft, lines, now) {
   const found = [...headFaults(draft), ...draft.lots.flatMap((lot, at) => lotFaults(draft, lot, `lots.${at}`))];
   if (draft.lots.length === 0) {
@@ -92,7 +94,7 @@ function lineFaults(draft, lines) {
   return draft.lots.flatMap(({ line }, at) => (isId(line) && !lines.has(line) ? [{ field: `lots.${at}.line`, code: "line.unknown", value: line }] : []));
 }
 
-/** What the lots of each line want of it together. */
+/** How much the lots need from each budget line together. */
 export function wantedOf(draft) {
   const wanted = new Map();
   for (const { line, estimate } of draft.lots) {
@@ -113,7 +115,7 @@ function limitFaults(draft) {
     ...(many >= 0 ? [{ field: `lots.${many}.items`, code: "items.many", value: draft.lots[many].items.length }] : [])];
 }
 
-/** What is allowed, and seldom meant: codes with what each is about. */
+/** Warnings: what is allowed but unusual, as codes with values. */
 export function warningsOf(draft, now) {
   const validity = wholeNumber(draft.validity, 1, MOST.validity);
   const standstill = wholeNumber(draft.standstill, 0, MOST.standstill);
@@ -163,7 +165,7 @@ function itemWarnings(draft) {
     ...(size > MOST.body * 0.9 && size <= MOST.body ? [{ code: "size", value: size }] : [])];
 }
 
-/** The draft of a notice that was published before, by its terms, to begin a new one with. */
+/** A draft from the terms of an earlier notice. */
 export function draftOf({ title, validity_days: validity, standstill_days: standstill, criteria, price_weight: weight, late_withdrawal: late, ...more }) {
   const lots = more.lots.map(({ id, title: text, line, estimate, security, items }) => ({ id, title: text, line, estimate: String(estimate),
     security: String(security), items: items.map((item) => ({ ...item, quantity: String(item.quantity) })) }));

@@ -1,14 +1,15 @@
-// A notice as the public will see it: drawn as the public's own page does, from the release that the publication makes.
+// The preview of a notice: the public page of the release that the publication will make.
 import { element, link, title } from "../common/draw.js";
 import { note } from "../common/forms.js";
 import { ledger, notices, officeNow, record } from "../common/office.js";
 import { drawProcess } from "../common/process.js";
 import { say } from "../common/texts.js";
 import { bodyOf, faultsOf } from "./notice.js";
-import { draft } from "./session.js";
+import { caller, draft } from "./session.js";
 import { momentText } from "./values.js";
 
-/** What the publication's release compiles to. The buyer and the currency are the settings' own, and known of an earlier notice. */
+/** The record that the publication's release will compile to. Buyer and currency come from the office's
+ * settings; an earlier notice shows them. */
 function compiledOf(body, name, earlier) {
   const unit = earlier?.tender.value.currency ?? say("preview.currency");
   const value = (amount) => ({ amount, currency: unit });
@@ -21,7 +22,7 @@ function compiledOf(body, name, earlier) {
 
 export async function drawPreview() {
   const written = draft();
-  const [lines, list] = await Promise.all([ledger(), notices()]);
+  const [lines, list] = await Promise.all([ledger(caller()), notices()]);
   const back = element("p", {}, link(say("preview.back"), "#new"));
   if (!written || faultsOf(written, new Map(lines.map((one) => [one.line, one])), officeNow()).length > 0) {
     return { title: say("editor.preview"), content: [title(say("editor.preview")), note("look", say("preview.none")), back] };

@@ -1,5 +1,5 @@
-// What is printed and signed: the minutes of an opening; and letters to those who tendered for a lot, a sheet each: to the winner, and to each who didn't win,
-// why.
+// What is printed and signed: the minutes of an opening, and a letter to each tenderer for a lot. A letter
+// tells the winner of the award, and every other tenderer why it didn't win.
 import { bytesOf, inGroups, sha256 } from "../common/digest.js";
 import { below, element, given, link, placeOf, title } from "../common/draw.js";
 import { outcomeOf } from "../common/findings.js";
@@ -64,13 +64,13 @@ export async function drawLetter(again, name, lotId) {
     letters.map((parts) => sheet(parts))] };
 }
 
-/** What the winner is told. */
+/** The sentences for the winner. */
 function won({ terms, currency }, { active, standstillUntil }) {
   const asked = terms.performance ? say("letter.performance", { amount: money(terms.performance, currency) }) : "";
   return [sayParts("letter.won", { price: money(active.value.amount, currency), moment: moment(active.date) }), standstill(active, standstillUntil), asked];
 }
 
-/** What another is told. */
+/** The sentences for the others. */
 function lost({ currency, stage }, { active, standstillUntil, shown }, one) {
   const winner = sayParts("letter.winner", { name: given(active.suppliers[0].name), price: money(active.value.amount, currency), moment: moment(active.date) });
   const own = one.reading === "priced" ? say("letter.own", { price: money(one.corrected, currency) }) : "";
@@ -78,12 +78,12 @@ function lost({ currency, stage }, { active, standstillUntil, shown }, one) {
   return [say("letter.thanks", { receipt: String(one.receipt), why }), winner, own, standstill(active, standstillUntil)];
 }
 
-/** Until when nothing is signed, where there is a standstill. */
+/** Until when nothing is signed, if there is a standstill. */
 function standstill({ date }, until) {
   return until <= Date.parse(date) ? "" : sayParts("letter.standstill", { until: moment(momentText(until)) });
 }
 
-/** What becomes of a tender's security, as far as it is shown. */
+/** What happens to a tender's security, if this tab may see it. */
 function secured({ held, currency }, lot, one) {
   const own = held.findLast((it) => it.lot === lot.id && it.tenderer === one.tenderer);
   return own ? say(`letter.security.${own.state}`, { security: own.reference, amount: money(own.amount, currency) }) : "";

@@ -1,4 +1,5 @@
-// One notice: what everybody sees of it, where it stands, what can be done now, and the parts for each of it.
+// The screen of one notice: the public page, the steps, the next tasks, and the forms for each lot and
+// contract.
 import { element, link, placeOf, section } from "../common/draw.js";
 import { note } from "../common/forms.js";
 import { drawProcess } from "../common/process.js";
@@ -13,7 +14,7 @@ export async function drawProcurement(again, name) {
   const notice = await loadNotice(name);
   const { compiled, stage } = notice;
   const lotOf = ({ id }) => stage.lots.find((lot) => lot.id === id);
-  // (behind what is done with a lot the focus goes there)
+  // (after a command for a lot, the focus returns to the lot)
   const behind = ({ id }) => () => again("", false, `lot-${id}`);
   const ofLot = (lot) => (stage.kind === "opened" ? [examinations, awardPart].map((part) => part(notice, lotOf(lot), behind(lot))) : null);
   const ofContract = (one) => ({ ...notice.contracts.get(one.id), more: contractPart(notice, one, behind) });
@@ -22,14 +23,14 @@ export async function drawProcurement(again, name) {
   return { title: `${name}: ${compiled.tender.title}`, content: [content, stage.canCancel ? cancelPart(notice, again) : null] };
 }
 
-/** The steps, with the one that it is at. */
+/** The steps, with the current one marked. */
 function path(stage) {
   const at = stepOf(stage);
   const steps = STEPS.map((step) => element("li", step === at ? { "aria-current": "step" } : {}, say(`step.${step}`)));
   return at === null ? null : element("ol", { class: "path", "aria-label": say("step.title") }, steps);
 }
 
-/** What is to be done next. */
+/** The next tasks. */
 function doing(stage) {
   const list = tasks(stage);
   return list.length === 0 ? element("p", { class: "note" }, say("task.none")) : note("look", say("today.next"), element("ul", {}, list));

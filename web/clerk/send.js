@@ -1,5 +1,5 @@
-// A command of the clerk: shown as it is sent, asked for once more, sent once, and kept in the journal with what came back. Where no answer comes, what became
-// of it is asked by looks.
+// The window of a command: shows the request, asks for confirmation, sends it once, and keeps the answer in
+// the journal. If no answer comes, queries find out what happened.
 import { bytesOf, inGroups, sha256 } from "../common/digest.js";
 import { element } from "../common/draw.js";
 import { ID, button, field, note, steps, tick } from "../common/forms.js";
@@ -12,14 +12,16 @@ import { momentText, textOf } from "./values.js";
 
 const LONGEST_SHOWN = 6000;
 
-/** An order: `kind` names its texts, `values` stand in them; `says` is what it will do; `path` and `body` (bytes, or null) are sent. One that `isFinal` can't
- * be undone and is confirmed by a tick, one with a `word` by typing it; that one `isSad` is told once it is done without green. `find` looks whether it was
- * done where no answer came (true, false, or null where no look tells), and `again` is the refusal that tells it when the same is sent once more, or null
- * where that would do it twice. Gives the office's answer once it is done, else null. */
+/** Shows an order and sends it. `kind` names its texts and `values` fill them; `says` lists what it will do;
+ * `path` and `body` (bytes, or null) are sent. An `isFinal` order can't be undone and is confirmed by a
+ * tick; one with a `word` by typing the word. An `isSad` order isn't shown in green when it is done. `find`
+ * queries whether an unanswered order was done (true, false, or null if unknown). `again` is the refusal
+ * that proves it when the same request is sent again; null if that would do it twice. Returns the office's
+ * answer if it is done, else null. */
 export function send(order) {
   return new Promise((finish) => {
     const dialog = element("dialog", { class: "order", "aria-labelledby": "order-title" });
-    // `isOpen`: what was sent last got no answer.
+    // `isOpen`: the last request got no answer.
     const state = { order, dialog, isBusy: false, isOpen: false, entry: null, value: null };
     dialog.addEventListener("cancel", (event) => state.isBusy && event.preventDefault());
     dialog.addEventListener("close", () => {
@@ -36,7 +38,7 @@ export function send(order) {
   });
 }
 
-/** The same, and what is to be done behind it. */
+/** Shows an order, and calls `behind` if it was done. */
 export async function sendThen(order, behind) {
   if (await send(order)) {
     behind();
@@ -54,7 +56,7 @@ function closing(state, text = say("order.close")) {
   return button(text, () => state.dialog.close(), "second");
 }
 
-/** What is to be sent, and the button that sends it. */
+/** The request, and the button that sends it. */
 async function drawAsked(state) {
   const { order } = state;
   const bytes = order.body ?? new Uint8Array();
@@ -68,7 +70,7 @@ async function drawAsked(state) {
   (sure?.input ?? sending).focus();
 }
 
-/** By what one says once more that it is meant: a tick, or a word; null where it can be undone. */
+/** The confirmation: a tick, a word to type, or null if the order can be undone. */
 function confirmation(order) {
   if (order.word) {
     const typed = field(say("order.word", { word: order.word }), ID);
@@ -81,7 +83,7 @@ function confirmation(order) {
   return null;
 }
 
-/** The request as it is sent, but for the key: folded, since it says to few what the sentences above it say to all. */
+/** The request without the key. It is folded, because the sentences above it say the same in plain words. */
 function requestShown(order, bytes, digest) {
   const text = textOf(bytes) ?? say("order.notext");
   const head = `POST ${order.path}\nOffice-Caller: clerk\nOffice-Key: ••••••\nContent-Length: ${bytes.length}`;
@@ -90,7 +92,7 @@ function requestShown(order, bytes, digest) {
   return folded(say("order.request"), whole, element("p", { class: "quiet" }, say("order.digest"), " ", element("span", { class: "code" }, inGroups(digest))));
 }
 
-/** Sends the command, and keeps what came back. */
+/** Sends the command, and keeps the answer. */
 async function transmit(state) {
   const { order } = state;
   state.isBusy = true;
@@ -107,7 +109,7 @@ async function transmit(state) {
   }
 }
 
-/** The office's answer, and its value, or the fault in its place. */
+/** The office's answer and its value, or the fault. */
 async function outcomeOf({ path, body }) {
   try {
     const { text, value } = await command(path, caller(), body ?? undefined);
@@ -117,13 +119,13 @@ async function outcomeOf({ path, body }) {
   }
 }
 
-/** What a look says of an order; null where none does. */
+/** Whether queries show that an order was done; null if they don't. */
 function foundOf({ find }) {
   return Promise.resolve(find?.() ?? null).catch(() => null);
 }
 
-/** The entry of a command. One that is sent again has an entry of its own, and where it is refused since it was done, both are done. (What a look shows to be
- * another's wasn't done by this.) */
+/** Writes the entry of a command. A repeated request gets its own entry. If the office refuses it because it
+ * was already done, both entries are done, unless queries show that somebody else did it. */
 async function keep(state, { answer, fault }) {
   const { path, body, kind, values = {}, again } = state.order;
   const isDone = state.isOpen && fault instanceof Refused && fault.name === again && (await foundOf(state.order)) !== false;
@@ -135,7 +137,7 @@ async function keep(state, { answer, fault }) {
     answer, found: isDone ? "done" : null });
 }
 
-/** A text to the letter, and what stands below it, unfolded by its name. */
+/** A literal text below a summary that unfolds it, and more content after it. */
 function folded(name, text, ...content) {
   return element("details", {}, element("summary", {}, name), element("pre", { tabindex: "0" }, text), content);
 }
@@ -144,7 +146,7 @@ function receipt(state, text) {
   return [element("p", { class: "quiet" }, say("order.kept", { number: String(state.entry.number) })), text ? folded(say("order.answer"), text) : ""];
 }
 
-/** When a command was taken in: as its answer says, or else by the clock of the server. */
+/** When the office accepted a command: the moment in its answer, else by the server's clock. */
 function takenIn({ entry }, value) {
   return element("p", {}, say("order.at"), " ", moment(value.moment ?? entry.moment));
 }
@@ -157,7 +159,7 @@ function drawDone(state, { value, answer }) {
   focusFirst(state);
 }
 
-/** An answer's members as values of a text. */
+/** The members of an answer as values for a text. */
 function flat(value) {
   return Object.fromEntries(Object.entries(value).map(([name, one]) => [name, one === null ? "–" : typeof one === "boolean" ? String(one) : one]));
 }
@@ -179,7 +181,7 @@ function drawRefused(state, fault) {
   focusFirst(state);
 }
 
-/** No answer came: what became of the command is asked. */
+/** No answer came: queries ask what happened. */
 async function drawOpen(state, fault) {
   const { order, entry } = state;
   draw(state, note("look", say("order.open"), sentenceOf(fault), say("order.asking")), []);
@@ -199,7 +201,7 @@ async function drawOpen(state, fault) {
   focusFirst(state);
 }
 
-/** A body of JSON, as it is sent. */
+/** A JSON body, as it is sent. */
 export function jsonBody(value) {
   return bytesOf(JSON.stringify(value));
 }

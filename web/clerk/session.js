@@ -1,4 +1,5 @@
-// What this tab holds while it is open, and nothing else does: the key, who sits here, the journal, and a draft. Nothing of it is stored.
+// What this tab holds, and nothing else does: the key, the clerk's name, the journal and a draft. Nothing of
+// it is stored.
 import { Refused, registerText } from "../common/office.js";
 import { newJournal } from "./journal.js";
 
@@ -12,7 +13,7 @@ export function replaceJournal(other) {
   session.journal = other;
 }
 
-/** The caller of the clerk's requests, or null where no key is held. */
+/** The caller of the clerk's requests, or null if the tab holds no key. */
 export function caller() {
   return session.caller;
 }
@@ -21,7 +22,8 @@ export function who() {
   return session.who;
 }
 
-/** Holds a key, once the office has taken it: it is asked for the register of a notice that can't be there. Throws what the office refuses. */
+/** Holds a key, if the office accepts it. To test it, the tab queries the register of a notice that can't
+ * exist. Throws what the office refuses. */
 export async function holdKey(key, name) {
   const asked = { caller: "clerk", key };
   try {
@@ -39,7 +41,7 @@ export function forgetKey() {
   session.caller = null;
 }
 
-/** The draft of a notice, which stays while other screens are looked at. */
+/** The draft of a notice. It stays while other screens are shown. */
 export function draft() {
   return session.draft;
 }

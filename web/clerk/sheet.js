@@ -1,9 +1,11 @@
-// Tables that are pasted from a sheet, as TSV or CSV: their cells, and lots with items from them. Nothing of the page: runs in node too.
+// Tables pasted from a spreadsheet, as TSV or CSV: their cells, and the lots and items in them. Runs in node
+// too.
 import { recordsOf } from "../common/csv.js";
 import { digitsOf } from "./values.js";
 
 const SIGNS = ["\t", ";", ","];
-// The columns, in the order that is taken where no head names them, and the words by which a head may name each.
+// The columns, in the order that is used if there is no header, with the words by which a header can name
+// each of them.
 export const COLUMNS = {
   lot: ["lot", "los", "losnummer", "lot id"],
   lotTitle: ["lot title", "title of the lot", "lostitel", "bezeichnung des loses", "titel des loses"],
@@ -17,8 +19,8 @@ export const COLUMNS = {
 const NAMES = Object.keys(COLUMNS);
 const NUMBERS = ["estimate", "security", "quantity"];
 
-/** The rows of a pasted text, each a list of cells, with the line where it begins; empty rows aren't there. The sign between cells is the tab where there is
- * one, else the semicolon, else the comma. */
+/** The rows of a pasted text: each has its cells and its first line; empty rows are left out. Cells are
+ * separated by tabs if there is one, else by semicolons, else by commas. */
 function rowsOf(text) {
   const sign = SIGNS.find((it) => text.includes(it)) ?? "\t";
   return recordsOf(text.replace(/^\ufeff/, ""), sign).records
@@ -26,14 +28,15 @@ function rowsOf(text) {
     .filter(({ cells }) => cells.some((cell) => cell !== ""));
 }
 
-/** Which column has which name, by the words of a head; null where the row is no head. */
+/** The column names in a header row, or null if the row isn't a header. */
 function headOf(cells) {
   const named = cells.map((cell) => NAMES.find((name) => COLUMNS[name].includes(cell.toLowerCase())) ?? null);
   return named.filter(Boolean).length >= 2 ? named : null;
 }
 
-/** Lots with their items, from a table with a row for each item: `lots` as the editor has them, in texts; `faults` and `changes`, each with a line, a code and
- * what it is about. A lot's own columns may stand in its first row alone. Without a head the columns are those of COLUMNS, in order. */
+/** The lots in a table with one row for each item: `lots` as texts for the editor; `faults` and `changes`,
+ * each with a line, a code and values. A lot's own columns are needed only in its first row. Without a
+ * header the columns are those of COLUMNS, in order. */
 export function lotsOf(text) {
   const rows = rowsOf(text);
   const head = rows.length > 0 ? headOf(rows[0].cells) : null;
@@ -79,7 +82,7 @@ function begun(found, row) {
   return lot;
 }
 
-/** Where a later row says something else of its lot than the first. */
+/** Where a later row contradicts the first row of its lot. */
 function disagree(found, line, lot, row) {
   for (const [name, held] of [["lotTitle", lot.title], ["line", lot.line], ["estimate", lot.estimate], ["security", lot.security]]) {
     if (row[name] !== "" && held !== row[name]) {
@@ -88,7 +91,8 @@ function disagree(found, line, lot, row) {
   }
 }
 
-/** A number of a cell as digits; what was changed for it is told, and what can't be read stays as it is, to be mended by hand. */
+/** The digits of a number in a cell. Each change is reported; a cell that can't be read stays as it is, for
+ * the clerk to correct. */
 function number(found, line, name, cell) {
   if (cell === "") {
     return "";

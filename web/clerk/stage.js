@@ -1,10 +1,11 @@
-// Where a procurement stands, and what can be done with it now: from its terms, its record, its minutes and its evaluation. Pure: runs in node too.
+// The stage of a procurement and what can be done now, from its terms, record, minutes and evaluation. Runs
+// in node too.
 import { awardsOf, contractOf, paidOf } from "../common/findings.js";
 import { ranked } from "../common/tenders.js";
 import { DAY } from "./values.js";
 
-/** The whole: `kind` (`receiving` up to the deadline, `due` behind it, `opened`, or `cancelled`, which it is before its opening alone), until when tenders
- * bind, and the lots. */
+/** The stage: its `kind` (`receiving` until the deadline, `due` after it, `opened`, or `cancelled` if it was
+ * cancelled before the opening), the end of the tenders' validity, and the lots. */
 export function stageOf({ compiled, terms, tenders, evaluation }, now) {
   const deadline = Date.parse(terms.deadline);
   const bindsUntil = deadline + terms.validity_days * DAY;
@@ -18,23 +19,24 @@ export function stageOf({ compiled, terms, tenders, evaluation }, now) {
 function lotOf(lot, { compiled, terms, tenders, shown, byPoints }) {
   const own = tenders.filter((one) => one.lot === lot.id).map((one) => ({ ...one, found: shown?.tenders.get(one.receipt) ?? null }));
   const active = awardsOf(compiled, lot).find(({ status }) => status === "active") ?? null;
-  // (what a winner had who was passed over stays reserved)
+  // (the money of a winner that was passed over stays reserved)
   return { ...lot, shown, active, contract: active ? contractOf(compiled, active) ?? null : null, tenders: ranked(own, byPoints, shown),
     reserved: awardsOf(compiled, lot).at(-1)?.value.amount ?? lot.estimate, hasStandstill: terms.standstill_days > 0,
     standstillUntil: active ? Date.parse(active.date) + terms.standstill_days * DAY : null };
 }
 
-/** Whether a tender may win. */
+/** Whether a tender can win. */
 export function isAdmissible({ found }) {
   return found?.standing === "admissible";
 }
 
-/** Whether a tender waits for its examination. */
+/** Whether a tender isn't examined yet. */
 export function isWaiting({ reading, found }) {
   return reading === "priced" && found?.answer === "-" && found.standing !== "failed";
 }
 
-/** What an award would do now: `waits`, with how many; `nobody`; `best`, with the tender; `unknown`, where the evaluation isn't shown. The office decides. */
+/** What an award would do now: `waits` with the number of open examinations; `nobody`; `best` with the
+ * tender; `unknown` if the evaluation isn't shown. The office decides. */
 export function outlookOf({ tenders, shown }) {
   const waiting = tenders.filter(isWaiting);
   if (shown === null && tenders.length > 0) {
@@ -44,10 +46,11 @@ export function outlookOf({ tenders, shown }) {
     : tenders.some(isAdmissible) ? { code: "best", tender: tenders.find(isAdmissible) } : { code: "nobody" };
 }
 
-/** The steps of a procurement, in their order. */
+/** The steps of a procurement, in order. */
 export const STEPS = ["tenders", "opening", "examination", "award", "signing", "contract"];
 
-/** The step that a notice is at: that of the lot that is behind all others; `over` behind the last one, null where it was cancelled. */
+/** The current step: that of the lot that is furthest back. `over` after the last step; null if the notice
+ * was cancelled. */
 export function stepOf({ kind, lots }) {
   if (kind !== "opened") {
     return { receiving: "tenders", due: "opening" }[kind] ?? null;
@@ -63,23 +66,24 @@ function stepOfLot({ state, tenders, contract }) {
   return state === "awarded" ? "signing" : state === "contracted" && contract?.status !== "terminated" ? "contract" : "over";
 }
 
-/** When a task is due, or since when; what has no moment comes last, and first that nothing binds any more. */
+/** The moment when a task is due, or since when. An expired validity comes first; a task without a moment
+ * comes last. */
 function momentOf({ code, until, since }) {
   return code === "expired" ? 0 : until ?? since ?? Infinity;
 }
 
-/** The stage of a notice of the list. Of one whose tenders come, the list tells all: its stage is made of that. */
+/** The stage of a notice in the list. While it is open for tenders, the list's row is enough. */
 export function stageOfEntry({ state, deadline, stage }) {
   return stage ?? { kind: state === "open" ? "receiving" : "due", deadline: Date.parse(deadline), lots: [] };
 }
 
-/** Notices of the list by when the first thing is due that is to be done with each, whatever it is. */
+/** Notices in the order in which their first task is due. */
 export function inOrder(entries, now) {
   const due = (entry) => Math.min(...tasksOf(stageOfEntry(entry), now).map(momentOf));
   return entries.toSorted((one, other) => due(one) - due(other));
 }
 
-/** What is to be done next with a notice, what is due first above: codes with a lot, a contract or a moment. */
+/** The next tasks for a notice, the earliest first: codes with a lot, a contract or a moment. */
 export function tasksOf(stage, now) {
   const { kind, deadline, bindsUntil, isExpired, lots } = stage;
   if (kind !== "opened") {

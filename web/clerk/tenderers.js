@@ -1,4 +1,4 @@
-// Tenderers: registration from the sheet or the file that a tenderer's desk made, and their list.
+// Tenderers: registration from the sheet or from the file of the tenderer's desk, and the list.
 import { bytesOfFile, inGroups } from "../common/digest.js";
 import { element, given, section, title } from "../common/draw.js";
 import { plain } from "../common/filters.js";
@@ -10,7 +10,8 @@ import { jsonBody, sendThen } from "./send.js";
 import { caller } from "./session.js";
 import { isAskable, textOf } from "./values.js";
 
-/** The registration that a text holds: JSON, or lines `name: value` with a digest in groups somewhere; null where it holds none. */
+/** The registration in a text: JSON, or lines `name: value` with a grouped digest somewhere. Null if there is
+ * none. */
 function registrationIn(text) {
   try {
     const told = JSON.parse(text);
@@ -66,7 +67,7 @@ function registration(tenderer, body) {
     find: () => ofRegistration(tenderer, body), says: [say("tenderer.does", { tenderer, ...body }), digest, say("tenderer.stays")] };
 }
 
-/** The list, and a field that looks for names in it. */
+/** The list, and a search field for it. */
 function listed(list) {
   if (list.length === 0) {
     return element("p", {}, say("tenderer.none"));

@@ -1,4 +1,5 @@
-// Today: what is to be done with which notice, and what runs out, by the office's list and the terms. What is over is left out, as far as the mirror tells it.
+// Today: the next tasks and deadlines of each notice, from the office's list and the terms. Finished notices
+// are left out, if the mirror knows them.
 import { tables } from "../common/data.js";
 import { below, element, given, link, placeOf, section, title } from "../common/draw.js";
 import { entriesOf, noticeOf } from "../common/filters.js";
@@ -10,11 +11,11 @@ import { stageBadge, stageOfOpened, tasks } from "./load.js";
 import { inOrder, stageOfEntry, stepOf } from "./stage.js";
 
 const OVER = ["complete", "unsuccessful", "cancelled"];
-// Of so many opened notices it is asked at once where they stand.
+// This many opened notices are queried at once.
 const AT_ONCE = 30;
 const asked = { count: AT_ONCE };
 
-/** An opened notice with its stage, or with why it can't be had. */
+/** An opened notice with its stage, or with the fault that prevented it. */
 function staged(entry) {
   return stageOfOpened(entry.notice).then((stage) => ({ ...entry, stage }), (fault) => ({ ...entry, fault }));
 }

@@ -1,4 +1,4 @@
-// The office's values: lines of text, numbers and moments, as docs/API.md has them. Nothing of the page: this runs in node too.
+// The office's values: lines of text, numbers and moments, as docs/API.md defines them. Runs in node too.
 import { isId } from "../common/csv.js";
 
 export const MOST = { body: 65_536, rows: 500, line: 10 ** 15, amount: 10 ** 12, lots: 20, items: 50, quantity: 10 ** 6, text: 200, validity: 365,
@@ -6,7 +6,7 @@ export const MOST = { body: 65_536, rows: 500, line: 10 ** 15, amount: 10 ** 12,
 export const DAY = 86_400_000;
 const LAST_SECOND = Date.UTC(2099, 11, 31, 23, 59, 59);
 
-/** The text that bytes are in UTF-8, or null where they are none. */
+/** The text that the bytes write in UTF-8, or null if they aren't UTF-8. */
 export function textOf(bytes) {
   try {
     return new TextDecoder("utf-8", { fatal: true, ignoreBOM: true }).decode(bytes);
@@ -15,12 +15,12 @@ export function textOf(bytes) {
   }
 }
 
-/** Whether an identifier can stand in an address that a browser asks for: of `.` and `..` it makes folders. */
+/** Whether an identifier can be a part of an address: browsers treat `.` and `..` as folders. */
 export function isAskable(text) {
   return isId(text) && text !== "." && text !== "..";
 }
 
-/** The number that digits write, within bounds, or null. */
+/** The number that digits write, if it is within the bounds, else null. */
 export function wholeNumber(text, least, most) {
   if (!/^[0-9]{1,16}$/.test(text)) {
     return null;
@@ -29,8 +29,8 @@ export function wholeNumber(text, least, most) {
   return number >= least && number <= most ? number : null;
 }
 
-/** What somebody typed or a sheet wrote for a whole number, as its digits: groups of three and places of nothing but 0 are dropped, so `1.200,00` is `1200`.
- * Null where more than this would have to be guessed. */
+/** The digits of a whole number as people and spreadsheets write it: groups of three and decimals of only 0
+ * are dropped, so `1.200,00` is `1200`. Null if anything else would have to be guessed. */
 export function digitsOf(text) {
   const typed = text.trim().replace(/[.,]0{1,2}$/, "");
   if (/^[0-9]+$/.test(typed)) {
@@ -39,13 +39,13 @@ export function digitsOf(text) {
   return /^[0-9]{1,3}(?:([.,'\u2019 \u00a0\u202f])[0-9]{3})(?:\1[0-9]{3})*$/.test(typed) ? typed.replace(/[^0-9]/g, "") : null;
 }
 
-/** A moment as the office writes it, of milliseconds; null beyond the seconds that it knows. */
+/** A moment in milliseconds as the office writes it; null outside of the years that the office knows. */
 export function momentText(milliseconds) {
   const second = Math.floor(milliseconds / 1000) * 1000;
   return Number.isFinite(second) && second >= 0 && second <= LAST_SECOND ? new Date(second).toISOString().replace(/\.\d{3}Z$/, "Z") : null;
 }
 
-/** The milliseconds of what a field for date and time of this place holds (`2026-03-01T13:00`), or null. */
+/** The milliseconds of a local date and time field (`2026-03-01T13:00`), or null. */
 export function localMilliseconds(text) {
   if (!/^\d{4}-\d\d-\d\dT\d\d:\d\d(:\d\d)?$/.test(text)) {
     return null;
@@ -54,7 +54,7 @@ export function localMilliseconds(text) {
   return Number.isNaN(found) ? null : found;
 }
 
-/** What a field for date and time of this place holds, of milliseconds. */
+/** The content of a local date and time field, from milliseconds. */
 export function localText(milliseconds) {
   if (milliseconds === null) {
     return "";

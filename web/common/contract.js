@@ -1,38 +1,40 @@
-// A contract: its price against the estimate, what changes added, what was paid, and the security for its performance.
+// A contract: its price against the estimate, its changes and payments, and its performance security.
 import { badge, bar, below, element, facts, given, key, listed } from "./draw.js";
 import { addedTo, endOf, paidOf } from "./findings.js";
 import { money, moment } from "./money.js";
 import { language, say, sayParts } from "./texts.js";
 
-/** A part of an amount, as ` (2.5%)`; nothing where there is none. */
+/** A part of an amount, such as ` (2.5%)`; '' if there is no whole. */
 function share(part, whole) {
   return whole === 0 ? "" : ` (${new Intl.NumberFormat(language(), { style: "percent", maximumFractionDigits: 1 }).format(Math.abs(part) / whole)})`;
 }
 
-/** A price beside the estimate, as `12,000 EUR above the estimate (2.5%)`. */
+/** A price compared with the estimate, such as `12,000 EUR above the estimate (2.5%)`. */
 export function against({ amount, currency }, estimate) {
   const more = amount - estimate.amount;
   return more === 0 ? say("see.same") : say(more > 0 ? "see.above" : "see.below", { amount: money(Math.abs(more), currency) }) + share(more, estimate.amount);
 }
 
-/** What changes added to a price, as `12,000 EUR (2.5%)`, or took from it, with a minus. */
+/** What changes added to a price, such as `+12,000 EUR (2.5%)`, or took from it, with a minus. */
 function addedText(added, { amount, currency }) {
   return `${added < 0 ? "−" : "+"}${money(Math.abs(added), currency)}${share(added, amount)}`;
 }
 
-/** What a change of a contract did, as `Raised by 12,000 EUR`: the office tells it in English, without groups and currency. */
+/** A change of a contract, such as `Raised by 12,000 EUR`. The office writes it in English, without groups
+ * and currency. */
 export function changeOf({ description }, currency) {
   const [, kind, amount] = /^(Raised|Cut) by (\d+)$/.exec(description) ?? [];
   return kind ? say(kind === "Raised" ? "see.raised" : "see.cut", { amount: money(Number(amount), currency) }) : given(description);
 }
 
-/** How a contract stands: how it ended is known to whom it concerns alone, and a default is red. */
+/** The state of a contract. Only its parties see how it ended; a default is red. */
 function standing(ended, seen) {
   return !ended ? badge("running", say("see.runs")) : !seen ? badge("ended", say("see.ended"))
     : seen.how === "default" ? badge("stopped", say("see.ended.default")) : badge("ended", say("see.ended.regular"));
 }
 
-/** The performance security: as whom it concerns is told of it (`held`, or null where there is none), else as everybody is. */
+/** The performance security: `held` for its parties (null if there is none), for the public what the terms
+ * say. */
 function performance({ performance: asked }, held, ended, currency) {
   if (held !== undefined) {
     return held === null ? say("see.noneasked")
@@ -41,8 +43,8 @@ function performance({ performance: asked }, held, ended, currency) {
   return asked > 0 ? [money(asked, currency), below(say(ended ? "see.performance.ended" : "see.performance.held"))] : null;
 }
 
-/** The contract of an award for a lot of a notice. Whom it concerns sees what the office tells of it to them too (`seen`), its performance security (`held`),
- * and `more`. */
+/** The contract of an award. Its parties also see what the office tells only them (`seen`), its performance
+ * security (`held`), and `more`. */
 export function contractPart(one, award, lot, { terms, releases }, { seen = null, held = undefined, more = null } = {}) {
   const { currency } = one.value;
   const paid = paidOf(one);
@@ -66,7 +68,7 @@ export function contractPart(one, award, lot, { terms, releases }, { seen = null
     listed(5, say("see.changes"), changes), listed(5, say("see.payments"), payments), more);
 }
 
-/** A reason that somebody gave, behind a sentence. */
+/** A reason that somebody gave, added after a sentence. */
 export function reason(rationale) {
   return [" ", sayParts("see.reason", { text: given(rationale) })];
 }

@@ -1,9 +1,10 @@
-// CSV as the office reads it (RFC 4180), and the forms of its fields. A field is a text of one character for each byte; `textOf` gives what a person reads.
+// CSV as the office reads it (RFC 4180), and the forms of its fields. A field is a text with one character
+// for each byte; `textOf` turns it into readable text.
 
 const MARK = "\u00ef\u00bb\u00bf";
 const MOST_NUMBER = 1e15;
 
-/** Bytes as a text with a character for each. */
+/** Bytes as a text with one character for each. */
 export function binaryOf(bytes) {
   let text = "";
   for (let at = 0; at < bytes.length; at += 8192) {
@@ -17,19 +18,20 @@ export function bytesOfBinary(text) {
   return Uint8Array.from(text, (sign) => sign.charCodeAt(0));
 }
 
-/** What a person reads there: UTF-8, and a mark for what is none. */
+/** Such a text as a person reads it, in UTF-8, with a mark for each byte that isn't. */
 export function textOf(binary) {
   return new TextDecoder("utf-8", { ignoreBOM: true }).decode(bytesOfBinary(binary));
 }
 
-/** A file without one byte order mark in front. */
+/** A file without its byte order mark. */
 export function contentOf(binary) {
   return binary.startsWith(MARK) ? binary.slice(MARK.length) : binary;
 }
 
-/** The records of a file, each with its fields and the line on which it begins, and whether a quotation mark is open at its end. A separator ends a field, LF,
- * CR LF or CR a record; an empty line is none. Between quotation marks all of them stand for themselves, and two marks for one. The office's separator is the
- * comma; with another one a file is read to be converted. */
+/** The records of a file, each with its fields and its first line, and whether a quotation mark is still open
+ * at the end. A separator ends a field; LF, CR LF or CR ends a record; empty lines are no records. Between
+ * quotation marks all of them are text, and two marks mean one. The office separates by commas; other
+ * separators are for files to be converted. */
 export function recordsOf(binary, separator = ",") {
   const records = [];
   let [fields, field, state, line, begun] = [[], "", "before", 1, 1];
@@ -57,7 +59,7 @@ export function recordsOf(binary, separator = ",") {
   return { records, isOpen: state === "quoted" };
 }
 
-/** The number that a field writes: 1 to 16 digits and nothing else, at most 10^15. Null where it writes none. */
+/** The number that a field writes: 1 to 16 digits and nothing else, at most 10^15; else null. */
 export function numberOf(field) {
   return /^[0-9]{1,16}$/.test(field) && Number(field) <= MOST_NUMBER ? Number(field) : null;
 }
@@ -72,7 +74,7 @@ export function isTextLine(field) {
   return /^[^\0-\x1f\x7f]{1,200}$/.test(field) && isUtf8(field);
 }
 
-/** Why a text that somebody typed is no line of text: `empty`, `control`, `long` or `coding`; null where it is one. */
+/** Why a typed text isn't a line of text: `empty`, `control`, `long` or `coding`; null if it is one. */
 export function lineFault(text) {
   return text === "" ? "empty" : /[\0-\x1f\x7f]/.test(text) ? "control" : !text.isWellFormed() ? "coding"
     : new TextEncoder().encode(text).length > 200 ? "long" : null;
@@ -88,7 +90,8 @@ export function isUtf8(binary) {
   }
 }
 
-// What a field that is no number looks like. (Blanks that sheets put between digits: space, no-break space, narrow no-break space.)
+// What fields look like that aren't numbers. (Spreadsheets put a space, a no-break space or a narrow no-break
+// space between digits.)
 const NO_NUMBERS = [
   ["empty", /^$/],
   ["great", /^\d{16,}$/],
@@ -103,7 +106,7 @@ const NO_NUMBERS = [
   ["beside", /\d/],
 ];
 
-/** Why a field is no number, by a name (`number.NAME` is its sentence); null where it is one. */
+/** Why a field isn't a number, as a name (`number.NAME` is its sentence); null if it is one. */
 export function whyNoNumber(field) {
   if (numberOf(field) !== null) {
     return null;

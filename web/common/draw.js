@@ -1,7 +1,7 @@
-// Elements and texts. Texts become text nodes and never markup, whatever stands in them.
+// Elements and texts. Texts always become text nodes and never markup.
 import { number } from "./money.js";
 
-/** An element with attributes and with children: elements, texts, lists of them, or nothing. */
+/** An element with attributes and children: elements, texts, lists of them, or nothing. */
 export function element(name, attributes, ...children) {
   const made = document.createElement(name);
   for (const [key, value] of Object.entries(attributes ?? {})) {
@@ -19,7 +19,7 @@ export function fresh(word) {
   return `${word}-${count}`;
 }
 
-/** The heading of a view, to which the focus goes. */
+/** The heading of a view, which gets the focus. */
 export function title(...content) {
   return element("h1", { tabindex: "-1" }, ...content);
 }
@@ -30,39 +30,42 @@ export function section(heading, ...content) {
   return element("section", { "aria-labelledby": id }, element("h2", { id }, heading), ...content);
 }
 
-/** What is less, in a line of its own. */
+/** A less important text, in a line of its own. */
 export function below(...content) {
   return element("span", { class: "quiet below" }, ...content);
 }
 
-/** A way to a view, or to another page, where the language is spoken on that was chosen by hand: it stands in the address alone. */
+/** A link to a view or to another page. It keeps a language that was chosen by hand, which is stored only in
+ * the address. */
 export function link(content, href, kind = "") {
   const to = href.replace(/^\/(tender\/|clerk\/)?(?=#|$)/, (page) => page + location.search);
   return element("a", kind ? { href: to, class: kind } : { href: to }, content);
 }
 
-/** The address of a view, and of what it is about. */
+/** The address of a view and its subject. */
 export function placeOf(page, ...rest) {
   return `#${[page, ...rest].map(encodeURIComponent).join("/")}`;
 }
 
-/** A text that somebody gave, as a title or a name: whatever its direction, what stands beside it keeps its own. */
+/** A text that somebody gave, such as a title or a name. Its writing direction doesn't affect the text around
+ * it. */
 export function given(text) {
   return element("bdi", {}, text);
 }
 
-/** A list of names with what each is: pairs of texts or elements. */
+/** A list of names and values: pairs of texts or elements. */
 export function facts(pairs) {
   return element("dl", { class: "facts" }, pairs.map(([name, value]) => element("div", {}, element("dt", {}, name), element("dd", {}, value))));
 }
 
-/** A text in a frame, with a sign that isn't read out. */
+/** A framed text, with a sign that screen readers skip. */
 export function badge(kind, text) {
   const signs = { open: "○", running: "◐", done: "●", stopped: "✕", ended: "■" };
   return element("span", { class: `badge ${kind}` }, element("span", { "aria-hidden": "true" }, signs[kind] ?? "", " "), text);
 }
 
-/** A bar of parts, each with a kind (its pattern), a name and an amount. What it shows is told by its label, and by the key below it. */
+/** A bar of parts, each with a kind (its pattern), a name and an amount. Its label and the key below it say
+ * what it shows. */
 export function bar(label, parts) {
   const whole = parts.reduce((sum, part) => sum + part.amount, 0);
   const told = parts.map((part) => `${part.name} ${number(part.amount)}`).join(", ");
@@ -75,13 +78,13 @@ export function bar(label, parts) {
   return made;
 }
 
-/** The names and amounts of a bar's parts, each behind its pattern. */
+/** The names and amounts of a bar's parts, each after its pattern. */
 export function key(parts, unit) {
   return element("ul", { class: "key" }, parts.map((part) => element(
     "li", {}, element("span", { class: `swatch ${part.kind}`, "aria-hidden": "true" }), `${part.name} `, element("b", {}, `${number(part.amount)}${unit}`))));
 }
 
-/** A list below a heading of this level; a long one is folded. */
+/** A list below a heading of this level. Long lists are folded. */
 export function listed(level, heading, entries, attributes = {}) {
   if (entries.length === 0) {
     return null;

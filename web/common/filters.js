@@ -1,27 +1,28 @@
-// Which procurements are shown: what the address asks for, and whether one is that. Nothing of the page: this runs in node too.
+// Filters of the list: what the address asks for, and which procurements match. Runs in node too.
 
-/** What is asked for, by its names in the address. */
+/** The names of the filters in the address. */
 export const NAMES = ["words", "state", "year", "line", "firm", "from", "to"];
 export const STATES = ["open", "waiting", "opened", "awarded", "running", "complete", "unsuccessful", "cancelled"];
 
-/** The filters of an address, as `words=road&state=open`; what isn't asked for is ''. */
+/** The filters in an address such as `words=road&state=open`. A missing one is ''. */
 export function filtersOf(text) {
   const told = new URLSearchParams(text);
   return Object.fromEntries(NAMES.map((name) => [name, (told.get(name) ?? "").trim()]));
 }
 
-/** Filters as they stand in an address. */
+/** Filters as an address. */
 export function addressOf(filters) {
   return new URLSearchParams(NAMES.filter((name) => filters[name]).map((name) => [name, filters[name]])).toString();
 }
 
-/** A text as it is compared: small letters without accents. */
+/** A text for comparison: small letters without accents. */
 export function plain(text) {
   return text.normalize("NFD").replace(/\p{M}/gu, "").toLowerCase().replaceAll("ß", "ss");
 }
 
-/** Where a notice stands: by its row in the office's list, by its row in the mirror's table where there is one, and by the moment. `isAwarded`: that table's
- * lots are all decided. (An award can end, so an older table tells of none; a procurement that is over stays so.) */
+/** The state of a notice, from its row in the office's list, its row in the mirror's table (if there is one),
+ * and the time. `isAwarded`: all its lots are decided by that table. (An award can end, so an older table
+ * proves none; a procurement that is over stays over.) */
 export function stateOf(row, known, now, isAwarded) {
   if (row.state === "receiving") {
     return now <= Date.parse(row.deadline) ? "open" : "waiting";
@@ -33,8 +34,8 @@ export function stateOf(row, known, now, isAwarded) {
   return status === "complete" && known.running > 0 ? "running" : status;
 }
 
-/** All that is known of each notice, newest first and the open ones above: its row, its state, its lines, firms and winners, and the words by which it is
- * found. */
+/** All that is known of each notice, open ones first and newest first: its row, state, budget lines, firms,
+ * winners, and the words by which it is found. */
 export function entriesOf(list, data, now) {
   const known = new Map((data?.notices ?? []).map((row) => [row.notice, row]));
   const more = new Map(list.map(({ notice }) => [notice, { lines: new Set(), firms: new Map(), winners: new Set(), words: [], isAwarded: true }]));
@@ -71,7 +72,7 @@ function isOfFirm({ firms }, firm) {
   return firm === "" || [...firms].some(([id, name]) => id === firm || plain(name).includes(asked));
 }
 
-/** The entries that are asked for. */
+/** The entries that match. */
 export function chosen(entries, filters) {
   const words = plain(filters.words).split(/\s+/).filter(Boolean);
   return entries.filter((one) => words.every((word) => one.words.includes(word)) && [one.state, ""].includes(filters.state)
@@ -79,7 +80,8 @@ export function chosen(entries, filters) {
     && isWithin(one.known?.estimate, filters.from, filters.to));
 }
 
-/** The number of the notice that a text writes, whatever letters are capital; null where it is none, or could be two. */
+/** The number of the notice that a text writes, in whatever case; null if there is none, or if two could be
+ * meant. */
 export function noticeOf(list, text) {
   const same = list.filter(({ notice }) => notice.toLowerCase() === text.trim().toLowerCase());
   return same.find(({ notice }) => notice === text.trim())?.notice ?? (same.length === 1 ? same[0].notice : null);

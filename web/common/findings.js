@@ -1,11 +1,12 @@
-// What became of a procurement, of its lots and of their tenders: as kinds of badges and names of texts. Nothing of the page: this runs in node too.
+// What happened to a procurement, its lots and its tenders, as badge kinds and names of texts. Runs in node
+// too.
 
 /** The awards of a lot, in the order in which they were made. */
 export function awardsOf(compiled, lot) {
   return (compiled.awards ?? []).filter((award) => award.relatedLots?.includes(lot.id));
 }
 
-/** The awards that ended since their winner didn't sign: those that a release cancels without cancelling the tender. */
+/** The awards whose winner didn't sign: those that a release cancels without cancelling the tender. */
 export function passedOver(releases) {
   const alone = releases.filter(({ tag }) => tag.includes("awardCancellation") && !tag.includes("tenderCancellation"));
   return new Set(alone.flatMap((release) => (release.awards ?? []).map(({ id }) => id)));
@@ -16,23 +17,23 @@ export function contractOf(compiled, award) {
   return (compiled.contracts ?? []).find(({ awardID }) => awardID === award.id);
 }
 
-/** When a contract ended, by the release that says so; undefined while it runs. */
+/** When a contract ended, by its release; undefined while it runs. */
 export function endOf(releases, contract) {
   return releases.find(({ tag, contracts }) => tag.includes("contractTermination") && contracts.some(({ id }) => id === contract.id))?.date;
 }
 
-/** What was paid of a contract. */
+/** What was paid for a contract. */
 export function paidOf(contract) {
   return (contract.implementation?.transactions ?? []).reduce((sum, { value }) => sum + value.amount, 0);
 }
 
-/** What changes added to a contract since its award, which may be less than nothing. */
+/** What changes added to a contract since its award; this can be negative. */
 export function addedTo(contract, award) {
   return contract.value.amount - award.value.amount;
 }
 
-/** The state of the whole process, as a kind of badge and the name of a text; `now` in milliseconds. How a contract ended is published nowhere, and it may have
- * been by default: so no end is shown as if it were well. */
+/** The state of the whole process, as a badge kind and the name of a text; `now` in milliseconds. It isn't
+ * published how a contract ended, and it may have been by default. So no end is shown in green. */
 export function stateOf(compiled, now) {
   const { status, numberOfTenderers, tenderPeriod, lots } = compiled.tender;
   if (status === "cancelled" || status === "unsuccessful") {
@@ -73,8 +74,9 @@ export function stateOfLot(compiled, lot) {
   return compiled.tender.numberOfTenderers === undefined ? ["open", "sealed"] : ["running", "undecided"];
 }
 
-/** The lots of an evaluation, each with its state, the tenders that are shown of it and its awards: lines of words with tabs between them. A lot of which
- * nothing is shown yet isn't there; the clerk is shown the whole of each. */
+/** The lots of an evaluation, each with its state, its shown tenders and its awards. The text has lines of
+ * words separated by tabs. Lots of which nothing is shown yet are left out; the clerk gets all of them
+ * (`isWhole`). */
 export function evaluationOf(text, isWhole = false) {
   const lots = new Map();
   let lot = null;
@@ -97,7 +99,8 @@ function figureOf(word) {
   return word === undefined || word === "-" ? null : Number(word);
 }
 
-/** What became of a tender of a lot: a kind of badge and the name of a text. `shown` is the lot's evaluation, or nothing where it isn't shown yet. */
+/** The result of a tender: a badge kind and the name of a text. `shown` is the lot's evaluation, or undefined
+ * if it isn't shown yet. */
 export function outcomeOf(tender, shown, byPoints) {
   if (tender.reading !== "priced") {
     return ["stopped", tender.reading];
@@ -119,12 +122,12 @@ export function outcomeOf(tender, shown, byPoints) {
   return found.answer === "-" ? ["stopped", "unexamined"] : ["open", notChosen(tender, shown, byPoints)];
 }
 
-/** The kind of badge of a contract that was signed: green for as long as it runs, since it may have ended by default. */
+/** The badge kind of a signed contract: green only while it runs, because it may have ended by default. */
 export function kindOfSigned(contract) {
   return contract?.status === "terminated" ? "ended" : "done";
 }
 
-/** Why a tender that could win didn't. */
+/** Why a tender that could win didn't win. */
 function notChosen(tender, shown, byPoints) {
   if (shown.awards.length === 0) {
     return "undecided";
@@ -133,26 +136,26 @@ function notChosen(tender, shown, byPoints) {
   return byPoints ? "points" : isEqual ? "later" : "price";
 }
 
-/** What became of the security that a tender of an opened lot came with: held, returned or forfeited; `unknown` where it isn't told yet whether the tender was
- * withdrawn late. */
+/** The state of the security of a tender of an opened lot: held, returned or forfeited; `unknown` if it isn't
+ * shown yet whether the tender was withdrawn late. */
 export function securityOf(tender, shown, lotState, isForfeited) {
   const found = shown?.tenders.get(tender.receipt);
   if (found?.standing === "failed") {
     return "forfeited";
   }
-  // (Of a tender without a price nobody is told whether it was withdrawn late.)
+  // (For a tender without a price, it is never published whether it was withdrawn late.)
   if (isForfeited && tender.reading !== "priced") {
     return "unknown";
   }
   return lotState !== "active" ? "returned" : shown || !isForfeited ? "held" : "unknown";
 }
 
-/** The arithmetic of a tender's points: of the price, of quality, and both; null where it has none. */
+/** The points of a tender: for the price, for quality, and their sum; null if it has none. */
 export function pointsOf({ points, quality }) {
   return points === null ? null : { price: (points - 1000 * quality) / 1000, quality, sum: points / 1000 };
 }
 
-/** The lowest price of the tenders that can win, to which all prices are compared; null where there is none. */
+/** The lowest price of the tenders that can win, which all prices are compared with; null if there is none. */
 export function lowestOf(shown) {
   const prices = [...(shown?.tenders.values() ?? [])].filter(({ standing }) => standing === "admissible").map(({ price }) => price);
   return prices.length === 0 ? null : Math.min(...prices);

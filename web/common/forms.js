@@ -1,11 +1,12 @@
-// What pages are filled in by: fields with a label and what is wrong beside them, files that are dropped or chosen, buttons; tables, lists that grow; and what
-// is saved or printed.
+// The parts of forms: fields with a label and a fault beside them, files that are dropped or chosen, buttons;
+// tables, growing lists; saving and printing.
 import { element, fresh } from "./draw.js";
 import { lineFault } from "./csv.js";
 import { say } from "./texts.js";
 
-/** A field below its label: what was `made`, its `input`, its `value()`, and `tell(sentence)`, which says what is wrong with it, where an empty one is right.
- * `kind` is a type of input, `lines` (a text of several), or `choice` with `options`, pairs of value and text. */
+/** A field below its label: the elements (`made`), its `input`, its `value()`, and `tell(sentence)`, which
+ * shows a fault, or none if it is empty. `kind` is a type of input, `lines` (several lines of text), or
+ * `choice` with `options`, which are pairs of value and text. */
 export function field(label, { id = fresh("field"), kind = "text", hint = "", value = "", options = [], ...attributes } = {}) {
   const about = [hint ? `${id}-hint` : "", `${id}-wrong`].filter(Boolean).join(" ");
   const own = { id, name: id, "aria-describedby": about, spellcheck: "false", ...attributes };
@@ -25,12 +26,12 @@ export function field(label, { id = fresh("field"), kind = "text", hint = "", va
     hint ? element("p", { id: `${id}-hint`, class: "quiet" }, hint) : null, wrong), input, value: () => input.value.trim(), tell };
 }
 
-/** The attributes of a field for an identifier of the office, and for a whole number. */
+/** The attributes of a field for an identifier, and of one for a whole number. */
 export const ID = { maxlength: "32" };
 export const DIGITS = { inputmode: "numeric" };
 
-/** Tells fields what is wrong with each, puts the focus on the first of these, and says whether all is right. `pairs` are fields with a sentence each, which is
- * empty where nothing is wrong. */
+/** Shows each field's fault, moves the focus to the first faulty field, and returns whether there is none.
+ * `pairs` are fields with a sentence each, which is empty if the field is right. */
 export function areRight(pairs) {
   for (const [one, sentence] of pairs) {
     one.tell(sentence);
@@ -40,7 +41,7 @@ export function areRight(pairs) {
   return wrong === undefined;
 }
 
-/** Why a text is no line of text, as a sentence, or nothing. */
+/** Why a text isn't a line of text, as a sentence, or ''. */
 export function lineText(text) {
   const fault = lineFault(text);
   return fault ? say(`text.${fault}`) : "";
@@ -53,7 +54,7 @@ export function tick(text, changed, id = fresh("tick")) {
   return { made: element("label", { class: "tick", for: id }, input, element("span", {}, text)), input };
 }
 
-/** A button. While what it does goes on it can't be pressed again. */
+/** A button. It is off while its action runs. */
 export function button(text, act, kind = "") {
   const made = element("button", { type: "button", class: kind }, text);
   made.addEventListener("click", async () => {
@@ -67,7 +68,7 @@ export function steps(...content) {
   return element("div", { class: "steps" }, content);
 }
 
-/** A form of some fields and its button: `act` is done where the button is pressed, or Enter. */
+/** A form with fields and a button. `act` runs when the button or Enter is pressed. */
 export function form(name, fields, text, act, kind = "") {
   const press = element("button", { type: "submit", class: kind }, text);
   const made = element("form", { novalidate: "", "aria-label": name }, fields, steps(press));
@@ -81,7 +82,7 @@ export function form(name, fields, text, act, kind = "") {
   return made;
 }
 
-/** A place for a file: dropped there, or chosen by the field in it. */
+/** A place for a file, which can be dropped there or chosen by its field. */
 export function drop(label, hint, take, { id = fresh("file"), ...attributes } = {}) {
   const input = element("input", { id, type: "file", "aria-describedby": `${id}-hint`, ...attributes });
   const made = element("div", { class: "drop" }, element("label", { for: id }, label), element("p", { id: `${id}-hint`, class: "quiet" }, hint), input);
@@ -106,13 +107,14 @@ export function drop(label, hint, take, { id = fresh("file"), ...attributes } = 
   return made;
 }
 
-/** What is good, to be looked at, or wrong (`good`, `look`, `bad`), said below a heading. */
+/** A note: good, to be checked, or wrong (`good`, `look`, `bad`), below a heading. */
 export function note(kind, head, ...content) {
   const parts = content.flat(Infinity).filter(Boolean).map((part) => (part instanceof Node ? part : element("p", {}, part)));
   return element("div", kind === "bad" ? { class: kind, role: "alert" } : { class: kind }, element("p", {}, head), parts);
 }
 
-/** A table. On a phone each row is a block, and browsers drop the roles of such a table, so they are written out. `figures` are the columns of figures. */
+/** A table. On a phone each row is a block, and browsers then drop the roles of a table, so they are written
+ * out. `figures` are the columns with numbers. */
 export function table(caption, heads, rows, { figures = [], foot = null, kind = "figures" } = {}) {
   const kindOf = (at) => (figures.includes(at) ? { class: "figure" } : {});
   const rowOf = (cells) => element("tr", { role: "row" }, cells.map((cell, at) => (at === 0
@@ -124,7 +126,7 @@ export function table(caption, heads, rows, { figures = [], foot = null, kind = 
     element("tbody", { role: "rowgroup" }, rows.map(rowOf)), foot ? element("tfoot", { role: "rowgroup" }, rowOf(foot)) : null);
 }
 
-/** Entries in a list, and a button that shows some more of them. */
+/** A list of entries, and a button that shows more of them. */
 export function growing(list, all, make, many) {
   const more = element("button", { type: "button", class: "more second" });
   let shown = 0;
@@ -141,7 +143,7 @@ export function growing(list, all, make, many) {
   return [list, more];
 }
 
-/** Saves bytes or a text as a file of this name. */
+/** Saves bytes or a text as a file. */
 export function save(name, content, type = "text/plain") {
   const address = URL.createObjectURL(new Blob([content], { type }));
   const at = element("a", { href: address, download: name });
@@ -155,12 +157,12 @@ export function printButton() {
   return button(say("sheet.print"), () => print(), "second");
 }
 
-/** What is printed alone, of a view that is a sheet. */
+/** The part of a view that is printed alone. */
 export function sheet(...content) {
   return element("div", { class: "sheet" }, content);
 }
 
-/** What a sheet ends with: a line for each who signs. */
+/** The end of a sheet: a line for each signature. */
 export function signs(...names) {
   return element("div", { class: "signs" }, names.map((text) => element("div", {}, text)));
 }

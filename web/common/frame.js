@@ -1,4 +1,4 @@
-// What stands around the views of every page, which view is shown, by the address, and what is put on paper.
+// The frame of every page: the view that the address asks for, what surrounds it, and what is printed.
 import { element, link, title } from "./draw.js";
 import { note } from "./forms.js";
 import { sentenceOf } from "./office.js";
@@ -7,7 +7,8 @@ import { chooseLanguage, language, languages, say } from "./texts.js";
 const byId = (id) => document.getElementById(id);
 const main = byId("content");
 
-/** Puts a button for each language into the head. Where one is pressed, `redraw` is waited for, and the button keeps the focus. */
+/** Adds a button for each language to the page's head. When one is pressed, it waits for `redraw`, and the
+ * button keeps the focus. */
 function drawLanguages(redraw) {
   const at = byId("languages");
   document.documentElement.lang = language();
@@ -15,7 +16,7 @@ function drawLanguages(redraw) {
   at.replaceChildren(...languages().map(([tag, name]) => {
     const made = element("button", { type: "button", lang: tag, "aria-pressed": String(tag === language()) }, name);
     made.addEventListener("click", async () => {
-      // (where its texts can't be had, the one that is spoken stays)
+      // (if the texts can't be fetched, the language stays)
       await chooseLanguage(tag).catch((fault) => console.warn(fault));
       await redraw();
       at.querySelector("[aria-pressed='true']").focus();
@@ -24,7 +25,8 @@ function drawLanguages(redraw) {
   }));
 }
 
-/** The menu: pairs of a page's address and its name, of which one is the present one; and what else stands around the views, with the way to the imprint. */
+/** The menu (pairs of address and name, with the current one), and everything else around a view, including
+ * the link to the imprint. */
 export function drawAround({ site, foot, pages, current }) {
   byId("skip").textContent = say("frame.skip");
   byId("site").textContent = site;
@@ -37,7 +39,7 @@ export function drawAround({ site, foot, pages, current }) {
   }));
 }
 
-/** A part of an address as it was meant; one that is written wrong stays as it is. */
+/** A decoded part of an address. A malformed one stays as it is. */
 export function decoded(text) {
   try {
     return decodeURIComponent(text);
@@ -46,20 +48,22 @@ export function decoded(text) {
   }
 }
 
-/** The address as words: `#notice/N1`. */
+/** The words of an address such as `#notice/N1`. */
 export function words() {
   return location.hash.slice(1).split("/").map(decoded);
 }
 
-/** The view where something couldn't be had. */
+/** The view for something that couldn't be fetched. */
 export function refused(fault, back = null) {
   const told = sentenceOf(fault);
   return { title: say("frame.refused"), told, content: [title(say("frame.refused")), note("bad", told), back && element("p", {}, back)] };
 }
 
-/** Shows what the address asks for, and again where that changes: `around(place)` draws what stands around, and `view(place, redraw)` gives `{ title, content,
- * told, isSheet }`: `told` is read out, and a sheet is printed alone. `redraw(sentence, isWrong, focus)` shows it anew, as long as it is still asked for, and
- * says what was done; the focus goes to what has this identifier, else to the heading. `back` is the way from a view that couldn't be had. */
+/** Shows the view of the address, and again when the address changes. `around(place)` draws what surrounds
+ * it, and `view(place, redraw)` returns `{ title, content, told, isSheet }`: `told` is read out, and a sheet
+ * is printed alone. `redraw(sentence, isWrong, focus)` draws the view again, if the address still asks for
+ * it, and announces the sentence. The focus goes to the element with the identifier `focus`, else to the
+ * heading. `back` makes the link for a view that couldn't be fetched. */
 export function showViews({ place, around, view, site, back = () => null }) {
   let turns = 0;
   const show = async (isMoved, sentence = "", isWrong = false, focus = "") => {
@@ -91,19 +95,19 @@ export function showViews({ place, around, view, site, back = () => null }) {
   show(false);
 }
 
-/** Puts a view in the place of the one before. */
+/** Replaces the previous view. */
 function put({ content, told, title: name, isSheet = false }, sentence, isWrong) {
   document.body.classList.toggle("one-sheet", isSheet);
   main.replaceChildren(...content.flat(Infinity).filter(Boolean));
   main.setAttribute("aria-busy", "false");
   performance.mark("shown");
-  // What came of it is seen below, and so is only read out here; what was done is seen too.
+  // A result is visible in the view below, so it is only read out here; a completed action is shown too.
   byId("status").textContent = sentence || (told ?? name);
   byId("status").className = sentence === "" ? "unseen" : isWrong ? "wrong" : "right";
   tellSource();
 }
 
-/** On paper stands where it comes from, and when it was printed. */
+/** On paper: where the sheet comes from, and when it was printed. */
 export function sourceOf() {
   return say("sheet.from", { address: location.href, when: new Date().toISOString().replace(/\.\d+Z$/, "Z") });
 }
@@ -112,7 +116,7 @@ function tellSource() {
   byId("source").textContent = sourceOf();
 }
 
-// What is folded is unfolded on paper.
+// Folded parts are unfolded on paper.
 const unfolded = new Set();
 addEventListener("beforeprint", () => {
   tellSource();
@@ -127,11 +131,12 @@ addEventListener("afterprint", () => {
   }
   unfolded.clear();
 });
-// A file that is dropped beside its place would else take the page's place, and what the tab knows with it.
+// A file that is dropped beside its place would otherwise replace the page, and the tab would lose
+// everything.
 for (const kind of ["dragover", "drop"]) {
   addEventListener(kind, (event) => event.preventDefault());
 }
-// A fault of a script is told where one looks.
+// A fault of a script is shown in the page.
 for (const kind of ["error", "unhandledrejection"]) {
   addEventListener(kind, () => {
     main.querySelector(".fault")?.remove();

@@ -1,9 +1,9 @@
-// Amounts and moments as they are shown, amounts as they are typed, and how long it is to a deadline.
+// Amounts and moments as they are shown, amounts as they are typed, and the time to a deadline.
 import { element } from "./draw.js";
 import { officeNow } from "./office.js";
 import { language, say } from "./texts.js";
 
-// Each form of numbers and moments, made once: making one takes longer than a hundred uses of it.
+// Number and date formats are made once: making one takes longer than using it a hundred times.
 const forms = new Map();
 
 function form(kind, parts) {
@@ -15,18 +15,18 @@ function form(kind, parts) {
   return forms.get(name);
 }
 
-/** Whole units with groups of three, in the way of the language. */
+/** A whole number with grouped digits, as the language writes it. */
 export function number(amount) {
   return form(Intl.NumberFormat, {}).format(amount);
 }
 
-/** An amount with its currency, which may be unknown. */
+/** An amount with its currency, which can be unknown. */
 export function money(amount, currency) {
   return currency ? `${number(amount)} ${currency}` : number(amount);
 }
 
-/** A typed amount: its value, or by a name why it is none. Blanks between and beside digits are no matter; points and commas are, since nobody knows what they
- * mean. */
+/** A typed amount: its value, or the name of its fault. Spaces are ignored; points and commas aren't, because
+ * nobody knows what they mean. */
 export function typed(text, most) {
   const digits = text.replace(/[\s\u00a0\u202f']/g, "");
   if (digits === "") {
@@ -52,7 +52,8 @@ export function day(text) {
   return element("time", { datetime: text }, Number.isNaN(date.getTime()) ? text : formatted(date, { ...DAY, timeZone: "UTC" }));
 }
 
-/** A moment of the office: in UTC, as it counts, and where the reader is. What stands second, by the text, has no day where that is the same. */
+/** A moment of the office: in UTC, which counts, and in local time. The second one has no day if that is the
+ * same. */
 export function moment(text) {
   const date = new Date(text);
   if (Number.isNaN(date.getTime())) {
@@ -65,7 +66,7 @@ export function moment(text) {
   return element("time", { datetime: text }, date.getTimezoneOffset() === 0 ? `${utc(true)} UTC` : both());
 }
 
-/** How long it is from one moment to another, in seconds, as `2 days, 3 hours` or `4 minutes`. */
+/** The time between two moments, given in seconds, as `2 days, 3 hours` or `4 minutes`. */
 export function span(seconds) {
   const units = [["days", 86400], ["hours", 3600], ["minutes", 60], ["seconds", 1]];
   const at = Math.max(0, units.findIndex(([, unit]) => seconds >= unit));
@@ -74,11 +75,11 @@ export function span(seconds) {
     .filter(([, count], place) => place === 0 || count > 0).map(([name, count]) => say(`span.${name}`, { count })).join(", ");
 }
 
-// From so many seconds on it presses.
+// From this many seconds on, a deadline is marked as urgent.
 const CLOSE = 600;
 
-/** How long it is to a deadline by the server's clock, told anew each second for as long as it stands in the page; `over` is called once the deadline has
- * come. The last second is one in which tenders are taken. */
+/** The time to a deadline by the server's clock, updated each second while it is on the page. `over` is
+ * called after the deadline. The office still takes tenders in its last second. */
 export function clock(deadline, over = () => {}) {
   const shown = element("span", { role: "timer", "aria-live": "off" });
   const tell = () => {

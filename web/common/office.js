@@ -1,14 +1,15 @@
-// The office: what is asked of it and how it answers. All that is fetched is fetched here, a function for each look, so that another look changes one file.
+// The office: every request is made here, by one function for each query, so that a changed query changes
+// only one file.
 import { isId } from "./csv.js";
 import { hasText, say } from "./texts.js";
 
 const LONGEST = 90_000;
-// How often a look is asked again that came too often, and for how many seconds it waits at least.
+// How often a query is repeated that came too soon, and the least seconds to wait before that.
 const TRIES = 60, PAUSE = 2;
 let ahead = 0;
 
-/** What isn't answered as it was asked. `name` is the office's own word, or empty; `what`, `status` and the whole `text` as it said them. `isOpen`: whether a
- * command was done isn't known. */
+/** A request without a normal answer. `name` is the office's refusal, or empty; `what`, `status` and `text`
+ * are as they came. `isOpen`: it isn't known whether a command was done. */
 export class Refused extends Error {
   constructor({ name = "", what = "", status = 0, kind = "", wait = 0, text = "" }) {
     super(name || kind || String(status));
@@ -19,7 +20,7 @@ export class Refused extends Error {
     return this.kind === "away" || this.kind === "unread" || [500, 502, 503, 504].includes(this.status);
   }
 
-  /** The refusal as a sentence, in the language that is spoken. */
+  /** The refusal as a sentence, in the spoken language. */
   sentence() {
     const names = [`refusal.${this.name}.${this.what}`, `refusal.${this.name}`, `kind.${this.kind}`, `status.${this.status}`];
     const known = names.find(hasText);
@@ -27,7 +28,7 @@ export class Refused extends Error {
   }
 }
 
-/** Any fault as a sentence; of one that no refusal is, the console tells more. */
+/** Any fault as a sentence. If it isn't a refusal, the console shows more. */
 export function sentenceOf(fault) {
   if (fault instanceof Refused) {
     return fault.sentence();
@@ -36,7 +37,7 @@ export function sentenceOf(fault) {
   return say("kind.fault");
 }
 
-/** The moment by the server's clock, in milliseconds: that of its last answer, and what passed since. */
+/** The server's time in milliseconds: that of its last answer, plus what has passed since. */
 export function officeNow() {
   return Date.now() + ahead;
 }
@@ -46,13 +47,13 @@ function hearClock(answer) {
   ahead = Number.isNaN(told) ? ahead : told - Date.now();
 }
 
-/** What the office said of a refusal. What isn't its own word comes from the server before it, or from elsewhere. */
+/** What the office said in a refusal. Anything else comes from nginx or from somewhere else. */
 function refusalOf(answer, text) {
   let told = {};
   try {
     told = JSON.parse(text) ?? {};
   } catch {
-    // The status is all there is.
+    // Only the status is known.
   }
   const isOwn = typeof told.name === "string";
   return new Refused({ name: isOwn ? told.name : "", what: isOwn ? String(told.what ?? "") : "", status: answer.status,
@@ -80,12 +81,12 @@ function pause(seconds) {
   return new Promise((done) => { setTimeout(done, seconds * 1000); });
 }
 
-// The server before the office keeps public answers for a second, counted in whole ones: so for two seconds behind a command of one's own they may be those
-// from before it.
-const KEPT = 2100;
+// nginx keeps public answers for three seconds, counted in whole seconds. So for four seconds after a command they can be older
+// than the command. It keeps the ledger for longer; the clerk gets the office's current ledger.
+const KEPT = 4100;
 let changed = 0;
 
-/** A look: asked again for as long as the front says that looks come too often. */
+/** A query: repeated as long as nginx answers that queries come too fast. */
 export async function look(path, caller = null) {
   const left = changed + KEPT - Date.now();
   if (caller === null && left > 0) {
@@ -115,7 +116,7 @@ function valueOf(text) {
   }
 }
 
-/** A command: sent once, and never again by itself. Its answer as the office wrote it, and as a value. */
+/** A command: sent once, and never repeated by this code. Returns the office's answer as text and as a value. */
 export async function command(path, caller, body = undefined) {
   try {
     const text = await send(path, { method: "POST", caller, body });
@@ -125,7 +126,7 @@ export async function command(path, caller, body = undefined) {
   }
 }
 
-/** An identifier as a part of a path. Two can't be one: browsers take `.` and `..` for folders. */
+/** An identifier as a part of a path. `.` and `..` are refused, because browsers treat them as folders. */
 export function part(id) {
   if (!isId(id) || id === "." || id === "..") {
     throw new Refused({ kind: "id" });
@@ -133,9 +134,9 @@ export function part(id) {
   return id;
 }
 
-// Looks that anybody may ask for.
+// Queries for everybody.
 
-/** What a notice's releases compile to. */
+/** The compiled record of a notice. */
 export async function record(notice) {
   const compiled = (await lookJson(`/notices/${part(notice)}/record`)).records?.[0]?.compiledRelease;
   if (!compiled?.tender?.lots) {
@@ -144,7 +145,7 @@ export async function record(notice) {
   return compiled;
 }
 
-/** All rows of a list that comes in pages: a page of a hundred after another. */
+/** All rows of a list, fetched in pages of a hundred. */
 async function listed(path, name, caller = null) {
   const found = [];
   let next = "";
@@ -161,17 +162,18 @@ export function notices() {
   return listed("/notices", "notices");
 }
 
-/** On which terms a notice takes tenders. */
+/** The terms of a notice. */
 export function terms(notice) {
   return lookJson(`/notices/${part(notice)}/terms`);
 }
 
-/** The evaluation of a notice as the office wrote it, which shows the clerk all lots; null where nothing was opened. */
+/** The evaluation of a notice as the office wrote it, with all lots for the clerk; null before the opening. */
 export function evaluationText(notice, caller = null) {
   return ifOpened(`/notices/${part(notice)}/evaluation`, caller);
 }
 
-/** A file that stands beside the office, as those of its mirror: its text, or null where it isn't there. A browser keeps it, and asks whether it changed. */
+/** A file beside the office, such as the mirror's: its text, or null if it doesn't exist. The browser caches
+ * it, and asks whether it changed. */
 export async function file(path) {
   try {
     return await send(path, { cache: "no-cache" });
@@ -183,12 +185,12 @@ export async function file(path) {
   }
 }
 
-/** A notice's releases, in order. */
+/** The releases of a notice, in order. */
 export async function releases(notice) {
   return (await lookJson(`/notices/${part(notice)}/releases`)).releases ?? [];
 }
 
-/** The minutes of an opening as the office wrote them; null where nothing was opened. */
+/** The minutes of an opening as the office wrote them; null before the opening. */
 export function minutesText(notice) {
   return ifOpened(`/notices/${part(notice)}/minutes`);
 }
@@ -204,7 +206,7 @@ async function ifOpened(path, caller = null) {
   }
 }
 
-/** The opened tenders of minutes: lines of words with tabs between them, `lot` and behind each lot its tenders. */
+/** The opened tenders in the minutes: lines of words separated by tabs, a `lot` followed by its tenders. */
 export function tendersOf(text) {
   const tenders = [];
   let lot = "";
@@ -219,14 +221,14 @@ export function tendersOf(text) {
   return tenders;
 }
 
-/** A budget line. */
-export function line(name) {
-  return lookJson(`/lines/${part(name)}`);
+/** A budget line. For the clerk it is that of now, else it may be some seconds old. */
+export function line(name, caller = null) {
+  return lookJson(`/lines/${part(name)}`, caller);
 }
 
-/** The ledger: a line of head, one of names, and one for each budget line. */
-export async function ledger() {
-  const lines = (await look("/ledger")).split("\n").slice(2).filter((text) => text !== "");
+/** The ledger: a header, a line of column names, and one line for each budget line. The clerk gets the current one; for others it may be two minutes old. */
+export async function ledger(caller = null) {
+  const lines = (await look("/ledger", caller)).split("\n").slice(2).filter((text) => text !== "");
   return lines.map((text) => {
     const [name, ...amounts] = text.split("\t");
     const [appropriation, free, reserved, contracted, paid] = amounts.map(Number);
@@ -234,14 +236,14 @@ export async function ledger() {
   });
 }
 
-// Looks of those whom they concern.
+// Queries for the parties concerned.
 
-/** What the caller handed in under a receipt. */
+/** The caller's tender with a receipt. */
 export function tender(receipt, caller) {
   return lookJson(`/tenders/${Number(receipt)}`, caller);
 }
 
-/** The caller's tenders of a notice. */
+/** The caller's tenders for a notice. */
 export async function ownTenders(notice, caller) {
   return (await lookJson(`/notices/${part(notice)}/tenders`, caller)).tenders;
 }
@@ -261,7 +263,7 @@ export function performance(contract, caller) {
   return lookJson(`/contracts/${Number(contract)}/security`, caller);
 }
 
-/** The register of a notice as the office wrote it. */
+/** The register of a notice, as the office wrote it. */
 export function registerText(notice, caller) {
   return look(`/notices/${part(notice)}/register`, caller);
 }
@@ -278,13 +280,13 @@ export function tenderers(caller) {
 
 // Commands of a tenderer.
 
-/** Presents a tender's bytes for a lot; a security is `{ security, amount }`, or null. */
+/** Submits a tender's bytes for a lot. A security is `{ security, amount }`, or null. */
 export function present(notice, lot, bytes, named, caller) {
   const query = named ? `?${new URLSearchParams({ security: named.security, amount: String(named.amount) })}` : "";
   return command(`/notices/${part(notice)}/lots/${part(lot)}/tenders${query}`, caller, bytes);
 }
 
-/** Puts other bytes in the place of a sealed tender. */
+/** Replaces the bytes of a sealed tender. */
 export function modify(receipt, bytes, caller) {
   return command(`/tenders/${Number(receipt)}/modify`, caller, bytes);
 }

@@ -1,10 +1,10 @@
-// The four pots of a budget line's appropriation.
+// The four balances of a budget line's appropriation.
 import { say } from "./texts.js";
 
-/** In the order in which a bar has them. */
+/** In the order in which a bar shows them. */
 export const POTS = ["paid", "contracted", "reserved", "free"];
 
-/** Parts of a bar, each with the amount that a call gives of its pot. */
+/** The parts of a bar, each with the amount that the function gives for its kind. */
 export function pots(amountOf) {
   return POTS.map((kind) => ({ kind, name: say(`see.pot.${kind}`), amount: amountOf(kind) }));
 }

@@ -1,4 +1,4 @@
-// A procurement, from its record, its releases, its terms, its minutes and its evaluation.
+// A procurement, drawn from its record, releases, terms, minutes and evaluation.
 import { against, contractPart } from "./contract.js";
 import { badge, below, element, facts, given, link, listed, placeOf, section, title } from "./draw.js";
 import { addedTo, awardsOf, contractOf, kindOfSigned, paidOf, passedOver, stateOf, stateOfLot } from "./findings.js";
@@ -11,7 +11,8 @@ import { tenderTable } from "./tenders.js";
 import { asked, termList } from "./terms.js";
 import { timeline } from "./timeline.js";
 
-// More lots than these are folded, but for those that somebody unfolded before, or of which something is to be done.
+// If there are more lots than this, they are folded, except for those that somebody unfolded or that need
+// something now.
 const FEW = 3;
 const unfolded = new Set();
 
@@ -59,14 +60,14 @@ function lotPart(notice, lot, folds) {
     folds ? folded(`${notice.name}/${lot.id}`, notice.isPressing?.(lot), head, content) : [element("h3", {}, head), content]);
 }
 
-/** A lot that is folded, and stays as it is where the view is drawn anew. */
+/** A folded lot. It keeps its state when the view is drawn again. */
 function folded(name, isPressing, head, content) {
   const made = element("details", isPressing || unfolded.has(name) ? { open: "" } : {}, element("summary", {}, element("h3", {}, head)), content);
   made.addEventListener("toggle", () => (made.open ? unfolded.add(name) : unfolded.delete(name)));
   return made;
 }
 
-/** What each lot was estimated at, was bought for, came to and was paid, once something was awarded. */
+/** For each lot: the estimate, the price, the changes and the payments, once there is an award. */
 function moneyTable({ compiled }) {
   const { lots, value: { currency } } = compiled.tender;
   const rows = lots.map((lot) => {
@@ -93,14 +94,15 @@ function factsOf({ name, compiled: { tender, buyer }, isPreview }, state) {
     [say("see.published"), moment(tender.tenderPeriod.startDate)], [say("see.deadline"), deadline], [say("see.tenderers"), tenderers]]);
 }
 
-/** Where the office itself tells all of it. */
+/** Links to the office's own answers. */
 function sources({ name, tenders }) {
   const paths = ["record", "releases", "terms", ...(tenders ? ["minutes", "evaluation"] : [])].map((path) => `/notices/${name}/${path}`);
   return section(say("see.raw"), element("ul", {}, paths.map((path) => element("li", {}, link(path, path)))));
 }
 
-/** The whole of a notice, which has what `seenOf` gives. Beside it: whether it is but a preview, whether lines and firms are views of this page (`linked`),
- * what stands `above` its lots, what is added to each lot and contract (`ofLot`, `ofContract`), and of which lots something is to be done (`isPressing`). */
+/** The whole of a notice, which has what `seenOf` returns. More members: `isPreview`; `linked`, if budget
+ * lines and firms are views of this page; `above`, the content above the lots; `ofLot` and `ofContract`,
+ * which add to each lot and contract; and `isPressing`, for lots that need something now. */
 export function drawProcess(notice) {
   const { compiled, releases: all } = notice;
   const { tender } = compiled;
@@ -117,7 +119,7 @@ export function drawProcess(notice) {
   return drawn;
 }
 
-/** The public's view of a notice. */
+/** The public view of a notice. */
 export async function drawNotice(name) {
   const notice = await seenOf(name);
   const { compiled } = notice;

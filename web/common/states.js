@@ -1,4 +1,4 @@
-// The state of a procurement in a list, framed.
+// The badge of a procurement's state in a list.
 import { badge } from "./draw.js";
 import { say } from "./texts.js";
 

@@ -1,4 +1,4 @@
-// The opened tenders of a lot as a table: prices, points with their arithmetic, what was found and what became of each, and of its security.
+// The opened tenders of a lot as a table: prices, points with their arithmetic, results, and securities.
 import { badge, below, element, given, link, placeOf } from "./draw.js";
 import { awardsOf, contractOf, kindOfSigned, lowestOf, outcomeOf, pointsOf, securityOf } from "./findings.js";
 import { table } from "./forms.js";
@@ -17,7 +17,7 @@ function priceOf({ reading, stated, corrected, corrections }, currency) {
   return [money(corrected, currency), corrections > 0 ? below(say("see.tender.stated", { stated: number(stated), count: corrections })) : null];
 }
 
-/** The points of a tender, as they are computed: `60 × 500 ÷ 750 = 40`, quality, and their sum. */
+/** The points of a tender with their arithmetic, such as `60 × 500 ÷ 750 = 40`, its quality, and the sum. */
 function pointsShown(found, weight, lowest) {
   const points = found ? pointsOf(found) : null;
   if (points === null) {
@@ -29,7 +29,7 @@ function pointsShown(found, weight, lowest) {
   return [element("b", {}, decimals(points.sum)), below(say("see.points.price"), " ", price), below(say("see.points.quality"), " ", number(points.quality))];
 }
 
-/** From the best to the last: by points, as far as they are shown, then by price, then by who came first. */
+/** The tenders from the best to the last: by points if they are shown, then by price, then by time. */
 export function ranked(tenders, byPoints, shown) {
   const price = ({ reading, corrected }) => (reading === "priced" ? corrected : Infinity);
   const points = ({ receipt }) => (byPoints ? shown?.tenders.get(receipt)?.points ?? -1 : 0);
@@ -37,13 +37,14 @@ export function ranked(tenders, byPoints, shown) {
     || (price(one) === price(other) ? one.receipt - other.receipt : price(one) - price(other)));
 }
 
-/** What became of a tender: its badge, and why. */
+/** The result of a tender: its badge, and why. */
 function found(tender, shown, byPoints, contract) {
   const [kind, name] = outcomeOf(tender, shown, byPoints);
   return [badge(name === "signed" ? kindOfSigned(contract) : kind, say(`see.outcome.${name}`)), element("span", { class: "below" }, say(`see.why.${name}`))];
 }
 
-/** What became of a tender's security: as `securities` has it, for whom they are shown, else as it follows from what is published. */
+/** The state of a tender's security: from `securities`, if the reader may see them, else as far as it follows
+ * from published data. */
 function securityShown({ terms, securities }, lot, tender, shown) {
   const own = securities?.findLast((one) => one.lot === lot.id && one.tenderer === tender.tenderer);
   const told = own ? [say(`security.${own.state}`), below(given(own.reference), ", ", money(own.amount, lot.value.currency))]
@@ -51,8 +52,8 @@ function securityShown({ terms, securities }, lot, tender, shown) {
   return element("span", { class: "word" }, told);
 }
 
-/** The table. `notice` has what the releases compile to, the terms, and the securities of its tenders for whom they are shown; firms are links in the public's
- * page. `shown` is the lot's evaluation or nothing. */
+/** The table. `notice` has the compiled record, the terms, and the securities if the reader may see them; on
+ * the public page firms are links. `shown` is the lot's evaluation, or undefined. */
 export function tenderTable(notice, lot, tenders, shown) {
   const { compiled, terms, linked = false } = notice;
   const byPoints = terms.criteria === "points";

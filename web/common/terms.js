@@ -1,14 +1,14 @@
-// The terms on which a notice takes tenders, as everybody reads them.
+// The terms of a notice, as everybody reads them.
 import { element } from "./draw.js";
 import { money } from "./money.js";
 import { say } from "./texts.js";
 
-/** What a notice asks as security, where it asks for one. */
+/** The required security, or that there is none. */
 export function asked(amount, currency) {
   return amount > 0 ? money(amount, currency) : say("see.noneasked");
 }
 
-/** What wins. */
+/** The award criteria. */
 function criteria({ criteria: kind, price_weight: weight }) {
   return kind === "price" ? say("see.criteria.price") : say("see.criteria.points", { weight, rest: 100 - weight });
 }

@@ -1,4 +1,4 @@
-// A process as a list of what happened, one entry for each release.
+// A process as a list of events, one for each release.
 import { money, moment } from "./money.js";
 import { say, sayParts } from "./texts.js";
 import { changeOf, reason } from "./contract.js";
@@ -22,7 +22,7 @@ function amountOf({ amount, currency }) {
   return money(amount, currency);
 }
 
-/** Lots by their identifiers and titles. */
+/** Lots, by identifier and title. */
 function names(lots, ids) {
   return element("span", {}, say("see.lots", { count: ids.length }), " ", ids.map((id, at) => {
     const title = lots.find((lot) => lot.id === id)?.title;
@@ -75,13 +75,13 @@ function paid({ contracts: [contract] }) {
   return ["paid", sayParts("see.told.paid", { amount: amountOf(value), name: given(payee.name), contract: contract.id })];
 }
 
-/** (The release has the contract's number alone.) */
+/** (the release has only the contract's number) */
 function ended({ contracts: [{ id }] }, lots, compiled) {
   const { value, ...contract } = compiled.contracts.find((one) => one.id === id);
   return ["ended", [say("see.told.ended", { contract: id, paid: money(paidOf(contract), value.currency), amount: amountOf(value) })]];
 }
 
-/** One release as an entry; one whose tag isn't known is shown by its tag. */
+/** One release as an entry. A release with an unknown tag shows its tag. */
 function entry(release, lots, compiled) {
   const [, tell] = TOLD.find(([tag]) => release.tag.includes(tag)) ?? [null, null];
   const [head, sentence] = tell ? tell(release, lots, compiled) : [null, []];
@@ -89,7 +89,7 @@ function entry(release, lots, compiled) {
     element("p", {}, sentence));
 }
 
-/** The list of all entries, the first one first. */
+/** All entries, the oldest first. */
 export function timeline(releases, compiled) {
   return element("ol", { class: "timeline" }, releases.map((release) => entry(release, compiled.tender.lots, compiled)));
 }

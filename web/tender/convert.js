@@ -1,22 +1,23 @@
-// A file of prices as sheets write it, made to the file that the office reads: each change is told, and where a figure could mean two things, or the tenderer
-// has to decide, it is refused with the line and the reason. What comes out is always read by papers.js as a price without a correction.
+// Converts a price file that a spreadsheet wrote to the file that the office reads, and reports each change.
+// If a figure could mean two things, or if the tenderer must decide, it refuses the file with line and
+// reason. papers.js always reads the result as a price without a correction.
 import { binaryOf, contentOf, isUtf8, recordsOf, textOf } from "../common/csv.js";
 import { KINDS, SEPARATORS, faultsOf, meantBy } from "./faults.js";
 import { figureOf } from "./figures.js";
 import { HEAD, MOST_BYTES, MOST_PRICE, MOST_UNIT, fileOf, priceOf, readingOf } from "./papers.js";
 
 export const MOST_READ = 1 << 20;
-// So many records may stand above the head.
+// At most this many records can come before the header.
 const MOST_ABOVE = 20;
 const MARK = "\u00ef\u00bb\u00bf";
-// Words by which sheets name the four columns, in small letters and without signs.
+// The words by which spreadsheets name the four columns, in small letters and without signs.
 const WORDS = {
   item: ["item", "item id", "id", "no", "number", "pos", "position", "posten", "nr", "nummer", "kennung", "oz", "ordnungszahl", "artikel", "artikelnummer"],
   quantity: ["quantity", "qty", "menge", "anzahl"],
   unit: ["unit", "unit price", "price", "unitprice", "price per unit", "preis", "einzelpreis", "stückpreis", "ep", "preis je einheit", "einheitspreis"],
   total: ["total", "sum", "line total", "total price", "summe", "gesamt", "gesamtpreis", "gp", "betrag", "gesamtbetrag"],
 };
-// Columns that say what is bought and no price. What stands in any other one may change what is offered.
+// Columns without a price. Any other column could change the tender.
 const SILENT = ["title", "titel", "description", "name", "text", "bezeichnung", "beschreibung", "leistung", "artikelbezeichnung", "me", "mengeneinheit",
   "einheit", "uom", "unit of measure"];
 const SUMS = ["total", "sum", "grand total", "summe", "gesamt", "gesamtsumme", "endsumme"];
@@ -37,7 +38,8 @@ function cut(text) {
   return text.length <= 40 ? text : `${text.slice(0, 37)}…`;
 }
 
-/** The text that a file's bytes are, with what was changed for it; or the fault of a file that is no such text. */
+/** The text of a file's bytes, with the changes that it needed; or the fault of a file that isn't such a
+ * text. */
 function textIn(bytes) {
   const binary = binaryOf(bytes);
   if (binary.startsWith("\xff\xfe") || binary.startsWith("\xfe\xff")) {
@@ -54,7 +56,7 @@ function textIn(bytes) {
   return isUtf8(bare) ? { text: textOf(bare), changes } : { text: new TextDecoder("windows-1252").decode(bytes), changes: [...changes, fault(1, "coding")] };
 }
 
-/** The columns that a head's words name: where each of the four stands, or null. */
+/** The place of each of the four columns by the words of a header, or null. */
 function columnsOf(fields) {
   const words = fields.map(plain);
   const found = Object.fromEntries(HEAD.map((name) => [name, words.findIndex((word) => WORDS[name].includes(word))]));
@@ -62,7 +64,7 @@ function columnsOf(fields) {
   return isOnce && found.item >= 0 && found.unit >= 0 ? found : null;
 }
 
-/** The records by the separator with which a head is found, or else with which the items' rows are. */
+/** The records, split by the separator with which a header is found, or else the items' rows. */
 function recordsIn(text, items) {
   const [, forced] = /^sep=(.)\r?\n/.exec(text) ?? [];
   const ids = new Set(items.map(({ id }) => id));
@@ -74,7 +76,8 @@ function recordsIn(text, items) {
   return tries.find(({ at }) => at >= 0) ?? tries.reduce((best, one) => (one.rows > best.rows ? one : best));
 }
 
-/** The rows below the head as figures to be read: the head is found by its words, or by four columns where the rows are those of the items. */
+/** The rows below the header. The header is found by its words; without one, four columns are read if the
+ * rows are those of the items. */
 function tableIn(found) {
   const { records, at, separator, rows } = found;
   const changes = separator === "," ? [] : [fault(1, "separator", { sign: SEPARATORS[separator] ?? separator })];
@@ -108,13 +111,14 @@ function tableIn(found) {
   return { columns, body, changes, named: new Set(more.map(({ place }) => place)) };
 }
 
-/** Whether a record is the sum's: its word says so, and it is no item's row. */
+/** Whether a record is the sum: its word says so, and it isn't an item's row. */
 function isSum({ fields }, { item, quantity }, items, isLast) {
   const name = (fields[item] ?? "").trim();
   return SUMS.includes(plain(name)) && (isLast || !items.some(({ id }) => id === name) || (fields[quantity] ?? "").trim() === "");
 }
 
-/** The item that a name is, or surely means: without its lot, in other letters, with a blank or zeros in front; null where two could be meant. */
+/** The item that a name means for certain: without its lot, in other case, with a space or zeros in front.
+ * Null if it could be two. */
 function itemOf(name, items) {
   const named = (id) => items.find((item) => item.id === id);
   const bare = name.slice(name.lastIndexOf("/") + 1).trim();
@@ -122,7 +126,7 @@ function itemOf(name, items) {
   return named(name) ?? named(bare) ?? (meant.length === 1 ? meant[0] : null);
 }
 
-/** One item's row: its item, its unit price, what was changed and what is wrong. */
+/** An item's row: its item, its unit price, the changes and the faults. */
 function rowOf({ line, fields }, table, items, currency) {
   const { columns, named } = table;
   const name = (fields[columns.item] ?? "").trim();
@@ -170,7 +174,7 @@ function rowOf({ line, fields }, table, items, currency) {
   return { line, item, unit, changes, faults };
 }
 
-/** What the sum's record changes or has wrong. */
+/** The changes and faults in the record of the sum. */
 function sumOf({ line, fields }, { columns, named }, price, currency) {
   const others = fields.map((field, place) => ({ field: field.trim(), place }))
     .filter(({ field, place }) => field !== "" && place !== columns.item && !named?.has(place));
@@ -208,7 +212,8 @@ function refused(faults) {
   return { kind: "refused", faults: faults.toSorted((one, other) => one.line - other.line), changes: [] };
 }
 
-/** What becomes of a file: `as it is`, where the office reads a price in it; `converted`, with the new bytes and each change; or `refused`, with each fault. */
+/** The result for a file: `as it is` if the office reads a price in it; `converted` with the new bytes and
+ * each change; or `refused` with each fault. */
 export function converted(bytes, items, currency = "") {
   const reading = readingOf(bytes, items);
   if (reading.kind === "priced") {

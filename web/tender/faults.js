@@ -1,8 +1,9 @@
-// Why a tender's file has no price: the line, and by a name and its values the reason (`fault.NAME` is the sentence). It explains, and decides nothing.
+// Why a tender's file has no price: the line and the name of the reason with its values (`fault.NAME` is the
+// sentence). This module only explains; papers.js decides.
 import { binaryOf, contentOf, recordsOf, textOf, whyNoNumber } from "../common/csv.js";
 import { HEAD, MOST_PRICE, MOST_UNIT, SUM, areSame, isHead, priceOf, rowOf, statedOf } from "./papers.js";
 
-// How files begin that are no text of this kind.
+// How files begin that aren't CSV.
 export const KINDS = [
   ["%PDF", "pdf"], ["PK\x03\x04", "workbook"], ["\xd0\xcf\x11\xe0", "workbook"], ["\xff\xfe", "utf16"], ["\xfe\xff", "utf16"], ["\xef\xbb\xbf", "mark"],
   ["{\\rtf", "rtf"], ["<", "markup"], ["sep=", "sep"],
@@ -15,7 +16,7 @@ function fault(line, name, values = {}) {
   return { line, name, values };
 }
 
-/** A field as a person reads it, cut short, and `?` for what can't be printed. */
+/** A field as a person reads it, cut short, with `?` for characters that can't be printed. */
 export function shown(field) {
   const text = [...textOf(field)].map((sign) => (/[\p{C}\p{Zl}\p{Zp}]/u.test(sign) ? "?" : sign)).join("");
   return text.length <= 40 ? text : `${text.slice(0, 37)}…`;
@@ -26,7 +27,7 @@ function numberFault(line, figure, item, field) {
   return why === null ? [] : [fault(line, "figure", { figure, item, field: shown(field), why })];
 }
 
-/** Why a record hasn't four fields of which one says something. */
+/** Why a record doesn't have four fields, or is empty. */
 function countFaults({ line, fields }) {
   if (fields.every((field) => field.trim() === "")) {
     return [fault(line, "blank")];
@@ -49,7 +50,7 @@ function headFaults(record) {
   return [fault(record.line, areSame(words, HEAD) ? "letters" : "head", { found: shown(record.fields.join(",")) })];
 }
 
-/** Whether a record seems to be meant as the sum's. */
+/** Whether a record is probably meant as the sum. */
 function isSum({ fields }) {
   return fields[0].trim().toUpperCase() === SUM[0] && areSame(fields.slice(1, 3), SUM.slice(1));
 }
@@ -85,7 +86,7 @@ function sumFaults(record, rows) {
   return !areSame(figures.slice(0, 2), SUM.slice(1)) ? [fault(record.line, "between")] : numberFault(record.line, "sum", "TOTAL", figures[2]);
 }
 
-/** The faults of a file that hasn't the form of a tender. */
+/** The faults of a file that doesn't have the form of a tender. */
 function whyUnreadable(binary) {
   const content = contentOf(binary);
   const kind = KINDS.find(([sign]) => content.startsWith(sign));
@@ -111,7 +112,7 @@ function whyUnreadable(binary) {
   return isOpen ? [fault(records.at(-1).line, "open"), ...faults] : faults;
 }
 
-/** The item of the lot that another name seems to mean: without its lot, in other letters, with a blank or zeros in front. */
+/** The item that a name probably means: without its lot, in other case, with a space or zeros in front. */
 export function meantBy(name, items) {
   const bare = (text) => text.trim().toLowerCase().replace(ITEM_DIGITS, "");
   const meant = items.filter(({ id }) => bare(id) === bare(name.slice(name.lastIndexOf("/") + 1)));
@@ -135,7 +136,7 @@ function nameFaults(rows, items) {
   return faults;
 }
 
-/** The faults of a file that has the form of a tender, and doesn't offer what the lot asks for. */
+/** The faults of a file that has the form of a tender but doesn't offer what the lot requires. */
 function whyNonconforming(rows, items) {
   const wanted = new Map(items.map(({ id, quantity }) => [id, quantity]));
   const faults = nameFaults(rows, items);
@@ -153,7 +154,7 @@ function whyNonconforming(rows, items) {
   return faults;
 }
 
-/** What is wrong in a file whose reading gives no price. */
+/** The faults of a file that gives no price. */
 export function faultsOf(bytes, items, reading) {
   if (reading.kind === "not taken") {
     return [fault(1, "size", { count: bytes.length })];

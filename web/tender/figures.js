@@ -1,6 +1,6 @@
-// A figure as sheets write it: read where it can mean one thing alone.
+// A figure as spreadsheets write it, read if it can mean only one thing.
 
-// Between digits of a great number: blanks of several kinds, and apostrophes.
+// The separators of the digits of a large number: several kinds of spaces, and apostrophes.
 const GAP = "[ \\u00a0\\u202f\\u2009'\\u2019]";
 const GROUPED = new RegExp(`^\\d{1,3}(?:${GAP}\\d{3})+$`);
 const TWICE_GROUPED = /^\d{1,3}(?:\.\d{3}){2,}$|^\d{1,3}(?:,\d{3}){2,}$/;
@@ -10,7 +10,8 @@ const MOST_DIGITS = 15;
 const NO_FIGURES = [["empty", /^$/], ["formula", /^=/], ["sheet", /^#/], ["sign", /^[-+\u2212]|-$/], ["exponent", /^\d+(?:[.,]\d+)?[eE][-+]?\d+$/],
   ["beside", /\d/]];
 
-/** The text without blanks around it and without a currency at one of its ends (`€`, `EUR`, the notice's own), or the dash for no cents (`150.-`). */
+/** The text without spaces around it and without a currency at one end (`€`, `EUR`, the notice's own), or the
+ * dash for no cents (`150.-`). */
 function bareOf(text, currency) {
   const names = [...new Set(["EUR", "€", "\\$", "£", "CHF", currency.replace(/[^A-Za-z]/g, "")].filter(Boolean))].join("|");
   return text.trim().replace(new RegExp(`^(?:${names})\\s*(?=\\d)`, "i"), "").replace(new RegExp(`(?<=[\\d\\-])\\s*(?:${names})$`, "i"), "")
@@ -22,7 +23,7 @@ function whole(digits) {
   return bare.length > MOST_DIGITS ? { why: "great" } : { value: Number(bare) };
 }
 
-/** Digits before a point or comma and behind it: whole units alone, and no cents. */
+/** Digits before and after a point or comma: only whole units, and no cents. */
 function parted(front, behind, isSure) {
   if (!isSure && behind.length === 3 && /^[1-9]\d{0,2}$/.test(front)) {
     return { why: "ambiguous" };
@@ -45,7 +46,8 @@ function read(text) {
   return { why: NO_FIGURES.find(([, form]) => form.test(text))?.[0] ?? "none" };
 }
 
-/** A field's whole number and whether it had to be changed to be one; or `why` it is none, by the name of a text (`number.NAME`, `number.ambiguous`). */
+/** The whole number in a field, and whether the field had to be changed; or `why` it isn't one, as the name
+ * of a text (`number.NAME`, `number.ambiguous`). */
 export function figureOf(field, currency = "") {
   const got = read(bareOf(field, currency));
   return got.why ? got : { ...got, changed: !/^\d{1,16}$/.test(field) };

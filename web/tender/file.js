@@ -1,4 +1,4 @@
-// An offer from a file: taken as it is, made to what the office reads with each change told, or refused with each line and reason.
+// Prices from a file: used unchanged, converted with each change shown, or refused with each line and reason.
 import { element } from "../common/draw.js";
 import { bytesOfFile } from "../common/digest.js";
 import { drop, note, table } from "../common/forms.js";
@@ -8,7 +8,7 @@ import { MOST_READ, converted } from "./convert.js";
 
 const MOST_TOLD = 30;
 
-/** A change or a fault as a sentence; of figures the column is named by its word. */
+/** A change or a fault as a sentence. The column of a figure is named by its word. */
 export function sentenceOfLine(kind, { name, values }) {
   const named = { ...values };
   if (values.figure) {
@@ -23,7 +23,7 @@ export function sentenceOfLine(kind, { name, values }) {
   return say(`${kind}.${name}`, named);
 }
 
-/** Lines and sentences as a table; what is the same in several lines stands there once. */
+/** Lines and sentences as a table. A sentence that applies to several lines appears once. */
 function linesOf(caption, kind, entries) {
   const lines = new Map();
   for (const entry of entries) {
@@ -35,7 +35,7 @@ function linesOf(caption, kind, entries) {
   return [made, lines.size > MOST_TOLD ? element("p", {}, say("file.more", { count: lines.size - MOST_TOLD })) : null];
 }
 
-/** What became of the offer's file. */
+/** The result for the dropped file. */
 export function outcome({ file, terms }) {
   if (file.kind === "refused") {
     return note("bad", say("file.refused", { file: file.name }), linesOf(say("file.refused.caption"), "fault", file.faults), say("file.refused.what"));
@@ -50,7 +50,7 @@ export function outcome({ file, terms }) {
     : note("look", say("file.corrected", { file: file.name, price, count: corrections }), say("file.corrected.what"));
 }
 
-/** Where a file is dropped for the offer; `changed` is called where one was read. */
+/** The place where a file is dropped. `changed` is called after one was read. */
 export function drawFile(offer, changed) {
   const take = async (file) => {
     const tooLong = { kind: "refused", faults: [{ line: 1, name: "size", values: { count: file.size } }] };

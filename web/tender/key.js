@@ -1,4 +1,5 @@
-// The key: read from its file, made anew, asked whether it is registered; and the sheet by which the clerk registers it.
+// The key: reads it from its file, makes a new one, asks whether it is registered, and draws the sheet for
+// the clerk.
 import { isId } from "../common/csv.js";
 import { bytesOf, bytesOfFile, inGroups, newKey, sha256 } from "../common/digest.js";
 import { element, facts, given, link, section, title } from "../common/draw.js";
@@ -8,14 +9,14 @@ import { sentenceOf, tender } from "../common/office.js";
 import { say } from "../common/texts.js";
 import { putAway, session } from "./session.js";
 
-/** The name and the key of a key's file: two lines, as `curl -H @FILE` reads them. Null where it has none. */
+/** The name and the key in a key file: two lines, as `curl -H @FILE` reads them. Null if there is none. */
 export function keyIn(text) {
   const [, caller] = /^\ufeff?Office-Caller:[ \t]*(\S+)[ \t]*$/m.exec(text) ?? [];
   const [, key] = /^Office-Key:[ \t]*([!-~](?:[ -~]*[!-~])?)[ \t]*$/m.exec(text) ?? [];
   return caller && key && isId(caller) ? { caller, key } : null;
 }
 
-/** The file of a key. */
+/** The content of a key file. */
 export function keyFile({ caller, key }) {
   return `Office-Caller: ${caller}\nOffice-Key: ${key}\n`;
 }
@@ -30,7 +31,7 @@ async function take(file, { redraw }) {
   redraw(found ? say("key.taken", { name: found.caller }) : say("key.noKey"), !found);
 }
 
-/** Whether the office knows the key: any answer but `BadKey` shows it. */
+/** Whether the office knows the key: every answer except `BadKey` shows that. */
 async function ask(where) {
   try {
     await tender(1, session.caller);
@@ -80,7 +81,7 @@ function ofMaking(context) {
     form(say("key.new"), Object.values(fields).map((one) => one.made), say("key.make"), () => make(fields, context))];
 }
 
-/** The sheet for the clerk: who is to be registered, and the key's SHA-256. */
+/** The sheet for the clerk: the tenderer to register, and the key's SHA-256. */
 function registrationSheet(context) {
   const { tenderer, name, address, digest } = session.registration;
   const file = `${JSON.stringify({ tenderer, name, address, key: digest })}\n`;

@@ -1,4 +1,4 @@
-// Which view of the desk is shown, by the address, where one begins, and whose key is in this tab.
+// Chooses the desk's view by the address, draws the start, and shows whose key this tab holds.
 import { badge, element, link, title } from "../common/draw.js";
 import { drawAround, showViews, words } from "../common/frame.js";
 import { addTexts, say } from "../common/texts.js";
@@ -9,7 +9,7 @@ import { drawSend } from "./send.js";
 import { readyOf, session } from "./session.js";
 
 await addTexts({ en: () => import("./en.js"), de: () => import("./de.js") });
-// (what shows own tenders is loaded where it is wanted alone)
+// (the views of own tenders are loaded on demand)
 const own = (name) => async (...asked) => (await import("./tenders.js"))[name](...asked);
 const VIEWS = { "": drawHome, key: drawKey, offer: drawOffer, send: drawSend, tenders: own("drawTenders"), tender: own("drawTender"), check: drawCheck };
 const MENU = { "": "home.short", key: "key.title", offer: "offer.short", tenders: "tenders.title", check: "receipt.number" };
@@ -19,14 +19,14 @@ function step(number, name, isDone) {
     element("p", {}, say(`home.${name}.why`)), element("p", {}, link(say(`home.${name}.go`), `#${name}`, isDone ? "button second" : "button")));
 }
 
-/** Where to begin: the steps of a tender, each with how far it is. */
+/** The start: the steps of a tender, each with how far it is. */
 function drawHome() {
   return { title: say("home.title"), content: [title(say("home.title")), element("p", {}, say("home.why")),
     element("ol", { class: "lines stepwise" }, step(1, "key", session.caller !== null), step(2, "offer", readyOf(session.offer) !== null),
       step(3, "tenders", false), step(4, "check", false)), element("p", { class: "quiet" }, say("home.keeps"))] };
 }
 
-/** The page and the names behind it in the address. */
+/** The page and the names after it in the address. */
 function place() {
   const [page, ...names] = words();
   return Object.hasOwn(VIEWS, page) ? [page, ...names] : [""];
@@ -39,7 +39,7 @@ function around([page]) {
   document.getElementById("who").textContent = session.caller ? say("who.key", { name: session.caller.caller }) : say("who.none");
 }
 
-// What was typed and what has no answer yet is told of before the tab is closed.
+// Asks before the tab is closed if there are typed prices, an unanswered request or an unsaved receipt.
 addEventListener("beforeunload", (event) => {
   const isUnkept = session.sent?.isOpen || (session.sent?.receipt?.digest && !session.sent.isKept);
   if (isUnkept || Object.values(session.offer?.units ?? {}).some((text) => text !== "")) {

@@ -1,4 +1,4 @@
-// An offer: the notices that are open, a notice's terms and lots, and a lot's prices, typed or from a file.
+// A new tender: the open notices, a notice's terms and lots, and the prices of a lot, typed or from a file.
 import { isId } from "../common/csv.js";
 import { badge, element, facts, given, link, placeOf, section, title } from "../common/draw.js";
 import { noticeOf as meant } from "../common/filters.js";
@@ -13,7 +13,7 @@ import { drawTable } from "./table.js";
 
 const AT_ONCE = 50;
 
-/** Until when tenders are taken. */
+/** The deadline, with a clock. */
 export function deadlineOf({ deadline }) {
   return [moment(deadline), " – ", clock(deadline)];
 }
@@ -28,7 +28,7 @@ function isTaking({ state, deadline }) {
   return state === "receiving" && Date.parse(deadline) >= officeNow();
 }
 
-/** A notice by its number, whatever letters are capital, of these or of any. */
+/** A field for a notice number, in whatever case, from this list or any other. */
 function ask(list = []) {
   const notice = field(say("offer.number"), { id: "offer-notice", hint: say("offer.number.hint"), ...ID });
   return form(say("offer.number"), [notice.made], say("offer.show"), () => {
@@ -45,7 +45,7 @@ function lotCard(one, lot) {
     isTaking(one) ? link(say("offer.begin", { lot: lot.id }), placeOf("offer", one.notice, lot.id), "button") : null);
 }
 
-/** The view of a notice: its terms and its lots. */
+/** The view of a notice: its terms and lots. */
 async function drawNotice(notice) {
   const one = await noticeOf(notice);
   const over = one.state === "cancelled" ? say("refusal.NotOpenForTenders") : one.state === "opened" ? say("offer.opened") : say("refusal.DeadlinePassed");
@@ -54,7 +54,7 @@ async function drawNotice(notice) {
     element("ul", { class: "lines" }, one.lots.map((lot) => lotCard(one, lot)))] };
 }
 
-/** The fields of a security where the lot asks for one; what is wrong in them is said beside them. */
+/** The fields of a security, if the lot requires one, with their faults beside them. */
 function securityFields(offer) {
   const { security, lot, terms: one } = offer;
   if (!lot.security) {
@@ -80,7 +80,7 @@ function securityFields(offer) {
     element("div", { class: "fields" }, reference.made, amount.made));
 }
 
-/** What is wrong with the security of an offer, by its fields. */
+/** The faults of a tender's security, by field. */
 export function securityFaults({ security: { reference, amount }, lot, changes }) {
   if (changes !== null || !lot.security) {
     return {};
@@ -90,7 +90,7 @@ export function securityFaults({ security: { reference, amount }, lot, changes }
     ...(!value ? { amount: say("refusal.BadBody.amount") } : value < lot.security ? { amount: say("refusal.SecurityTooSmall") } : {}) };
 }
 
-/** The offer's security as it is sent, or null. */
+/** The security as it is sent, or null. */
 export function securityOf(offer) {
   const { security, lot, changes } = offer;
   return changes !== null || !lot.security || Object.keys(securityFaults(offer)).length > 0 ? null
@@ -110,20 +110,20 @@ function sources(offer, redraw) {
   return element("div", { class: "steps", role: "group", "aria-label": say("offer.source") }, made("table"), made("file"));
 }
 
-/** The part that takes a file: what reads files is loaded where it is wanted alone. */
+/** The part for a file. What reads files is loaded on demand. */
 async function filePart(offer, redraw) {
   const { drawFile } = await import("./file.js");
   return drawFile(offer, (sentence, isWrong) => redraw(sentence, isWrong, "offer-file"));
 }
 
-/** What a change is: of which tender, what becomes of its security, and where the prices of that one are. */
+/** A note on a change: which tender it replaces, what happens to the security, and where the old prices are. */
 function changeNote({ changes, lot, terms: one }) {
   const receipt = String(changes);
   return note("look", say("offer.changes", { receipt }), say("offer.changes.why"), lot.security ? say("change.security") : null,
     keptOf(changes).units ? say("offer.changes.there") : say("offer.changes.file", { receipt, file: `${one.notice}-${lot.id}-receipt-${receipt}.csv` }));
 }
 
-/** The view of an offer for a lot. */
+/** The view of a tender for a lot. */
 async function drawLot(notice, name, { redraw }) {
   const one = await noticeOf(notice);
   const lot = one.lots.find(({ id }) => id === name);
@@ -151,7 +151,7 @@ function entry(one) {
     element("p", {}, one.notice, " · ", clock(one.deadline)), element("p", { class: "quiet" }, say("see.deadline"), " ", moment(one.deadline)));
 }
 
-/** The notices that take tenders, those first whose deadline is nearest. */
+/** The notices that are open for tenders, the nearest deadline first. */
 async function drawOpen() {
   const all = await notices();
   const open = all.filter(isTaking).sort((one, other) => (one.deadline < other.deadline ? -1 : 1));

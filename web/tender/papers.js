@@ -1,5 +1,6 @@
-// What the office makes of a tender's file at the opening, to the letter (crates/tender_papers/specs, Files and Tender). It decides; faults.js explains. It
-// wants no page, so it runs in node too, where tests/tender_files compares it with tools/check_tender, which is compared with the office.
+// What the office reads in a tender's file at the opening, to the letter (crates/tender_papers/specs, Files
+// and Tender). This module decides; faults.js explains. It runs in node too: tests/tender_files compares it
+// with tools/check_tender, which is compared with the office.
 import { binaryOf, contentOf, numberOf, recordsOf } from "../common/csv.js";
 
 export const HEAD = ["item", "quantity", "unit", "total"];
@@ -10,13 +11,13 @@ export function areSame(some, others) {
   return some.length === others.length && some.every((field, at) => field === others[at]);
 }
 
-/** The item's row that a record is: four fields, of which the last three are numbers. Null where it is none. */
+/** The item's row in a record: four fields, the last three of them numbers. Null if it isn't one. */
 export function rowOf({ line, fields }) {
   const [quantity, unit, total] = fields.slice(1).map(numberOf);
   return fields.length !== HEAD.length || [quantity, unit, total].includes(null) ? null : { line, name: fields[0], quantity, unit, total };
 }
 
-/** The sum that the last record states: `TOTAL`, two empty fields and a number. Null where it states none. */
+/** The sum that the last record states: `TOTAL`, two empty fields and a number. Null if it states none. */
 export function statedOf({ fields }) {
   return fields.length === HEAD.length && areSame(fields.slice(0, 3), SUM) ? numberOf(fields[3]) : null;
 }
@@ -25,12 +26,13 @@ export function isHead({ fields }) {
   return areSame(fields, HEAD);
 }
 
-/** What counts: quantities times unit prices. (Rows of any file: their numbers come to more than a Number holds exactly.) */
+/** The price that counts: quantities times unit prices. (Files can contain numbers whose sum a Number doesn't
+ * hold exactly.) */
 export function priceOf(rows) {
   return rows.reduce((sum, { quantity, unit }) => sum + BigInt(quantity) * BigInt(unit), 0n);
 }
 
-/** Whether the rows are for the lot's items, in their order and with their quantities, at prices within the bounds. */
+/** Whether the rows are the lot's items, in their order and quantities, with prices within the bounds. */
 function conforms(rows, items) {
   const areFor = rows.length === items.length && rows.every(({ name, quantity }, at) => name === items[at].id && quantity === items[at].quantity);
   return areFor && rows.every(({ unit }) => unit <= MOST_UNIT) && priceOf(rows) <= BigInt(MOST_PRICE);
@@ -40,8 +42,8 @@ export function isWrong({ quantity, unit, total }) {
   return total !== quantity * unit;
 }
 
-/** What the office makes of a file's bytes for a lot of these items: `priced` with the price that it states, the price that counts, and how many figures are
- * corrected; else `unreadable`, `nonconforming`, or `not taken`. */
+/** How the office reads a file's bytes for a lot with these items: `priced`, with the stated price, the price
+ * that counts and the number of corrections; else `unreadable`, `nonconforming`, or `not taken`. */
 export function readingOf(bytes, items) {
   if (bytes.length < 1 || bytes.length > MOST_BYTES) {
     return { kind: "not taken", rows: [] };
@@ -62,7 +64,7 @@ export function readingOf(bytes, items) {
   return { kind: "priced", stated, price, corrections: rows.filter(isWrong).length + (stated === price ? 0 : 1), rows };
 }
 
-/** The file of these unit prices, as the office reads it without a correction. */
+/** The file with these unit prices, which the office reads without a correction. */
 export function fileOf(items, units) {
   const rows = items.map(({ id, quantity }, at) => [id, quantity, units[at], quantity * units[at]]);
   const sum = rows.reduce((all, row) => all + row[3], 0);

@@ -1,4 +1,5 @@
-// Receipts: shown beside the digest that was computed here, printed, saved; and whether a file and a receipt belong together.
+// Receipts: compared with the digest that this tab computed, printed and saved; and whether a file and a
+// receipt belong together.
 import { bytesOfFile, inGroups, sha256 } from "../common/digest.js";
 import { element, facts, given, link, placeOf, title } from "../common/draw.js";
 import { button, drop, note, printButton, save, sheet, steps } from "../common/forms.js";
@@ -10,13 +11,14 @@ import { session } from "./session.js";
 
 const MOST_RECEIPT = 16384;
 
-/** A security: its reference and amount where they are known, and the office's number of it. */
+/** A security: its reference and amount if they are known, and its number at the office. */
 function securityOf(number, { named, currency }) {
   return number === null || number === undefined ? say("send.noSecurity")
     : [named ? [given(named.security), `, ${money(named.amount, currency)}`, element("br")] : null, say("receipt.security", { number: String(number) })];
 }
 
-/** What a receipt says, as facts; `known` is what else is known: `named`, the security, in a `currency`, and `more` facts. */
+/** The facts of a receipt. `known` has what else is known: the security (`named`, in a `currency`) and `more`
+ * facts. */
 export function factsOf(receipt, known = {}) {
   const { tenderer, notice, lot, state, security } = receipt;
   return facts([[say("receipt.number"), String(receipt.receipt)], tenderer ? [say("see.tenderer"), given(String(tenderer))] : null,
@@ -25,7 +27,7 @@ export function factsOf(receipt, known = {}) {
     [say("see.security"), securityOf(security, known)], ...(known.more ?? [])].filter(Boolean));
 }
 
-/** Whether what the office received is what was sent: green only where the digests are equal. */
+/** Whether the office received what was submitted. Only equal digests are green. */
 function compared(own, others, kind = "receipt") {
   const isSame = own === others;
   const digest = (text) => element("p", { class: "code" }, inGroups(text));
@@ -33,14 +35,14 @@ function compared(own, others, kind = "receipt") {
     isSame ? null : say(`${kind}.differs.what`));
 }
 
-/** The file of a receipt: what the office answered, with the tenderer and where it was handed in. */
+/** The file of a receipt: the office's answer, with the tenderer and where it was submitted. */
 function fileOf(receipt) {
   const { digest, length, lot, moment: came, notice, receipt: number, security, state } = receipt;
   const all = { digest, length, lot, moment: came, notice, office: location.origin, receipt: number, security, state, tenderer: session.caller?.caller };
   return `${JSON.stringify(all)}\n`;
 }
 
-/** The view behind a sending. */
+/** The view after a submission. */
 export function drawReceipt(sent) {
   const { receipt } = sent;
   const isLate = receipt.state === "returned";
@@ -66,7 +68,7 @@ export function drawReceipt(sent) {
       link(say("tenders.title"), "#tenders", "button second"))] };
 }
 
-/** The receipt in a file: an object with a digest and a number; null where it is none. */
+/** The receipt in a file: an object with a digest and a number; null if there is none. */
 function receiptIn(text) {
   try {
     const told = JSON.parse(text);
@@ -78,7 +80,7 @@ function receiptIn(text) {
 
 const chosen = { file: null, receipt: null };
 
-/** What the office itself says of the receipt, to whom it belongs. */
+/** Asks the office for the tender of the receipt; only its owner may. */
 async function askOffice(where) {
   try {
     const found = await tender(chosen.receipt.value.receipt, session.caller);
@@ -98,7 +100,7 @@ function outcome({ file, receipt }) {
     value ? sheet(element("h2", {}, say("receipt.sheet")), factsOf(value)) : null];
 }
 
-/** The view that takes a file and a receipt, and says whether they belong together. */
+/** The view that takes a file and a receipt, and shows whether they belong together. */
 export function drawCheck({ redraw }) {
   const takeFile = async (file) => {
     const bytes = await bytesOfFile(file);

@@ -1,4 +1,5 @@
-// What became of a tender that was opened: what was read of it, and why it won or didn't; the contracts of its tenderer for its lot, and what is outstanding.
+// The result of an opened tender: its price, why it won or didn't, and the tenderer's contracts for the lot
+// with the outstanding amounts.
 import { contractPart } from "../common/contract.js";
 import { badge, element, given, link } from "../common/draw.js";
 import { awardsOf, contractOf, kindOfSigned, outcomeOf } from "../common/findings.js";
@@ -10,7 +11,8 @@ import { tenderTable } from "../common/tenders.js";
 import { say } from "../common/texts.js";
 import { session } from "./session.js";
 
-/** What was read of the tender, by the minutes, and what became of it. A contract that ended isn't green: it may have ended by default. */
+/** The reading of the tender in the minutes, and its result. A contract that ended isn't green, because it
+ * may have ended by default. */
 function readPart({ reading, corrected, stated, corrections }, [kind, name], contract, currency) {
   if (reading !== "priced") {
     return note("bad", say(`see.why.${reading}`), say("results.lost"));
@@ -20,7 +22,7 @@ function readPart({ reading, corrected, stated, corrections }, [kind, name], con
     element("p", {}, badge(name === "signed" ? kindOfSigned(contract) : kind, say(`see.outcome.${name}`)), " ", say(`see.why.${name}`)));
 }
 
-/** A contract of the caller's, as the office tells it to its tenderer. */
+/** One of the caller's contracts, with what the office tells only its tenderer. */
 async function ownContract(one, award, lot, notice) {
   const [seen, held] = await Promise.all([contract(one.id, session.caller), performance(one.id, session.caller).catch((fault) => {
     if (fault.name !== "NoSuch") {
@@ -31,7 +33,7 @@ async function ownContract(one, award, lot, notice) {
   return contractPart(one, award, lot, notice, { seen, held });
 }
 
-/** The parts of a tender's view that the opening and what came behind it fill. */
+/** The parts of a tender's view that exist after the opening. */
 export async function drawResults(found) {
   const notice = await seenOf(found.notice);
   const { compiled, terms } = notice;

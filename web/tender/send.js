@@ -1,5 +1,5 @@
-// Before sending: what the office will read at the opening, and the digest of the bytes. Sending; and behind it the receipt, or what became of what got no
-// answer.
+// Before a submission: what the office will read at the opening, and the digest of the bytes. Then the
+// submission itself, and its receipt, or what happened if no answer came.
 import { inGroups, sha256 } from "../common/digest.js";
 import { element, facts, given, link, placeOf, section, title } from "../common/draw.js";
 import { button, note, steps, table, tick } from "../common/forms.js";
@@ -10,7 +10,7 @@ import { deadlineOf, securityFaults, securityOf } from "./offer.js";
 import { drawReceipt } from "./receipt.js";
 import { keep, keptOf, noticeOf, readyOf, session } from "./session.js";
 
-/** What will be read at the opening: each item's row, the price, and what is corrected. */
+/** What the office will read at the opening: each item's row, the price, and the corrections. */
 function readingTable({ rows, price, stated, corrections }, { lot, terms }) {
   const corrected = (found, right) => (found === right ? null : element("span", { class: "wrong below" }, say("send.corrects", { found })));
   const heads = ["table.item", "table.title", "table.quantity", "table.unit", "table.total"].map((name) => say(name));
@@ -26,14 +26,15 @@ function placeOfLot(offer) {
   return placeOf("offer", offer.terms.notice, offer.lot.id);
 }
 
-/** What hinders the sending, as sentences with where it is mended. */
+/** What prevents the submission, as sentences with a link to its place. */
 function hindrances(offer, ready) {
   const found = [session.caller ? null : ["who.none", "#key", "key.title"], ready ? null : ["send.notReady", placeOfLot(offer), "send.back"],
     Object.keys(securityFaults(offer)).length > 0 ? ["send.wrongSecurity", placeOfLot(offer), "see.security"] : null].filter(Boolean);
   return found.map(([sentence, href, text]) => note("bad", say(sentence), link(say(text), href)));
 }
 
-/** What the office tells of a tender that was taken: with notice and lot, which its receipt hasn't. Where it can't be asked, what is known here. */
+/** What the office returns for a received tender. It adds the notice and the lot, which a receipt lacks. If
+ * it can't be asked, this is what the tab knows. */
 async function lookAt({ notice, lot, length }, { receipt, digest, moment, security, state }) {
   const known = { receipt, digest, moment, security, state, notice, lot, length };
   return { ...known, ...await tender(receipt, session.caller).catch(() => ({})) };
@@ -49,7 +50,7 @@ async function taken(sent, answer, text) {
   Object.assign(session, { changing: null, offer: null, sent: { ...sent, receipt: found, text, isOpen: false, isGoing: false, fault: null } });
 }
 
-/** Sends an offer, once. What came of it stands in `session.sent` then. */
+/** Submits a tender, once. `session.sent` then holds the result. */
 async function send(offer, ready, digest) {
   const { notice, currency } = offer.terms;
   const units = Object.fromEntries(ready.reading.rows.map(({ name, unit }) => [name, String(unit)]));
@@ -69,13 +70,14 @@ async function send(offer, ready, digest) {
   }
 }
 
-/** What a refusal says, and what to do then. */
+/** A refusal as a note, with what to do. */
 export function refusedPart(fault, help) {
   return note("bad", sentenceOf(fault), say("send.unchanged"), hasText(`${help}.${fault.name}`) ? say(`${help}.${fault.name}`) : null,
     link(say("tenders.title"), "#tenders"));
 }
 
-/** A withdrawal before the deadline shows in the tender's state; a late one in its security alone, and without a security nowhere. */
+/** A withdrawal before the deadline shows in the tender's state. A late one shows only in its security, and
+ * without a security nowhere. */
 async function ofWithdrawal({ isLate }, old, caller) {
   if (old.state === "withdrawn") {
     return "done";
@@ -86,9 +88,10 @@ async function ofWithdrawal({ isLate }, old, caller) {
   return old.security === null ? "unknown" : (await security(old.security, caller)).state === "forfeited" ? "done" : "not";
 }
 
-/** What became of a command that got no answer: it was done whole or not at all, and the caller's own tenders tell which. `done`, with the caller's tender as
- * it stands; `not` (up to now); `other`, where something else became of the tender; or `unknown`. `sent` has the notice, the receipt of the tender that is
- * changed or withdrawn, and of one that is sent its lot, its digest, and the last receipt that was there before. */
+/** What happened to a command that got no answer; it was done completely or not at all. The caller's own
+ * tenders show which: `done` with the tender; `not` (so far); `other`, if something else happened to it; or
+ * `unknown`. `sent` has the notice and the receipt of the tender to change or withdraw. For a submission it
+ * has the lot, the digest, and the newest receipt before it. */
 export async function becameOf(sent, caller) {
   const own = await ownTenders(sent.notice, caller);
   const old = own.find(({ receipt }) => receipt === sent.receipt) ?? null;
@@ -99,7 +102,7 @@ export async function becameOf(sent, caller) {
   return found ? { kind: "done", tender: found } : { kind: old === null || old.state === "sealed" ? "not" : "other", tender: old };
 }
 
-/** The same of a sending, once the office tells it. */
+/** The same for a submission, when the office answers. */
 async function settle(sent, where, redraw) {
   const again = steps(button(say("became.ask"), () => settle(sent, where, redraw)));
   try {
@@ -115,12 +118,13 @@ async function settle(sent, where, redraw) {
   }
 }
 
-/** That it isn't known whether a command was done, and the button that asks. */
+/** A note that the result is unknown, and the button that asks. */
 export function openPart(fault, ask) {
   return [note("bad", say("send.open"), fault ? sentenceOf(fault) : null, say("send.open.what")), steps(button(say("became.ask"), ask))];
 }
 
-/** How far a sending is that has no receipt. Where no answer came, the office is asked; sending the same again is no danger before the deadline. */
+/** A submission without a receipt yet. If no answer came, this asks the office; before the deadline it is
+ * safe to submit the same again. */
 function sentPart(sent, redraw) {
   if (sent.isGoing || !sent.isOpen) {
     return sent.isGoing ? note("look", say("send.going")) : refusedPart(sent.fault, "help");
@@ -131,7 +135,8 @@ function sentPart(sent, redraw) {
   return [told, where];
 }
 
-/** The button that sends. A tender may still come in the second of the deadline, and a change before it alone; a late tender is sent where one wants that. */
+/** The button that submits. A tender is in time in the second of the deadline, a change only before it. A
+ * late tender needs a tick. */
 function sendButton(offer, ready, digest, redraw) {
   const isChange = offer.changes !== null;
   const isPast = () => Date.parse(offer.terms.deadline) < officeNow() + (isChange ? 1 : 0);
@@ -141,7 +146,7 @@ function sendButton(offer, ready, digest, redraw) {
   }
   const press = button(isChange ? say("send.change", { receipt: String(offer.changes) }) : say("send.send"), async () => {
     if (!isLate && isPast()) {
-      // It came while the view stood there.
+      // The deadline passed while the view was shown.
       redraw();
       return;
     }
@@ -153,20 +158,20 @@ function sendButton(offer, ready, digest, redraw) {
   return [isLate ? note("bad", say("send.late"), sure.made) : null, steps(press, link(say("send.back"), placeOfLot(offer), "button second"))];
 }
 
-/** The bytes that are sent, and their digest. */
+/** The bytes to submit, and their digest. */
 function bytesPart(bytes, digest) {
   return section(say("send.bytes"), element("p", {}, say("send.bytes.why", { count: bytes.length })), element("pre", {}, new TextDecoder().decode(bytes)),
     element("p", {}, say("send.digest")), element("p", { class: "code", id: "digest" }, inGroups(digest)));
 }
 
-/** What is known of the notice and of the caller's tenders is asked for anew; where it can't be had, what was known stays. */
+/** Fetches the notice and the caller's tenders again. What can't be fetched stays as it was. */
 async function renew(offer) {
   const { notice } = offer.terms;
   const [one, own] = await Promise.all([noticeOf(notice).catch(() => offer.terms), session.caller ? ownTenders(notice, session.caller).catch(() => []) : []]);
   Object.assign(offer, { terms: one, known: Math.max(0, offer.known ?? 0, ...own.map(({ receipt }) => receipt)) });
 }
 
-/** The view before the sending. */
+/** The view before the submission. */
 async function drawBefore(offer, { redraw }) {
   const sent = session.sent?.fault || session.sent?.isOpen ? session.sent : null;
   const isOf = sent && sent.notice === offer.terms.notice && sent.lot === offer.lot.id;
@@ -184,7 +189,7 @@ async function drawBefore(offer, { redraw }) {
     hindered.length > 0 ? hindered : isOf && sent.isGoing ? null : sendButton(offer, ready, digest, redraw)] };
 }
 
-/** The view at `#send`: before the sending, or the receipt behind it. */
+/** The view at `#send`: before the submission, or the receipt after it. */
 export function drawSend(context) {
   if (session.offer) {
     return drawBefore(session.offer, context);

@@ -1,4 +1,4 @@
-// What this tab knows, in its memory alone: nothing of it is stored, and closing the tab forgets it.
+// What this tab knows, only in its memory. Nothing is stored, and closing the tab forgets it.
 import { typed } from "../common/money.js";
 import { record, terms } from "../common/office.js";
 import { MOST_PRICE, MOST_UNIT, fileOf, readingOf } from "./papers.js";
@@ -6,26 +6,27 @@ import { MOST_PRICE, MOST_UNIT, fileOf, readingOf } from "./papers.js";
 export const session = {
   // From the key's file: { caller, key }.
   caller: null,
-  // What was asked for in the form of a registration, and the digest of the key that was made for it.
+  // The registration that was typed, and the digest of the key that was made for it.
   registration: { tenderer: "", name: "", address: "", digest: "" },
   offer: null,
-  // What was sent and got no answer, or got one: { kind, notice, lot, receipt, digest, answer }.
+  // The last request, with or without an answer: { kind, notice, lot, receipt, digest, answer }.
   sent: null,
-  // The tenders that were looked for and found, and the notices that were looked into.
+  // The caller's tenders that were found, and the notices that were searched.
   tenders: [],
   seen: new Set(),
-  // What this tab knows of a tender by its receipt: the unit prices that it sent, and its security.
+  // By receipt: the unit prices that this tab submitted, and the security.
   kept: new Map(),
 };
 
-/** Puts the key away, and all that was learned by it. */
+/** Forgets the key, and everything that was learned with it. */
 export function putAway() {
   Object.assign(session, { caller: null, offer: null, sent: null, changing: null, tenders: [] });
   session.seen.clear();
   session.kept.clear();
 }
 
-/** What this tab knows of the tender with a receipt: `units`, the prices that were sent for its items, and `named`, its security, where it has them. */
+/** What this tab knows of the tender with a receipt: `units`, its submitted prices by item, and `named`, its
+ * security, if it has them. */
 export function keptOf(receipt) {
   return session.kept.get(receipt) ?? {};
 }
@@ -34,13 +35,13 @@ export function keep(receipt, more) {
   session.kept.set(receipt, { ...keptOf(receipt), ...more });
 }
 
-/** The terms of a notice, with what its record tells beside them. */
+/** The terms of a notice, with the rest of its record. */
 export async function noticeOf(notice) {
   const [one, { buyer, language, tender }] = await Promise.all([terms(notice), record(notice)]);
   return { ...one, buyer: buyer.name, language, currency: tender.value.currency };
 }
 
-/** Begins an offer for a lot; `changes` is the receipt of the tender that it takes the place of, or null. */
+/** Begins a tender for a lot. `changes` is the receipt of the tender that it replaces, or null. */
 export function beginOffer(one, lot, changes) {
   const old = session.offer;
   const isSame = old && old.terms.notice === one.notice && old.lot.id === lot.id && old.changes === changes;
@@ -54,14 +55,15 @@ export function unitsOf({ lot, units }) {
   return lot.items.map(({ id }) => typed(units[id] ?? "", MOST_UNIT));
 }
 
-/** The sum of what is typed so far, and whether all is there. */
+/** The sum of what is typed so far, and whether it is complete. */
 export function sumOf(offer) {
   const units = unitsOf(offer);
   const sum = units.reduce((all, { value = 0 }, at) => all + BigInt(value) * BigInt(offer.lot.items[at].quantity), 0n);
   return { sum, isWhole: units.every(({ value }) => value !== undefined), isAbove: sum > BigInt(MOST_PRICE) };
 }
 
-/** The bytes of an offer and what the office will read in them, or null where they aren't ready. Bytes without a price are never ready. */
+/** The bytes of a tender and how the office will read them, or null if they aren't ready. Bytes without a
+ * price are never ready. */
 export function readyOf(offer) {
   if (offer?.source === "file") {
     const { kind, bytes, reading } = offer.file ?? { kind: "refused" };

@@ -1,4 +1,4 @@
-// The table of an offer: a unit price for each item of the lot, each product and the sum as one types.
+// The price table of a tender: a unit price for each item of the lot, with products and sum while one types.
 import { element, given } from "../common/draw.js";
 import { DIGITS, table } from "../common/forms.js";
 import { money, number } from "../common/money.js";
@@ -6,7 +6,7 @@ import { say } from "../common/texts.js";
 import { MOST_PRICE, MOST_UNIT } from "./papers.js";
 import { sumOf, unitsOf } from "./session.js";
 
-/** Where a price can be typed for an item, and where its product and what is wrong with it are told. */
+/** The place where an item's price is typed and its product or fault is shown. */
 function rowOf(offer, item, at, changed) {
   const input = element("input", { id: `unit-${at}`, ...DIGITS, autocomplete: "off", "aria-label": say("table.unit.of", { item: item.id }),
     "aria-describedby": `unit-${at}-wrong` });
@@ -26,7 +26,7 @@ function rowOf(offer, item, at, changed) {
   return { tell, cells: [given(item.id), given(item.title), number(item.quantity), [input, wrong], product] };
 }
 
-/** The table, which calls `changed` with whether all is there. */
+/** The table. It calls `changed` with whether it is complete. */
 export function drawTable(offer, changed) {
   const { lot, terms } = offer;
   const sum = element("output", { class: "figure" });

@@ -1,4 +1,4 @@
-// The caller's tenders, looked for notice by notice, each with its state and security; changed or withdrawn.
+// The caller's tenders, searched notice by notice, each with its state and security; change and withdrawal.
 import { inGroups } from "../common/digest.js";
 import { badge, below, element, facts, given, link, placeOf, section, title } from "../common/draw.js";
 import { button, note, steps, table, tick } from "../common/forms.js";
@@ -11,10 +11,11 @@ import { becameOf, openPart, refusedPart } from "./send.js";
 import { keep, keptOf, noticeOf, session } from "./session.js";
 
 const KINDS = { sealed: "open", opened: "ended", withdrawn: "stopped", returned: "stopped" };
-// How many notices are looked into by themselves, and how many at a time.
+// How many notices are searched at first, and how many at a time.
 const AT_FIRST = 30, TOGETHER = 6;
 
-/** The receipt of what took a tender's place, where that is known: it was sent from this tab, or took the security over. */
+/** The receipt of the tender that replaced this one, if it is known: this tab submitted it, or it took over
+ * the security. */
 function successorOf({ receipt, security: number }) {
   const heirs = session.tenders.filter((one) => one.receipt > receipt && number !== null && one.security === number);
   return keptOf(receipt).successor ?? heirs.at(-1)?.receipt;
@@ -37,7 +38,7 @@ function list() {
     link(say(state === "sealed" && isOpen ? "tenders.do.change" : "tenders.do.look", { receipt: String(receipt) }), placeOf("tender", String(receipt)))]));
 }
 
-/** Looks into these notices, and keeps what of their tenders is the caller's, the newest first. */
+/** Searches these notices, and keeps the caller's tenders, newest first. */
 async function lookInto(rows) {
   const found = await Promise.all(rows.map(async ({ notice, title: named, deadline }) =>
     (await ownTenders(notice, session.caller)).map((one) => ({ ...one, notice, title: named, isOpen: Date.parse(deadline) > officeNow() }))));
@@ -46,7 +47,7 @@ async function lookInto(rows) {
   names.forEach((name) => session.seen.add(name));
 }
 
-/** All of these, some at a time, until they are done or it is told to stop. */
+/** Searches all of these notices, a few at a time, until the end or until it is stopped. */
 async function lookThrough(rows, where, redraw) {
   let isStopped = false;
   const line = element("p", { role: "status" });
@@ -66,7 +67,7 @@ function withoutKey() {
   return { title: say("tenders.title"), content: [title(say("tenders.title")), note("bad", say("who.none"), link(say("key.title"), "#key"))] };
 }
 
-/** The view of all tenders. Notices that take tenders, and those that were opened last, are looked into at once. */
+/** The view of all tenders. Notices that are open for tenders or were opened last are searched at once. */
 export async function drawTenders({ redraw }) {
   if (!session.caller) {
     return withoutKey();
@@ -83,16 +84,18 @@ export async function drawTenders({ redraw }) {
       steps(button(say("tenders.search"), () => lookThrough(others, where, redraw)))]] };
 }
 
-// So many milliseconds before the deadline what is sent may come late: the server's clock is told in whole seconds, and the office takes one after another.
+// This many milliseconds before the deadline a request may arrive late: the server's clock is known only to
+// the second, and the office handles one request at a time.
 const CLOSE = 60_000;
 
-/** When a withdrawal would come: `free` before the deadline, `close` to it, where coming late costs something, or `late`. */
+/** When a withdrawal would arrive: `free` before the deadline, `close` to it (if a late one costs something),
+ * or `late`. */
 function timeOf({ deadline, late_withdrawal: rule }) {
   const left = Date.parse(deadline) - officeNow();
   return left <= 0 ? "late" : left < CLOSE && rule === "forfeits" ? "close" : "free";
 }
 
-/** What a withdrawal costs then, by the terms and the security; and whether it is to be had at all. */
+/** What a withdrawal costs then, by the terms and the security, and whether it is possible. */
 function costOf(one, held, time) {
   const amount = held ? `${money(held.amount, one.currency)} (${held.reference})` : "";
   if (time === "late" && one.late_withdrawal === "refused") {
@@ -125,7 +128,8 @@ async function take(sent, where, redraw) {
   }
 }
 
-/** The part that withdraws a tender: the price is said before the button, and the button wants a tick. Where it is another by then, it is said anew. */
+/** The form that withdraws a tender. It shows the cost before the button, and needs a tick. If the cost has
+ * changed meanwhile, it shows the new one. */
 function withdrawPart(found, one, held, redraw) {
   const time = timeOf(one);
   const { kind, sentence, behind, isRefused } = costOf(one, held, time);
@@ -147,13 +151,13 @@ function changePart(found, one) {
     found.security === null ? "" : ` ${say("change.security")}`, " ", clock(one.deadline)), steps(press));
 }
 
-/** A tender's security as it stands. */
+/** The state of a tender's security. */
 function securityPart(held, currency) {
   return section(say("see.security"), facts([[say("offer.reference"), given(held.reference)], [say("security.amount"), money(held.amount, currency)],
     [say("see.state"), say(`security.${held.state}`)]]), element("p", { class: "quiet" }, say(`security.${held.state}.why`)));
 }
 
-/** The view of one tender, asked for anew. */
+/** The view of one tender, always fetched again. */
 export async function drawTender({ redraw }, receipt) {
   if (!session.caller) {
     return withoutKey();

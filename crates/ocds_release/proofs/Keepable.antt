@@ -4,7 +4,7 @@ use Rattle.std.specs.Prelude.{unwrap_or, option_and_then}
 use Rattle.serde_json.specs.Data.{Data}
 use Rattle.serde_json.specs.Find.{as_str}
 use Rattle.office_values.specs.Moments.{moment_text}
-use Rattle.office_values.specs.declared.settings.Settings.{Settings}
+use Rattle.office_values.specs.declared.settings.Publisher.{Publisher}
 use Rattle.ocds_merge.specs.Compile.{date_of}
 use Rattle.ocds_merge.specs.Stored.{IsStorable}
 use Rattle.ocds_release.specs.Objects.{Entry}
@@ -16,17 +16,18 @@ pub record IsKeepable (t : ℕ) (d : Data) : Type 0 where
   pub flat : IsFlat 7 d
   pub dated : date_of d ≡ moment_text t
 
-head_flat : (settings : Settings) (seq t : ℕ) (notice : List ℕ) → AreMembersFlat 6 (head_members settings seq t notice)
-head_flat settings seq t notice =
-    members_flat 6 (head_of settings seq t notice)
+head_flat : (publisher : Publisher) (seq t : ℕ) (notice : List ℕ) → AreMembersFlat 6 (head_members publisher seq t notice)
+head_flat publisher seq t notice =
+    members_flat 6 (head_of publisher seq t notice)
     (reference_flat 5 _ _, (text_flat 6 _, (text_flat 6 _, (text_flat 6 _, (text_flat 6 _, (text_flat 6 _, tt))))))
 
 -- a release whose event says nothing under `date`, and nothing that nests more than six levels
-pub release_keepable : (settings : Settings) (seq t : ℕ) (notice : List ℕ) (event : List Entry) → AreEntriesFlat 6 event → has_name (codes "date") event ≡ false
-    → IsKeepable t (release settings seq t notice event)
-release_keepable settings seq t notice event flat others = record {
-  flat = inside_flat 6 _ (entries_flat 6 event (head_members settings seq t notice) flat (head_flat settings seq t notice));
-  dated = ap (λ o. unwrap_or (option_and_then as_str o) []) (stays (codes "date") event (head_members settings seq t notice) others);
+pub release_keepable : (publisher : Publisher) (seq t : ℕ) (notice : List ℕ) (event : List Entry) → AreEntriesFlat 6 event
+    → has_name (codes "date") event ≡ false
+    → IsKeepable t (release publisher seq t notice event)
+release_keepable publisher seq t notice event flat others = record {
+  flat = inside_flat 6 _ (entries_flat 6 event (head_members publisher seq t notice) flat (head_flat publisher seq t notice));
+  dated = ap (λ o. unwrap_or (option_and_then as_str o) []) (stays (codes "date") event (head_members publisher seq t notice) others);
 }
 
 pub storable : (t : ℕ) (d : Data) → IsKeepable t d → IsStorable d

@@ -1,7 +1,7 @@
 -- The releases that tell lists of their events: publications, openings and cancellations. Each can be kept.
 use Rattle.std.proofs.Common.{ℕ, List, [], ◌∷◌, codes, map, length, refl, arith}
 use Rattle.serde_json.specs.Data.{number, unsigned}
-use Rattle.office_values.specs.declared.settings.Settings.{Settings}
+use Rattle.office_values.specs.declared.settings.Publisher.{Publisher}
 use Rattle.office_commands.specs.declared.item.Item.{Item}
 use Rattle.office_commands.specs.declared.lot.NewLot.{NewLot}
 use Rattle.office_base.specs.Sums.{sum_over}
@@ -12,7 +12,7 @@ use Rattle.ocds_release.specs.Tenders.{tender_members}
 use Rattle.ocds_release.specs.TenderStatuses.{status_code}
 use Rattle.ocds_release.specs.Tenderers.{Tenderer}
 use Rattle.ocds_release.specs.Objects.{Entry, text, array_of, four_digit_id, money}
-use Rattle.ocds_release.specs.Releases.{tags}
+use Rattle.ocds_release.specs.Releases.{release, tags}
 use Rattle.ocds_release.specs.Events.Publish as publish
 use Rattle.ocds_release.specs.Events.Open as opening
 use Rattle.ocds_release.specs.Events.Cancel as cancel
@@ -36,45 +36,45 @@ items_flat (lot ∷ lots) =
     both_flat 4 (publish.items_of_lot lot) (publish.items_of_lots lots)
     (each_flat 4 (publish.published_item lot.id) (item_flat lot.id) lot.items) (items_flat lots)
 
-terms_flat : (settings : Settings) (e : Published) → AreMembersFlat 5 (publish.tender_terms settings e)
-terms_flat settings e = record { no_float = refl; shallow = omega arith }
+terms_flat : (publisher : Publisher) (e : Published) → AreMembersFlat 5 (publish.tender_terms publisher e)
+terms_flat publisher e = record { no_float = refl; shallow = omega arith }
 
-tender_flat : (settings : Settings) (t : ℕ) (e : Published) → IsFlat 6 (publish.published_tender settings t e)
-tender_flat settings t e =
+tender_flat : (publisher : Publisher) (t : ℕ) (e : Published) → IsFlat 6 (publish.published_tender publisher t e)
+tender_flat publisher t e =
     let lots = lots_in_order e.lots in
     let entries : List Entry =
-    (codes "value", money (sum_over publish.estimate_of e.lots) settings.currency)
+    (codes "value", money (sum_over publish.estimate_of e.lots) publisher.currency)
     ∷ (codes "items", array_of (publish.items_of_lots lots))
-    ∷ (codes "lots", array_of (map (publish.published_lot settings.currency) lots))
+    ∷ (codes "lots", array_of (map (publish.published_lot publisher.currency) lots))
     ∷ (codes "tenderPeriod", publish.period t e.deadline)
     ∷ [] in
-    inside_flat 5 _ (entries_flat 5 entries (publish.tender_terms settings e) (
+    inside_flat 5 _ (entries_flat 5 entries (publish.tender_terms publisher e) (
       money_flat 4 _ _,
       (
         list_flat 4 _ (items_flat lots),
         (
-          list_flat 4 _ (each_flat 4 (publish.published_lot settings.currency) (lot_flat settings.currency) lots),
+          list_flat 4 _ (each_flat 4 (publish.published_lot publisher.currency) (lot_flat publisher.currency) lots),
           (record { no_float = refl; shallow = omega arith }, tt),
         ),
       ),
     )
-    (terms_flat settings e))
+    (terms_flat publisher e))
 
-pub publish_keepable : (settings : Settings) (seq t : ℕ) (e : Published) → IsKeepable t (publish.publish_release settings seq t e)
-publish_keepable settings seq t e =
+pub publish_keepable : (publisher : Publisher) (seq t : ℕ) (e : Published) → IsKeepable t (release publisher seq t e.notice (publish.publish_body publisher t e))
+publish_keepable publisher seq t e =
     let entries : List Entry =
     tags (codes "planning" ∷ codes "tender" ∷ [])
-    ∷ (codes "parties", array_of (publish.buyer_party settings ∷ []))
-    ∷ (codes "planning", publish.planning settings.currency (sum_over publish.estimate_of e.lots))
-    ∷ (codes "tender", publish.published_tender settings t e)
+    ∷ (codes "parties", array_of (publish.buyer_party publisher ∷ []))
+    ∷ (codes "planning", publish.planning publisher.currency (sum_over publish.estimate_of e.lots))
+    ∷ (codes "tender", publish.published_tender publisher t e)
     ∷ [] in
-    release_keepable settings seq t e.notice entries (
+    release_keepable publisher seq t e.notice entries (
       texts_flat 5 (codes "planning" ∷ codes "tender" ∷ []),
       (
         record { no_float = refl; shallow = omega arith },
         (
           record { no_float = refl; shallow = omega arith },
-          (tender_flat settings t e, tt),
+          (tender_flat publisher t e, tt),
         ),
       ),
     )
@@ -98,14 +98,14 @@ opened_flat e =
     object_flat 5 entries
     (text_flat 5 _, (number_flat 5 _, (list_flat 4 _ (each_flat 4 opening.tenderer_reference_of reference_of_flat e.tenderers), tt)))
 
-pub open_keepable : (settings : Settings) (seq t : ℕ) (e : Opened) → IsKeepable t (opening.open_release settings seq t e)
-open_keepable settings seq t e =
+pub open_keepable : (publisher : Publisher) (seq t : ℕ) (e : Opened) → IsKeepable t (release publisher seq t e.notice (opening.open_body e))
+open_keepable publisher seq t e =
     let entries : List Entry =
     tags (codes "tenderUpdate" ∷ [])
     ∷ (codes "parties", array_of (map opening.opened_party e.tenderers))
     ∷ (codes "tender", opening.opened_tender e)
     ∷ [] in
-    release_keepable settings seq t e.notice entries
+    release_keepable publisher seq t e.notice entries
     (texts_flat 5 (codes "tenderUpdate" ∷ []), (list_flat 5 _ (each_flat 5 opening.opened_party party_flat e.tenderers), (opened_flat e, tt)))
     refl
 
@@ -135,13 +135,13 @@ cancelled_flat seq t e =
     (members_flat 5 entries
     (text_flat 5 _, (text_flat 5 _, (list_flat 4 _ (each_flat 4 cancel.cancelled_lot_data cancelled_lot_flat e.lots), tt)))))
 
-pub cancel_keepable : (settings : Settings) (seq t : ℕ) (e : NoticeCancelled) → IsKeepable t (cancel.cancel_release settings seq t e)
-cancel_keepable settings seq t e =
+pub cancel_keepable : (publisher : Publisher) (seq t : ℕ) (e : NoticeCancelled) → IsKeepable t (release publisher seq t e.notice (cancel.cancel_body seq t e))
+cancel_keepable publisher seq t e =
     let entries : List Entry =
     (codes "tag", cancel.cancel_tag e.awards)
     ∷ (codes "tender", cancel.cancelled_tender seq t e)
     ∷ (codes "awards", array_of (map ended_award e.awards))
     ∷ [] in
-    release_keepable settings seq t e.notice entries
+    release_keepable publisher seq t e.notice entries
     (tag_flat e.awards, (cancelled_flat seq t e, (list_flat 5 _ (each_flat 5 ended_award ended_award_flat e.awards), tt)))
     refl

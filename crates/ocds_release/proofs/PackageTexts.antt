@@ -24,27 +24,7 @@ lines_no_float (l ∷ ls) = lines_no_float ls
 
 pub part_no_float : (p : Part) → has_float (data_of p) ≡ false
 part_no_float (parts.Text t) = refl
-part_no_float (parts.Id id) = refl
-part_no_float (parts.Number n) = refl
-part_no_float (parts.Decimal n) = refl
-part_no_float (parts.FourDigits n) = refl
-part_no_float (parts.Moment second) = refl
-part_no_float (parts.Language language) = refl
-part_no_float (parts.Money amount currency) = refl
-part_no_float (parts.Buyer id name) = refl
-part_no_float (parts.BuyerId id) = refl
-part_no_float (parts.Tenderer id name) = refl
-part_no_float (parts.TendererId id) = refl
-part_no_float (parts.Ocid prefix notice) = refl
-part_no_float (parts.ReleaseId prefix notice seq) = refl
-part_no_float (parts.ItemId lot id) = refl
-part_no_float (parts.Moved before after) = refl
-part_no_float (parts.Raised amount) = refl
-part_no_float (parts.Cut amount) = refl
-part_no_float (parts.Address base notice route) = refl
-part_no_float (parts.Only t) = refl
-part_no_float (parts.OnlyId id) = refl
-part_no_float (parts.Both t u) = refl
+part_no_float _ = refl
 
 -- ---- a member that is pushed
 

@@ -1,28 +1,27 @@
 -- Worked events of the notice N1 of the City Office, with one lot of one item, and the texts of their releases. `src/examples.rt` states the texts.
-use Rattle.std.specs.Prelude.{ℕ, List, [], ◌∷◌, codes, replicate, unwrap_or}
+use Rattle.std.specs.Prelude.{ℕ, List, [], ◌∷◌, codes, unwrap_or}
 use Rattle.serde_json.specs.Data.{Data, null}
 use Rattle.serde_json.specs.Read.{read}
 use Rattle.serde_json.specs.Written.{compact_text}
-use Rattle.office_values.specs.declared.settings.Settings.{Settings}
+use Rattle.office_values.specs.declared.settings.Publisher.{Publisher}
 use Rattle.office_commands.specs.declared.lot.NewLot.{NewLot}
 use Rattle.office_commands.specs.declared.notice.Criteria.TheVariants.{Price}
 use Rattle.office_commands.specs.declared.contract.ChangeKind.TheVariants.{Raise}
 use Rattle.ocds_release.specs.declared.tender_status.TenderStatus.TheVariants as statuses
 use Rattle.ocds_release.specs.declared.event.Event.{Event}
 use Rattle.ocds_release.specs.declared.event.Event.TheVariants.{Publish, Amend, Open, Award, NoAward, Fail, Cancel, Sign, AmendContract, Pay, End}
-use Rattle.ocds_release.specs.EventReleases.{release_of_event}
+use Rattle.ocds_release.specs.Events.{release_of_event}
 use Rattle.ocds_release.specs.Packages.{release_package, record_package}
 
--- the office
-abbrev pub city : Settings
+-- who publishes
+abbrev pub city : Publisher
 city = record {
   prefix = codes "ocds-a1b2c3";
   currency = codes "EUR";
   language = codes "en";
   base = codes "http://127.0.0.1:8080";
-  publisher = codes "City Office";
+  name = codes "City Office";
   extensions = [];
-  clerk_key = replicate 32 0;
   buyer = record { id = codes "city"; name = codes "City Office" };
 }
 
@@ -111,8 +110,8 @@ all_done = End (record { notice = n1; contract = 1 })
 abbrev pub read_value : List ℕ → Data
 read_value text = unwrap_or (read text) null
 
--- the same office, which uses an extension
-abbrev pub city_with_lots : Settings
+-- the same, with an extension
+abbrev pub city_with_lots : Publisher
 city_with_lots = record city { extensions = codes "https://example.org/lots" ∷ [] }
 
 -- the package of the notice's first release alone

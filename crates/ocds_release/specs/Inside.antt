@@ -3,3 +3,4 @@ pub mod Parts
 pub mod Built
 pub mod Earlier
 pub mod Splicing
+pub mod Notices

@@ -8,7 +8,6 @@ pub mod Amendments
 pub mod Tenders
 pub mod Awards
 pub mod Events
-pub mod EventReleases
 pub mod Packages
 pub mod KeptReleases
 pub mod Opened

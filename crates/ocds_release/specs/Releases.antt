@@ -2,31 +2,31 @@
 use Rattle.std.specs.Prelude.{ℕ, List, [], ◌∷◌, codes}
 use Rattle.serde_json.specs.Data.{Data, Members, object, no_members}
 use Rattle.office_values.specs.Moments.{moment_text}
-use Rattle.office_values.specs.declared.settings.Settings.{Settings}
+use Rattle.office_values.specs.declared.settings.Publisher.{Publisher}
 use Rattle.ocds_release.specs.Objects.{Entry, text, texts, buyer_reference, with_entries}
 use Rattle.ocds_release.specs.Texts.{release_id, ocid_text}
 
 -- the buyer, by identifier and name
-abbrev pub buyer_of : Settings → Data
-buyer_of settings = buyer_reference settings.buyer.id settings.buyer.name
+abbrev pub buyer_of : Publisher → Data
+buyer_of publisher = buyer_reference publisher.buyer.id publisher.buyer.name
 
 -- `buyer`, `date` (the moment of the event), `id`, `initiationType`, `language`, `ocid`
-abbrev pub head_of : Settings → ℕ → ℕ → List ℕ → List Entry
-head_of settings seq t notice =
-    (codes "buyer", buyer_of settings)
+abbrev pub head_of : Publisher → ℕ → ℕ → List ℕ → List Entry
+head_of publisher seq t notice =
+    (codes "buyer", buyer_of publisher)
     ∷ (codes "date", text (moment_text t))
-    ∷ (codes "id", text (release_id settings.prefix notice seq))
+    ∷ (codes "id", text (release_id publisher.prefix notice seq))
     ∷ (codes "initiationType", text (codes "tender"))
-    ∷ (codes "language", text settings.language)
-    ∷ (codes "ocid", text (ocid_text settings.prefix notice))
+    ∷ (codes "language", text publisher.language)
+    ∷ (codes "ocid", text (ocid_text publisher.prefix notice))
     ∷ []
 
-abbrev pub head_members : Settings → ℕ → ℕ → List ℕ → Members
-head_members settings seq t notice = with_entries (head_of settings seq t notice) no_members
+abbrev pub head_members : Publisher → ℕ → ℕ → List ℕ → Members
+head_members publisher seq t notice = with_entries (head_of publisher seq t notice) no_members
 
 -- the release of a notice with this number, at this moment: its head, and what the event says
-abbrev pub release : Settings → ℕ → ℕ → List ℕ → List Entry → Data
-release settings seq t notice event = object (with_entries event (head_members settings seq t notice))
+abbrev pub release : Publisher → ℕ → ℕ → List ℕ → List Entry → Data
+release publisher seq t notice event = object (with_entries event (head_members publisher seq t notice))
 
 -- the release's tags (OCDS 1.1, codelist releaseTag)
 abbrev pub tags : List (List ℕ) → Entry

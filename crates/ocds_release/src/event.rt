@@ -1,4 +1,7 @@
 //! What happened to a notice, as far as a release speaks of it. Contracts see an event as plain values, without references.
+ghost use Rattle.std.specs.Prelude.{◌≡◌};
+ghost use Rattle.ocds_release.specs.Inside.Notices.{notice_of_event};
+
 use crate::borrowed::{BorrowedLine, Listed, PublishedLots, Tenderers};
 use crate::tender_status::TenderStatus;
 use office_commands::amounts::EntryAmount;
@@ -131,4 +134,25 @@ pub enum Event<'a> {
     AmendContract(ContractAmended<'a>),
     Pay(Paid<'a>),
     End(ContractEnded),
+}
+
+impl Event<'_> {
+    /// The notice to which it happened.
+    pub fn notice(&self) -> Id
+        ensures { result ≡ notice_of_event self.now }
+    {
+        match self {
+            Event::Publish(e) => e.notice,
+            Event::Amend(e) => e.notice,
+            Event::Open(e) => e.notice,
+            Event::Award(e) => e.notice,
+            Event::NoAward(e) => e.notice,
+            Event::Fail(e) => e.notice,
+            Event::Cancel(e) => e.notice,
+            Event::Sign(e) => e.notice,
+            Event::AmendContract(e) => e.notice,
+            Event::Pay(e) => e.notice,
+            Event::End(e) => e.notice,
+        }
+    }
 }

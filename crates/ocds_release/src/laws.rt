@@ -1,21 +1,21 @@
 //! Laws of the releases in `specs/`, for the crates above: each function does nothing, and its contract is the law.
 ghost use Rattle.std.specs.Prelude.{◌≡◌, ℕ};
 ghost use Rattle.office_values.specs.Moments.{moment_text};
-ghost use Rattle.office_values.specs.declared.settings.Settings.{Settings};
+ghost use Rattle.office_values.specs.declared.settings.Publisher.{Publisher};
 ghost use Rattle.ocds_merge.specs.Compile.{body_of, date_of};
 ghost use Rattle.ocds_merge.specs.Stored.{IsStorable};
-ghost use Rattle.ocds_release.specs.EventReleases.{release_of_event};
+ghost use Rattle.ocds_release.specs.Events.{release_of_event};
 ghost use Rattle.ocds_release.specs.declared.event.Event.{Event};
 
 use ocds_merge::merge_stays_storable;
 
-/// The release of each event, by any settings, can be kept: its text is read back, and so is that of a merge with what it says without
+/// The release of each event, by any publisher, can be kept: its text is read back, and so is that of a merge with what it says without
 /// its head, since neither has a float or nests more than 127 levels. It is dated by the moment of the event.
 pub fn releases_can_be_kept()
-    ensures storable { (settings : Settings) (seq t : ℕ) (event : Event) → IsStorable (release_of_event settings seq t event) }
-    ensures body_storable { (settings : Settings) (seq t : ℕ) (event : Event)
-        → IsStorable (body_of (release_of_event settings seq t event)) }
-    ensures dated { (settings : Settings) (seq t : ℕ) (event : Event) → date_of (release_of_event settings seq t event) ≡ moment_text t }
+    ensures storable { (publisher : Publisher) (seq t : ℕ) (event : Event) → IsStorable (release_of_event publisher seq t event) }
+    ensures body_storable { (publisher : Publisher) (seq t : ℕ) (event : Event)
+        → IsStorable (body_of (release_of_event publisher seq t event)) }
+    ensures dated { (publisher : Publisher) (seq t : ℕ) (event : Event) → date_of (release_of_event publisher seq t event) ≡ moment_text t }
 {
     merge_stays_storable();
 }

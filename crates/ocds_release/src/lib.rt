@@ -1,7 +1,7 @@
 //! Releases: what an office publishes of a notice, as OCDS 1.1 has it.
 //!
-//! `specs/EventReleases.antt` names the release of each event, `specs/Events` states them, one file each, and `specs/Packages.antt` the
-//! packages of releases and of records.
+//! `specs/Events.antt` has the release of each event, `specs/Events` what it says, a file each, and `specs/Packages.antt` the packages of
+//! releases and of records.
 #![tactic(auto)]
 
 mod amendment;

@@ -19,7 +19,7 @@ use ocds_merge::NoMemory;
 use office_base::records::ReleaseRow;
 use office_values::id::Id;
 use office_values::moment::Moment;
-use office_values::settings::Settings;
+use office_values::settings::Publisher;
 use serde_json::Value;
 use std::alloc::{AllocError, Global};
 use std::marker::Model;
@@ -134,17 +134,17 @@ fn push_part(
 fn push_first(
     alloc: Global,
     text: &mut Vec<u8>,
-    settings: &Settings,
+    publisher: &Publisher,
     published: Moment,
 ) -> Result<(), AllocError>
-    ensures { OnOk result ((ms : Members) → text.new.items ++ members_text true ms ≡ text.old.items ++ members_text false (first_members settings.now (moment_text published) ms)) }
+    ensures { OnOk result ((ms : Members) → text.new.items ++ members_text true ms ≡ text.old.items ++ members_text false (first_members publisher.now (moment_text published) ms)) }
 {
     let date = Part::Moment(published);
-    if settings.extensions.as_slice().is_empty() {
+    if publisher.extensions.as_slice().is_empty() {
         push_part(alloc, text, false, "publishedDate", &date)?;
         return Ok(());
     }
-    let extensions = extensions_of(alloc, settings)?;
+    let extensions = extensions_of(alloc, publisher)?;
     push_value(alloc, text, false, "extensions", &extensions)?;
     push_part(alloc, text, true, "publishedDate", &date)?;
     Ok(())
@@ -154,14 +154,14 @@ fn push_first(
 fn push_head(
     alloc: Global,
     text: &mut Vec<u8>,
-    settings: &Settings,
+    publisher: &Publisher,
     published: Moment,
 ) -> Result<(), AllocError>
-    ensures { OnOk result ((ms : Members) → text.new.items ++ members_text true ms ≡ text.old.items ++ members_text false (head_members settings.now (moment_text published) ms)) }
+    ensures { OnOk result ((ms : Members) → text.new.items ++ members_text true ms ≡ text.old.items ++ members_text false (head_members publisher.now (moment_text published) ms)) }
 {
-    push_first(alloc, text, settings, published)?;
-    let publisher = object_with(alloc, &[("name", Part::Text(settings.publisher.as_str()))])?;
-    push_value(alloc, text, true, "publisher", &publisher)?;
+    push_first(alloc, text, publisher, published)?;
+    let shown = object_with(alloc, &[("name", Part::Text(publisher.name.as_str()))])?;
+    push_value(alloc, text, true, "publisher", &shown)?;
     Ok(())
 }
 
@@ -169,13 +169,13 @@ fn push_head(
 fn push_tail<'a>(
     alloc: Global,
     text: &mut Vec<u8>,
-    settings: &'a Settings,
+    publisher: &'a Publisher,
     notice: Id,
     route: &'a str,
 ) -> Result<(), AllocError>
-    ensures { OnOk result (text.new.items ≡ text.old.items ++ members_text true (tail_members settings.now notice route.now)) }
+    ensures { OnOk result (text.new.items ≡ text.old.items ++ members_text true (tail_members publisher.now notice route.now)) }
 {
-    let address = Part::Address(settings.base.as_str(), notice, route);
+    let address = Part::Address(publisher.base.as_str(), notice, route);
     push_part(alloc, text, true, "uri", &address)?;
     push_part(alloc, text, true, "version", &Part::Text("1.1"))?;
     text.push(b'}')?;
@@ -185,16 +185,16 @@ fn push_tail<'a>(
 // A package's text before what stands in its list.
 fn before_list(
     alloc: Global,
-    settings: &Settings,
+    publisher: &Publisher,
     published: Moment,
     name: &str,
 ) -> Result<Vec<u8>, AllocError>
     ensures { IfOk result (λ text. (notice route items : List ℕ) (d : Data) → compact_text d ≡ 91 ∷ items
-        → text.items ++ (items ++ members_text true (tail_members settings.now notice route)) ≡ compact_text (ordered_package settings.now notice (moment_text published) route name.now d)) }
+        → text.items ++ (items ++ members_text true (tail_members publisher.now notice route)) ≡ compact_text (ordered_package publisher.now notice (moment_text published) route name.now d)) }
 {
     let mut text = Vec::new(alloc);
     text.push(b'{')?;
-    push_head(alloc, &mut text, settings, published)?;
+    push_head(alloc, &mut text, publisher, published)?;
     push_member(alloc, &mut text, true, name, b"[")?;
     Ok(text)
 }
@@ -202,16 +202,16 @@ fn before_list(
 // A package's text behind what stands in its list, with what closes the list.
 fn behind_list<'a>(
     alloc: Global,
-    settings: &'a Settings,
+    publisher: &'a Publisher,
     notice: Id,
     route: &'a str,
     closing: &[u8],
 ) -> Result<Vec<u8>, AllocError>
-    ensures { IfOk result (λ text. text.items ≡ closing.now ++ members_text true (tail_members settings.now notice route.now)) }
+    ensures { IfOk result (λ text. text.items ≡ closing.now ++ members_text true (tail_members publisher.now notice route.now)) }
 {
     let mut text = Vec::new(alloc);
     text.extend_from_slice(closing)?;
-    push_tail(alloc, &mut text, settings, notice, route)?;
+    push_tail(alloc, &mut text, publisher, notice, route)?;
     Ok(text)
 }
 
@@ -219,12 +219,12 @@ fn behind_list<'a>(
 fn push_record(
     alloc: Global,
     text: &mut Vec<u8>,
-    settings: &Settings,
+    publisher: &Publisher,
     notice: Id,
     compiled: &Value,
 ) -> Result<(), AllocError>
     ensures { OnOk result ((items rest : List ℕ) (d : Data) → compact_text d ≡ 91 ∷ items → has_float (view compiled.now) ≡ false
-        → text.new.items ++ (items ++ 125 ∷ rest) ≡ text.old.items ++ (compact_text (ordered_record settings.now notice (view compiled.now) d) ++ rest)) }
+        → text.new.items ++ (items ++ 125 ∷ rest) ≡ text.old.items ++ (compact_text (ordered_record publisher.now notice (view compiled.now) d) ++ rest)) }
 {
     text.push(b'{')?;
     push_value(alloc, text, false, "compiledRelease", compiled)?;
@@ -233,7 +233,7 @@ fn push_record(
         text,
         true,
         "ocid",
-        &Part::Ocid(settings.prefix, notice),
+        &Part::Ocid(publisher.prefix, notice),
     )?;
     push_member(alloc, text, true, "releases", b"[")?;
     Ok(())
@@ -254,16 +254,16 @@ fn with_room(text: Vec<u8>, behind: Vec<u8>, room: usize) -> Result<PackageText,
 
 fn opened_releases(
     alloc: Global,
-    settings: &Settings,
+    publisher: &Publisher,
     notice: Id,
     published: Moment,
     room: usize,
 ) -> Result<PackageText, AllocError>
     ensures { IfOk result (λ pack. (rows : List Kept) (d : Data) (ds : List Data) → AreKept rows (d ∷ ds) → moment_of_last rows ≡ published
-        → completed pack rows ≡ compact_text (releases_in settings.now notice (d ∷ ds))) }
+        → completed pack rows ≡ compact_text (releases_in publisher.now notice (d ∷ ds))) }
 {
-    let before = before_list(alloc, settings, published, "releases")?;
-    let behind = behind_list(alloc, settings, notice, "/releases", b"]")?;
+    let before = before_list(alloc, publisher, published, "releases")?;
+    let behind = behind_list(alloc, publisher, notice, "/releases", b"]")?;
     let package = with_room(before, behind, room)?;
     Ok(package)
 }
@@ -272,31 +272,31 @@ fn opened_releases(
 /// kept, in sequence: at least one. There is room for so many bytes of them.
 pub fn open_releases(
     alloc: Global,
-    settings: &Settings,
+    publisher: &Publisher,
     notice: &Id,
     published: Moment,
     room: usize,
 ) -> Result<PackageText, NoMemory>
     ensures { IfOk result (λ pack. (rows : List Kept) (d : Data) (ds : List Data) → AreKept rows (d ∷ ds) → moment_of_last rows ≡ published
-        → completed pack rows ≡ compact_text (releases_in settings.now notice.now (d ∷ ds))) }
+        → completed pack rows ≡ compact_text (releases_in publisher.now notice.now (d ∷ ds))) }
 {
-    Ok(opened_releases(alloc, settings, *notice, published, room)?)
+    Ok(opened_releases(alloc, publisher, *notice, published, room)?)
 }
 
 fn opened_record(
     alloc: Global,
-    settings: &Settings,
+    publisher: &Publisher,
     notice: Id,
     published: Moment,
     compiled: &Value,
     room: usize,
 ) -> Result<PackageText, AllocError>
     ensures { IfOk result (λ pack. (rows : List Kept) (d : Data) (ds : List Data) → AreKept rows (d ∷ ds) → moment_of_last rows ≡ published → HasText (view compiled.now)
-        → completed pack rows ≡ compact_text (record_in settings.now notice (d ∷ ds) (view compiled.now))) }
+        → completed pack rows ≡ compact_text (record_in publisher.now notice (d ∷ ds) (view compiled.now))) }
 {
-    let mut before = before_list(alloc, settings, published, "records")?;
-    push_record(alloc, &mut before, settings, notice, compiled)?;
-    let behind = behind_list(alloc, settings, notice, "/record", b"]}]")?;
+    let mut before = before_list(alloc, publisher, published, "records")?;
+    push_record(alloc, &mut before, publisher, notice, compiled)?;
+    let behind = behind_list(alloc, publisher, notice, "/record", b"]}]")?;
     let package = with_room(before, behind, room)?;
     Ok(package)
 }
@@ -305,14 +305,14 @@ fn opened_record(
 /// `open_releases`.
 pub fn open_record(
     alloc: Global,
-    settings: &Settings,
+    publisher: &Publisher,
     notice: &Id,
     published: Moment,
     compiled: &Value,
     room: usize,
 ) -> Result<PackageText, NoMemory>
     ensures { IfOk result (λ pack. (rows : List Kept) (d : Data) (ds : List Data) → AreKept rows (d ∷ ds) → moment_of_last rows ≡ published → HasText (view compiled.now)
-        → completed pack rows ≡ compact_text (record_in settings.now notice.now (d ∷ ds) (view compiled.now))) }
+        → completed pack rows ≡ compact_text (record_in publisher.now notice.now (d ∷ ds) (view compiled.now))) }
 {
-    Ok(opened_record(alloc, settings, *notice, published, compiled, room)?)
+    Ok(opened_record(alloc, publisher, *notice, published, compiled, room)?)
 }

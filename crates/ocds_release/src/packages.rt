@@ -1,6 +1,5 @@
 //! Packages of releases and of records.
-ghost use Rattle.std.specs.Prelude.{◌≡◌, ◌-◌, IfOk, map, length, get_or};
-ghost use Rattle.serde_json.specs.Data.{null};
+ghost use Rattle.std.specs.Prelude.{◌≡◌, ◌-◌, IfOk, map};
 ghost use Rattle.serde_json.specs.View.{view};
 ghost use Rattle.ocds_merge.specs.Compile.{date_of as date_in, last_date as last_date_in};
 ghost use Rattle.ocds_release.specs.Objects.{text, texts};
@@ -10,7 +9,7 @@ use crate::object::{Object, list_of_one, object_with};
 use crate::part::Part;
 use ocds_merge::NoMemory;
 use office_values::id::Id;
-use office_values::settings::Settings;
+use office_values::settings::{Publisher, Settings};
 use office_values::text::TextLine;
 use serde_json::Value;
 use std::alloc::{AllocError, Global};
@@ -58,10 +57,10 @@ fn lines_of(alloc: Global, lines: &[TextLine]) -> Result<Vec<Value>, AllocError>
 }
 
 /// The extensions that the releases use.
-pub(crate) fn extensions_of(alloc: Global, settings: &Settings) -> Result<Value, AllocError>
-    ensures { IfOk result (λ v. view v ≡ texts settings.now.extensions) }
+pub(crate) fn extensions_of(alloc: Global, publisher: &Publisher) -> Result<Value, AllocError>
+    ensures { IfOk result (λ v. view v ≡ texts publisher.now.extensions) }
 {
-    Ok(Value::Array(lines_of(alloc, settings.extensions.as_slice())?))
+    Ok(Value::Array(lines_of(alloc, publisher.extensions.as_slice())?))
 }
 
 /// Which package of a notice: under which name its list stands, and by which route it is had.
@@ -74,29 +73,29 @@ struct Kind<'a> {
 // A package that was published at a date, with its list.
 fn package_of<'a>(
     alloc: Global,
-    settings: &'a Settings,
+    publisher: &'a Publisher,
     notice: &'a Id,
     published: &'a str,
     kind: &'a Kind<'a>,
     list: Value,
 ) -> Result<Value, AllocError>
-    ensures { IfOk result (λ pack. view pack ≡ package_with settings.now notice.now published.now kind.now.route.now kind.now.name.now (view list)) }
+    ensures { IfOk result (λ pack. view pack ≡ package_with publisher.now notice.now published.now kind.now.route.now kind.now.name.now (view list)) }
 {
-    let publisher = object_with(alloc, &[("name", Part::Text(settings.publisher.as_str()))])?;
+    let shown = object_with(alloc, &[("name", Part::Text(publisher.name.as_str()))])?;
     let mut package = Object::new(alloc);
-    package.put_value(alloc, "extensions", extensions_of(alloc, settings)?)?;
+    package.put_value(alloc, "extensions", extensions_of(alloc, publisher)?)?;
     package.put(
         alloc,
         &[
             ("publishedDate", Part::Text(published)),
             (
                 "uri",
-                Part::Address(settings.base.as_str(), *notice, kind.route),
+                Part::Address(publisher.base.as_str(), *notice, kind.route),
             ),
             ("version", Part::Text("1.1")),
         ],
     )?;
-    package.put_value(alloc, "publisher", publisher)?;
+    package.put_value(alloc, "publisher", shown)?;
     package.put_value(alloc, kind.name, list)?;
     Ok(package.into_value())
 }
@@ -110,28 +109,35 @@ pub fn release_package(
     notice: &Id,
     releases: &[Value],
 ) -> Result<Value, NoMemory>
-    ensures { IfOk result (λ pack. view pack ≡ releases_in settings.now notice.now (map view releases.now)) }
+    ensures { IfOk result (λ pack. view pack ≡ releases_in settings.now.publisher notice.now (map view releases.now)) }
 {
     let list = Value::Array(copies(alloc, releases)?);
     let kind = Kind {
         name: "releases",
         route: "/releases",
     };
-    Ok(package_of(alloc, settings, notice, last_date(releases), &kind, list)?)
+    Ok(package_of(
+        alloc,
+        &settings.publisher,
+        notice,
+        last_date(releases),
+        &kind,
+        list,
+    )?)
 }
 
 // The record of a notice: its releases, and what they compile to.
 fn record_of(
     alloc: Global,
-    settings: &Settings,
+    publisher: &Publisher,
     notice: &Id,
     releases: &[Value],
     compiled: &Value,
 ) -> Result<Value, AllocError>
-    ensures { IfOk result (λ entry. view entry ≡ record_with settings.now notice.now (map view releases.now) (view compiled.now)) }
+    ensures { IfOk result (λ entry. view entry ≡ record_with publisher.now notice.now (map view releases.now) (view compiled.now)) }
 {
     let mut record = Object::new(alloc);
-    record.put(alloc, &[("ocid", Part::Ocid(settings.prefix, *notice))])?;
+    record.put(alloc, &[("ocid", Part::Ocid(publisher.prefix, *notice))])?;
     record.put_value(alloc, "compiledRelease", compiled.clone()?)?;
     record.put_value(alloc, "releases", Value::Array(copies(alloc, releases)?))?;
     Ok(record.into_value())
@@ -146,13 +152,20 @@ pub fn record_package(
     releases: &[Value],
     compiled: &Value,
 ) -> Result<Value, NoMemory>
-    ensures { IfOk result (λ pack. view pack ≡ record_in settings.now notice.now (map view releases.now) (view compiled.now)) }
+    ensures { IfOk result (λ pack. view pack ≡ record_in settings.now.publisher notice.now (map view releases.now) (view compiled.now)) }
 {
-    let record = record_of(alloc, settings, notice, releases, compiled)?;
+    let record = record_of(alloc, &settings.publisher, notice, releases, compiled)?;
     let list = list_of_one(alloc, record)?;
     let kind = Kind {
         name: "records",
         route: "/record",
     };
-    Ok(package_of(alloc, settings, notice, last_date(releases), &kind, list)?)
+    Ok(package_of(
+        alloc,
+        &settings.publisher,
+        notice,
+        last_date(releases),
+        &kind,
+        list,
+    )?)
 }

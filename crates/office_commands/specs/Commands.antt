@@ -1,4 +1,7 @@
--- The kind of each command.
+-- The kind of each command, and which commands can be given.
+use Rattle.std.specs.Prelude.{◌≡◌, false}
+use Rattle.office_commands.specs.Identified.{repeats_id}
+use Rattle.office_commands.specs.Lots.{lot_id}
 use Rattle.office_commands.specs.declared.commands.Command.{Command}
 use Rattle.office_commands.specs.declared.commands.Command.TheVariants as commands
 use Rattle.office_commands.specs.declared.command.CommandKind.{CommandKind}
@@ -21,3 +24,8 @@ kind_of (commands.Sign award security) = kinds.Sign
 kind_of (commands.AmendContract contract entry kind amount rationale) = kinds.AmendContract
 kind_of (commands.Pay contract entry amount) = kinds.Pay
 kind_of (commands.End contract how) = kinds.End
+
+-- a command that can be given: each lot of a new notice has an identifier of its own
+abbrev pub IsCommand : Command → Type 0
+IsCommand (commands.Publish notice content) = repeats_id lot_id content.lots ≡ false
+IsCommand command = Unit {0}

@@ -7,3 +7,4 @@ pub mod Lots
 pub mod Notices
 pub mod Rights
 pub mod SealedBytes
+pub mod Table

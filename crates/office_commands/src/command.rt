@@ -1,7 +1,8 @@
 //! Who asks of an office, and which kinds of commands and queries each may give.
 ghost use Rattle.std.specs.Prelude.{◌≡◌};
-ghost use Rattle.office_commands.specs.Rights.{may, may_look};
+ghost use Rattle.office_commands.specs.Rights.{has_right, may, may_look};
 
+use crate::table::{Right, command_row, query_row};
 use office_values::id::Id;
 
 /// Who asks: anybody, the office's clerk, or a registered tenderer.
@@ -54,36 +55,28 @@ pub enum QueryKind {
     Contract,
 }
 
-/// Whether the caller may give a command of this kind: tenderers alone present, modify and withdraw tenders, and the
-/// clerk alone does all else.
-pub fn may(caller: &Caller, kind: CommandKind) -> bool
-    ensures { result ≡ may caller.now kind }
+// Whether the caller has this right.
+fn has_right(caller: &Caller, right: Right) -> bool
+    ensures { result ≡ has_right right caller.now }
 {
-    let by_tenderer = matches!(
-        kind,
-        CommandKind::Present | CommandKind::Modify | CommandKind::Withdraw
-    );
-    match caller {
-        Caller::Public => false,
-        Caller::Clerk => !by_tenderer,
-        Caller::Tenderer(_) => by_tenderer,
+    match right {
+        Right::Anybody => true,
+        Right::Clerk => matches!(caller, Caller::Clerk),
+        Right::Tenderers => matches!(caller, Caller::Tenderer(_)),
+        Right::ClerkAndTenderers => !matches!(caller, Caller::Public),
     }
 }
 
-/// Whether the caller may ask a query of this kind: a register of tenders, all securities of a notice and all tenderers are for the clerk,
-/// tenders for tenderers, a security and a contract for both, and all else for anybody. Whose tender, security or contract it is is looked at
-/// later.
+/// Whether the caller may give a command of this kind.
+pub fn may(caller: &Caller, kind: CommandKind) -> bool
+    ensures { result ≡ may caller.now kind }
+{
+    has_right(caller, command_row(kind).right)
+}
+
+/// Whether the caller may ask a query of this kind. Whose tender, security or contract it is, is tested later.
 pub fn may_look(caller: &Caller, kind: QueryKind) -> bool
     ensures { result ≡ may_look caller.now kind }
 {
-    match kind {
-        QueryKind::Register | QueryKind::Securities | QueryKind::Tenderers => {
-            matches!(caller, Caller::Clerk)
-        }
-        QueryKind::Tender | QueryKind::OwnTenders => matches!(caller, Caller::Tenderer(_)),
-        QueryKind::Security | QueryKind::Performance | QueryKind::Contract => {
-            !matches!(caller, Caller::Public)
-        }
-        _ => true,
-    }
+    has_right(caller, query_row(kind).right)
 }

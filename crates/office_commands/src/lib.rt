@@ -12,4 +12,5 @@ pub mod lot;
 pub mod notice;
 pub mod queries;
 pub mod sealed;
+pub mod table;
 pub mod tender;

@@ -5,7 +5,7 @@ use Rattle.office_commands.specs.declared.command.Caller.{Caller}
 use Rattle.office_commands.specs.declared.commands.Command.{Command}
 use Rattle.office_values.specs.declared.refusal.Refusal.{Refusal}
 use Rattle.office_values.specs.declared.refusal.Refusal.TheVariants.{Unavailable}
-use Rattle.office_values.specs.declared.settings.Settings.{Settings}
+use Rattle.office_values.specs.declared.settings.Publisher.{Publisher}
 use Rattle.office_base.specs.Tables.{Tables, after_puts}
 use Rattle.office_base.specs.Shelves.{Meaning, Alters, Keeps}
 use Rattle.office_base.specs.declared.puts.Put.{Put}
@@ -15,10 +15,10 @@ use Rattle.office_plans.specs.Plans.{Plan}
 use Rattle.office_plans.specs.Published.{IsPlan}
 use Rattle.office_desk.specs.Steps.{Does, IsOfficeAfter}
 
-module _ {S : Type 0} (M : Meaning S) (settings : Settings) (moment : ℕ) (caller : Caller) (command : Command) where
+module _ {S : Type 0} (M : Meaning S) (publisher : Publisher) (moment : ℕ) (caller : Caller) (command : Command) where
   -- it was refused
   pub does_nothing : {T : Type 0} (old new : S) (result : Result T Refusal) → IsErr result → Keeps M old new
-      → Does M settings old new result (λ s. given s moment caller command)
+      → Does M publisher old new result (λ s. given s moment caller command)
   does_nothing old new (Ok done) err kept = cc
   does_nothing old new (Err why) err kept = record {
     before = kept.before;
@@ -31,13 +31,13 @@ module _ {S : Type 0} (M : Meaning S) (settings : Settings) (moment : ℕ) (call
 
   -- it was planned, and then done or not
   module _ (old mid new : S) (planned : Plan) (kept : Keeps M old mid)
-      (plan : M.honest mid → (t : Tables) → M.holds old t → IsPlan settings (given t moment caller command) planned) where
-    next_is : (t : Tables) → IsPlan settings (given t moment caller command) planned → KeepsItsReleases (given t moment caller command)
-        → after_puts planned.puts t ≡ next_with_merges settings (given t moment caller command)
+      (plan : M.honest mid → (t : Tables) → M.holds old t → IsPlan publisher (given t moment caller command) planned) where
+    next_is : (t : Tables) → IsPlan publisher (given t moment caller command) planned → KeepsItsReleases (given t moment caller command)
+        → after_puts planned.puts t ≡ next_with_merges publisher (given t moment caller command)
     next_is t is keeps = ap (λ (ps : List Put). after_puts ps t) (is.put keeps).puts
 
     pub does_what_was_planned : {T : Type 0} (result : Result T Refusal) → Alters M mid new result (after_puts planned.puts) → IfErr result (λ why. why ≡ Unavailable)
-        → Does M settings old new result (λ s. given s moment caller command)
+        → Does M publisher old new result (λ s. given s moment caller command)
     does_what_was_planned (Ok done) alters only = record {
       before = λ honest. kept.before (alters.before honest);
       all = λ honest t held keeps. subst (λ (u : Tables). M.holds new u) (next_is t (plan (alters.before honest) t held) keeps)
@@ -58,7 +58,7 @@ module _ {S : Type 0} (M : Meaning S) (settings : Settings) (moment : ℕ) (call
     }
       where
         stopped : (u : Tables) → M.honest mid → M.may_leave mid u ⊎ ((t : Tables) → M.holds mid t → u ≡ after_puts planned.puts t)
-            → M.may_leave old u ⊎ ((why ≡ Unavailable) × IsOfficeAfter M settings old (λ s. given s moment caller command) u)
+            → M.may_leave old u ⊎ ((why ≡ Unavailable) × IsOfficeAfter M publisher old (λ s. given s moment caller command) u)
         stopped u honest (inl left) = inl (kept.stop honest u left)
         stopped u honest (inr done) = inr (
           only,

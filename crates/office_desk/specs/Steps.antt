@@ -6,7 +6,7 @@ use Rattle.office_commands.specs.declared.queries.Query.{Query}
 use Rattle.office_commands.specs.declared.queries.Query.TheVariants as queries
 use Rattle.office_values.specs.declared.refusal.Refusal.{Refusal}
 use Rattle.office_values.specs.declared.refusal.Refusal.TheVariants.{Unavailable}
-use Rattle.office_values.specs.declared.settings.Settings.{Settings}
+use Rattle.office_values.specs.declared.settings.Publisher.{Publisher}
 use Rattle.office_base.specs.Faults.{HasRisen}
 use Rattle.office_base.specs.Joined.{is_overdrawn}
 use Rattle.office_base.specs.Tables.{Tables, contract_at, entries_of_contract}
@@ -32,36 +32,36 @@ read_text (Ok text) = Ok text.items
 read_text (Err why) = Err why
 
 -- the reply, or the command's refusal, or Unavailable
-abbrev pub IsReplyOrRefusal : Settings → Given → Result (List ℕ) Refusal → Type 0
-IsReplyOrRefusal settings x (Ok reply) = (refusal_of x ≡ None) × (reply ≡ reply_text (accepted_reply x))
-IsReplyOrRefusal settings x (Err why) = (refusal_of x ≡ Some why) ⊎ (why ≡ Unavailable)
+abbrev pub IsReplyOrRefusal : Publisher → Given → Result (List ℕ) Refusal → Type 0
+IsReplyOrRefusal publisher x (Ok reply) = (refusal_of x ≡ None) × (reply ≡ reply_text (accepted_reply x))
+IsReplyOrRefusal publisher x (Err why) = (refusal_of x ≡ Some why) ⊎ (why ≡ Unavailable)
 
 -- these are the tables after the whole command, which isn't refused, of each office that was held where the notice that it publishes for keeps its
 -- releases
-abbrev pub IsOfficeAfter : {S : Type 0} → Meaning S → Settings → S → (Tables → Given) → Tables → Type 0
-IsOfficeAfter M settings old x u = (t : Tables) → M.holds old t → KeepsItsReleases (x t) → (refusal_of (x t) ≡ None) × (u ≡ next_with_merges settings (x t))
+abbrev pub IsOfficeAfter : {S : Type 0} → Meaning S → Publisher → S → (Tables → Given) → Tables → Type 0
+IsOfficeAfter M publisher old x u = (t : Tables) → M.holds old t → KeepsItsReleases (x t) → (refusal_of (x t) ≡ None) × (u ≡ next_with_merges publisher (x t))
 
 -- a command that was asked for: it is done where the answer is Ok and the notice that it publishes for keeps its releases, and else nothing is. A stop
 -- leaves the one or the other whole: after a refusal what it could leave before, and the whole command perhaps where the answer is Unavailable
-pub record Does {S T : Type 0} (M : Meaning S) (settings : Settings) (old new : S) (result : Result T Refusal) (x : Tables → Given) : Type 0 where
+pub record Does {S T : Type 0} (M : Meaning S) (publisher : Publisher) (old new : S) (result : Result T Refusal) (x : Tables → Given) : Type 0 where
   pub before : M.honest new → M.honest old
-  pub all : M.honest new → (t : Tables) → M.holds old t → KeepsItsReleases (x t) → OnOk result (M.holds new (next_with_merges settings (x t)))
+  pub all : M.honest new → (t : Tables) → M.holds old t → KeepsItsReleases (x t) → OnOk result (M.holds new (next_with_merges publisher (x t)))
   pub none : M.honest new → (t : Tables) → M.holds old t → OnErr result (M.holds new t)
   pub stop_all : M.honest new → (t : Tables) → M.holds old t → KeepsItsReleases (x t)
-      → OnOk result ((u : Tables) → M.may_leave new u → u ≡ next_with_merges settings (x t))
-  pub stop_none : M.honest new → IfErr result (λ why. (u : Tables) → M.may_leave new u → M.may_leave old u ⊎ ((why ≡ Unavailable) × IsOfficeAfter M settings old x u))
+      → OnOk result ((u : Tables) → M.may_leave new u → u ≡ next_with_merges publisher (x t))
+  pub stop_none : M.honest new → IfErr result (λ why. (u : Tables) → M.may_leave new u → M.may_leave old u ⊎ ((why ≡ Unavailable) × IsOfficeAfter M publisher old x u))
   pub sound : M.honest new → M.leaves_sound old → M.leaves_sound new
 
 -- a look at a package needs an office that commands led to, with its releases kept; any other look needs nothing
-abbrev pub Needs : Settings → Query → Tables → Type 0
-Needs settings (queries.Releases notice) s = IsReached settings s
-Needs settings (queries.Record notice) s = IsReached settings s
-Needs settings query s = Unit {0}
+abbrev pub Needs : Publisher → Query → Tables → Type 0
+Needs publisher (queries.Releases notice) s = IsReached publisher s
+Needs publisher (queries.Record notice) s = IsReached publisher s
+Needs publisher query s = Unit {0}
 
 -- what is seen, or the query's refusal, or Unavailable
-abbrev pub IsSeen : Settings → Caller → Query → Tables → Result (List ℕ) Refusal → Type 0
-IsSeen settings caller query s result =
-    Needs settings query s → (result ≡ text_of (told (packages settings) s caller query)) ⊎ (result ≡ Err Unavailable)
+abbrev pub IsSeen : Publisher → Caller → Query → Tables → Result (List ℕ) Refusal → Type 0
+IsSeen publisher caller query s result =
+    Needs publisher query s → (result ≡ text_of (told (packages publisher) s caller query)) ⊎ (result ≡ Err Unavailable)
 
 -- no more went from a contract, by these entries, than came
 abbrev pub IsNotOverdrawn : Option ContractRow → List EntryRow → Type 0
@@ -90,9 +90,9 @@ TellsQuery M old new caller query result =
     → (result ≡ Err why) ⊎ HasRisen (M.fault_count old) (M.fault_count new)
 
 -- the office after the answer, and the accepted commands
-abbrev pub office_after_answer : Settings → Given → Result (List ℕ) Refusal → Tables
-office_after_answer settings x (Ok reply) = next_with_merges settings x
-office_after_answer settings x (Err why) = x.before
+abbrev pub office_after_answer : Publisher → Given → Result (List ℕ) Refusal → Tables
+office_after_answer publisher x (Ok reply) = next_with_merges publisher x
+office_after_answer publisher x (Err why) = x.before
 
 abbrev pub accepted_after : Given → Result (List ℕ) Refusal → List Given → List Given
 accepted_after x (Ok reply) xs = x ∷ xs
@@ -100,16 +100,16 @@ accepted_after x (Err why) xs = xs
 
 -- where accepted commands lead to an office, its accounts are what they moved, and each tender and each security, a tender's or a contract's,
 -- has the fate that they gave it
-pub record OfficeIsKept (settings : Settings) (xs : List Given) (s : Tables) : Type 0 where
-  pub reaches : Reaches (publishing settings) xs s
+pub record OfficeIsKept (publisher : Publisher) (xs : List Given) (s : Tables) : Type 0 where
+  pub reaches : Reaches (publishing publisher) xs s
   pub accounts : AccountsHold xs s
-  pub tenders : TendersHaveFates (publishing settings) xs s
+  pub tenders : TendersHaveFates (publishing publisher) xs s
   pub securities : SecuritiesHaveFates xs s
   pub performances : PerformancesHaveFates xs s
 
 -- the shelf holds the office after the answer, which keeps its releases; the commands accepted so far, with this one, lead to it; and so it
 -- is kept
-pub record Joins {S : Type 0} (M : Meaning S) (settings : Settings) (new : S) (x : Given) (result : Result (List ℕ) Refusal) (xs : List Given) : Type 0 where
-  pub holds : M.holds new (office_after_answer settings x result)
-  pub kept : OfficeIsKept settings (accepted_after x result xs) (office_after_answer settings x result)
-  pub releases : KeepsReleases (office_after_answer settings x result)
+pub record Joins {S : Type 0} (M : Meaning S) (publisher : Publisher) (new : S) (x : Given) (result : Result (List ℕ) Refusal) (xs : List Given) : Type 0 where
+  pub holds : M.holds new (office_after_answer publisher x result)
+  pub kept : OfficeIsKept publisher (accepted_after x result xs) (office_after_answer publisher x result)
+  pub releases : KeepsReleases (office_after_answer publisher x result)

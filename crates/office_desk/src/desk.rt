@@ -9,7 +9,7 @@ ghost use Rattle.office_base.specs.Shelves.{Looks, Alters, PutsFail};
 ghost use Rattle.office_publications.specs.Keeping.{KeepsReleases};
 ghost use Rattle.office_publications.specs.Publishing.{publishing};
 ghost use Rattle.office_machine.specs.Machine.{Given, IsRegistered, Reaches};
-ghost use Rattle.office_values.specs.declared.settings.Settings.{Settings as SettingsOf};
+ghost use Rattle.office_values.specs.declared.settings.Publisher.{Publisher as PublisherOf};
 ghost use Rattle.office_plans.specs.Asking.{given};
 ghost use Rattle.office_base.specs.Shutting.{TellsShut};
 ghost use Rattle.office_desk.specs.Callers.{caller_of, names_no_tenderer};
@@ -123,7 +123,8 @@ impl<H: Shelf + Drop> Desk<H> {
         caller: &Caller,
         command: Command<'_>,
     ) -> Result<Planned, Refusal>
-        ensures looks { Looks H.meaning self.old.shelf self.new.shelf (λ s. IsPlanned self.old.settings (given s moment caller.now command.entry) result) }
+        ensures looks { Looks H.meaning self.old.shelf self.new.shelf (λ s.
+            IsPlanned self.old.settings.publisher (given s moment caller.now command.entry) result) }
         ensures settings { self.new.settings ≡ self.old.settings }
         ensures forbidden { may caller.now (commands.kind_of command.entry) ≡ false → result ≡ Err Refusal.Forbidden }
         ensures tells { gathers_lines command.entry ≡ false → TellsRefusal H.meaning self.old.shelf self.new.shelf (λ s. given s moment caller.now command.entry) result }
@@ -132,8 +133,9 @@ impl<H: Shelf + Drop> Desk<H> {
             return Err(Refusal::Forbidden);
         }
         let asking = Asking { moment, caller };
+        let publisher = &self.settings.publisher;
         let shelf = &mut self.shelf;
-        plan_command(self.alloc, shelf, &self.settings, &asking, command)
+        plan_command(self.alloc, shelf, publisher, &asking, command)
     }
 
     /// Does what was planned, all or nothing, and hands out the reply; `commit` for who wants to know whether memory was wanting or the
@@ -160,9 +162,9 @@ impl<H: Shelf + Drop> Desk<H> {
         ensures reply { IfOk result (λ reply. reply.items ≡ planned.reply) }
         ensures refused { IfErr result (λ why. why ≡ Refusal.Unavailable) }
         ensures risen { IfErr result (λ _. HasRisen (H.meaning.fault_count self.old.shelf) (H.meaning.fault_count self.new.shelf)) }
-        ensures joins { H.meaning.honest self.new.shelf → (settings : SettingsOf) (x : Given) → IsPlan settings x planned → IsRegistered x.caller x.before.tenderers
+        ensures joins { H.meaning.honest self.new.shelf → (publisher : PublisherOf) (x : Given) → IsPlan publisher x planned → IsRegistered x.caller x.before.tenderers
             → H.meaning.holds self.old.shelf x.before → KeepsReleases x.before
-            → (xs : List Given) → Reaches (publishing settings) xs x.before → Joins H.meaning settings self.new.shelf x (read_text result) xs }
+            → (xs : List Given) → Reaches (publishing publisher) xs x.before → Joins H.meaning publisher self.new.shelf x (read_text result) xs }
     {
         laws::accounts();
         keeping();
@@ -182,13 +184,13 @@ impl<H: Shelf + Drop> Desk<H> {
         caller: &Caller,
         command: Command<'_>,
     ) -> Result<Vec<u8>, Refusal>
-        ensures does { Does H.meaning self.old.settings self.old.shelf self.new.shelf result (λ s. given s moment caller.now command.entry) }
+        ensures does { Does H.meaning self.old.settings.publisher self.old.shelf self.new.shelf result (λ s. given s moment caller.now command.entry) }
         ensures settings { self.new.settings ≡ self.old.settings }
         ensures answered { H.meaning.honest self.new.shelf → (s : Tables) → H.meaning.holds self.old.shelf s
-            → IsReplyOrRefusal self.old.settings (given s moment caller.now command.entry) (read_text result) }
+            → IsReplyOrRefusal self.old.settings.publisher (given s moment caller.now command.entry) (read_text result) }
         ensures joins { H.meaning.honest self.new.shelf → (s : Tables) → IsRegistered caller.now s.tenderers → H.meaning.holds self.old.shelf s → KeepsReleases s
-            → (xs : List Given) → Reaches (publishing self.old.settings) xs s
-            → Joins H.meaning self.old.settings self.new.shelf (given s moment caller.now command.entry) (read_text result) xs }
+            → (xs : List Given) → Reaches (publishing self.old.settings.publisher) xs s
+            → Joins H.meaning self.old.settings.publisher self.new.shelf (given s moment caller.now command.entry) (read_text result) xs }
     {
         laws::accounts();
         keeping();
@@ -202,7 +204,7 @@ impl<H: Shelf + Drop> Desk<H> {
     /// Answers a query. Nothing changes. A package is shown only where each release that its notice's row counts is there, and can be merged. A refusal is told,
     /// or the store's count of faults rose.
     pub fn look(&mut self, caller: &Caller, query: Query) -> Result<Vec<u8>, Refusal>
-        ensures looks { Looks H.meaning self.old.shelf self.new.shelf (λ s. IsSeen self.old.settings caller.now query s (read_text result)) }
+        ensures looks { Looks H.meaning self.old.shelf self.new.shelf (λ s. IsSeen self.old.settings.publisher caller.now query s (read_text result)) }
         ensures shown { H.meaning.honest self.new.shelf → (s : Tables) → H.meaning.holds self.old.shelf s → OnOk result (HasShown query s) }
         ensures settings { self.new.settings ≡ self.old.settings }
         ensures forbidden { may_look caller.now (queries.query_kind_of query) ≡ false → result ≡ Err Refusal.Forbidden }
@@ -211,7 +213,8 @@ impl<H: Shelf + Drop> Desk<H> {
         if !may_look(caller, query.kind()) {
             return Err(Refusal::Forbidden);
         }
-        look_at(self.alloc, &mut self.shelf, &self.settings, caller, query)
+        let publisher = &self.settings.publisher;
+        look_at(self.alloc, &mut self.shelf, publisher, caller, query)
     }
 }
 

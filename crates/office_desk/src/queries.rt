@@ -26,19 +26,19 @@ use office_base::shelf::Lookups;
 use office_commands::command::Caller;
 use office_commands::queries::Query;
 use office_values::refusal::Refusal;
-use office_values::settings::Settings;
+use office_values::settings::Publisher;
 use std::alloc::Global;
 
 /// Answers a query that the caller may ask.
 pub(crate) fn look_at<H: Lookups>(
     alloc: Global,
     shelf: &mut H,
-    settings: &Settings,
+    publisher: &Publisher,
     caller: &Caller,
     query: Query,
 ) -> Result<Vec<u8>, Refusal>
     requires { may_look caller.now (query_kind_of query) ≡ true }
-    ensures looks { Looks H.meaning shelf.old shelf.new (λ s. IsSeen settings.now caller.now query s (read_text result)) }
+    ensures looks { Looks H.meaning shelf.old shelf.new (λ s. IsSeen publisher.now caller.now query s (read_text result)) }
     ensures tells { TellsQuery H.meaning shelf.old shelf.new caller.now query result }
     ensures shown { H.meaning.honest shelf.new → (s : Tables) → H.meaning.holds shelf.old s → OnOk result (HasShown query s) }
 {
@@ -58,10 +58,10 @@ pub(crate) fn look_at<H: Lookups>(
         Query::Tenderers { after } => tenderers::look(alloc, shelf, caller, after),
         Query::Contract { contract } => contract::look(alloc, shelf, caller, contract),
         Query::Releases { notice } => packages::look_at_releases(
-            alloc, shelf, settings, caller, notice,
+            alloc, shelf, publisher, caller, notice,
         ),
         Query::Record { notice } => packages::look_at_record(
-            alloc, shelf, settings, caller, notice,
+            alloc, shelf, publisher, caller, notice,
         ),
     }
 }

@@ -54,40 +54,42 @@ module _ (settings : Settings) (s : Tables) (moment : ℕ) (text : List ℕ) (Ho
       → text ≡ response_of (Refused why None) → Holds → Tells (Gives caller command)
   tells_refused_command caller command why (inl guarded) is held =
       tells_reply (Gives caller command) (Refused why None)
-      (ap (λ (o : Option Refusal). told_as (reply_by o (publishing settings) (given s moment caller command))) guarded) is held
+      (ap (λ (o : Option Refusal). told_as (reply_by o (publishing settings.publisher) (given s moment caller command))) guarded) is held
   tells_refused_command caller command why (inr wanting) is held = tells_unavailable (Gives caller command) (unavailable_refusal why wanting is) held
 
-  pub tells_done_command : (caller : Caller) (command : Command) (planned : Plan) → IsPlan settings (given s moment caller command) planned
+  pub tells_done_command : (caller : Caller) (command : Command) (planned : Plan) → IsPlan settings.publisher (given s moment caller command) planned
       → text ≡ response_of (Json planned.reply) → Tells (Gives caller command)
   tells_done_command caller command planned plan is =
       let x : Given = given s moment caller command in
       let accepted : is_accepted s moment (Gives caller command) ≡ true = ap (λ (o : Option Refusal). is_none o) plan.allowed in (
         false,
-        is ∙ ap response_of (sym (ap (λ (o : Option Refusal). told_as (reply_by o (publishing settings) x)) plan.allowed ∙ accepted_as x plan.allowed ∙ ap Json (sym plan.reply))),
+        is ∙ ap response_of (sym (ap (λ (o : Option Refusal). told_as (reply_by o (publishing settings.publisher) x)) plan.allowed ∙ accepted_as x plan.allowed ∙ ap Json (sym plan.reply))),
         λ none. absurd (true≢false (sym (ap (λ (b : Bool). b && not false) accepted) ∙ none)),
       )
 
   -- ---- a query
 
   said_refused : (caller : Caller) (query : Query) (why : Refusal)
-      → (let it : Result (List ℕ) Refusal = Err why in (it ≡ text_of (told (packages settings) s caller query)) ⊎ (it ≡ Err Unavailable))
+      → (let it : Result (List ℕ) Refusal = Err why in (it ≡ text_of (told (packages settings.publisher) s caller query)) ⊎ (it ≡ Err Unavailable))
       → text ≡ response_of (Refused why None) → Holds → Tells (Sees caller query)
   said_refused caller query why (inl said) is held =
-      tells_reply (Sees caller query) (Refused why None) (refused_as (told (packages settings) s caller query) why said) is held
+      tells_reply (Sees caller query) (Refused why None) (refused_as (told (packages settings.publisher) s caller query) why said) is held
   said_refused caller query why (inr wanting) is held = tells_unavailable (Sees caller query) (unavailable_refusal why (cc wanting) is) held
 
-  pub tells_refused_query : (caller : Caller) (query : Query) (why : Refusal) → IsSeen settings caller query s (Err why) → Needs settings query s
+  pub tells_refused_query : (caller : Caller) (query : Query) (why : Refusal) → IsSeen settings.publisher caller query s (Err why)
+      → Needs settings.publisher query s
       → text ≡ response_of (Refused why None) → Holds → Tells (Sees caller query)
   tells_refused_query caller query why seen needs is held = said_refused caller query why (seen needs) is held
 
   said_shown : (caller : Caller) (query : Query) (shown : List ℕ)
-      → (let it : Result (List ℕ) Refusal = Ok shown in (it ≡ text_of (told (packages settings) s caller query)) ⊎ (it ≡ Err Unavailable))
+      → (let it : Result (List ℕ) Refusal = Ok shown in (it ≡ text_of (told (packages settings.publisher) s caller query)) ⊎ (it ≡ Err Unavailable))
       → text ≡ response_of (seen_as (query_kind_of query) shown) → Holds → Tells (Sees caller query)
   said_shown caller query shown (inl said) is held =
-      tells_reply (Sees caller query) (seen_as (query_kind_of query) shown) (told_seen (packages settings) s caller query shown said) is held
+      tells_reply (Sees caller query) (seen_as (query_kind_of query) shown) (told_seen (packages settings.publisher) s caller query shown said) is held
   said_shown caller query shown (inr never) is held = absurd (cc never)
 
-  pub tells_shown_query : (caller : Caller) (query : Query) (shown : List ℕ) → IsSeen settings caller query s (Ok shown) → Needs settings query s
+  pub tells_shown_query : (caller : Caller) (query : Query) (shown : List ℕ) → IsSeen settings.publisher caller query s (Ok shown)
+      → Needs settings.publisher query s
       → text ≡ response_of (seen_as (query_kind_of query) shown) → Holds → Tells (Sees caller query)
   tells_shown_query caller query shown seen needs is held = said_shown caller query shown (seen needs) is held
 

@@ -44,23 +44,10 @@ tells_unavailable why text is (inl tells) = tells ∙ ap (λ (w : Refusal). resp
 tells_unavailable why text is (inr tells) = tells
 
 -- an office that stands has what a query needs
-has_needed : (settings : Settings) (s : Tables) → IsReached settings s → (query : Query) → Needs settings query s
-has_needed settings s stands (queries.Line line) = tt
-has_needed settings s stands queries.Ledger = tt
-has_needed settings s stands (queries.Minutes notice) = tt
-has_needed settings s stands (queries.Register notice) = tt
+has_needed : (settings : Settings) (s : Tables) → IsReached settings.publisher s → (query : Query) → Needs settings.publisher query s
 has_needed settings s stands (queries.Releases notice) = stands
 has_needed settings s stands (queries.Record notice) = stands
-has_needed settings s stands (queries.Tender receipt) = tt
-has_needed settings s stands (queries.Security security) = tt
-has_needed settings s stands (queries.Performance contract) = tt
-has_needed settings s stands (queries.Notices after) = tt
-has_needed settings s stands (queries.Terms notice) = tt
-has_needed settings s stands (queries.OwnTenders notice) = tt
-has_needed settings s stands (queries.Evaluation notice) = tt
-has_needed settings s stands (queries.Securities notice) = tt
-has_needed settings s stands (queries.Tenderers after) = tt
-has_needed settings s stands (queries.Contract contract) = tt
+has_needed settings s stands _ = tt
 
 -- an office that keeps its releases keeps those of each command's notice
 its_own : (x : Given) → KeepsReleases x.before → KeepsItsReleases x
@@ -68,7 +55,7 @@ its_own x keeps notice is = record { releases = keeps.releases notice; merged = 
 
 -- what a look of such an office says
 abbrev IsSaid : Settings → Caller → Query → Tables → Result (List ℕ) Refusal → Type 0
-IsSaid settings caller query s result = (result ≡ text_of (told (packages settings) s caller query)) ⊎ (result ≡ Err Unavailable)
+IsSaid settings caller query s result = (result ≡ text_of (told (packages settings.publisher) s caller query)) ⊎ (result ≡ Err Unavailable)
 
 module _ {S : Type 0} (M : Meaning S) (settings : Settings) (old new : S) (s : Tables) (moment : ℕ) (text : List ℕ) where
   -- nothing is added to what a stop may leave
@@ -100,64 +87,64 @@ module _ {S : Type 0} (M : Meaning S) (settings : Settings) (old new : S) (s : T
   command_refused caller command why (inl guarded) tells held stays =
       let x : Given = given s moment caller command in
       is_refused (Gives caller command) why None
-      (ap (λ (o : Option Refusal). told_as (reply_by o (publishing settings) x)) guarded)
-      (ap (λ (o : Option Refusal). office_kept o settings x) guarded)
+      (ap (λ (o : Option Refusal). told_as (reply_by o (publishing settings.publisher) x)) guarded)
+      (ap (λ (o : Option Refusal). office_kept o settings.publisher x) guarded)
       (ap (λ (o : Option Refusal). is_none o) guarded)
       tells held stays
   command_refused caller command why (inr is) tells held stays = is_unavailable (Gives caller command) (tells_unavailable why text is tells) held stays
 
   -- the tables after a command that was planned
-  planned_after : (caller : Caller) (command : Command) (planned : Plan) → IsPlan settings (given s moment caller command) planned → IsReached settings s
+  planned_after : (caller : Caller) (command : Command) (planned : Plan) → IsPlan settings.publisher (given s moment caller command) planned → IsReached settings.publisher s
       → after_puts planned.puts s ≡ tables_after settings s moment (Gives caller command)
   planned_after caller command planned plan stands =
       let x : Given = given s moment caller command in
-      ap (λ (ps : List Put). after_puts ps s) (plan.put (its_own x stands.keeps)).puts ∙ ap (λ (o : Option Refusal). office_kept o settings x) (sym plan.allowed)
+      ap (λ (ps : List Put). after_puts ps s) (plan.put (its_own x stands.keeps)).puts ∙ ap (λ (o : Option Refusal). office_kept o settings.publisher x) (sym plan.allowed)
 
   -- the office after a command that was planned: the command joins those that led to the office before it, and its release is kept
   stands_after : KeptStepsReach → ReleasesStayKept → (caller : Caller) (command : Command) (planned : Plan)
-      → IsPlan settings (given s moment caller command) planned → IsRegistered caller s.tenderers → IsReached settings s
-      → IsReached settings (next_with_merges settings (given s moment caller command))
+      → IsPlan settings.publisher (given s moment caller command) planned → IsRegistered caller s.tenderers → IsReached settings.publisher s
+      → IsReached settings.publisher (next_with_merges settings.publisher (given s moment caller command))
   stands_after reach stay caller command planned plan registered stands =
       let x : Given = given s moment caller command in
       record {
         commands = x ∷ stands.commands;
-        reaches = reach settings stands.commands x stands.reaches (plan.given, registered) plan.allowed;
-        keeps = stay settings stands.commands x stands.reaches (plan.given, registered) plan.allowed (plan.put (its_own x stands.keeps)).reads stands.keeps;
+        reaches = reach settings.publisher stands.commands x stands.reaches (plan.given, registered) plan.allowed;
+        keeps = stay settings.publisher stands.commands x stands.reaches (plan.given, registered) plan.allowed (plan.put (its_own x stands.keeps)).reads stands.keeps;
       }
 
   -- and it is what a stop leaves of it
   whole_after : KeptStepsReach → ReleasesStayKept → (caller : Caller) (command : Command) (planned : Plan)
-      → IsPlan settings (given s moment caller command) planned → IsRegistered caller s.tenderers → IsReached settings s
+      → IsPlan settings.publisher (given s moment caller command) planned → IsRegistered caller s.tenderers → IsReached settings.publisher s
       → (u : Tables) → u ≡ after_puts planned.puts s → IsWholeAfter settings s moment (Gives caller command) u
   whole_after reach stay caller command planned plan registered stands u is =
       let x : Given = given s moment caller command in
-      let same : u ≡ next_with_merges settings x = is ∙ ap (λ (ps : List Put). after_puts ps s) (plan.put (its_own x stands.keeps)).puts in (
+      let same : u ≡ next_with_merges settings.publisher x = is ∙ ap (λ (ps : List Put). after_puts ps s) (plan.put (its_own x stands.keeps)).puts in (
         is ∙ planned_after caller command planned plan stands,
-        subst (IsReached settings) (sym same) (stands_after reach stay caller command planned plan registered stands),
+        subst (IsReached settings.publisher) (sym same) (stands_after reach stay caller command planned plan registered stands),
       )
 
   -- a command that is done
   pub command_done : KeptStepsReach → ReleasesStayKept → (caller : Caller) (command : Command) (planned : Plan)
-      → IsPlan settings (given s moment caller command) planned → IsRegistered caller s.tenderers → IsReached settings s
+      → IsPlan settings.publisher (given s moment caller command) planned → IsRegistered caller s.tenderers → IsReached settings.publisher s
       → text ≡ response_of (Json planned.reply) → M.holds new (after_puts planned.puts s) → ((u : Tables) → M.may_leave new u → u ≡ after_puts planned.puts s)
       → Answered M settings old new s moment (Gives caller command) text
   command_done reach stay caller command planned plan registered stands is held leaves =
       let x : Given = given s moment caller command in
-      let put : IsPut settings x planned = plan.put (its_own x stands.keeps) in
-      let after : HoldsStanding M settings new (next_with_merges settings x) = (
+      let put : IsPut settings.publisher x planned = plan.put (its_own x stands.keeps) in
+      let after : HoldsStanding M settings new (next_with_merges settings.publisher x) = (
         subst (λ (ps : List Put). M.holds new (after_puts ps s)) put.puts held,
         stands_after reach stay caller command planned plan registered stands,
       ) in
-      is_told (next_with_merges settings x) (Gives caller command) (Json planned.reply)
-      (ap (λ (o : Option Refusal). told_as (reply_by o (publishing settings) x)) plan.allowed ∙ accepted_as x plan.allowed ∙ ap Json (sym plan.reply))
-      (ap (λ (o : Option Refusal). office_kept o settings x) plan.allowed)
+      is_told (next_with_merges settings.publisher x) (Gives caller command) (Json planned.reply)
+      (ap (λ (o : Option Refusal). told_as (reply_by o (publishing settings.publisher) x)) plan.allowed ∙ accepted_as x plan.allowed ∙ ap Json (sym plan.reply))
+      (ap (λ (o : Option Refusal). office_kept o settings.publisher x) plan.allowed)
       is after
       (leaves_accepted M settings old new s moment (Gives caller command) (ap (λ (o : Option Refusal). is_none o) plan.allowed)
       (λ u left. whole_after reach stay caller command planned plan registered stands u (leaves u left)))
 
   -- a command that was planned and isn't done: the office stays, and a stop may leave the whole command
   pub command_undone : KeptStepsReach → ReleasesStayKept → (caller : Caller) (command : Command) (planned : Plan)
-      → IsPlan settings (given s moment caller command) planned → IsRegistered caller s.tenderers → text ≡ unavailable_text → HoldsStanding M settings new s → ((u : Tables) → M.may_leave new u → M.may_leave old u ⊎ (u ≡ after_puts planned.puts s))
+      → IsPlan settings.publisher (given s moment caller command) planned → IsRegistered caller s.tenderers → text ≡ unavailable_text → HoldsStanding M settings new s → ((u : Tables) → M.may_leave new u → M.may_leave old u ⊎ (u ≡ after_puts planned.puts s))
       → Answered M settings old new s moment (Gives caller command) text
   command_undone reach stay caller command planned plan registered is held leaves = (
     true,
@@ -171,10 +158,10 @@ module _ {S : Type 0} (M : Meaning S) (settings : Settings) (old new : S) (s : T
   seen_refused : (caller : Caller) (query : Query) (why : Refusal) → IsSaid settings caller query s (Err why) → TellsRefusal why None text
       → HoldsStanding M settings new s → Stays → Answered M settings old new s moment (Sees caller query) text
   seen_refused caller query why (inl said) tells held stays =
-      is_refused (Sees caller query) why None (refused_as (told (packages settings) s caller query) why said) refl refl tells held stays
+      is_refused (Sees caller query) why None (refused_as (told (packages settings.publisher) s caller query) why said) refl refl tells held stays
   seen_refused caller query why (inr is) tells held stays = is_unavailable (Sees caller query) (tells_unavailable why text (cc) tells) held stays
 
-  pub query_refused : (caller : Caller) (query : Query) (why : Refusal) → IsSeen settings caller query s (Err why) → TellsRefusal why None text
+  pub query_refused : (caller : Caller) (query : Query) (why : Refusal) → IsSeen settings.publisher caller query s (Err why) → TellsRefusal why None text
       → HoldsStanding M settings new s → Stays → Answered M settings old new s moment (Sees caller query) text
   query_refused caller query why seen tells held stays = seen_refused caller query why (seen (has_needed settings s held.1 query)) tells held stays
 
@@ -182,9 +169,9 @@ module _ {S : Type 0} (M : Meaning S) (settings : Settings) (old new : S) (s : T
   seen_told : (caller : Caller) (query : Query) (shown : List ℕ) → IsSaid settings caller query s (Ok shown)
       → text ≡ response_of (seen_as (query_kind_of query) shown) → HoldsStanding M settings new s → Stays → Answered M settings old new s moment (Sees caller query) text
   seen_told caller query shown (inl said) is held stays =
-      is_told s (Sees caller query) (seen_as (query_kind_of query) shown) (told_seen (packages settings) s caller query shown said) refl is held stays
+      is_told s (Sees caller query) (seen_as (query_kind_of query) shown) (told_seen (packages settings.publisher) s caller query shown said) refl is held stays
   seen_told caller query shown (inr never) is held stays = absurd (cc)
 
-  pub query_told : (caller : Caller) (query : Query) (shown : List ℕ) → IsSeen settings caller query s (Ok shown)
+  pub query_told : (caller : Caller) (query : Query) (shown : List ℕ) → IsSeen settings.publisher caller query s (Ok shown)
       → text ≡ response_of (seen_as (query_kind_of query) shown) → HoldsStanding M settings new s → Stays → Answered M settings old new s moment (Sees caller query) text
   query_told caller query shown seen is held stays = seen_told caller query shown (seen (has_needed settings s held.1 query)) is held stays

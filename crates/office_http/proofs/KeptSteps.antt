@@ -2,6 +2,7 @@
 use Rattle.std.proofs.Common.{◌≡◌, ℕ, ◌⊎◌, inl, inr, Bool, true, false, List, [], ◌∷◌, Option, Some, None, Result, Ok, Err, refl, sym, subst}
 use Rattle.std.specs.Prelude.{⊤}
 use Rattle.office_values.specs.declared.refusal.Refusal.{Refusal}
+use Rattle.office_values.specs.declared.settings.Publisher.{Publisher}
 use Rattle.office_values.specs.declared.settings.Settings.{Settings}
 use Rattle.office_base.specs.Tables.{Tables}
 use Rattle.office_machine.specs.Accounts.{AccountsAreKept}
@@ -20,6 +21,7 @@ use Rattle.office_wire.specs.declared.fault.RunFault.TheVariants as ends
 use Rattle.office_http.specs.Meaning.{Meant, Refuses, Gives, Sees, meant}
 use Rattle.office_http.specs.Answering.{Held, meant_in, office_answers, tables_after, tables_left}
 use Rattle.office_http.specs.Joined.{AreServed, KeepsServing, RequestsAreKept, StepsAreKept, joined_meant, accepted_steps, joined_with}
+use Rattle.office_requests.specs.Asking.{WhatIsAskedCanBeGiven}
 use Rattle.office_http.specs.Inside.Meant.{CanBeMeant}
 use Rattle.office_http.proofs.MeantSteps.{meant_can}
 
@@ -30,67 +32,69 @@ pub record Laws : Type 0 where
   pub securities : SecuritiesAreKept
   pub performances : PerformancesAreKept
   pub steps : KeptStepsReach
+  pub asked : WhatIsAskedCanBeGiven
 
-pub kept_by : Laws → (settings : Settings) (xs : List Given) (s : Tables) → Reaches (publishing settings) xs s → OfficeIsKept settings xs s
-kept_by laws settings xs s reaches = record {
+pub kept_by : Laws → (publisher : Publisher) (xs : List Given) (s : Tables) → Reaches (publishing publisher) xs s → OfficeIsKept publisher xs s
+kept_by laws publisher xs s reaches = record {
   reaches = reaches;
-  accounts = laws.accounts (publishing settings) xs s reaches;
-  tenders = laws.tenders (publishing settings) xs s reaches;
-  securities = laws.securities (publishing settings) xs s reaches;
-  performances = laws.performances (publishing settings) xs s reaches;
+  accounts = laws.accounts (publishing publisher) xs s reaches;
+  tenders = laws.tenders (publishing publisher) xs s reaches;
+  securities = laws.securities (publishing publisher) xs s reaches;
+  performances = laws.performances (publishing publisher) xs s reaches;
 }
 
 module _ (laws : Laws) (settings : Settings) where
   -- One request.
 
   given_reaches : (xs : List Given) (x : Given) (refusal : Option Refusal) → refusal_of x ≡ refusal → CanBeGiven x
-      → Reaches (publishing settings) xs x.before → Reaches (publishing settings) (accepted_by refusal x xs) (office_kept refusal settings x)
-  given_reaches xs x None allowed can reached = laws.steps settings xs x reached can allowed
+      → Reaches (publishing settings.publisher) xs x.before
+      → Reaches (publishing settings.publisher) (accepted_by refusal x xs) (office_kept refusal settings.publisher x)
+  given_reaches xs x None allowed can reached = laws.steps settings.publisher xs x reached can allowed
   given_reaches xs x (Some why) is can reached = reached
 
-  meant_reaches : (xs : List Given) (s : Tables) (moment : ℕ) (m : Meant) → CanBeMeant s m → Reaches (publishing settings) xs s
-      → Reaches (publishing settings) (joined_meant s moment m xs) (tables_after settings s moment m)
+  meant_reaches : (xs : List Given) (s : Tables) (moment : ℕ) (m : Meant) → CanBeMeant s m → Reaches (publishing settings.publisher) xs s
+      → Reaches (publishing settings.publisher) (joined_meant s moment m xs) (tables_after settings s moment m)
   meant_reaches xs s moment (Refuses why method) can reached = reached
   meant_reaches xs s moment (Gives caller command) can reached =
       given_reaches xs (given s moment caller command) (refusal_of (given s moment caller command)) refl can reached
   meant_reaches xs s moment (Sees caller query) can reached = reached
 
-  answer_reaches : (busy : Bool) (xs : List Given) (s : Tables) (moment : ℕ) (m : Meant) → CanBeMeant s m → Reaches (publishing settings) xs s
-      → Reaches (publishing settings) (joined_with busy s moment m xs) (tables_left settings busy s moment m)
+  answer_reaches : (busy : Bool) (xs : List Given) (s : Tables) (moment : ℕ) (m : Meant) → CanBeMeant s m → Reaches (publishing settings.publisher) xs s
+      → Reaches (publishing settings.publisher) (joined_with busy s moment m xs) (tables_left settings busy s moment m)
   answer_reaches true xs s moment m can reached = reached
   answer_reaches false xs s moment m can reached = meant_reaches xs s moment m can reached
 
-  request_reaches : (xs : List Given) (s : Tables) → Reaches (publishing settings) xs s → (request : RequestView) (moment : ℕ) (busy : Bool)
-      → Reaches (publishing settings) (joined_with busy s moment (meant settings request s) xs) (tables_left settings busy s moment (meant settings request s))
+  request_reaches : (xs : List Given) (s : Tables) → Reaches (publishing settings.publisher) xs s → (request : RequestView) (moment : ℕ) (busy : Bool)
+      → Reaches (publishing settings.publisher) (joined_with busy s moment (meant settings request s) xs) (tables_left settings busy s moment (meant settings request s))
   request_reaches xs s reached request moment busy =
-      answer_reaches busy xs s moment (meant settings request s) (meant_can settings request s) reached
+      answer_reaches busy xs s moment (meant settings request s) (meant_can laws.asked settings request s) reached
 
 pub requests_kept : Laws → RequestsAreKept
 requests_kept laws settings xs s reached request moment busy =
-    kept_by laws settings _ _ (request_reaches laws settings xs s reached request moment busy)
+    kept_by laws settings.publisher _ _ (request_reaches laws settings xs s reached request moment busy)
 
 -- All steps of a run.
 
-steps_reach : Laws → (xs : List Given) (h : Held) → Reaches (publishing h.settings) xs h.tables → (steps : List Step)
-    → Reaches (publishing h.settings) (accepted_steps h steps xs) (office_left office_answers h steps).tables
+steps_reach : Laws → (xs : List Given) (h : Held) → Reaches (publishing h.settings.publisher) xs h.tables → (steps : List Step)
+    → Reaches (publishing h.settings.publisher) (accepted_steps h steps xs) (office_left office_answers h steps).tables
 steps_reach laws xs h reached [] = reached
 steps_reach laws xs h reached (x ∷ steps) =
     steps_reach laws (joined_with x.busy h.tables x.block.moment (meant_in h x.block) xs) (office_answers.after x.busy h x.block)
     (request_reaches laws h.settings xs h.tables reached x.block.request x.block.moment x.busy) steps
 
 pub steps_kept : Laws → StepsAreKept
-steps_kept laws xs h reached steps = kept_by laws h.settings _ _ (steps_reach laws xs h reached steps)
+steps_kept laws xs h reached steps = kept_by laws h.settings.publisher _ _ (steps_reach laws xs h reached steps)
 
 -- One request that is served.
 
 module _ (law : StepsAreKept) (input : List ℕ) (now : Option (List ℕ)) (moment : ℕ) (h k : Held) (xs : List Given)
-    (reached : Reaches (publishing h.settings) xs h.tables) where
+    (reached : Reaches (publishing h.settings.publisher) xs h.tables) where
   steps_served : (steps : List Step) → AreServed input now moment steps → k ≡ office_left office_answers h steps → KeepsServing input now moment h k xs
   steps_served steps are left = record {
     steps = steps;
     are = are;
     left = left;
-    kept = subst (λ (o : Held). OfficeIsKept h.settings (accepted_steps h steps xs) o.tables) (sym left) (law xs h reached steps);
+    kept = subst (λ (o : Held). OfficeIsKept h.settings.publisher (accepted_steps h steps xs) o.tables) (sym left) (law xs h reached steps);
   }
 
   one_served : (text : List ℕ) → AnswersOne office_answers input now moment h k text ⊎ RefusesOne office_answers input h k text

@@ -9,7 +9,7 @@ pub mod SightSteps
 pub mod AlwaysTold
 pub mod CertainSteps
 pub mod WorkedRequests
-pub mod AskedCommands
+pub mod KnownCallers
 pub mod MeantSteps
 pub mod KeptSteps
 pub mod ViewedAnswers

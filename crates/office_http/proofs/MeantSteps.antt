@@ -1,11 +1,12 @@
 -- What is meant by a request can be given.
 use Rattle.std.proofs.Common.{Option, Result, Ok, Err}
+use Rattle.std.specs.Prelude.{IfOk}
 use Rattle.office_commands.specs.declared.command.Caller.{Caller}
 use Rattle.office_values.specs.declared.refusal.Refusal.{Refusal}
 use Rattle.office_values.specs.declared.settings.Settings.{Settings}
 use Rattle.office_base.specs.Tables.{Tables}
 use Rattle.office_wire.specs.Request.{RequestView}
-use Rattle.office_requests.specs.Asking.{asked_by_route}
+use Rattle.office_requests.specs.Asking.{CanBeAsked, WhatIsAskedCanBeGiven, asked_by_route}
 use Rattle.office_requests.specs.Routing.{routed}
 use Rattle.office_requests.specs.declared.asked.Asked.{Asked}
 use Rattle.office_requests.specs.declared.asked.Asked.TheVariants.{Does, Looks}
@@ -14,25 +15,25 @@ use Rattle.office_requests.specs.declared.route.Route.{Route}
 use Rattle.office_http.specs.Credentials.{credentials_of}
 use Rattle.office_http.specs.Meaning.{meant, meant_asked, meant_at, meant_by, who}
 use Rattle.office_http.specs.Inside.Meant.{CanBeMeant}
-use Rattle.office_http.proofs.AskedCommands.{IsAsked, IsKnown, IsRead, asked_is, who_known}
+use Rattle.office_http.proofs.KnownCallers.{IsKnown, IsRead, who_known}
 
-pub asked_can : (s : Tables) (caller : Caller) (read : Result Asked Refusal) → IsRead (IsKnown s) (Ok caller) → IsRead IsAsked read → CanBeMeant s (meant_asked caller read)
+pub asked_can : (s : Tables) (caller : Caller) (read : Result Asked Refusal) → IsRead (IsKnown s) (Ok caller) → IfOk read CanBeAsked → CanBeMeant s (meant_asked caller read)
 unfolding IsRead
 asked_can s caller (Err why) known is = tt
 asked_can s caller (Ok (Does command)) known is = (is, known)
 asked_can s caller (Ok (Looks query)) known is = tt
 
-caller_can : (s : Tables) (route : Route) (request : RequestView) (caller : Result Caller Refusal) → IsRead (IsKnown s) caller
+caller_can : WhatIsAskedCanBeGiven → (s : Tables) (route : Route) (request : RequestView) (caller : Result Caller Refusal) → IsRead (IsKnown s) caller
     → CanBeMeant s (meant_by route request caller)
 unfolding IsRead
-caller_can s route request (Err why) known = tt
-caller_can s route request (Ok caller) known = asked_can s caller (asked_by_route caller route request) known (asked_is caller route request)
+caller_can law s route request (Err why) known = tt
+caller_can law s route request (Ok caller) known = asked_can s caller (asked_by_route caller route request) known (law caller route request)
 
-route_can : (settings : Settings) (request : RequestView) (s : Tables) (route : Result Route (Refusal × Option Allow))
+route_can : WhatIsAskedCanBeGiven → (settings : Settings) (request : RequestView) (s : Tables) (route : Result Route (Refusal × Option Allow))
     → CanBeMeant s (meant_at settings request s route)
-route_can settings request s (Err why) = tt
-route_can settings request s (Ok route) =
-    caller_can s route request (who settings s (credentials_of request.head.fields)) (who_known settings s (credentials_of request.head.fields))
+route_can law settings request s (Err why) = tt
+route_can law settings request s (Ok route) =
+    caller_can law s route request (who settings s (credentials_of request.head.fields)) (who_known settings s (credentials_of request.head.fields))
 
-pub meant_can : (settings : Settings) (request : RequestView) (s : Tables) → CanBeMeant s (meant settings request s)
-meant_can settings request s = route_can settings request s (routed request.head.method request.head.target)
+pub meant_can : WhatIsAskedCanBeGiven → (settings : Settings) (request : RequestView) (s : Tables) → CanBeMeant s (meant settings request s)
+meant_can law settings request s = route_can law settings request s (routed request.head.method request.head.target)

@@ -1,5 +1,6 @@
 -- From what a request says to its answer: its route, its caller and what is asked.
 use Rattle.std.proofs.Common.{◌≡◌, ℕ, ◌⊎◌, inl, inr, true, false, List, Option, None, Result, Ok, Err, sym, ap, ◌∙◌, subst}
+use Rattle.std.specs.Prelude.{IfOk}
 use Rattle.office_commands.specs.declared.command.Caller.{Caller}
 use Rattle.office_values.specs.declared.refusal.Refusal.{Refusal}
 use Rattle.office_values.specs.declared.refusal.Refusal.TheVariants.{Unavailable}
@@ -7,7 +8,7 @@ use Rattle.office_values.specs.declared.settings.Settings.{Settings}
 use Rattle.office_base.specs.Tables.{Tables}
 use Rattle.office_base.specs.Shelves.{Meaning}
 use Rattle.office_wire.specs.Request.{RequestView}
-use Rattle.office_requests.specs.Asking.{asked_by_route}
+use Rattle.office_requests.specs.Asking.{CanBeAsked, asked_by_route}
 use Rattle.office_requests.specs.Routing.{routed}
 use Rattle.office_requests.specs.declared.asked.Asked.{Asked}
 use Rattle.office_requests.specs.declared.route.Allow.{Allow}
@@ -17,7 +18,7 @@ use Rattle.office_http.specs.Meaning.{Meant, Refuses, Gives, Sees, meant, meant_
 use Rattle.office_http.specs.Answering.{GivesCommand, IsRefusedText, ShowsMeant, is_accepted, reply_to_meant, tables_after}
 use Rattle.office_http.specs.Inside.Meant.{Answered, CanBeMeant, HoldsStanding}
 use Rattle.office_http.proofs.AnswerSteps.{TellsRefusal, is_refused, is_unavailable, tells_unavailable}
-use Rattle.office_http.proofs.AskedCommands.{IsAsked, IsKnown, IsRead, asked_is, why_read, who_known}
+use Rattle.office_http.proofs.KnownCallers.{IsKnown, IsRead, who_known}
 use Rattle.office_http.proofs.MeantSteps.{asked_can}
 
 module _ {S : Type 0} (M : Meaning S) (settings : Settings) (old new : S) (s : Tables) (moment : ℕ) (text : List ℕ) (request : RequestView) where
@@ -61,14 +62,9 @@ module _ {S : Type 0} (M : Meaning S) (settings : Settings) (old new : S) (s : T
   caller_refused route why at (inr is) tells held stays =
       is_unavailable M settings old new s moment text (meant settings request s) (tells_unavailable why text (cc) tells) held stays
 
-  -- whoever asks is known, and what is read can be given
+  -- whoever asks is known
   caller_known : (caller : Caller) → Ok caller ≡ asker → IsRead (IsKnown s) (Ok caller)
   caller_known caller by = subst (λ (c : Result Caller Refusal). IsRead (IsKnown s) c) (sym by) (who_known settings s (credentials_of request.head.fields))
-
-  read_can : (route : Route) (caller : Caller) (read : Result Asked Refusal) → (read ≡ asked_by_route caller route request) ⊎ (read ≡ Err Unavailable)
-      → IsRead IsAsked read
-  read_can route caller read (inl is) = subst (λ (r : Result Asked Refusal). IsRead IsAsked r) (sym is) (asked_is caller route request)
-  read_can route caller read (inr is) = subst (λ (r : Result Asked Refusal). IsRead IsAsked r) (sym is) (why_read IsAsked Unavailable)
 
   -- the answer to what could not be read for want of memory
   wanting : (caller : Caller) → Answered M settings old new s moment (meant_asked caller (Err Unavailable)) text
@@ -89,11 +85,11 @@ module _ {S : Type 0} (M : Meaning S) (settings : Settings) (old new : S) (s : T
   -- what is asked is answered
   pub asked_answered : (route : Route) (caller : Caller) (read : Result Asked Refusal) → taken ≡ Ok route
       → (Ok caller ≡ asker) ⊎ (Ok caller ≡ unavailable_caller) → (read ≡ asked_by_route caller route request) ⊎ (read ≡ Err Unavailable)
-      → (CanBeMeant s (meant_asked caller read) → Answered M settings old new s moment (meant_asked caller read) text)
+      → IfOk read CanBeAsked → (CanBeMeant s (meant_asked caller read) → Answered M settings old new s moment (meant_asked caller read) text)
       → Answered M settings old new s moment (meant settings request s) text
-  asked_answered route caller read at (inr never) is answered = absurd (cc)
-  asked_answered route caller read at (inl by) is answered =
-      read_answered route caller read at by is (answered (asked_can s caller read (caller_known caller by) (read_can route caller read is)))
+  asked_answered route caller read at (inr never) is can answered = absurd (cc)
+  asked_answered route caller read at (inl by) is can answered =
+      read_answered route caller read at by is (answered (asked_can s caller read (caller_known caller by) can))
 
 -- ---- what is shown
 

@@ -30,6 +30,7 @@ use Rattle.office_requests.specs.declared.route.Allow.{Allow}
 use Rattle.office_requests.specs.declared.route.Route.{Route}
 use Rattle.office_http.specs.Answering.{Held, answer_bytes, meant_in, office_answers, tables_left, told_as, unavailable_text}
 use Rattle.office_http.specs.Credentials.{credentials_of}
+use Rattle.office_requests.specs.Asking.{WhatIsAskedCanBeGiven}
 use Rattle.office_http.specs.Inside.Meant.{CanBeMeant}
 use Rattle.office_http.specs.Joined.{accepted_steps, joined_with}
 use Rattle.office_http.specs.Meaning.{Meant, Refuses, Gives, Sees, meant, meant_at, meant_by, who}
@@ -47,6 +48,7 @@ pub record Laws : Type 0 where
   pub looks : PublishedLooksReadNoMerges
   pub kept : KeptStepsReadNoMerges
   pub fates : FatesReadNoMerges
+  pub asked : WhatIsAskedCanBeGiven
 
 -- the machine's request of a block that means something to it
 abbrev request_of : Bool → ℕ → Caller → Demand → Request
@@ -72,7 +74,7 @@ past_merges th merges s caller command command' (Modified receipt bytes bytes' l
 
 module _ (laws : Laws) (settings : Settings) where
   abbrev means : Means
-  means = publishing settings
+  means = publishing settings.publisher
 
   -- an office of the machine, with merges beside it
   abbrev held : List CompiledRow → Tables → Held
@@ -87,8 +89,8 @@ module _ (laws : Laws) (settings : Settings) where
 
   module _ (merges : List CompiledRow) (s : Tables) (moment : ℕ) where
     kept_is : (x : Given) (why : Option Refusal)
-        → office_kept why settings (beside merges x) ≡ with_merges (office_kept why settings (beside merges x)).compiled (office_by why means x)
-    kept_is x None = laws.kept settings merges x
+        → office_kept why settings.publisher (beside merges x) ≡ with_merges (office_kept why settings.publisher (beside merges x)).compiled (office_by why means x)
+    kept_is x None = laws.kept settings.publisher merges x
     kept_is x (Some why) = refl
 
     after_is : (busy : Bool) (m : Meant)
@@ -100,7 +102,7 @@ module _ (laws : Laws) (settings : Settings) where
     after_is false (Refuses why method) = refl
     after_is false (Gives caller command) =
         let x : Given = given s moment caller command in
-        subst (λ why. office_kept why settings (beside merges x) ≡ with_merges (office_kept why settings (beside merges x)).compiled (office_by (refusal_of x) means x))
+        subst (λ why. office_kept why settings.publisher (beside merges x) ≡ with_merges (office_kept why settings.publisher (beside merges x)).compiled (office_by (refusal_of x) means x))
         (sym (laws.refusals merges x)) (kept_is x (refusal_of x))
     after_is false (Sees caller query) = refl
 
@@ -121,15 +123,15 @@ module _ (laws : Laws) (settings : Settings) where
 
   given_text : (merges : List CompiledRow) (s : Tables) (moment : ℕ) (busy : Bool) (caller : Caller) (command : Command)
       → answer_bytes settings busy (with_merges merges s) moment (Gives caller command)
-      ≡ response_of (told_as (reply_to means (packages settings) s (request_of busy moment caller (Asks command))))
+      ≡ response_of (told_as (reply_to means (packages settings.publisher) s (request_of busy moment caller (Asks command))))
   given_text merges s moment true caller command = refl
   given_text merges s moment false caller command = ap (λ reply. response_of (told_as reply)) (laws.replies means merges (given s moment caller command))
 
   seen_text : (merges : List CompiledRow) (s : Tables) (moment : ℕ) (busy : Bool) (caller : Caller) (query : Query)
       → answer_bytes settings busy (with_merges merges s) moment (Sees caller query)
-      ≡ response_of (told_as (reply_to means (packages settings) s (request_of busy moment caller (Looks query))))
+      ≡ response_of (told_as (reply_to means (packages settings.publisher) s (request_of busy moment caller (Looks query))))
   seen_text merges s moment true caller query = refl
-  seen_text merges s moment false caller query = ap (λ reply. response_of (told_as reply)) (laws.looks settings merges s caller query)
+  seen_text merges s moment false caller query = ap (λ reply. response_of (told_as reply)) (laws.looks settings.publisher merges s caller query)
 
   -- ---- the requests of a run can be given
 
@@ -143,7 +145,7 @@ module _ (laws : Laws) (settings : Settings) where
   all_can merges s [] = tt
   all_can merges s (x ∷ steps) =
       asks_can merges s x.block.moment x.busy (run_asks (office_answers.after x.busy (held merges s) x.block) steps) (meaning merges s x)
-      (meant_can settings x.block.request (with_merges merges s))
+      (meant_can laws.asked settings x.block.request (with_merges merges s))
       (subst (λ h. AreRequests means (office_left merges s x) (run_asks h steps)) (sym (held_is merges s x)) (all_can (merges_left merges s x) (office_left merges s x) steps))
 
   module _ (th : ChosenTender) where
@@ -191,7 +193,7 @@ module _ (laws : Laws) (settings : Settings) where
 
     module _ (halts : Tables → Bool → ℕ → Meant → Bool) (stops : Tables → Request → Bool) (agree : AgreeOn halts stops) where
       abbrev Alike : Tables → Tables → List Request → List Request → Type 0
-      Alike s s' rest rest' = AlikeUntil means (packages settings) th stops s s' rest rest'
+      Alike s s' rest rest' = AlikeUntil means (packages settings.publisher) th stops s s' rest rest'
 
       know : (s s' : Tables) (rest rest' : List Request) → Alike s s' rest rest' → KnowAlike s s'
       know s s' [] [] alike = alike
@@ -333,16 +335,16 @@ openings_agree laws settings th = record {
 pub seals_kept : Laws → AnsweredSealsAreKept
 seals_kept laws th xs h reached steps steps' same =
     all_sent laws h.settings th (opening_halts th) (is_opening th) (openings_agree laws h.settings th) h.tables.compiled h.tables.compiled h.tables h.tables steps steps' same
-    (laws.seals h.settings th xs h.tables reached (run_asks h steps) (run_asks h steps') (all_can laws h.settings h.tables.compiled h.tables steps)
+    (laws.seals h.settings.publisher th xs h.tables reached (run_asks h steps) (run_asks h steps') (all_can laws h.settings h.tables.compiled h.tables steps)
     (all_same laws h.settings th h.tables.compiled h.tables.compiled h.tables h.tables steps steps' same))
 
 pub runs_alike : Laws → AnsweredRunsAreAlike
 runs_alike laws th xs h reached steps steps' same gone =
     all_sent laws h.settings th (λ s busy moment m. false) never (record { gives = λ merges s busy moment caller command. refl; sees = λ merges s busy moment caller query. refl; refuses = λ s busy moment why method. refl })
     h.tables.compiled h.tables.compiled h.tables h.tables steps steps' same
-    (laws.whole h.settings th xs h.tables reached (run_asks h steps) (run_asks h steps') (all_can laws h.settings h.tables.compiled h.tables steps)
+    (laws.whole h.settings.publisher th xs h.tables reached (run_asks h steps) (run_asks h steps') (all_can laws h.settings h.tables.compiled h.tables steps)
     (all_same laws h.settings th h.tables.compiled h.tables.compiled h.tables h.tables steps steps' same)
-    (same_gone laws (accepted_steps h steps xs) (accepted_steps h steps' xs) (all_accepted (publishing h.settings) h.tables xs (run_asks h steps)) (all_accepted (publishing h.settings) h.tables xs (run_asks h steps'))
+    (same_gone laws (accepted_steps h steps xs) (accepted_steps h steps' xs) (all_accepted (publishing h.settings.publisher) h.tables xs (run_asks h steps)) (all_accepted (publishing h.settings.publisher) h.tables xs (run_asks h steps'))
     (all_bare laws h.settings h.tables.compiled h.tables xs xs refl steps) (all_bare laws h.settings h.tables.compiled h.tables xs xs refl steps') gone))
 
 -- Who calls is told by the tenderers that an office knows.

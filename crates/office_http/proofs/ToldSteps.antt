@@ -32,10 +32,10 @@ use Rattle.office_base.specs.Tables.{awards_of_notice, entries_of_contract, late
 use Rattle.tender_core.specs.Rules.Modify.{modify_tests}
 use Rattle.office_machine.specs.Evaluation.{evaluated_lot, evaluation_told}
 use Rattle.office_machine.specs.Machine.{Given, done, may_give, refusal_of, reply_for, tests_for, time_of}
-use Rattle.office_machine.specs.Replies.{Reply, Refused, Imported, Enrolled, OfNotice, OpenedAll, Received, Withdrew, Examined}
-use Rattle.office_machine.specs.Replies.{Awarded, Failed, Signed, OfContract, LineSeen, LedgerSeen, Tender}
-use Rattle.office_machine.specs.Replies.{Security, PerformanceSeen, Registry, Minutes, Package, modify_reply}
-use Rattle.office_machine.specs.Replies.{NoticesSeen, TermsSeen, OwnTendersSeen, EvaluationSeen, SecuritiesSeen, TenderersSeen, ContractSeen}
+use Rattle.office_machine.specs.Replies.{Reply, Refused}
+use Rattle.office_machine.specs.Replies.{Tender}
+use Rattle.office_machine.specs.Replies.{Security, PerformanceSeen, Minutes, modify_reply}
+use Rattle.office_machine.specs.Replies.{EvaluationSeen, ContractSeen}
 use Rattle.office_machine.specs.OfficeMeans.{office_readings}
 use Rattle.office_machine.specs.Readings.{Readings}
 use Rattle.office_machine.specs.Sights.{Packages, is_read_envelope, line_told, minuted, minutes_told, package_told, register_told, security_told, performance_told, shown, tender_told, told}
@@ -50,32 +50,7 @@ use Rattle.office_http.specs.declared.reply.Reply.TheVariants as variants
 -- what is refused is told as a refusal
 pub refused_as : (r : Reply) (why : Refusal) → Err why ≡ text_of r → told_as r ≡ variants.Refused why None
 refused_as (Refused other) why is = cc
-refused_as (Imported a b c) why is = absurd (cc)
-refused_as (Enrolled a b) why is = absurd (cc)
-refused_as (OfNotice a b c) why is = absurd (cc)
-refused_as (OpenedAll a b c d) why is = absurd (cc)
-refused_as (Received a b c d e) why is = absurd (cc)
-refused_as (Withdrew a b c) why is = absurd (cc)
-refused_as (Examined a b c) why is = absurd (cc)
-refused_as (Awarded a b c d) why is = absurd (cc)
-refused_as (Failed a b c) why is = absurd (cc)
-refused_as (Signed a b c) why is = absurd (cc)
-refused_as (OfContract a b c d) why is = absurd (cc)
-refused_as (LineSeen a b c) why is = absurd (cc)
-refused_as (LedgerSeen a) why is = absurd (cc)
-refused_as (Tender a b c d e f g h) why is = absurd (cc)
-refused_as (Security a b c d e) why is = absurd (cc)
-refused_as (PerformanceSeen a b c d e) why is = absurd (cc)
-refused_as (Registry a b) why is = absurd (cc)
-refused_as (Minutes a b c) why is = absurd (cc)
-refused_as (Package a) why is = absurd (cc)
-refused_as (NoticesSeen a b) why is = absurd (cc)
-refused_as (TermsSeen a b c) why is = absurd (cc)
-refused_as (OwnTendersSeen a) why is = absurd (cc)
-refused_as (EvaluationSeen a b) why is = absurd (cc)
-refused_as (SecuritiesSeen a) why is = absurd (cc)
-refused_as (TenderersSeen a b) why is = absurd (cc)
-refused_as (ContractSeen a b c d) why is = absurd (cc)
+refused_as _ why is = absurd (cc)
 
 -- The reply to an accepted command.
 

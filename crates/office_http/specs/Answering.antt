@@ -52,13 +52,13 @@ seen_as _ text = Json text
 abbrev pub reply_to_meant : Settings → Tables → ℕ → Meant → Reply
 reply_to_meant settings s moment (Refuses why method) = Refused why method
 reply_to_meant settings s moment (Gives caller command) =
-    told_as (reply_by (refusal_of (given s moment caller command)) (publishing settings) (given s moment caller command))
-reply_to_meant settings s moment (Sees caller query) = told_as (told (packages settings) s caller query)
+    told_as (reply_by (refusal_of (given s moment caller command)) (publishing settings.publisher) (given s moment caller command))
+reply_to_meant settings s moment (Sees caller query) = told_as (told (packages settings.publisher) s caller query)
 
 -- the office after it
 abbrev pub tables_after : Settings → Tables → ℕ → Meant → Tables
 tables_after settings s moment (Refuses why method) = s
-tables_after settings s moment (Gives caller command) = office_kept (refusal_of (given s moment caller command)) settings (given s moment caller command)
+tables_after settings s moment (Gives by command) = office_kept (refusal_of (given s moment by command)) settings.publisher (given s moment by command)
 tables_after settings s moment (Sees caller query) = s
 
 -- it is a command that isn't refused
@@ -87,7 +87,7 @@ LeftAfter true true Before IsAfter = Before ⊎ IsAfter
 
 -- the office after what was meant, which stands as its commands left it
 abbrev pub IsWholeAfter : Settings → Tables → ℕ → Meant → Tables → Type 0
-IsWholeAfter settings s moment m u = (u ≡ tables_after settings s moment m) × IsReached settings u
+IsWholeAfter settings s moment m u = (u ≡ tables_after settings s moment m) × IsReached settings.publisher u
 
 -- so a stop leaves it of a shelf that is answered from; the test says that the answer is Unavailable
 abbrev pub StopsAfter : {S : Type 0} → Meaning S → Settings → S → S → Bool → Tables → ℕ → Meant → Type 0
@@ -132,16 +132,16 @@ office_answers = record {
 
 -- a desk over a shelf holds this, and it stands as its commands left it
 abbrev pub StandsAs : {S : Type 0} → Meaning S → DeskOf S → Held → Type 0
-StandsAs M desk h = IsHeld M desk h × IsReached h.settings h.tables
+StandsAs M desk h = IsHeld M desk h × IsReached h.settings.publisher h.tables
 
 -- what is meant was answered with this text, perhaps with Unavailable; the shelf holds the office after it, which stands as its commands left
 -- it. A stop leaves the tables after an accepted command and no others, and nothing new after a refusal or a look; where a command that isn't refused was answered
 -- Unavailable, what it could leave before, or the tables after that command
 abbrev pub IsAnswered : {S : Type 0} → Meaning S → Settings → S → S → ℕ → (Tables → Meant) → List ℕ → Type 0
 IsAnswered M settings old new moment m text =
-    M.honest new → (s : Tables) → M.holds old s → IsReached settings s
+    M.honest new → (s : Tables) → M.holds old s → IsReached settings.publisher s
     → (busy : Bool) × (text ≡ answer_bytes settings busy s moment (m s)) × M.holds new (tables_left settings busy s moment (m s))
-    × IsReached settings (tables_left settings busy s moment (m s)) × StopsAfter M settings old new busy s moment (m s)
+    × IsReached settings.publisher (tables_left settings busy s moment (m s)) × StopsAfter M settings old new busy s moment (m s)
 
 -- a command is given
 abbrev pub GivesCommand : Meant → Type 0
@@ -162,7 +162,7 @@ is_done busy s moment m = is_accepted s moment m && not busy
 abbrev pub NeedsMeant : Settings → Tables → Meant → Type 0
 NeedsMeant settings s (Refuses why method) = Unit {0}
 NeedsMeant settings s (Gives caller command) = Unit {0}
-NeedsMeant settings s (Sees caller query) = Needs settings query s
+NeedsMeant settings s (Sees caller query) = Needs settings.publisher query s
 
 -- Whatever tables the shelf held, no commands need have led to them: this text is the answer, perhaps Unavailable, and all but a command that is done leaves them.
 abbrev pub IsTold : {S : Type 0} → Meaning S → Settings → S → S → ℕ → (Tables → Meant) → List ℕ → Type 0

@@ -15,7 +15,7 @@ use Rattle.office_http.specs.Stops.{StopsBy}
 -- wherever accepted commands lead, they and those of the steps are kept
 abbrev pub KeepsSteps : Held → List Step → Type 0
 KeepsSteps h steps =
-    (xs : List Given) → Reaches (publishing h.settings) xs h.tables → OfficeIsKept h.settings (accepted_steps h steps xs) (office_left office_answers h steps).tables
+    (xs : List Given) → Reaches (publishing h.settings.publisher) xs h.tables → OfficeIsKept h.settings.publisher (accepted_steps h steps xs) (office_left office_answers h steps).tables
 
 -- A run went through steps, each of a request of the grammar, for which a read was made at least, out of so many that were left before and after it.
 -- The office is what they lead to, what was written is their responses, a stop leaves what they may, and all accepted commands are kept.

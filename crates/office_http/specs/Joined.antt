@@ -1,5 +1,6 @@
 -- The commands that an office accepts over HTTP, and what is kept by them.
 use Rattle.std.specs.Prelude.{◌≡◌, ⊤, ℕ, Bool, List, [], ◌∷◌, Option, if◌then◌else◌}
+use Rattle.office_values.specs.declared.settings.Publisher.{Publisher}
 use Rattle.office_values.specs.declared.settings.Settings.{Settings}
 use Rattle.office_base.specs.Tables.{Tables}
 use Rattle.office_base.specs.Shelves.{Meaning}
@@ -36,21 +37,21 @@ accepted_steps h (x ∷ steps) xs =
 -- accounts are what they moved, and each tender and each security, a tender's or a contract's, has the fate that they gave it
 abbrev pub RequestsAreKept : Type 0
 RequestsAreKept =
-    (settings : Settings) (xs : List Given) (s : Tables) → Reaches (publishing settings) xs s → (request : RequestView) (moment : ℕ) (busy : Bool)
-    → OfficeIsKept settings (joined_with busy s moment (meant settings request s) xs) (tables_left settings busy s moment (meant settings request s))
+    (settings : Settings) (xs : List Given) (s : Tables) → Reaches (publishing settings.publisher) xs s → (request : RequestView) (moment : ℕ) (busy : Bool)
+    → OfficeIsKept settings.publisher (joined_with busy s moment (meant settings request s) xs) (tables_left settings busy s moment (meant settings request s))
 
 -- so it is of all steps of a run
 abbrev pub StepsAreKept : Type 0
 StepsAreKept =
-    (xs : List Given) (h : Held) → Reaches (publishing h.settings) xs h.tables → (steps : List Step)
-    → OfficeIsKept h.settings (accepted_steps h steps xs) (office_left office_answers h steps).tables
+    (xs : List Given) (h : Held) → Reaches (publishing h.settings.publisher) xs h.tables → (steps : List Step)
+    → OfficeIsKept h.settings.publisher (accepted_steps h steps xs) (office_left office_answers h steps).tables
 
 -- what is meant was answered with this text; the shelf holds the office after it, all accepted commands are kept, and so are their releases
 abbrev pub IsKeptAnswering : {S : Type 0} → Meaning S → Settings → S → S → ℕ → (Tables → Meant) → List ℕ → Type 0
 IsKeptAnswering M settings old new moment m text =
-    M.honest new → (s : Tables) → M.holds old s → (xs : List Given) → Reaches (publishing settings) xs s → KeepsReleases s
+    M.honest new → (s : Tables) → M.holds old s → (xs : List Given) → Reaches (publishing settings.publisher) xs s → KeepsReleases s
     → (busy : Bool) × (text ≡ answer_bytes settings busy s moment (m s)) × M.holds new (tables_left settings busy s moment (m s))
-    × OfficeIsKept settings (joined_with busy s moment (m s) xs) (tables_left settings busy s moment (m s)) × KeepsReleases (tables_left settings busy s moment (m s))
+    × OfficeIsKept settings.publisher (joined_with busy s moment (m s) xs) (tables_left settings busy s moment (m s)) × KeepsReleases (tables_left settings busy s moment (m s))
 
 -- so it is of the request at the front of the bytes
 pub record KeepsAnswering {S : Type 0} (M : Meaning S) (settings : Settings) (old new : S) (moment : ℕ) (input text : List ℕ) : Type 0 where
@@ -60,11 +61,11 @@ pub record KeepsAnswering {S : Type 0} (M : Meaning S) (settings : Settings) (ol
   pub kept : IsKeptAnswering M settings old new moment (meant settings request) text
 
 -- the bytes were refused, nothing changed, and the commands accepted before are kept
-pub record KeepsRefusing {S : Type 0} (M : Meaning S) (settings : Settings) (old new : S) (input text : List ℕ) : Type 0 where
+pub record KeepsRefusing {S : Type 0} (M : Meaning S) (publisher : Publisher) (old new : S) (input text : List ℕ) : Type 0 where
   pub why : ReadFault
   pub refused : IsRefused input why
   pub text_is : text ≡ fault_text why
-  pub kept : M.honest new → (s : Tables) → M.holds old s → (xs : List Given) → Reaches (publishing settings) xs s → M.holds new s × OfficeIsKept settings xs s
+  pub kept : M.honest new → (s : Tables) → M.holds old s → (xs : List Given) → Reaches (publishing publisher) xs s → M.holds new s × OfficeIsKept publisher xs s
 
 -- where one request is served there is no step, or one at the moment handed in, of the request that was read
 abbrev pub AreServed : List ℕ → Option (List ℕ) → ℕ → List Step → Type 0
@@ -77,7 +78,7 @@ pub record KeepsServing (input : List ℕ) (now : Option (List ℕ)) (moment : �
   pub steps : List Step
   pub are : AreServed input now moment steps
   pub left : k ≡ office_left office_answers h steps
-  pub kept : OfficeIsKept h.settings (accepted_steps h steps xs) k.tables
+  pub kept : OfficeIsKept h.settings.publisher (accepted_steps h steps xs) k.tables
 
 -- whatever a reader told of its bytes, nothing or one request was answered, at this moment: so the office is left
 abbrev pub IsServedOnce : {S : Type 0} → Meaning S → ℕ → DeskOf S → DeskOf S → Type 0

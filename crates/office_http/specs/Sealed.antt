@@ -78,12 +78,12 @@ at_no_step h x = false
 
 -- two runs from one office, of requests that differ in such bytes alone, are answered alike up to the opening of the lot's notice
 abbrev pub AnsweredSealsAreKept : Type 0
-AnsweredSealsAreKept = (th : ChosenTender) (xs : List Given) (h : Held) → Reaches (publishing h.settings) xs h.tables
+AnsweredSealsAreKept = (th : ChosenTender) (xs : List Given) (h : Held) → Reaches (publishing h.settings.publisher) xs h.tables
     → (steps steps' : List Step) → SameSteps th h h steps steps' → AnsweredAlikeUntil th (opens_lot th) h h steps steps'
 
 -- and to the end, where each receipt whose bytes differ is withdrawn or returned
 abbrev pub AnsweredRunsAreAlike : Type 0
-AnsweredRunsAreAlike = (th : ChosenTender) (xs : List Given) (h : Held) → Reaches (publishing h.settings) xs h.tables
+AnsweredRunsAreAlike = (th : ChosenTender) (xs : List Given) (h : Held) → Reaches (publishing h.settings.publisher) xs h.tables
     → (steps steps' : List Step) → SameSteps th h h steps steps' → DifferingAreGone (accepted_steps h steps xs) (accepted_steps h steps' xs)
     → AnsweredAlikeUntil th at_no_step h h steps steps'
 

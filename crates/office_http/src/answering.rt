@@ -223,7 +223,7 @@ pub fn answer<H: Shelf + Drop>(
     ensures answered { AnswersRequest H.meaning desk.old.settings desk.old.shelf desk.new.shelf moment bytes.now result
         ⊎ RefusesBytes H.meaning desk.old.shelf desk.new.shelf bytes.now result }
     ensures kept { KeepsAnswering H.meaning desk.old.settings desk.old.shelf desk.new.shelf moment bytes.now result
-        ⊎ KeepsRefusing H.meaning desk.old.settings desk.old.shelf desk.new.shelf bytes.now result }
+        ⊎ KeepsRefusing H.meaning desk.old.settings.publisher desk.old.shelf desk.new.shelf bytes.now result }
 {
     laws::accounts_and_fates();
     let mut reader = CountedReader::new(bytes);

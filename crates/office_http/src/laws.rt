@@ -6,6 +6,7 @@ ghost use Rattle.office_http.specs.Sealed.{AnsweredRunsAreAlike, AnsweredSealsAr
 use office_machine::{fates, laws};
 use office_publications::laws::{keeping, merges_apart};
 use office_publications::sealed;
+use office_requests::asked::can_be_given;
 
 /// Wherever accepted commands lead from the empty office, those that requests and whole runs accept join them: together they lead to the
 /// office after it, its accounts are what they moved, and each tender and each security, a tender's or a contract's, has the fate that they
@@ -16,6 +17,7 @@ pub fn accounts_and_fates()
 {
     laws::accounts();
     keeping();
+    can_be_given();
     fates::tenders();
     fates::securities();
     fates::performances();
@@ -37,4 +39,5 @@ pub fn seals()
     sealed::kept();
     laws::merges();
     merges_apart();
+    can_be_given();
 }

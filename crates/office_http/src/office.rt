@@ -113,17 +113,18 @@ pub fn run<H: Shelf + Drop, R: BufRead, W: Write>(
 ) -> Result<u64, RunFault>
     ensures before { H.meaning.honest office.new.shelf → H.meaning.honest office.old.shelf }
     ensures ran { H.meaning.honest office.new.shelf → (input : List ℕ) → reader.old.remaining ≡ Some input → (s : Tables) → H.meaning.holds office.old.shelf s
-        → IsReached office.old.settings s
+        → IsReached office.old.settings.publisher s
         → (steps : List Step)
         × Ran office_answers result input reader.new.remaining (held_by office.old s) steps writer.old.contents writer.new.contents
         × StandsAs H.meaning office.new (office_left office_answers (held_by office.old s) steps)
         × StopsBy H.meaning office.old.shelf office.new.shelf (held_by office.old s) steps }
     ensures kept { H.meaning.honest office.new.shelf → (input : List ℕ) → reader.old.remaining ≡ Some input → (s : Tables) → H.meaning.holds office.old.shelf s
-        → (xs : List Given) → Reaches (publishing office.old.settings) xs s → KeepsReleases s
+        → (xs : List Given) → Reaches (publishing office.old.settings.publisher) xs s → KeepsReleases s
         → (steps : List Step)
         × Ran office_answers result input reader.new.remaining (held_by office.old s) steps writer.old.contents writer.new.contents
         × StandsAs H.meaning office.new (office_left office_answers (held_by office.old s) steps)
-        × OfficeIsKept office.old.settings (accepted_steps (held_by office.old s) steps xs) (office_left office_answers (held_by office.old s) steps).tables }
+        × OfficeIsKept office.old.settings.publisher (accepted_steps (held_by office.old s) steps xs)
+        (office_left office_answers (held_by office.old s) steps).tables }
     ensures cause { IsErrOf result RunFault.Read → HasStopped reader.new }
     ensures writes { IsErrOf result RunFault.Write → writer.new.has_failed ≡ true }
     ensures stepped { HasRun H.meaning result reader.old.left reader.new.left office.old office.new writer.old.contents writer.new.contents }
@@ -148,12 +149,12 @@ pub fn serve_one<H: Shelf + Drop, R: BufRead, W: Write>(
 ) -> Result<(), RunFault>
     ensures before { H.meaning.honest office.new.shelf → H.meaning.honest office.old.shelf }
     ensures served { H.meaning.honest office.new.shelf → (input : List ℕ) → reader.old.remaining ≡ Some input → (s : Tables) → H.meaning.holds office.old.shelf s
-        → IsReached office.old.settings s
+        → IsReached office.old.settings.publisher s
         → (h : Held)
         × Served office_answers result input reader.new.remaining moment (held_by office.old s) h writer.old.contents writer.new.contents
         × StandsAs H.meaning office.new h }
     ensures kept { H.meaning.honest office.new.shelf → (input : List ℕ) → reader.old.remaining ≡ Some input → (s : Tables) → H.meaning.holds office.old.shelf s
-        → (xs : List Given) → Reaches (publishing office.old.settings) xs s → KeepsReleases s
+        → (xs : List Given) → Reaches (publishing office.old.settings.publisher) xs s → KeepsReleases s
         → (h : Held)
         × Served office_answers result input reader.new.remaining moment (held_by office.old s) h writer.old.contents writer.new.contents
         × StandsAs H.meaning office.new h

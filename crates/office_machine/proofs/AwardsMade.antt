@@ -35,7 +35,7 @@ use Rattle.office_machine.specs.AwardsShown.{IsShownBest, AwardsWereShown, Makes
 use Rattle.office_machine.specs.Machine.{Means, Given, Reaches, command_tests, effect, publication, publication_puts, time_of}
 use Rattle.office_machine.proofs.Accounts.Aside.{after-append}
 use Rattle.office_machine.proofs.AwardsShown.{best_shown, lot_shown, open_notice}
-use Rattle.office_machine.proofs.Commands.AllLawful.{lawful}
+use Rattle.office_machine.proofs.Commands.{lawful}
 use Rattle.office_machine.proofs.Commands.Footprint.{TableName, Awards, IsOn, AreOn, on-append, on-if, on-map}
 use Rattle.office_machine.proofs.Commands.Lawful.{puts_awards}
 use Rattle.office_machine.proofs.Commands.Tail.{is_touched}

@@ -4,7 +4,7 @@ use Rattle.office_base.specs.Tables.{Tables}
 use Rattle.office_machine.specs.Lacking.{NothingIsLacking}
 use Rattle.office_machine.specs.Machine.{Given, Means, Reaches}
 use Rattle.office_machine.proofs.Accounts.AccountsKept.{all_kept}
-use Rattle.office_machine.proofs.Commands.AllLawful.{lawful}
+use Rattle.office_machine.proofs.Commands.{lawful}
 use Rattle.office_machine.proofs.FateLaws.PerformancesKept.{performances_there}
 use Rattle.office_machine.proofs.Parents.ParentsThere.{parents_there}
 use Rattle.office_machine.proofs.Parents.Whole.{IsWhole}

@@ -1,7 +1,7 @@
 -- In an office that accepted commands reach nothing is lacking.
 use Rattle.std.specs.Prelude.{◌≡◌, Bool, false, List, None}
 use Rattle.office_machine.specs.Machine.{Means, Given, Reaches, refusal_of}
-use Rattle.office_machine.specs.Rules.{rule_of}
+use Rattle.office_machine.specs.Commands.{rule_of}
 
 -- what the command's rule says is lacking
 abbrev pub is_lacking : Given → Bool

@@ -3,7 +3,6 @@ pub mod Readings
 pub mod Replies
 pub mod Rule
 pub mod Commands
-pub mod Rules
 pub mod Publications
 pub mod Machine
 pub mod Clock

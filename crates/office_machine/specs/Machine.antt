@@ -7,7 +7,7 @@ use Rattle.office_base.specs.declared.records.TendererRow.{TendererRow}
 use Rattle.office_commands.specs.Lots.{lot_id}
 use Rattle.office_commands.specs.declared.commands.Command.{Command}
 use Rattle.office_commands.specs.Rights.{may}
-use Rattle.office_commands.specs.Commands.{kind_of}
+use Rattle.office_commands.specs.Commands.{IsCommand, kind_of}
 use Rattle.office_commands.specs.declared.commands.Command.TheVariants.{Publish}
 use Rattle.office_values.specs.declared.refusal.Refusal.{Refusal}
 use Rattle.office_values.specs.declared.refusal.Refusal.TheVariants.{Forbidden}
@@ -23,7 +23,7 @@ use Rattle.office_machine.specs.Publications.{published_for}
 use Rattle.office_machine.specs.Counted.{releases_in}
 use Rattle.office_machine.specs.Readings.{Readings}
 use Rattle.office_machine.specs.Replies.{Reply}
-use Rattle.office_machine.specs.Rules.{rule_of}
+use Rattle.office_machine.specs.Commands.{rule_of}
 
 -- a command that was given, with the office before it
 pub record Given : Type 0 where
@@ -94,11 +94,6 @@ puts_of means x = effect means.readings x ++ publication_puts (publication means
 -- the office after an accepted command
 abbrev pub next : Means → Given → Tables
 next means x = after_puts (puts_of means x) x.before
-
--- it is one that can be given: each lot of a new notice has an identifier of its own
-abbrev pub IsCommand : Command → Type 0
-IsCommand (Publish notice content) = repeats_id lot_id content.lots ≡ false
-IsCommand command = Unit {0}
 
 -- a tenderer who commands is registered
 abbrev pub IsRegistered : Caller → List TendererRow → Type 0

@@ -3,7 +3,7 @@ use Rattle.std.specs.Prelude.{ℕ, List, Option}
 use Rattle.office_commands.specs.declared.commands.Command.{Command}
 use Rattle.office_base.specs.Tables.{Tables}
 use Rattle.office_machine.specs.Rule.{notice_of}
-use Rattle.office_machine.specs.Rules.{rule_of}
+use Rattle.office_machine.specs.Commands.{rule_of}
 
 -- the notice of which a command publishes a release, where it publishes one
 abbrev pub published_for : Tables → Command → Option (List ℕ)

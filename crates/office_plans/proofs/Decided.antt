@@ -4,7 +4,7 @@ use Rattle.std.proofs.Common.{◌∙◌, refl, sym, subst, inl, inr}
 use Rattle.std.specs.declared.alloc.Global.{Global}
 use Rattle.office_values.specs.declared.refusal.Refusal.{Refusal}
 use Rattle.office_values.specs.declared.refusal.Refusal.TheVariants.{Unavailable}
-use Rattle.office_values.specs.declared.settings.Settings.{Settings}
+use Rattle.office_values.specs.declared.settings.Publisher.{Publisher}
 use Rattle.office_base.specs.Deciding.{Decides}
 use Rattle.office_base.specs.declared.puts.Put.{Put}
 use Rattle.office_machine.specs.Machine.{Given, refusal_of}
@@ -30,8 +30,8 @@ makes puts (Some w) lacks made is = absurd cc
 makes puts None lacks made is = is.0.1
 
 -- so what is handed on is the command's refusal, where its refusal is that one, or Unavailable
-pub told_refused : (settings : Settings) (x : Given) (result : Result Plan Refusal) (why : Refusal) (first : Option Refusal) → IsErrAnd result (λ y. y ≡ why)
-    → refusal_of x ≡ first → (first ≡ Some why) ⊎ (why ≡ Unavailable) → IsPlanned settings x result
-told_refused settings x (Ok planned) why first same refused is = absurd same
-told_refused settings x (Err y) why first same refused (inl is) = inl (subst (λ (w : Refusal). refusal_of x ≡ Some w) (sym same) (refused ∙ is))
-told_refused settings x (Err y) why first same refused (inr is) = inr (same ∙ is)
+pub told_refused : (publisher : Publisher) (x : Given) (result : Result Plan Refusal) (why : Refusal) (first : Option Refusal) → IsErrAnd result (λ y. y ≡ why)
+    → refusal_of x ≡ first → (first ≡ Some why) ⊎ (why ≡ Unavailable) → IsPlanned publisher x result
+told_refused publisher x (Ok planned) why first same refused is = absurd same
+told_refused publisher x (Err y) why first same refused (inl is) = inl (subst (λ (w : Refusal). refusal_of x ≡ Some w) (sym same) (refused ∙ is))
+told_refused publisher x (Err y) why first same refused (inr is) = inr (same ∙ is)

@@ -3,7 +3,7 @@ use Rattle.std.specs.Prelude.{◌≡◌, ℕ, ◌+◌, List, Option, Some, optio
 use Rattle.std.proofs.Common.{◌∙◌, ap, ap₂, sym}
 use Rattle.serde_json.specs.Data.{Data}
 use Rattle.serde_json.specs.Written.{compact_text}
-use Rattle.ocds_release.specs.EventReleases.{release_of_event}
+use Rattle.ocds_release.specs.Events.{release_of_event}
 use Rattle.ocds_release.specs.declared.event.Event.{Event}
 use Rattle.office_base.specs.Tables.{notice_at}
 use Rattle.office_base.specs.declared.records.ReleaseRow.{ReleaseRow}
@@ -13,9 +13,9 @@ use Rattle.office_machine.specs.Counted.{releases_in}
 use Rattle.office_publications.specs.Events.{event_of}
 use Rattle.office_publications.specs.Keeping.{EventsAreReleased}
 use Rattle.office_publications.specs.Publishing.{publishing}
-use Rattle.office_values.specs.declared.settings.Settings.{Settings}
+use Rattle.office_values.specs.declared.settings.Publisher.{Publisher}
 
-module _ (released : EventsAreReleased) (settings : Settings) (x : Given) (event : Event) (notice : List ℕ) where
+module _ (released : EventsAreReleased) (publisher : Publisher) (x : Given) (event : Event) (notice : List ℕ) where
   abbrev row : ℕ → ℕ → Data → ReleaseRow
   row seq t release = record { notice = notice; seq = seq; moment = t; text = compact_text release }
 
@@ -23,12 +23,12 @@ module _ (released : EventsAreReleased) (settings : Settings) (x : Given) (event
   abbrev under : Option (List ℕ) → ReleaseRow
   under o =
       row (releases_in (notice_at notice x.before) + 1) (time_of x)
-      (release_of_event settings (releases_in (option_and_then (λ n. notice_at n x.before) o) + 1) (time_of x) event)
+      (release_of_event publisher (releases_in (option_and_then (λ n. notice_at n x.before) o) + 1) (time_of x) event)
 
   pub is_published : event_of x.before x.command ≡ Some event → published_for x.before x.command ≡ Some notice
-      → (seq t : ℕ) (release : Data) → seq ≡ releases_in (notice_at notice x.before) + 1 → t ≡ time_of x → release ≡ release_of_event settings seq t event
-      → publication (publishing settings) x ≡ Some (row seq t release)
+      → (seq t : ℕ) (release : Data) → seq ≡ releases_in (notice_at notice x.before) + 1 → t ≡ time_of x → release ≡ release_of_event publisher seq t event
+      → publication (publishing publisher) x ≡ Some (row seq t release)
   is_published is for_notice seq t release numbered timed made =
-      released settings x event notice is for_notice ∙ ap (λ o. Some (under o)) for_notice
-      ∙ sym (ap₂ (λ n m. Some (row n m (release_of_event settings n m event))) numbered timed)
+      released publisher x event notice is for_notice ∙ ap (λ o. Some (under o)) for_notice
+      ∙ sym (ap₂ (λ n m. Some (row n m (release_of_event publisher n m event))) numbered timed)
       ∙ sym (ap (λ d. Some (row seq t d)) made)

@@ -3,7 +3,7 @@ use Rattle.std.specs.Prelude.{◌≡◌, ℕ, Bool, true, not, cond, List, Optio
 use Rattle.std.proofs.Common.{◌∙◌, ap, inl, sym}
 use Rattle.office_values.specs.declared.refusal.Refusal.{Refusal}
 use Rattle.office_values.specs.declared.refusal.Refusal.TheVariants.{Forbidden}
-use Rattle.office_values.specs.declared.settings.Settings.{Settings}
+use Rattle.office_values.specs.declared.settings.Publisher.{Publisher}
 use Rattle.office_commands.specs.declared.commands.Command.{Command}
 use Rattle.office_base.specs.Rules.{first_of}
 use Rattle.office_base.specs.Shelves.{Looks, LooksFollow, Meaning}
@@ -48,9 +48,9 @@ module _ {R : Type 0} {asking : Asking} {command : Command} {rows_of : Tables �
   puts_on puts made is s are own = is ∙ on_rows puts s are ∙ sym own
 
   -- where the decision refuses, so does the plan
-  pub not_planned : {S : Type 0} (M : Meaning S) (settings : Settings) (a b : S) (answer : Option Refusal) (why : Refusal) → Looks M a b (λ s. rows ≡ rows_of s)
-      → may_give asking.caller.now command ≡ true → answer ≡ first_of (tests rows t) → answer ≡ Some why → Looks M a b (λ s. IsPlanned settings (x s) (Err why))
-  not_planned M settings a b answer why looked may is refused = (looked.0, λ honest s held. inl (refused_on answer may is s (looked.1 honest s held) ∙ refused))
+  pub not_planned : {S : Type 0} (M : Meaning S) (publisher : Publisher) (a b : S) (answer : Option Refusal) (why : Refusal) → Looks M a b (λ s. rows ≡ rows_of s)
+      → may_give asking.caller.now command ≡ true → answer ≡ first_of (tests rows t) → answer ≡ Some why → Looks M a b (λ s. IsPlanned publisher (x s) (Err why))
+  not_planned M publisher a b answer why looked may is refused = (looked.0, λ honest s held. inl (refused_on answer may is s (looked.1 honest s held) ∙ refused))
 
 -- of two calls that only look, one after the other, both are so at once
 pub two_looks : {S : Type 0} (M : Meaning S) → LooksFollow M → (a b c : S) (P Q All : Tables → Type 0) → Looks M a b P → Looks M b c Q

@@ -4,13 +4,14 @@ use Rattle.std.proofs.Common.{sym, ◌∙◌, ap, subst, inr, arith}
 use Rattle.std.proofs.lemmas.List.{append_assoc}
 use Rattle.office_values.specs.declared.refusal.Refusal.{Refusal}
 use Rattle.office_values.specs.declared.refusal.Refusal.TheVariants.{Unavailable}
-use Rattle.office_values.specs.declared.settings.Settings.{Settings}
+use Rattle.office_values.specs.declared.settings.Publisher.{Publisher}
 use Rattle.office_base.specs.Tables.{notice_at}
 use Rattle.office_base.specs.declared.puts.Put.{Put}
 use Rattle.office_base.specs.declared.puts.Put.TheVariants.{Release, Compiled}
 use Rattle.office_base.specs.declared.records.ReleaseRow.{ReleaseRow}
 use Rattle.office_machine.specs.Counted.{releases_in}
-use Rattle.office_machine.specs.Machine.{Given, IsCommand, effect, publication, publication_puts, refusal_of}
+use Rattle.office_commands.specs.Commands.{IsCommand}
+use Rattle.office_machine.specs.Machine.{Given, effect, publication, publication_puts, refusal_of}
 use Rattle.office_machine.specs.OfficeMeans.{office_readings}
 use Rattle.office_publications.specs.Keeping.{CanBeFollowed, FollowsReleases, KeepsItsReleases, ReadsBack, has_last_release, kept_puts, merge_puts, merged_row}
 use Rattle.office_publications.specs.Merges.{AreSoMany, HasMerge}
@@ -26,9 +27,9 @@ before_next : (seq n : ℕ) → seq ≡ n + 1 → seq - 1 ≡ n
 before_next seq n next = omega (arith, next)
 
 -- a release is published behind the one in front of it, and joins the merge
-pub follows : (settings : Settings) (x : Given) (r : Released) → IsReleased settings x r → has_last_release r.notice (r.seq - 1) x.before ≡ true
+pub follows : (publisher : Publisher) (x : Given) (r : Released) → IsReleased publisher x r → has_last_release r.notice (r.seq - 1) x.before ≡ true
     → HasMerge r.notice x.before → AreSoMany r.notice (r.seq - 1) x.before → FollowsReleases x
-follows settings x r released there merge many notice is =
+follows publisher x r released there merge many notice is =
     let found : Some r.notice ≡ Some notice = sym released.for_notice ∙ is in
     let same : r.notice ≡ notice = cc in
     let number = before_next r.seq (releases_in (notice_at r.notice x.before)) released.next in
@@ -36,7 +37,7 @@ follows settings x r released there merge many notice is =
     let counted = subst (λ (k : ℕ). AreSoMany r.notice k x.before) number many in
     subst (λ (n : List ℕ). CanBeFollowed n x.before) same (record { last = last; merge = merge; counted = counted })
 
-module _ (settings : Settings) (x : Given) (r : Released) (p : Publication) (released : IsReleased settings x r) where
+module _ (publisher : Publisher) (x : Given) (r : Released) (p : Publication) (released : IsReleased publisher x r) where
   abbrev puts_with : Option ReleaseRow → List Put
   puts_with o = (effect office_readings x ++ publication_puts o) ++ merge_puts x.before o
 
@@ -44,7 +45,7 @@ module _ (settings : Settings) (x : Given) (r : Released) (p : Publication) (rel
   abbrev both : List Put
   both = Release p.release ∷ Compiled p.merge ∷ []
 
-  all_put : (puts all : List Put) → puts ≡ effect office_readings x → all ≡ puts ++ both → IsKept x.before r p → all ≡ kept_puts settings x
+  all_put : (puts all : List Put) → puts ≡ effect office_readings x → all ≡ puts ++ both → IsKept x.before r p → all ≡ kept_puts publisher x
   all_put puts all is are kept =
       let two : ReleaseRow → List Put = λ row. Release row ∷ Compiled (merged_row x.before row) ∷ [] in
       are ∙ ap (λ ps. ps ++ both) is
@@ -53,7 +54,7 @@ module _ (settings : Settings) (x : Given) (r : Released) (p : Publication) (rel
       ∙ sym (append_assoc (effect office_readings x) (Release (as_row r) ∷ []) (Compiled (merged_row x.before (as_row r)) ∷ []))
       ∙ ap puts_with (sym released.is)
 
-  reads_back : IsKept x.before r p → (row : ReleaseRow) → publication (publishing settings) x ≡ Some row → ReadsBack x.before row
+  reads_back : IsKept x.before r p → (row : ReleaseRow) → publication (publishing publisher) x ≡ Some row → ReadsBack x.before row
   reads_back kept row is =
       let found : Some (as_row r) ≡ Some row = sym released.is ∙ is in
       let same : as_row r ≡ row = cc in
@@ -63,7 +64,7 @@ module _ (settings : Settings) (x : Given) (r : Released) (p : Publication) (rel
   pub is_planned : IsCommand x.command → refusal_of x ≡ None → FollowsReleases x → (puts : List Put) (text : List ℕ) → puts ≡ effect office_readings x
       → text ≡ reply_text (accepted_reply x) → (KeepsItsReleases x → IsKept x.before r p) → (result : Result Plan Refusal)
       → IfOk result (λ (q : Plan). q.puts ≡ puts ++ both) → IfOk result (λ (q : Plan). q.reply ≡ text) → IfErr result (λ why. why ≡ Unavailable)
-      → IsPlanned settings x result
+      → IsPlanned publisher x result
   is_planned given allowed follows puts text is told kept (Ok q) are reply none = record {
     given = given;
     allowed = allowed;

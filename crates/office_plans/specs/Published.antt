@@ -2,13 +2,14 @@
 use Rattle.std.specs.Prelude.{◌≡◌, ◌⊎◌, Bool, true, false, Some, None, Result, Ok, Err}
 use Rattle.office_values.specs.declared.refusal.Refusal.{Refusal}
 use Rattle.office_values.specs.declared.refusal.Refusal.TheVariants.{Unavailable}
-use Rattle.office_values.specs.declared.settings.Settings.{Settings}
+use Rattle.office_values.specs.declared.settings.Publisher.{Publisher}
 use Rattle.office_commands.specs.declared.commands.Command.{Command}
 use Rattle.office_commands.specs.declared.commands.Command.TheVariants as commands
 use Rattle.office_base.specs.Faults.{HasRisen}
 use Rattle.office_base.specs.Shelves.{Meaning}
 use Rattle.office_base.specs.Tables.{Tables}
-use Rattle.office_machine.specs.Machine.{Given, IsCommand, done, refusal_of, reply_for, time_of}
+use Rattle.office_commands.specs.Commands.{IsCommand}
+use Rattle.office_machine.specs.Machine.{Given, done, refusal_of, reply_for, time_of}
 use Rattle.office_machine.specs.OfficeMeans.{office_readings}
 use Rattle.office_machine.specs.Replies.{Reply}
 use Rattle.office_publications.specs.Keeping.{FollowsReleases, KeepsItsReleases, PublicationReadsBack, kept_puts}
@@ -20,23 +21,23 @@ abbrev pub accepted_reply : Given → Reply
 accepted_reply x = reply_for office_readings x.before (done office_readings x) (time_of x) x.caller x.command
 
 -- what is planned is what the machine puts, with the merge that the release joins; and what is published can be read again
-pub record IsPut (settings : Settings) (x : Given) (planned : Plan) : Type 0 where
-  pub puts : planned.puts ≡ kept_puts settings x
-  pub reads : PublicationReadsBack settings x
+pub record IsPut (publisher : Publisher) (x : Given) (planned : Plan) : Type 0 where
+  pub puts : planned.puts ≡ kept_puts publisher x
+  pub reads : PublicationReadsBack publisher x
 
 -- the command is one that can be given and isn't refused, what it publishes follows the last release of its notice, this is its reply, and,
 -- where that notice keeps its releases, what it puts
-pub record IsPlan (settings : Settings) (x : Given) (planned : Plan) : Type 0 where
+pub record IsPlan (publisher : Publisher) (x : Given) (planned : Plan) : Type 0 where
   pub given : IsCommand x.command
   pub allowed : refusal_of x ≡ None
   pub follows : FollowsReleases x
-  pub put : KeepsItsReleases x → IsPut settings x planned
+  pub put : KeepsItsReleases x → IsPut publisher x planned
   pub reply : planned.reply ≡ reply_text (accepted_reply x)
 
 -- the plan, or the command's refusal, or Unavailable
-abbrev pub IsPlanned : Settings → Given → Result Plan Refusal → Type 0
-IsPlanned settings x (Ok planned) = IsPlan settings x planned
-IsPlanned settings x (Err why) = (refusal_of x ≡ Some why) ⊎ (why ≡ Unavailable)
+abbrev pub IsPlanned : Publisher → Given → Result Plan Refusal → Type 0
+IsPlanned publisher x (Ok planned) = IsPlan publisher x planned
+IsPlanned publisher x (Err why) = (refusal_of x ≡ Some why) ⊎ (why ≡ Unavailable)
 
 -- a command that is to be refused is told its refusal, or the store's count of faults rose
 abbrev pub TellsRefusal : {S T : Type 0} → Meaning S → S → S → (Tables → Given) → Result T Refusal → Type 0

@@ -3,7 +3,7 @@ use Rattle.std.specs.Prelude.{◌≡◌, ◌+◌, Some}
 use Rattle.serde_json.specs.View.{view}
 use Rattle.serde_json.specs.Written.{compact_text}
 use Rattle.ocds_merge.specs.Stored.{IsStorable}
-use Rattle.office_values.specs.declared.settings.Settings.{Settings}
+use Rattle.office_values.specs.declared.settings.Publisher.{Publisher}
 use Rattle.office_base.specs.Tables.{Tables, notice_at}
 use Rattle.office_base.specs.declared.records.ReleaseRow.{ReleaseRow}
 use Rattle.office_machine.specs.Counted.{releases_in}
@@ -19,8 +19,8 @@ abbrev pub as_row : Released → ReleaseRow
 as_row r = record { notice = r.notice; seq = r.seq; moment = r.moment; text = compact_text (view r.release) }
 
 -- it is what the command publishes, as the next one of its notice, and can be kept
-pub record IsReleased (settings : Settings) (x : Given) (r : Released) : Type 0 where
-  pub is : publication (publishing settings) x ≡ Some (as_row r)
+pub record IsReleased (publisher : Publisher) (x : Given) (r : Released) : Type 0 where
+  pub is : publication (publishing publisher) x ≡ Some (as_row r)
   pub for_notice : published_for x.before x.command ≡ Some r.notice
   pub next : r.seq ≡ releases_in (notice_at r.notice x.before) + 1
   pub storable : IsStorable (view r.release)

@@ -27,7 +27,7 @@ use crate::planned::Planned;
 use office_base::shelf::Lookups;
 use office_commands::commands::Command;
 use office_values::refusal::Refusal;
-use office_values::settings::Settings;
+use office_values::settings::Publisher;
 use std::alloc::Global;
 use tender_core::asking::Asking;
 
@@ -35,12 +35,12 @@ use tender_core::asking::Asking;
 pub fn plan_command<H: Lookups>(
     alloc: Global,
     shelf: &mut H,
-    settings: &Settings,
+    publisher: &Publisher,
     asking: &Asking,
     command: Command<'_>,
 ) -> Result<Planned, Refusal>
     requires { may asking.now.caller.now (kind_of command) ≡ true }
-    ensures looks { Looks H.meaning shelf.old shelf.new (λ s. IsPlanned settings.now (given_by asking.now s command.entry) result) }
+    ensures looks { Looks H.meaning shelf.old shelf.new (λ s. IsPlanned publisher.now (given_by asking.now s command.entry) result) }
     ensures tells { gathers_lines command.entry ≡ false → TellsRefusal H.meaning shelf.old shelf.new (λ s. given_by asking.now s command.entry) result }
 {
     match command {
@@ -52,17 +52,17 @@ pub fn plan_command<H: Lookups>(
             key,
         } => register::plan(alloc, shelf, asking, tenderer, name, address, key),
         Command::Publish { notice, content } => publish::plan(
-            alloc, shelf, settings, asking, notice, content,
+            alloc, shelf, publisher, asking, notice, content,
         ),
         Command::AmendNotice {
             notice,
             deadline,
             rationale,
-        } => amend_notice::plan(alloc, shelf, settings, asking, notice, deadline, rationale),
+        } => amend_notice::plan(alloc, shelf, publisher, asking, notice, deadline, rationale),
         Command::Cancel { notice, rationale } => cancel::plan(
-            alloc, shelf, settings, asking, notice, rationale,
+            alloc, shelf, publisher, asking, notice, rationale,
         ),
-        Command::Open { notice } => open::plan(alloc, shelf, settings, asking, notice),
+        Command::Open { notice } => open::plan(alloc, shelf, publisher, asking, notice),
         Command::Present {
             notice,
             lot,
@@ -76,10 +76,10 @@ pub fn plan_command<H: Lookups>(
             responsive,
             quality,
         } => examine::plan(alloc, shelf, asking, receipt, responsive, quality),
-        Command::Award { notice, lot } => award::plan(alloc, shelf, settings, asking, notice, lot),
-        Command::Fail { award } => fail::plan(alloc, shelf, settings, asking, award),
+        Command::Award { notice, lot } => award::plan(alloc, shelf, publisher, asking, notice, lot),
+        Command::Fail { award } => fail::plan(alloc, shelf, publisher, asking, award),
         Command::Sign { award, security } => sign::plan(
-            alloc, shelf, settings, asking, award, security,
+            alloc, shelf, publisher, asking, award, security,
         ),
         Command::AmendContract {
             contract,
@@ -88,13 +88,13 @@ pub fn plan_command<H: Lookups>(
             amount,
             rationale,
         } => amend_contract::plan(
-            alloc, shelf, settings, asking, contract, entry, kind, amount, rationale,
+            alloc, shelf, publisher, asking, contract, entry, kind, amount, rationale,
         ),
         Command::Pay {
             contract,
             entry,
             amount,
-        } => pay::plan(alloc, shelf, settings, asking, contract, entry, amount),
-        Command::End { contract, how } => end::plan(alloc, shelf, settings, asking, contract, how),
+        } => pay::plan(alloc, shelf, publisher, asking, contract, entry, amount),
+        Command::End { contract, how } => end::plan(alloc, shelf, publisher, asking, contract, how),
     }
 }

@@ -7,7 +7,8 @@ ghost use Rattle.office_base.specs.Shelves.{Looks, LooksUp};
 ghost use Rattle.office_base.specs.Tables.{Tables, notice_at};
 ghost use Rattle.office_base.specs.declared.puts.Put.TheVariants.{Compiled, Release};
 ghost use Rattle.office_machine.specs.Counted.{releases_in};
-ghost use Rattle.office_machine.specs.Machine.{Given, IsCommand, effect, refusal_of, time_of};
+ghost use Rattle.office_commands.specs.Commands.{IsCommand};
+ghost use Rattle.office_machine.specs.Machine.{Given, effect, refusal_of, time_of};
 ghost use Rattle.office_machine.specs.OfficeMeans.{office_readings};
 ghost use Rattle.office_machine.specs.Publications.{published_for};
 ghost use Rattle.office_plans.specs.Published.{IsPlan, IsPlanned, accepted_reply};
@@ -17,12 +18,12 @@ ghost use Rattle.office_publications.specs.Events.{event_of};
 ghost use Rattle.office_publications.specs.Keeping.{KeepsReleasesOf, has_last_release};
 ghost use Rattle.office_publications.specs.Merges.{AreSoMany, HasMerge, IsKeptOf};
 ghost use Rattle.office_values.specs.declared.refusal.Refusal.TheVariants.{Unavailable};
-ghost use Rattle.office_values.specs.declared.settings.Settings.{Settings as SettingsOf};
+ghost use Rattle.office_values.specs.declared.settings.Publisher.{Publisher as PublisherOf};
 
 use crate::planned::Planned;
 use ocds_release::event::Event;
 use ocds_release::laws::releases_can_be_kept;
-use ocds_release::release_of::release_of;
+use ocds_release::release_of::release_of_event;
 use office_base::counts::Sequence;
 use office_base::laws::looks_follow;
 use office_base::puts::Put;
@@ -34,7 +35,7 @@ use office_publications::publication::{Publication, keep_release};
 use office_values::id::Id;
 use office_values::moment::Moment;
 use office_values::refusal::Refusal;
-use office_values::settings::Settings;
+use office_values::settings::Publisher;
 use serde_json::Value;
 use std::alloc::Global;
 
@@ -62,14 +63,14 @@ fn next_number(row: &Option<NoticeRow>) -> Option<Sequence>
 /// the notice has all its releases, as of no command that isn't refused.
 pub(crate) fn make_release<'a>(
     alloc: Global,
-    settings: &'a Settings,
+    publisher: &'a Publisher,
     notice: Id,
     row: &Option<NoticeRow>,
     t: Moment,
     event: &'a Event<'a>,
 ) -> Result<Released, Refusal>
     ensures release { IfOk result (λ r. (x : Given) → event_of x.before x.command ≡ Some event.now → published_for x.before x.command ≡ Some notice
-        → row.now ≡ notice_at notice x.before → t ≡ time_of x → IsReleased settings.now x r) }
+        → row.now ≡ notice_at notice x.before → t ≡ time_of x → IsReleased publisher.now x r) }
     ensures none { IfErr result (λ why. why ≡ Unavailable) }
 {
     keeping();
@@ -77,7 +78,7 @@ pub(crate) fn make_release<'a>(
     let Some(seq) = next_number(row) else {
         return Err(Refusal::Unavailable);
     };
-    match release_of(alloc, settings, seq, t, event) {
+    match release_of_event(alloc, publisher, seq, t, event) {
         Ok(release) => Ok(Released {
             notice,
             seq,
@@ -171,9 +172,9 @@ pub(crate) fn published<H: Lookups>(
     text: Vec<u8>,
     released: Released,
 ) -> Result<Planned, Refusal>
-    ensures { Looks H.meaning shelf.old shelf.new (λ s. (settings : SettingsOf) (x : Given) → x.before ≡ s → IsCommand x.command → refusal_of x ≡ None
-        → puts.items ≡ effect office_readings x → text.items ≡ reply_text (accepted_reply x) → IsReleased settings x released
-        → IsPlanned settings x result) }
+    ensures { Looks H.meaning shelf.old shelf.new (λ s. (publisher : PublisherOf) (x : Given) → x.before ≡ s → IsCommand x.command → refusal_of x ≡ None
+        → puts.items ≡ effect office_readings x → text.items ≡ reply_text (accepted_reply x) → IsReleased publisher x released
+        → IsPlanned publisher x result) }
 {
     let publication = keep(alloc, shelf, released)?;
     with_publication(puts, text, publication)
@@ -181,8 +182,8 @@ pub(crate) fn published<H: Lookups>(
 
 /// The plan of an accepted command that publishes nothing: what it puts, and the reply's text. Takes no memory.
 pub(crate) fn silent(puts: Vec<Put>, text: Vec<u8>) -> Planned
-    ensures { (settings : SettingsOf) (x : Given) → IsCommand x.command → refusal_of x ≡ None → event_of x.before x.command ≡ None → published_for x.before x.command ≡ None
-        → puts.items ≡ effect office_readings x → text.items ≡ reply_text (accepted_reply x) → IsPlan settings x result }
+    ensures { (publisher : PublisherOf) (x : Given) → IsCommand x.command → refusal_of x ≡ None → event_of x.before x.command ≡ None → published_for x.before x.command ≡ None
+        → puts.items ≡ effect office_readings x → text.items ≡ reply_text (accepted_reply x) → IsPlan publisher x result }
 {
     keeping();
     Planned::new(puts, text)

@@ -2,7 +2,7 @@
 use Rattle.std.specs.Prelude.{◌≡◌, ℕ, List, [], ◌∷◌, ◌++◌, Option, Some, None, option_map, option_and_then}
 use Rattle.std.proofs.Common.{refl, sym, ◌∙◌, ap}
 use Rattle.std.proofs.lemmas.List.{append-nil, append_assoc}
-use Rattle.office_values.specs.declared.settings.Settings.{Settings}
+use Rattle.office_values.specs.declared.settings.Publisher.{Publisher}
 use Rattle.office_base.specs.declared.puts.Put.{Put}
 use Rattle.office_base.specs.declared.puts.Put.TheVariants as puts
 use Rattle.office_base.specs.declared.records.ReleaseRow.{ReleaseRow}
@@ -16,24 +16,24 @@ use Rattle.office_publications.specs.Events.{event_of}
 use Rattle.office_publications.specs.Keeping.{kept_puts, next_with_merges, merge_puts, merged_row, NoEventPublishesNothing, EventsAreReleased, NoEventPutsItsEffect, EventsPutReleases, MergesStandBeside}
 use Rattle.office_publications.specs.Publishing.{publishing, text_by}
 
-module _ (settings : Settings) (x : Given) where
+module _ (publisher : Publisher) (x : Given) where
   abbrev means : Means
-  means = publishing settings
+  means = publishing publisher
 
   -- what it puts, where it publishes this
   abbrev puts_with : Option ReleaseRow → List Put
   puts_with p = (effect office_readings x ++ publication_puts p) ++ merge_puts x.before p
 
-  none_put : publication means x ≡ None → kept_puts settings x ≡ effect office_readings x
+  none_put : publication means x ≡ None → kept_puts publisher x ≡ effect office_readings x
   none_put e = ap puts_with e ∙ append-nil (effect office_readings x ++ []) ∙ append-nil (effect office_readings x)
 
   one_put : (r : ReleaseRow) → publication means x ≡ Some r
-      → kept_puts settings x ≡ effect office_readings x ++ (puts.Release r ∷ puts.Compiled (merged_row x.before r) ∷ [])
+      → kept_puts publisher x ≡ effect office_readings x ++ (puts.Release r ∷ puts.Compiled (merged_row x.before r) ∷ [])
   one_put r e = ap puts_with e ∙ append_assoc (effect office_readings x) (puts.Release r ∷ []) (puts.Compiled (merged_row x.before r) ∷ [])
 
   -- what is published of an event of a notice
   abbrev published_as : Option (List ℕ) → Option Event → Option ReleaseRow
-  published_as notice event = option_and_then (λ n. option_map (release_row x n) (option_map (text_by settings x) event)) notice
+  published_as notice event = option_and_then (λ n. option_map (release_row x n) (option_map (text_by publisher x) event)) notice
 
   no_event : (notice : Option (List ℕ)) → published_as notice None ≡ None
   no_event None = refl
@@ -43,29 +43,29 @@ module _ (settings : Settings) (x : Given) where
   unpublished e = ap (published_as (published_for x.before x.command)) e ∙ no_event (published_for x.before x.command)
 
   pub published : (e : Event) (notice : List ℕ) → event_of x.before x.command ≡ Some e → published_for x.before x.command ≡ Some notice
-      → publication means x ≡ Some (release_row x notice (text_by settings x e))
+      → publication means x ≡ Some (release_row x notice (text_by publisher x e))
   published e notice is of = ap (λ n. published_as n (event_of x.before x.command)) of ∙ ap (published_as (Some notice)) is
 
   merge_beside : (p : Option ReleaseRow) (u : Tables) → after_puts (merge_puts x.before p) u ≡ with_merges (after_puts (merge_puts x.before p) u).compiled u
   merge_beside None u = refl
   merge_beside (Some r) u = refl
 
-  pub beside : next_with_merges settings x ≡ with_merges (next_with_merges settings x).compiled (next means x)
+  pub beside : next_with_merges publisher x ≡ with_merges (next_with_merges publisher x).compiled (next means x)
   beside =
       let apart = after-append (puts_of means x) (merge_puts x.before (publication means x)) x.before in
       apart ∙ merge_beside (publication means x) (next means x) ∙ ap (λ (u : Tables). with_merges u.compiled (next means x)) (sym apart)
 
 pub no_event_publishes_nothing : NoEventPublishesNothing
-no_event_publishes_nothing settings x = unpublished settings x
+no_event_publishes_nothing publisher x = unpublished publisher x
 
 pub events_are_released : EventsAreReleased
-events_are_released settings x = published settings x
+events_are_released publisher x = published publisher x
 
 pub no_event_puts_its_effect : NoEventPutsItsEffect
-no_event_puts_its_effect settings x e = none_put settings x (unpublished settings x e)
+no_event_puts_its_effect publisher x e = none_put publisher x (unpublished publisher x e)
 
 pub events_put_releases : EventsPutReleases
-events_put_releases settings x e notice is of = one_put settings x (release_row x notice (text_by settings x e)) (published settings x e notice is of)
+events_put_releases publisher x e notice is of = one_put publisher x (release_row x notice (text_by publisher x e)) (published publisher x e notice is of)
 
 pub merges_stand_beside : MergesStandBeside
-merges_stand_beside settings x = beside settings x
+merges_stand_beside publisher x = beside publisher x

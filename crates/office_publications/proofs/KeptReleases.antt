@@ -5,7 +5,7 @@ use Rattle.std.proofs.lemmas.List.{append-nil}
 use Rattle.std.proofs.lemmas.List.Elements.{All-append, All-nil, All-cons}
 use Rattle.ocds_merge.specs.Stored.{KeepsMerge}
 use Rattle.office_values.specs.Ids.{same_id}
-use Rattle.office_values.specs.declared.settings.Settings.{Settings}
+use Rattle.office_values.specs.declared.settings.Publisher.{Publisher}
 use Rattle.office_base.specs.Rows.{row_at}
 use Rattle.office_base.specs.Tables.{Tables, ChangesKeepOrder, after_puts, find_compiled, notice_at, put_compiled, release_at, releases_of_notice}
 use Rattle.office_base.specs.declared.records.CompiledRow.{CompiledRow}
@@ -37,18 +37,18 @@ put_beside s None u = refl
 put_beside s (Some r) u = refl
 
 -- the merges beside the office after a command are of its notices
-module _ (settings : Settings) (x : Given) (have : HaveParents (next (publishing settings) x) (next (publishing settings) x)) where
+module _ (publisher : Publisher) (x : Given) (have : HaveParents (next (publishing publisher) x) (next (publishing publisher) x)) where
   abbrev after : Tables
-  after = next (publishing settings) x
+  after = next (publishing publisher) x
 
-  published_there : (r : ReleaseRow) → publication (publishing settings) x ≡ Some r → IsSome (notice_at r.notice after)
+  published_there : (r : ReleaseRow) → publication (publishing publisher) x ≡ Some r → IsSome (notice_at r.notice after)
   published_there r one =
       let done : Tables = after_puts (effect office_readings x) x.before in
       let last : after ≡ after_puts (publication_puts (Some r)) done =
-      after-append (effect office_readings x) (publication_puts (publication (publishing settings) x)) x.before ∙ ap (λ p. after_puts (publication_puts p) done) one in
+      after-append (effect office_readings x) (publication_puts (publication (publishing publisher) x)) x.before ∙ ap (λ p. after_puts (publication_puts p) done) one in
       (have.releases (r.notice, r.seq) r (ap (release_at (r.notice, r.seq)) last ∙ found_put keyed.releases done.releases r)).notice
 
-  merges_of : (p : Option ReleaseRow) → publication (publishing settings) x ≡ p → AreOfNotices (with_merge x.before p after.compiled) after
+  merges_of : (p : Option ReleaseRow) → publication (publishing publisher) x ≡ p → AreOfNotices (with_merge x.before p after.compiled) after
   merges_of None none key c is = (have.merges key c is).notice
   merges_of (Some r) one key c is =
       elim (found keyed.compiled after.compiled (merged_row x.before r) key c is) as (λ _. IsSome (notice_at c.notice after)) [
@@ -56,31 +56,31 @@ module _ (settings : Settings) (x : Given) (have : HaveParents (next (publishing
         | inr p ↦ (have.merges key c p.1).notice
       ]
 
-  of_notices : AreOfNotices (next_with_merges settings x).compiled after
+  of_notices : AreOfNotices (next_with_merges publisher x).compiled after
   of_notices =
       subst (λ merges. AreOfNotices merges after)
-      (sym (ap (λ (u : Tables). u.compiled) (after-append (puts_of (publishing settings) x) (merge_puts x.before (publication (publishing settings) x)) x.before)
-      ∙ put_beside x.before (publication (publishing settings) x) after))
-      (merges_of (publication (publishing settings) x) refl)
+      (sym (ap (λ (u : Tables). u.compiled) (after-append (puts_of (publishing publisher) x) (merge_puts x.before (publication (publishing publisher) x)) x.before)
+      ∙ put_beside x.before (publication (publishing publisher) x) after))
+      (merges_of (publication (publishing publisher) x) refl)
 
 pub reaches : ChangesKeepOrder → TablesAreInOrder → ParentsAreThere → StepsReach → KeptStepsReach
-reaches keep sorted parents steps settings xs x reached given allowed = record {
+reaches keep sorted parents steps publisher xs x reached given allowed = record {
   reached = reached;
   given = given;
   allowed = allowed;
-  merges = (next_with_merges settings x).compiled;
-  in_order = (keep (kept_puts settings x) x.before (sorted (publishing settings) xs x.before reached)).compiled;
-  of_notices = of_notices settings x (parents (publishing settings) (x ∷ xs) (next (publishing settings) x) (steps (publishing settings) xs x reached given allowed));
-  is = merges_stand_beside settings x;
+  merges = (next_with_merges publisher x).compiled;
+  in_order = (keep (kept_puts publisher x) x.before (sorted (publishing publisher) xs x.before reached)).compiled;
+  of_notices = of_notices publisher x (parents (publishing publisher) (x ∷ xs) (next (publishing publisher) x) (steps (publishing publisher) xs x reached given allowed));
+  is = merges_stand_beside publisher x;
 }
 
 -- where the machine puts no merge itself
-module _ (settings : Settings) (x : Given) (no_merge : (next (publishing settings) x).compiled ≡ x.before.compiled) where
+module _ (publisher : Publisher) (x : Given) (no_merge : (next (publishing publisher) x).compiled ≡ x.before.compiled) where
   abbrev means : Means
-  means = publishing settings
+  means = publishing publisher
 
   abbrev kept : Tables
-  kept = next_with_merges settings x
+  kept = next_with_merges publisher x
 
   merges_are : kept.compiled ≡ with_merge x.before (publication means x) x.before.compiled
   merges_are =
@@ -109,7 +109,7 @@ module _ (settings : Settings) (x : Given) (no_merge : (next (publishing setting
     more r can true = All-cons CanBeMerged r [] can (All-nil CanBeMerged)
     more r can false = All-nil CanBeMerged
 
-    published : (r : ReleaseRow) → publication means x ≡ Some r → PublicationReadsBack settings x → KeepsReleases kept
+    published : (r : ReleaseRow) → publication means x ≡ Some r → PublicationReadsBack publisher x → KeepsReleases kept
     published r one back = record {
       releases = λ n.
           subst (All CanBeMerged) (sym (now n))
@@ -128,16 +128,16 @@ module _ (settings : Settings) (x : Given) (no_merge : (next (publishing setting
         now : (n : List ℕ) → releases_of_notice n kept ≡ releases_of_notice n x.before ++ filter (λ (r : ReleaseRow). same_id r.notice n) (r ∷ [])
         now n = releases n ∙ ap (λ p. releases_of_notice n x.before ++ filter (λ (r : ReleaseRow). same_id r.notice n) (option_to_list p)) one
 
-    kept_by : (p : Option ReleaseRow) → publication means x ≡ p → PublicationReadsBack settings x → KeepsReleases kept
+    kept_by : (p : Option ReleaseRow) → publication means x ≡ p → PublicationReadsBack publisher x → KeepsReleases kept
     kept_by None e back = quiet e
     kept_by (Some r) e back = published r e back
 
 pub stays : KeptStepsReach → ReleasesArePublished → ReleasesStayKept
-stays reach published settings xs x reached given allowed back keeps =
-    let releases : (n : List ℕ) → releases_of_notice n (next_with_merges settings x) ≡ releases_of_notice n x.before ++ published_of (publishing settings) x n = λ n.
-    published (publishing settings) (x ∷ xs) (next_with_merges settings x) (reach settings xs x reached given allowed) n
-    ∙ ap (λ rows. rows ++ published_of (publishing settings) x n) (sym (published (publishing settings) xs x.before reached n)) in
-    kept_by settings x (next_is (publishing settings) x (parents_there (publishing settings) xs x.before reached) allowed).compiled keeps releases (publication (publishing settings) x) refl back
+stays reach published publisher xs x reached given allowed back keeps =
+    let releases : (n : List ℕ) → releases_of_notice n (next_with_merges publisher x) ≡ releases_of_notice n x.before ++ published_of (publishing publisher) x n = λ n.
+    published (publishing publisher) (x ∷ xs) (next_with_merges publisher x) (reach publisher xs x reached given allowed) n
+    ∙ ap (λ rows. rows ++ published_of (publishing publisher) x n) (sym (published (publishing publisher) xs x.before reached n)) in
+    kept_by publisher x (next_is (publishing publisher) x (parents_there (publishing publisher) xs x.before reached) allowed).compiled keeps releases (publication (publishing publisher) x) refl back
 
 pub starts : NothingIsKeptAtFirst
 unfolding row_at

@@ -11,4 +11,3 @@ pub mod KeptPuts
 pub mod KeptReleases
 pub mod NoSealsTold
 pub mod NoMergesTold
-mod KeysMayChange

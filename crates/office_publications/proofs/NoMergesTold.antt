@@ -2,9 +2,9 @@
 use Rattle.std.proofs.Common.{◌≡◌, ℕ, List, refl, ◌∙◌, ap}
 use Rattle.office_commands.specs.declared.command.Caller.{Caller}
 use Rattle.office_commands.specs.declared.commands.Command.{Command}
-use Rattle.office_commands.specs.declared.commands.Command.TheVariants.{Publish, AmendNotice, Cancel, Open, Award, Fail, Sign, AmendContract, Pay, End}
+use Rattle.office_commands.specs.declared.commands.Command.TheVariants.{Publish}
 use Rattle.office_commands.specs.declared.queries.Query.TheVariants as queries
-use Rattle.office_values.specs.declared.settings.Settings.{Settings}
+use Rattle.office_values.specs.declared.settings.Publisher.{Publisher}
 use Rattle.office_base.specs.declared.records.CompiledRow.{CompiledRow}
 use Rattle.office_base.specs.Tables.{Tables}
 use Rattle.office_machine.specs.Machine.{Given, with_merges}
@@ -14,27 +14,27 @@ use Rattle.office_publications.specs.MergesApart.{KeptStepsReadNoMerges, Package
 use Rattle.office_publications.specs.Packages.{packages}
 use Rattle.office_publications.specs.Publishing.{publishing, release_text}
 
-module _ (settings : Settings) (merges : List CompiledRow) (s : Tables) (moment : ℕ) (caller : Caller) where
+module _ (publisher : Publisher) (merges : List CompiledRow) (s : Tables) (moment : ℕ) (caller : Caller) where
   abbrev given : Command → Given
   given command = record { before = s; moment = moment; caller = caller; command = command }
 
-  text_apart : (command : Command) → release_text settings (beside merges (given command)) ≡ release_text settings (given command)
+  text_apart : (command : Command) → release_text publisher (beside merges (given command)) ≡ release_text publisher (given command)
   text_apart (Publish notice content) = refl
   text_apart _ = refl
 
 pub releases_tell_no_merges : ReleasesTellNoMerges
-releases_tell_no_merges settings merges x = text_apart settings merges x.before x.moment x.caller x.command
+releases_tell_no_merges publisher merges x = text_apart publisher merges x.before x.moment x.caller x.command
 
 pub packages_tell_no_merges : PackagesTellNoMerges
-packages_tell_no_merges settings merges (queries.Releases notice) s = refl
-packages_tell_no_merges settings merges (queries.Record notice) s = refl
-packages_tell_no_merges settings merges _ s = refl
+packages_tell_no_merges publisher merges (queries.Releases notice) s = refl
+packages_tell_no_merges publisher merges (queries.Record notice) s = refl
+packages_tell_no_merges publisher merges _ s = refl
 
 pub looks_apart : LooksReadNoMerges → PublishedLooksReadNoMerges
-looks_apart law settings merges s caller query = law (packages settings) (packages_tell_no_merges settings) merges s caller query
+looks_apart law publisher merges s caller query = law (packages publisher) (packages_tell_no_merges publisher) merges s caller query
 
 pub kept_apart : MergesStandBeside → NextReadsNoMerges → KeptStepsReadNoMerges
-kept_apart stand law settings merges x =
-    stand settings (beside merges x)
-    ∙ ap (λ (u : Tables). with_merges (next_with_merges settings (beside merges x)).compiled u)
-    (law (publishing settings) (releases_tell_no_merges settings) merges x)
+kept_apart stand law publisher merges x =
+    stand publisher (beside merges x)
+    ∙ ap (λ (u : Tables). with_merges (next_with_merges publisher (beside merges x)).compiled u)
+    (law (publishing publisher) (releases_tell_no_merges publisher) merges x)

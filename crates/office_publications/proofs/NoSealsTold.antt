@@ -4,9 +4,9 @@ use Rattle.std.specs.List.{list_any}
 use Rattle.std.proofs.Common.{refl, sym, ◌∙◌, ap}
 use Rattle.serde_json.specs.Written.{compact_text}
 use Rattle.office_values.specs.Ids.{same_id}
-use Rattle.office_values.specs.declared.settings.Settings.{Settings}
+use Rattle.office_values.specs.declared.settings.Publisher.{Publisher}
 use Rattle.office_commands.specs.declared.commands.Command.{Command}
-use Rattle.office_commands.specs.declared.commands.Command.TheVariants.{Register, Open, Award}
+use Rattle.office_commands.specs.declared.commands.Command.TheVariants.{Open, Award}
 use Rattle.office_commands.specs.declared.queries.Query.TheVariants as queries
 use Rattle.office_base.specs.declared.records.EnvelopeRow.{EnvelopeRow}
 use Rattle.office_base.specs.declared.records.NoticeRow.{NoticeRow}
@@ -15,7 +15,7 @@ use Rattle.office_base.specs.declared.records.TendererRow.{TendererRow}
 use Rattle.office_base.specs.Tables.{Tables, notice_at, envelopes_of_lot}
 use Rattle.tender_core.specs.Rules.Open.{is_sealed_envelope}
 use Rattle.award_core.specs.Rules.Award.{is_admissible, price_of, lesser, lowest_price, is_better, better, best_with, weight_in, winner}
-use Rattle.ocds_release.specs.EventReleases.{release_of_event}
+use Rattle.ocds_release.specs.Events.{release_of_event}
 use Rattle.ocds_release.specs.Tenderers.{tenderer_shown}
 use Rattle.ocds_release.specs.declared.event.Event.{Event}
 use Rattle.ocds_release.specs.declared.event.Event.TheVariants as events
@@ -136,27 +136,14 @@ module _ (s : Tables) (es' : List EnvelopeRow) (ss' : List SealRow) (all : Pairs
   same_event _ = refl
 
 -- the text of an event, under the next number of the notice that it is published for
-abbrev text_in : Settings → Given → Option (List ℕ) → Event → List ℕ
-text_in settings x notice e = compact_text (release_of_event settings (releases_in (option_and_then (λ n. notice_at n x.before) notice) + 1) (time_of x) e)
+abbrev text_in : Publisher → Given → Option (List ℕ) → Event → List ℕ
+text_in publisher x notice e = compact_text (release_of_event publisher (releases_in (option_and_then (λ n. notice_at n x.before) notice) + 1) (time_of x) e)
 
 pub releases_tell_no_seals : ReleasesTellNoSeals
-releases_tell_no_seals settings x es' ss' all opens =
-    ap (option_map (text_in settings x (published_for x.before x.command))) (same_event x.before es' ss' all x.command)
+releases_tell_no_seals publisher x es' ss' all opens =
+    ap (option_map (text_in publisher x (published_for x.before x.command))) (same_event x.before es' ss' all x.command)
 
 pub packages_tell_no_seals : PackagesTellNoSeals
-packages_tell_no_seals settings (queries.Line line) s es' ss' all = refl
-packages_tell_no_seals settings queries.Ledger s es' ss' all = refl
-packages_tell_no_seals settings (queries.Minutes notice) s es' ss' all = refl
-packages_tell_no_seals settings (queries.Register notice) s es' ss' all = refl
-packages_tell_no_seals settings (queries.Releases notice) s es' ss' all = refl
-packages_tell_no_seals settings (queries.Record notice) s es' ss' all = refl
-packages_tell_no_seals settings (queries.Tender receipt) s es' ss' all = refl
-packages_tell_no_seals settings (queries.Security security) s es' ss' all = refl
-packages_tell_no_seals settings (queries.Performance contract) s es' ss' all = refl
-packages_tell_no_seals settings (queries.Notices after) s es' ss' all = refl
-packages_tell_no_seals settings (queries.Terms notice) s es' ss' all = refl
-packages_tell_no_seals settings (queries.OwnTenders notice) s es' ss' all = refl
-packages_tell_no_seals settings (queries.Evaluation notice) s es' ss' all = refl
-packages_tell_no_seals settings (queries.Securities notice) s es' ss' all = refl
-packages_tell_no_seals settings (queries.Tenderers after) s es' ss' all = refl
-packages_tell_no_seals settings (queries.Contract contract) s es' ss' all = refl
+packages_tell_no_seals publisher (queries.Releases notice) s es' ss' all = refl
+packages_tell_no_seals publisher (queries.Record notice) s es' ss' all = refl
+packages_tell_no_seals publisher _ s es' ss' all = refl

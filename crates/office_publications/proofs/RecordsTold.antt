@@ -19,7 +19,7 @@ use Rattle.ocds_release.specs.Texts.{ocid_text}
 use Rattle.ocds_release.proofs.Flat.{AreMembersFlat, entries_flat, text_flat, texts_flat}
 use Rattle.ocds_release.proofs.PackageTexts.{kept_last}
 use Rattle.office_values.specs.Moments.{TextsKeepOrder, moment_text}
-use Rattle.office_values.specs.declared.settings.Settings.{Settings}
+use Rattle.office_values.specs.declared.settings.Publisher.{Publisher}
 use Rattle.office_base.specs.Tables.{Tables, releases_of_notice}
 use Rattle.office_base.specs.declared.records.ReleaseRow.{ReleaseRow}
 use Rattle.office_machine.specs.Releases.{MomentsNeverFall, ReleasesAreInTime}
@@ -127,17 +127,17 @@ module _ (order : TextsKeepOrder) (in_time : ReleasesAreInTime)
     (compiles : (ocid : List ℕ) (releases : List Data) → IsInDateOrder releases
     → compiled_release ocid releases ≡ with_head ocid (last_date releases) (merge_or_null (map body_of releases)))
     (merge_storable : (vs : List Data) → All IsStorable vs → IsStorable (merge_or_null vs))
-    (settings : Settings) (s : Tables) (stands : IsReached settings s) (notice : List ℕ) where
+    (publisher : Publisher) (s : Tables) (stands : IsReached publisher s) (notice : List ℕ) where
   abbrev rows : List ReleaseRow
   rows = releases_of_notice notice s
 
   pub compiled : AreKept rows (map data_in rows) → AllByRecursion (λ (r : ReleaseRow). IsObject (data_in r)) rows → 0 < length rows → All IsInRange rows
-      → IsCompiled settings notice s
+      → IsCompiled publisher notice s
   compiled kept objects some range =
       let in_order : IsInDateOrder (map data_in rows) =
       in_date_order order rows (map data_in rows) kept (in_time _ stands.commands s stands.reaches notice) (recursion_from_All IsInRange rows range) in
-      let ocid : List ℕ = ocid_text settings.prefix notice in
-      let is : compiled_told settings notice s ≡ with_head ocid (moment_text (moment_of_last rows)) (merge_or_null (bodies notice s)) =
+      let ocid : List ℕ = ocid_text publisher.prefix notice in
+      let is : compiled_told publisher notice s ≡ with_head ocid (moment_text (moment_of_last rows)) (merge_or_null (bodies notice s)) =
       compiles ocid (map data_in rows) in_order
       ∙ (λ i. with_head ocid (last_told rows some kept i) (merge_or_null (same_bodies rows i))) in
       record {

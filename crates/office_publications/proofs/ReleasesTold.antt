@@ -7,13 +7,13 @@ use Rattle.serde_json.specs.Data.{Data, null}
 use Rattle.serde_json.specs.Written.{compact_text}
 use Rattle.ocds_merge.specs.Compile.{date_of}
 use Rattle.ocds_merge.specs.Stored.{IsStorable}
-use Rattle.ocds_release.specs.EventReleases.{release_of_event}
+use Rattle.ocds_release.specs.Events.{release_of_event}
 use Rattle.ocds_release.specs.KeptReleases.{ReleaseIsKept, AreKept}
 use Rattle.ocds_release.specs.declared.event.Event.{Event}
-use Rattle.ocds_release.specs.declared.event.Event.TheVariants.{Publish, Amend, Open, Award, NoAward, Fail, Cancel, Sign, AmendContract, Pay, End}
+use Rattle.ocds_release.specs.declared.event.Event.TheVariants.{Publish}
 use Rattle.office_values.specs.Ids.{same_id}
 use Rattle.office_values.specs.Moments.{moment_text}
-use Rattle.office_values.specs.declared.settings.Settings.{Settings}
+use Rattle.office_values.specs.declared.settings.Publisher.{Publisher}
 use Rattle.office_base.specs.Tables.{Tables, releases_of_notice}
 use Rattle.office_base.specs.declared.records.ReleaseRow.{ReleaseRow}
 use Rattle.office_machine.specs.Machine.{Given, publication, release_row}
@@ -27,68 +27,59 @@ use Rattle.office_publications.specs.Standing.{IsReached}
 use Rattle.office_publications.proofs.WrittenAlike.{IsObject, same_date, object_too}
 
 -- the row is of an event, at its moment
-pub record IsOfEvent (settings : Settings) (r : ReleaseRow) : Type 0 where
+pub record IsOfEvent (publisher : Publisher) (r : ReleaseRow) : Type 0 where
   pub event : Event
   pub seq : ℕ
-  pub text : r.text ≡ compact_text (release_of_event settings seq r.moment event)
+  pub text : r.text ≡ compact_text (release_of_event publisher seq r.moment event)
 
 -- each row that commands publish is
-module _ (settings : Settings) where
+module _ (publisher : Publisher) where
   abbrev IsSome_of_event : Option ReleaseRow → Type 0
   IsSome_of_event None = Unit {0}
-  IsSome_of_event (Some r) = IsOfEvent settings r
+  IsSome_of_event (Some r) = IsOfEvent publisher r
 
-  published_is : (x : Given) → IsSome_of_event (publication (publishing settings) x)
+  published_is : (x : Given) → IsSome_of_event (publication (publishing publisher) x)
   published_is x = by (published_for x.before x.command) (event_of x.before x.command)
     where
       by : (notice : Option (List ℕ)) (event : Option Event)
-          → IsSome_of_event (option_and_then (λ n. option_map (release_row x n) (option_map (text_by settings x) event)) notice)
+          → IsSome_of_event (option_and_then (λ n. option_map (release_row x n) (option_map (text_by publisher x) event)) notice)
       by None event = tt
       by (Some n) None = tt
       by (Some n) (Some e) = record { event = e; seq = releases_in (notice_published x) + 1; text = refl }
 
-  chosen : (b : Bool) (r : ReleaseRow) → IsOfEvent settings r → All (IsOfEvent settings) (cond b (r ∷ []) [])
-  chosen true r is = All-cons (IsOfEvent settings) r [] is (All-nil (IsOfEvent settings))
-  chosen false r is = All-nil (IsOfEvent settings)
+  chosen : (b : Bool) (r : ReleaseRow) → IsOfEvent publisher r → All (IsOfEvent publisher) (cond b (r ∷ []) [])
+  chosen true r is = All-cons (IsOfEvent publisher) r [] is (All-nil (IsOfEvent publisher))
+  chosen false r is = All-nil (IsOfEvent publisher)
 
   of_notice : (p : Option ReleaseRow) (notice : List ℕ) → IsSome_of_event p
-      → All (IsOfEvent settings) (filter (λ (r : ReleaseRow). same_id r.notice notice) (option_to_list p))
-  of_notice None notice is = All-nil (IsOfEvent settings)
+      → All (IsOfEvent publisher) (filter (λ (r : ReleaseRow). same_id r.notice notice) (option_to_list p))
+  of_notice None notice is = All-nil (IsOfEvent publisher)
   of_notice (Some r) notice is = chosen (same_id r.notice notice) r is
 
-  all_published : (xs : List Given) (notice : List ℕ) → All (IsOfEvent settings) (published_by (publishing settings) xs notice)
-  all_published [] notice = All-nil (IsOfEvent settings)
+  all_published : (xs : List Given) (notice : List ℕ) → All (IsOfEvent publisher) (published_by (publishing publisher) xs notice)
+  all_published [] notice = All-nil (IsOfEvent publisher)
   all_published (x ∷ xs) notice =
-      All-append (IsOfEvent settings) (published_by (publishing settings) xs notice) (published_of (publishing settings) x notice) (all_published xs notice)
-      (of_notice (publication (publishing settings) x) notice (published_is x))
+      All-append (IsOfEvent publisher) (published_by (publishing publisher) xs notice) (published_of (publishing publisher) x notice) (all_published xs notice)
+      (of_notice (publication (publishing publisher) x) notice (published_is x))
 
 -- so the rows of an office are
-pub all_of_events : ReleasesArePublished → (settings : Settings) (s : Tables) → IsReached settings s → (notice : List ℕ)
-    → All (IsOfEvent settings) (releases_of_notice notice s)
-all_of_events published settings s stands notice =
-    subst (All (IsOfEvent settings)) (sym (published (publishing settings) stands.commands s stands.reaches notice)) (all_published settings stands.commands notice)
+pub all_of_events : ReleasesArePublished → (publisher : Publisher) (s : Tables) → IsReached publisher s → (notice : List ℕ)
+    → All (IsOfEvent publisher) (releases_of_notice notice s)
+all_of_events published publisher s stands notice =
+    subst (All (IsOfEvent publisher)) (sym (published (publishing publisher) stands.commands s stands.reaches notice)) (all_published publisher stands.commands notice)
 
 -- ---- a row keeps what is told of it
 
-pub told_object : (settings : Settings) (seq t : ℕ) (event : Event) → IsObject (release_of_event settings seq t event)
-told_object settings seq t (Publish e) = tt
-told_object settings seq t (Amend e) = tt
-told_object settings seq t (Open e) = tt
-told_object settings seq t (Award e) = tt
-told_object settings seq t (NoAward e) = tt
-told_object settings seq t (Fail e) = tt
-told_object settings seq t (Cancel e) = tt
-told_object settings seq t (Sign e) = tt
-told_object settings seq t (AmendContract e) = tt
-told_object settings seq t (Pay e) = tt
-told_object settings seq t (End e) = tt
+pub told_object : (publisher : Publisher) (seq t : ℕ) (event : Event) → IsObject (release_of_event publisher seq t event)
+told_object publisher seq t (Publish e) = tt
+told_object publisher seq t _ = tt
 
-module _ (storable : (settings : Settings) (seq t : ℕ) (event : Event) → IsStorable (release_of_event settings seq t event))
-    (dated : (settings : Settings) (seq t : ℕ) (event : Event) → date_of (release_of_event settings seq t event) ≡ moment_text t)
-    (settings : Settings) where
-  module _ (r : ReleaseRow) (can : CanBeMerged r) (is : IsOfEvent settings r) where
+module _ (storable : (publisher : Publisher) (seq t : ℕ) (event : Event) → IsStorable (release_of_event publisher seq t event))
+    (dated : (publisher : Publisher) (seq t : ℕ) (event : Event) → date_of (release_of_event publisher seq t event) ≡ moment_text t)
+    (publisher : Publisher) where
+  module _ (r : ReleaseRow) (can : CanBeMerged r) (is : IsOfEvent publisher r) where
     abbrev made : Data
-    made = release_of_event settings is.seq r.moment is.event
+    made = release_of_event publisher is.seq r.moment is.event
 
     told : data_in r ≡ can.release
     told = ap (λ o. unwrap_or o null) can.reads
@@ -100,34 +91,34 @@ module _ (storable : (settings : Settings) (seq t : ℕ) (event : Event) → IsS
     kept = record {
       text = can.written ∙ ap compact_text (sym told);
       date =
-          ap date_of told ∙ same_date can.release made can.no_float (storable settings is.seq r.moment is.event).no_float same
-          ∙ dated settings is.seq r.moment is.event;
+          ap date_of told ∙ same_date can.release made can.no_float (storable publisher is.seq r.moment is.event).no_float same
+          ∙ dated publisher is.seq r.moment is.event;
     }
 
     object : IsObject (data_in r)
     object =
         subst IsObject (sym told)
-        (object_too can.release made can.no_float (storable settings is.seq r.moment is.event).no_float same (told_object settings is.seq r.moment is.event))
+        (object_too can.release made can.no_float (storable publisher is.seq r.moment is.event).no_float same (told_object publisher is.seq r.moment is.event))
 
-  all_kept : (rows : List ReleaseRow) → AllByRecursion CanBeMerged rows → AllByRecursion (IsOfEvent settings) rows → AreKept rows (map data_in rows)
+  all_kept : (rows : List ReleaseRow) → AllByRecursion CanBeMerged rows → AllByRecursion (IsOfEvent publisher) rows → AreKept rows (map data_in rows)
   all_kept [] can is = tt
   all_kept (r ∷ rows) can is = (kept r can.0 is.0, all_kept rows can.1 is.1)
 
-  all_objects : (rows : List ReleaseRow) → AllByRecursion CanBeMerged rows → AllByRecursion (IsOfEvent settings) rows
+  all_objects : (rows : List ReleaseRow) → AllByRecursion CanBeMerged rows → AllByRecursion (IsOfEvent publisher) rows
       → AllByRecursion (λ (r : ReleaseRow). IsObject (data_in r)) rows
   all_objects [] can is = tt
   all_objects (r ∷ rows) can is = (object r can.0 is.0, all_objects rows can.1 is.1)
 
-  module _ (published : ReleasesArePublished) (s : Tables) (stands : IsReached settings s) (notice : List ℕ) where
+  module _ (published : ReleasesArePublished) (s : Tables) (stands : IsReached publisher s) (notice : List ℕ) where
     abbrev rows : List ReleaseRow
     rows = releases_of_notice notice s
 
     pub rows_kept : AreKept rows (map data_in rows)
     rows_kept =
         all_kept rows (recursion_from_All CanBeMerged rows (stands.keeps.releases notice))
-        (recursion_from_All (IsOfEvent settings) rows (all_of_events published settings s stands notice))
+        (recursion_from_All (IsOfEvent publisher) rows (all_of_events published publisher s stands notice))
 
     pub rows_objects : AllByRecursion (λ (r : ReleaseRow). IsObject (data_in r)) rows
     rows_objects =
         all_objects rows (recursion_from_All CanBeMerged rows (stands.keeps.releases notice))
-        (recursion_from_All (IsOfEvent settings) rows (all_of_events published settings s stands notice))
+        (recursion_from_All (IsOfEvent publisher) rows (all_of_events published publisher s stands notice))

@@ -4,7 +4,7 @@ use Rattle.serde_json.specs.Written.{compact_text}
 use Rattle.ocds_merge.specs.Merge.{merge_or_null}
 use Rattle.ocds_merge.specs.Stored.{KeepsMerge}
 use Rattle.ocds_release.specs.declared.event.Event.{Event}
-use Rattle.office_values.specs.declared.settings.Settings.{Settings}
+use Rattle.office_values.specs.declared.settings.Publisher.{Publisher}
 use Rattle.office_base.specs.declared.puts.Put.{Put}
 use Rattle.office_base.specs.declared.puts.Put.TheVariants as puts
 use Rattle.office_base.specs.declared.records.CompiledRow.{CompiledRow}
@@ -27,12 +27,12 @@ merge_puts s None = []
 merge_puts s (Some r) = puts.Compiled (merged_row s r) ∷ []
 
 -- what an accepted command puts, with the merge that its release joins
-abbrev pub kept_puts : Settings → Given → List Put
-kept_puts settings x = puts_of (publishing settings) x ++ merge_puts x.before (publication (publishing settings) x)
+abbrev pub kept_puts : Publisher → Given → List Put
+kept_puts publisher x = puts_of (publishing publisher) x ++ merge_puts x.before (publication (publishing publisher) x)
 
 -- the office after it, with the merges beside it
-abbrev pub next_with_merges : Settings → Given → Tables
-next_with_merges settings x = after_puts (kept_puts settings x) x.before
+abbrev pub next_with_merges : Publisher → Given → Tables
+next_with_merges publisher x = after_puts (kept_puts publisher x) x.before
 
 -- all releases can be merged, and each merge that is kept is that of its notice's releases
 pub record KeepsReleases (t : Tables) : Type 0 where
@@ -70,43 +70,43 @@ pub record ReadsBack (s : Tables) (r : ReleaseRow) : Type 0 where
   pub merge : KeepsMerge (merged_row s r).text (bodies r.notice s ++ (body_in r ∷ []))
 
 -- so can what a command publishes, where it publishes
-abbrev pub PublicationReadsBack : Settings → Given → Type 0
-PublicationReadsBack settings x = (r : ReleaseRow) → publication (publishing settings) x ≡ Some r → ReadsBack x.before r
+abbrev pub PublicationReadsBack : Publisher → Given → Type 0
+PublicationReadsBack publisher x = (r : ReleaseRow) → publication (publishing publisher) x ≡ Some r → ReadsBack x.before r
 
 -- ---- laws
 
 -- a command that is no event publishes nothing
 abbrev pub NoEventPublishesNothing : Type 0
-NoEventPublishesNothing = (settings : Settings) (x : Given) → event_of x.before x.command ≡ None → publication (publishing settings) x ≡ None
+NoEventPublishesNothing = (publisher : Publisher) (x : Given) → event_of x.before x.command ≡ None → publication (publishing publisher) x ≡ None
 
 -- one that is an event of a notice publishes its release, under the notice's next number, at the command's moment
 abbrev pub EventsAreReleased : Type 0
-EventsAreReleased = (settings : Settings) (x : Given) (e : Event) (notice : List ℕ) → event_of x.before x.command ≡ Some e
-    → published_for x.before x.command ≡ Some notice → publication (publishing settings) x ≡ Some (release_row x notice (text_by settings x e))
+EventsAreReleased = (publisher : Publisher) (x : Given) (e : Event) (notice : List ℕ) → event_of x.before x.command ≡ Some e
+    → published_for x.before x.command ≡ Some notice → publication (publishing publisher) x ≡ Some (release_row x notice (text_by publisher x e))
 
 -- a command that is no event puts its effect alone
 abbrev pub NoEventPutsItsEffect : Type 0
-NoEventPutsItsEffect = (settings : Settings) (x : Given) → event_of x.before x.command ≡ None → kept_puts settings x ≡ effect office_readings x
+NoEventPutsItsEffect = (publisher : Publisher) (x : Given) → event_of x.before x.command ≡ None → kept_puts publisher x ≡ effect office_readings x
 
 -- a command that is an event of a notice puts its effect, its release, and the merge that this joins
 abbrev pub EventsPutReleases : Type 0
-EventsPutReleases = (settings : Settings) (x : Given) (e : Event) (notice : List ℕ) → event_of x.before x.command ≡ Some e
-    → published_for x.before x.command ≡ Some notice → kept_puts settings x ≡ effect office_readings x
-    ++ (puts.Release (release_row x notice (text_by settings x e)) ∷ puts.Compiled (merged_row x.before (release_row x notice (text_by settings x e))) ∷ [])
+EventsPutReleases = (publisher : Publisher) (x : Given) (e : Event) (notice : List ℕ) → event_of x.before x.command ≡ Some e
+    → published_for x.before x.command ≡ Some notice → kept_puts publisher x ≡ effect office_readings x
+    ++ (puts.Release (release_row x notice (text_by publisher x e)) ∷ puts.Compiled (merged_row x.before (release_row x notice (text_by publisher x e))) ∷ [])
 
 -- the office after it is the machine's, with the merges beside it
 abbrev pub MergesStandBeside : Type 0
-MergesStandBeside = (settings : Settings) (x : Given) → next_with_merges settings x ≡ with_merges (next_with_merges settings x).compiled (next (publishing settings) x)
+MergesStandBeside = (publisher : Publisher) (x : Given) → next_with_merges publisher x ≡ with_merges (next_with_merges publisher x).compiled (next (publishing publisher) x)
 
 -- so accepted commands lead there
 abbrev pub KeptStepsReach : Type 0
-KeptStepsReach = (settings : Settings) (xs : List Given) (x : Given) → Reaches (publishing settings) xs x.before → CanBeGiven x → refusal_of x ≡ None
-    → Reaches (publishing settings) (x ∷ xs) (next_with_merges settings x)
+KeptStepsReach = (publisher : Publisher) (xs : List Given) (x : Given) → Reaches (publishing publisher) xs x.before → CanBeGiven x → refusal_of x ≡ None
+    → Reaches (publishing publisher) (x ∷ xs) (next_with_merges publisher x)
 
 -- what is kept of releases stays kept
 abbrev pub ReleasesStayKept : Type 0
-ReleasesStayKept = (settings : Settings) (xs : List Given) (x : Given) → Reaches (publishing settings) xs x.before → CanBeGiven x → refusal_of x ≡ None
-    → PublicationReadsBack settings x → KeepsReleases x.before → KeepsReleases (next_with_merges settings x)
+ReleasesStayKept = (publisher : Publisher) (xs : List Given) (x : Given) → Reaches (publishing publisher) xs x.before → CanBeGiven x → refusal_of x ≡ None
+    → PublicationReadsBack publisher x → KeepsReleases x.before → KeepsReleases (next_with_merges publisher x)
 
 -- in the empty office nothing is published
 abbrev pub NothingIsKeptAtFirst : Type 0

@@ -11,4 +11,3 @@ pub mod Standing
 pub mod Told
 pub mod Sealed
 pub mod MergesApart
-pub mod Keys

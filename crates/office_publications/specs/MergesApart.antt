@@ -2,7 +2,7 @@
 use Rattle.std.specs.Prelude.{◌≡◌, List}
 use Rattle.office_commands.specs.declared.command.Caller.{Caller}
 use Rattle.office_commands.specs.declared.queries.Query.{Query}
-use Rattle.office_values.specs.declared.settings.Settings.{Settings}
+use Rattle.office_values.specs.declared.settings.Publisher.{Publisher}
 use Rattle.office_base.specs.declared.records.CompiledRow.{CompiledRow}
 use Rattle.office_base.specs.Tables.{Tables}
 use Rattle.office_machine.specs.Machine.{Given, next, with_merges}
@@ -14,18 +14,18 @@ use Rattle.office_publications.specs.Publishing.{publishing}
 
 -- the texts of its releases tell nothing of them
 abbrev pub ReleasesTellNoMerges : Type 0
-ReleasesTellNoMerges = (settings : Settings) → PublishesNoMerges (publishing settings)
+ReleasesTellNoMerges = (publisher : Publisher) → PublishesNoMerges (publishing publisher)
 
 -- nor do the texts of its packages
 abbrev pub PackagesTellNoMerges : Type 0
-PackagesTellNoMerges = (settings : Settings) → ShowsNoMerges (packages settings)
+PackagesTellNoMerges = (publisher : Publisher) → ShowsNoMerges (packages publisher)
 
 -- so whoever looks sees the same, whatever merges there are
 abbrev pub PublishedLooksReadNoMerges : Type 0
-PublishedLooksReadNoMerges = (settings : Settings) (merges : List CompiledRow) (s : Tables) (caller : Caller) (query : Query)
-    → told (packages settings) (with_merges merges s) caller query ≡ told (packages settings) s caller query
+PublishedLooksReadNoMerges = (publisher : Publisher) (merges : List CompiledRow) (s : Tables) (caller : Caller) (query : Query)
+    → told (packages publisher) (with_merges merges s) caller query ≡ told (packages publisher) s caller query
 
 -- and an accepted command leads to the machine's next office, with some merges beside it
 abbrev pub KeptStepsReadNoMerges : Type 0
-KeptStepsReadNoMerges = (settings : Settings) (merges : List CompiledRow) (x : Given)
-    → next_with_merges settings (beside merges x) ≡ with_merges (next_with_merges settings (beside merges x)).compiled (next (publishing settings) x)
+KeptStepsReadNoMerges = (publisher : Publisher) (merges : List CompiledRow) (x : Given)
+    → next_with_merges publisher (beside merges x) ≡ with_merges (next_with_merges publisher (beside merges x)).compiled (next (publishing publisher) x)

@@ -3,7 +3,7 @@ use Rattle.std.specs.Prelude.{ℕ, List, [], map}
 use Rattle.serde_json.specs.Data.{Data}
 use Rattle.serde_json.specs.Written.{compact_text}
 use Rattle.office_commands.specs.declared.queries.Query.TheVariants as queries
-use Rattle.office_values.specs.declared.settings.Settings.{Settings}
+use Rattle.office_values.specs.declared.settings.Publisher.{Publisher}
 use Rattle.office_base.specs.Tables.{Tables, releases_of_notice}
 use Rattle.office_machine.specs.Sights.{Packages}
 use Rattle.ocds_merge.specs.Compile.{compiled_release}
@@ -16,11 +16,11 @@ abbrev pub releases_told : List ℕ → Tables → List Data
 releases_told notice s = map data_in (releases_of_notice notice s)
 
 -- what they compile to (OCDS 1.1, "Merging")
-abbrev pub compiled_told : Settings → List ℕ → Tables → Data
-compiled_told settings notice s = compiled_release (ocid_text settings.prefix notice) (releases_told notice s)
+abbrev pub compiled_told : Publisher → List ℕ → Tables → Data
+compiled_told publisher notice s = compiled_release (ocid_text publisher.prefix notice) (releases_told notice s)
 
 -- the text of the package that a query asks for; none where it asks for no package
-abbrev pub packages : Settings → Packages
-packages settings (queries.Releases notice) s = compact_text (release_package settings notice (releases_told notice s))
-packages settings (queries.Record notice) s = compact_text (record_package settings notice (releases_told notice s) (compiled_told settings notice s))
-packages settings query s = []
+abbrev pub packages : Publisher → Packages
+packages publisher (queries.Releases notice) s = compact_text (release_package publisher notice (releases_told notice s))
+packages publisher (queries.Record notice) s = compact_text (record_package publisher notice (releases_told notice s) (compiled_told publisher notice s))
+packages publisher query s = []

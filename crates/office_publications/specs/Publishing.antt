@@ -1,8 +1,8 @@
--- What an office publishes: the release of each command that publishes, by the settings.
+-- What an office publishes: the release of each command that publishes, by the publisher.
 use Rattle.std.specs.Prelude.{ℕ, ◌+◌, List, Option, option_map, option_and_then}
 use Rattle.serde_json.specs.Data.{Data}
 use Rattle.serde_json.specs.Written.{compact_text}
-use Rattle.office_values.specs.declared.settings.Settings.{Settings}
+use Rattle.office_values.specs.declared.settings.Publisher.{Publisher}
 use Rattle.office_base.specs.Tables.{notice_at}
 use Rattle.office_base.specs.declared.records.NoticeRow.{NoticeRow}
 use Rattle.office_machine.specs.Machine.{Given, Means, time_of}
@@ -10,7 +10,7 @@ use Rattle.office_machine.specs.OfficeMeans.{office_means}
 use Rattle.office_machine.specs.Publications.{published_for}
 use Rattle.office_machine.specs.Counted.{releases_in}
 use Rattle.office_machine.specs.Releases.{MakesReleases}
-use Rattle.ocds_release.specs.EventReleases.{release_of_event}
+use Rattle.ocds_release.specs.Events.{release_of_event}
 use Rattle.ocds_release.specs.declared.event.Event.{Event}
 use Rattle.office_publications.specs.Events.{event_of}
 
@@ -19,20 +19,20 @@ abbrev pub notice_published : Given → Option NoticeRow
 notice_published x = option_and_then (λ notice. notice_at notice x.before) (published_for x.before x.command)
 
 -- the release of an event that a command is, under the notice's next number, at the command's moment
-abbrev pub release_by : Settings → Given → Event → Data
-release_by settings x e = release_of_event settings (releases_in (notice_published x) + 1) (time_of x) e
+abbrev pub release_by : Publisher → Given → Event → Data
+release_by publisher x e = release_of_event publisher (releases_in (notice_published x) + 1) (time_of x) e
 
-abbrev pub text_by : Settings → Given → Event → List ℕ
-text_by settings x e = compact_text (release_by settings x e)
+abbrev pub text_by : Publisher → Given → Event → List ℕ
+text_by publisher x e = compact_text (release_by publisher x e)
 
 -- the text of a command's release; none where it publishes nothing
-abbrev pub release_text : Settings → Given → Option (List ℕ)
-release_text settings x = option_map (text_by settings x) (event_of x.before x.command)
+abbrev pub release_text : Publisher → Given → Option (List ℕ)
+release_text publisher x = option_map (text_by publisher x) (event_of x.before x.command)
 
 -- the office's machine, which publishes
-abbrev pub publishing : Settings → Means
-publishing settings = office_means (release_text settings)
+abbrev pub publishing : Publisher → Means
+publishing publisher = office_means (release_text publisher)
 
 -- it makes a release of each command that publishes
 abbrev pub ReleasesAreMade : Type 0
-ReleasesAreMade = (settings : Settings) → MakesReleases (publishing settings)
+ReleasesAreMade = (publisher : Publisher) → MakesReleases (publishing publisher)

@@ -1,6 +1,6 @@
 -- What the office publishes and shows tells nothing of what is sealed.
 use Rattle.std.specs.Prelude.{List}
-use Rattle.office_values.specs.declared.settings.Settings.{Settings}
+use Rattle.office_values.specs.declared.settings.Publisher.{Publisher}
 use Rattle.office_base.specs.Tables.{Tables}
 use Rattle.office_machine.specs.Machine.{Given, Reaches}
 use Rattle.office_machine.specs.Requests.{AreRequests, Request, all_accepted}
@@ -11,22 +11,22 @@ use Rattle.office_publications.specs.Publishing.{publishing}
 
 -- the texts of its releases tell no digest, and of seals those alone that an opening opens
 abbrev pub ReleasesTellNoSeals : Type 0
-ReleasesTellNoSeals = (settings : Settings) → ReleasesHideSeals (publishing settings)
+ReleasesTellNoSeals = (publisher : Publisher) → ReleasesHideSeals (publishing publisher)
 
 -- the texts of its packages show no digest and no seal
 abbrev pub PackagesTellNoSeals : Type 0
-PackagesTellNoSeals = (settings : Settings) → PackagesHideSeals (packages settings)
+PackagesTellNoSeals = (publisher : Publisher) → PackagesHideSeals (packages publisher)
 
 -- so sealed tenders tell nothing in the office that publishes: of two lists of requests that differ in the bytes alone that one tenderer seals for one lot,
 -- all callers are told alike up to the opening
 abbrev pub PublishedSealsAreKept : Type 0
-PublishedSealsAreKept = (settings : Settings) (th : ChosenTender) (xs : List Given) (s : Tables) → Reaches (publishing settings) xs s
-    → (rest rest' : List Request) → AreRequests (publishing settings) s rest → SameButSeals (publishing settings) th s rest rest'
-    → AlikeUntilOpening (publishing settings) (packages settings) th s s rest rest'
+PublishedSealsAreKept = (publisher : Publisher) (th : ChosenTender) (xs : List Given) (s : Tables) → Reaches (publishing publisher) xs s
+    → (rest rest' : List Request) → AreRequests (publishing publisher) s rest → SameButSeals (publishing publisher) th s rest rest'
+    → AlikeUntilOpening (publishing publisher) (packages publisher) th s s rest rest'
 
 -- and to the end, where each receipt whose bytes differ is withdrawn or returned
 abbrev pub PublishedRunsAreAlike : Type 0
-PublishedRunsAreAlike = (settings : Settings) (th : ChosenTender) (xs : List Given) (s : Tables) → Reaches (publishing settings) xs s
-    → (rest rest' : List Request) → AreRequests (publishing settings) s rest → SameButSeals (publishing settings) th s rest rest'
-    → DifferingAreGone (all_accepted (publishing settings) s xs rest) (all_accepted (publishing settings) s xs rest')
-    → AlikeThroughout (publishing settings) (packages settings) th s s rest rest'
+PublishedRunsAreAlike = (publisher : Publisher) (th : ChosenTender) (xs : List Given) (s : Tables) → Reaches (publishing publisher) xs s
+    → (rest rest' : List Request) → AreRequests (publishing publisher) s rest → SameButSeals (publishing publisher) th s rest rest'
+    → DifferingAreGone (all_accepted (publishing publisher) s xs rest) (all_accepted (publishing publisher) s xs rest')
+    → AlikeThroughout (publishing publisher) (packages publisher) th s s rest rest'

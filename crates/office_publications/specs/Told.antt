@@ -7,7 +7,7 @@ use Rattle.ocds_release.specs.KeptReleases.{AreKept, HasText}
 use Rattle.ocds_release.specs.Opened.{moment_of_last}
 use Rattle.ocds_release.specs.Texts.{ocid_text}
 use Rattle.office_values.specs.Moments.{last_moment, moment_text}
-use Rattle.office_values.specs.declared.settings.Settings.{Settings}
+use Rattle.office_values.specs.declared.settings.Publisher.{Publisher}
 use Rattle.office_base.specs.Limits.{release_limit}
 use Rattle.office_base.specs.Tables.{Tables, notice_at, release_at, releases_of_notice}
 use Rattle.office_base.specs.declared.records.ReleaseRow.{ReleaseRow}
@@ -22,18 +22,19 @@ IsInRange r = r.moment ≤ last_moment
 
 -- each row keeps the release that is told: its text is the compact text of it, and its moment the release's date
 abbrev pub ReleasesAreTold : Type 0
-ReleasesAreTold = (settings : Settings) (s : Tables) → IsReached settings s → (notice : List ℕ) → AreKept (releases_of_notice notice s) (releases_told notice s)
+ReleasesAreTold = (publisher : Publisher) (s : Tables) → IsReached publisher s → (notice : List ℕ)
+    → AreKept (releases_of_notice notice s) (releases_told notice s)
 
 -- what a notice's releases compile to is their merge under the head of the last release's moment, and its text is known
-pub record IsCompiled (settings : Settings) (notice : List ℕ) (s : Tables) : Type 0 where
-  pub is : compiled_told settings notice s
-      ≡ with_head (ocid_text settings.prefix notice) (moment_text (moment_of_last (releases_of_notice notice s))) (merge_or_null (bodies notice s))
-  pub has_text : HasText (compiled_told settings notice s)
+pub record IsCompiled (publisher : Publisher) (notice : List ℕ) (s : Tables) : Type 0 where
+  pub is : compiled_told publisher notice s
+      ≡ with_head (ocid_text publisher.prefix notice) (moment_text (moment_of_last (releases_of_notice notice s))) (merge_or_null (bodies notice s))
+  pub has_text : HasText (compiled_told publisher notice s)
 
 -- it does where there are releases, each at a moment that has a text: they stand in the order of their dates
 abbrev pub RecordsAreCompiled : Type 0
-RecordsAreCompiled = (settings : Settings) (s : Tables) → IsReached settings s → (notice : List ℕ) → 0 < length (releases_of_notice notice s)
-    → All IsInRange (releases_of_notice notice s) → IsCompiled settings notice s
+RecordsAreCompiled = (publisher : Publisher) (s : Tables) → IsReached publisher s → (notice : List ℕ) → 0 < length (releases_of_notice notice s)
+    → All IsInRange (releases_of_notice notice s) → IsCompiled publisher notice s
 
 -- each release of the notice stands in its sequence where its number says; there are as many as the notice's row counts, and no more than there are
 -- numbers for
@@ -44,7 +45,7 @@ pub record AreInSequence (notice : List ℕ) (s : Tables) : Type 0 where
 
 -- they do
 abbrev pub ReleasesAreInSequence : Type 0
-ReleasesAreInSequence = (settings : Settings) (s : Tables) → IsReached settings s → (notice : List ℕ) → AreInSequence notice s
+ReleasesAreInSequence = (publisher : Publisher) (s : Tables) → IsReached publisher s → (notice : List ℕ) → AreInSequence notice s
 
 -- the release of this number is there, and its text is a JSON object, so that it can be merged
 abbrev pub CanBeShown : List ℕ → ℕ → Tables → Type 0

@@ -2,7 +2,6 @@
 ghost use Rattle.office_publications.specs.Keeping.{NoEventPublishesNothing, EventsAreReleased};
 ghost use Rattle.office_publications.specs.Keeping.{NoEventPutsItsEffect, EventsPutReleases};
 ghost use Rattle.office_publications.specs.Keeping.{MergesStandBeside, KeptStepsReach, ReleasesStayKept, NothingIsKeptAtFirst};
-ghost use Rattle.office_publications.specs.Keys.{KeysMayChange, KeysTellNothing};
 ghost use Rattle.office_publications.specs.Merges.{BodiesAreStorable, MergesStay, ReleasesStay};
 ghost use Rattle.office_publications.specs.MergesApart.{KeptStepsReadNoMerges, PackagesTellNoMerges, PublishedLooksReadNoMerges, ReleasesTellNoMerges};
 ghost use Rattle.office_publications.specs.Publishing.{ReleasesAreMade};
@@ -80,10 +79,3 @@ pub fn told()
     releases();
     office_machine::laws::order();
 }
-
-/// The clerk's key is no part of what an office publishes: under another key each command publishes the same release and each package is the
-/// same, and an office stands as it stood.
-pub fn keys()
-    ensures alike { KeysTellNothing }
-    ensures stands { KeysMayChange }
-{}

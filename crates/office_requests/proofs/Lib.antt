@@ -8,3 +8,4 @@ pub mod SegmentSteps
 pub mod RouteSteps
 pub mod OnLiterals
 pub mod WorkedRequests
+pub mod AskedCommands

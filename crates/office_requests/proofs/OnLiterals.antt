@@ -17,7 +17,7 @@ use Rattle.office_requests.specs.Fields.{text_at, flag_at, number_at, field_or_r
 use Rattle.office_requests.specs.Bodies.{object_in_body, registration_in, notice_amendment_in, cancellation_in, examination_in, contract_amendment_in, named_in, performance_of, payment_in, ending_in, sealed_in}
 use Rattle.office_requests.specs.Publications.{each_of, array_at, elements_at, new_item_of, items_of, new_lot_of, lots_in, criteria_with, criteria_in, late_in, performance_in, new_notice_in}
 use Rattle.office_requests.specs.Parameters.{given_from, security_in, after_in}
-use Rattle.office_requests.specs.Asking.{named_command, lot_command, numbered_command, command_at, query_at, asked_by}
+use Rattle.office_requests.specs.Asking.{command_at, query_at, asked_by}
 
 -- what a text or a number writes
 unfoldable pub forms_on_literals : ⊤
@@ -56,5 +56,5 @@ queries_on_literals = tt
 
 -- what is asked
 unfoldable pub requests_on_literals : ⊤
-unfolding paths_on_literals publications_on_literals bodies_on_literals queries_on_literals sealed_in named_command lot_command numbered_command command_at query_at asked_by
+unfolding paths_on_literals publications_on_literals bodies_on_literals queries_on_literals sealed_in command_at query_at asked_by
 requests_on_literals = tt

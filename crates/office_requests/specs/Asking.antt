@@ -1,10 +1,12 @@
 -- What a request asks of the office: by its route, the query of its target, and its body.
-use Rattle.std.specs.Prelude.{ℕ, Bool, true, false, if◌then◌else◌, List, Result, Ok, Err}
+use Rattle.std.specs.Prelude.{ℕ, Bool, true, false, if◌then◌else◌, List, Result, Ok, Err, IfOk}
 use Rattle.office_values.specs.declared.refusal.Refusal.{Refusal}
 use Rattle.office_values.specs.declared.refusal.Refusal.TheVariants.{NoRoute, Forbidden}
 use Rattle.office_commands.specs.Commands as of_commands
 use Rattle.office_commands.specs.Queries as of_queries
 use Rattle.office_commands.specs.Rights.{may, may_look}
+use Rattle.office_commands.specs.Table.{Reads, command_row, query_row}
+use Rattle.office_commands.specs.Table as table
 use Rattle.office_commands.specs.declared.command.Caller.{Caller}
 use Rattle.office_commands.specs.declared.command.CommandKind.{CommandKind}
 use Rattle.office_commands.specs.declared.command.CommandKind.TheVariants as kinds
@@ -34,54 +36,40 @@ abbrev pub may_ask : Caller → Endpoint → Bool
 may_ask caller (Commands kind) = may caller kind
 may_ask caller (Queries kind) = may_look caller kind
 
+-- nothing else of the request is read
+abbrev pub reads_nothing : Reads → Bool
+reads_nothing table.Nothing = true
+reads_nothing table.Query = false
+reads_nothing table.Body = false
+reads_nothing table.QueryAndBody = false
+
 -- the path alone says what is asked: no query and no body are read
 abbrev pub is_told_by_path : Endpoint → Bool
-is_told_by_path (Commands kinds.Open) = true
-is_told_by_path (Commands kinds.Withdraw) = true
-is_told_by_path (Commands kinds.Award) = true
-is_told_by_path (Commands kinds.Fail) = true
-is_told_by_path (Commands kind) = false
-is_told_by_path (Queries looks.Notices) = false
-is_told_by_path (Queries looks.Tenderers) = false
-is_told_by_path (Queries kind) = true
-
--- the command of a route whose path names one thing
-unfoldable pub named_command : CommandKind → List ℕ → List ℕ → Result Command Refusal
-named_command kinds.Import batch body = import_of batch (budget_of (csv_records body))
-named_command kinds.Register tenderer body = object_in_body body >>= registration_in tenderer
-named_command kinds.Publish notice body = object_in_body body >>= publication_in notice
-named_command kinds.AmendNotice notice body = object_in_body body >>= notice_amendment_in notice
-named_command kinds.Cancel notice body = object_in_body body >>= cancellation_in notice
-named_command kinds.Open notice body = Ok (commands.Open notice)
-named_command _ name body = Err NoRoute
-
--- the command of a route whose path names a lot of a notice
-unfoldable pub lot_command : CommandKind → List ℕ → List ℕ → List ℕ → List ℕ → Result Command Refusal
-lot_command kinds.Present notice lot query body = do
-  security ← security_in query
-  sealed ← sealed_in body
-  Ok (commands.Present notice lot security sealed)
-lot_command kinds.Award notice lot query body = Ok (commands.Award notice lot)
-lot_command _ notice lot query body = Err NoRoute
-
--- the command of a route whose path has a number
-unfoldable pub numbered_command : CommandKind → ℕ → List ℕ → Result Command Refusal
-numbered_command kinds.Modify receipt body = sealed_in body >>= λ sealed. Ok (commands.Modify receipt sealed)
-numbered_command kinds.Withdraw receipt body = Ok (commands.Withdraw receipt)
-numbered_command kinds.Examine receipt body = object_in_body body >>= examination_in receipt
-numbered_command kinds.Fail award body = Ok (commands.Fail award)
-numbered_command kinds.Sign award body = performance_of body >>= λ named. Ok (commands.Sign award named)
-numbered_command kinds.AmendContract contract body = object_in_body body >>= contract_amendment_in contract
-numbered_command kinds.Pay contract body = object_in_body body >>= payment_in contract
-numbered_command kinds.End contract body = object_in_body body >>= ending_in contract
-numbered_command _ number body = Err NoRoute
+is_told_by_path (Commands kind) = reads_nothing (command_row kind).reads
+is_told_by_path (Queries kind) = reads_nothing (query_row kind).reads
 
 -- the command of a route with this query and this body; a place of another shape than the command's is that of no route
 unfoldable pub command_at : CommandKind → Place → List ℕ → List ℕ → Result Command Refusal
-command_at kind Nowhere query body = Err NoRoute
-command_at kind (Named name) query body = named_command kind name body
-command_at kind (Within notice lot) query body = lot_command kind notice lot query body
-command_at kind (Numbered number) query body = numbered_command kind number body
+command_at kinds.Import (Named batch) query body = import_of batch (budget_of (csv_records body))
+command_at kinds.Register (Named tenderer) query body = object_in_body body >>= registration_in tenderer
+command_at kinds.Publish (Named notice) query body = object_in_body body >>= publication_in notice
+command_at kinds.AmendNotice (Named notice) query body = object_in_body body >>= notice_amendment_in notice
+command_at kinds.Cancel (Named notice) query body = object_in_body body >>= cancellation_in notice
+command_at kinds.Open (Named notice) query body = Ok (commands.Open notice)
+command_at kinds.Present (Within notice lot) query body = do
+  security ← security_in query
+  sealed ← sealed_in body
+  Ok (commands.Present notice lot security sealed)
+command_at kinds.Modify (Numbered receipt) query body = sealed_in body >>= λ sealed. Ok (commands.Modify receipt sealed)
+command_at kinds.Withdraw (Numbered receipt) query body = Ok (commands.Withdraw receipt)
+command_at kinds.Examine (Numbered receipt) query body = object_in_body body >>= examination_in receipt
+command_at kinds.Award (Within notice lot) query body = Ok (commands.Award notice lot)
+command_at kinds.Fail (Numbered award) query body = Ok (commands.Fail award)
+command_at kinds.Sign (Numbered award) query body = performance_of body >>= λ named. Ok (commands.Sign award named)
+command_at kinds.AmendContract (Numbered contract) query body = object_in_body body >>= contract_amendment_in contract
+command_at kinds.Pay (Numbered contract) query body = object_in_body body >>= payment_in contract
+command_at kinds.End (Numbered contract) query body = object_in_body body >>= ending_in contract
+command_at _ _ query body = Err NoRoute
 
 -- the query of a route with this query of its target; a place of another shape than the query's is that of no route
 unfoldable pub query_at : QueryKind → Place → List ℕ → Result Query Refusal
@@ -118,3 +106,12 @@ asked_by_route caller route request =
 abbrev pub endpoint_of : Asked → Endpoint
 endpoint_of (Does command) = Commands (of_commands.kind_of command)
 endpoint_of (Looks look) = Queries (of_queries.query_kind_of look)
+
+-- what is asked is a query, or a command that can be given
+abbrev pub CanBeAsked : Asked → Type 0
+CanBeAsked (Does command) = of_commands.IsCommand command
+CanBeAsked (Looks look) = Unit {0}
+
+-- whatever a request asks by a route can be given
+abbrev pub WhatIsAskedCanBeGiven : Type 0
+WhatIsAskedCanBeGiven = (caller : Caller) (route : Route) (request : RequestView) → IfOk (asked_by_route caller route request) CanBeAsked

@@ -1,5 +1,5 @@
 -- Which route a request takes.
-use Rattle.std.specs.Prelude.{ℕ, Bool, ◌==◌, ◌&&◌, not, nat_le, List, [], ◌∷◌, length, slice_index, codes, Option, Some, None, option_map, option_and_then, Result, Ok, Err, if◌then◌else◌, nat_eq}
+use Rattle.std.specs.Prelude.{ℕ, Bool, ◌==◌, ◌&&◌, not, nat_le, List, [], ◌∷◌, ◌++◌, map, length, slice_index, codes, Option, Some, None, option_map, option_and_then, Result, Ok, Err, if◌then◌else◌, nat_eq}
 use Rattle.std.specs.Str.{is_utf8}
 use Rattle.std.specs.Cmp.Lexicographic.{pointwise}
 use Rattle.matchit.specs.Rows.{RowsOf}
@@ -9,8 +9,11 @@ use Rattle.matchit.specs.Router.{RouteOf, route_from}
 use Rattle.matchit.specs.Seek.{first}
 use Rattle.matchit.specs.declared.error.InsertError.{InsertError}
 use Rattle.office_values.specs.Numbers.{number_of}
-use Rattle.office_commands.specs.declared.command.CommandKind.TheVariants as commands
-use Rattle.office_commands.specs.declared.command.QueryKind.TheVariants as queries
+use Rattle.office_commands.specs.Table.{all_commands, all_queries, command_row, query_row}
+use Rattle.office_commands.specs.declared.command.CommandKind.{CommandKind}
+use Rattle.office_commands.specs.declared.command.QueryKind.{QueryKind}
+use Rattle.office_commands.specs.declared.table.Shape.{Shape}
+use Rattle.office_commands.specs.declared.table.Shape.TheVariants.{Plain, OneId, TwoIds, Number}
 use Rattle.office_values.specs.declared.refusal.Refusal.{Refusal}
 use Rattle.office_values.specs.declared.refusal.Refusal.TheVariants.{NoRoute, WrongMethod}
 use Rattle.office_requests.specs.Forms.{identifier_of, number_between}
@@ -22,45 +25,18 @@ use Rattle.office_requests.specs.declared.route.Endpoint.TheVariants.{Commands, 
 use Rattle.office_requests.specs.declared.route.Place.{Place}
 use Rattle.office_requests.specs.declared.route.Place.TheVariants.{Nowhere, Named, Within, Numbered}
 use Rattle.office_requests.specs.declared.route.Route.{Route}
-use Rattle.office_requests.specs.declared.route.Shape.{Shape}
-use Rattle.office_requests.specs.declared.route.Shape.TheVariants.{Plain, OneId, TwoIds, Number}
 
--- the patterns of paths, what is asked there, and the parameters that a pattern has
+-- the pattern of a command's path, what is asked there, and the parameters that the pattern has
+abbrev pub command_route : CommandKind → List ℕ × (Endpoint × Shape)
+command_route kind = ((command_row kind).pattern, (Commands kind, (command_row kind).shape))
+
+-- the same of a query
+abbrev pub query_route : QueryKind → List ℕ × (Endpoint × Shape)
+query_route kind = ((query_row kind).pattern, (Queries kind, (query_row kind).shape))
+
+-- the routes of all commands, then those of all queries
 abbrev pub route_table : List (List ℕ × (Endpoint × Shape))
-route_table =
-    (codes "/budget/{batch}", (Commands commands.Import, OneId))
-    ∷ (codes "/tenderers/{id}", (Commands commands.Register, OneId))
-    ∷ (codes "/notices/{n}", (Commands commands.Publish, OneId))
-    ∷ (codes "/notices/{n}/amend", (Commands commands.AmendNotice, OneId))
-    ∷ (codes "/notices/{n}/cancel", (Commands commands.Cancel, OneId))
-    ∷ (codes "/notices/{n}/open", (Commands commands.Open, OneId))
-    ∷ (codes "/notices/{n}/lots/{l}/tenders", (Commands commands.Present, TwoIds))
-    ∷ (codes "/tenders/{r}/modify", (Commands commands.Modify, Number))
-    ∷ (codes "/tenders/{r}/withdraw", (Commands commands.Withdraw, Number))
-    ∷ (codes "/tenders/{r}/examine", (Commands commands.Examine, Number))
-    ∷ (codes "/notices/{n}/lots/{l}/award", (Commands commands.Award, TwoIds))
-    ∷ (codes "/awards/{a}/fail", (Commands commands.Fail, Number))
-    ∷ (codes "/awards/{a}/sign", (Commands commands.Sign, Number))
-    ∷ (codes "/contracts/{c}/amend", (Commands commands.AmendContract, Number))
-    ∷ (codes "/contracts/{c}/pay", (Commands commands.Pay, Number))
-    ∷ (codes "/contracts/{c}/end", (Commands commands.End, Number))
-    ∷ (codes "/lines/{b}", (Queries queries.Line, OneId))
-    ∷ (codes "/ledger", (Queries queries.Ledger, Plain))
-    ∷ (codes "/notices/{n}/minutes", (Queries queries.Minutes, OneId))
-    ∷ (codes "/notices/{n}/register", (Queries queries.Register, OneId))
-    ∷ (codes "/notices/{n}/releases", (Queries queries.Releases, OneId))
-    ∷ (codes "/notices/{n}/record", (Queries queries.Record, OneId))
-    ∷ (codes "/tenders/{r}", (Queries queries.Tender, Number))
-    ∷ (codes "/securities/{s}", (Queries queries.Security, Number))
-    ∷ (codes "/contracts/{c}/security", (Queries queries.Performance, Number))
-    ∷ (codes "/notices", (Queries queries.Notices, Plain))
-    ∷ (codes "/notices/{n}/terms", (Queries queries.Terms, OneId))
-    ∷ (codes "/notices/{n}/tenders", (Queries queries.OwnTenders, OneId))
-    ∷ (codes "/notices/{n}/evaluation", (Queries queries.Evaluation, OneId))
-    ∷ (codes "/notices/{n}/securities", (Queries queries.Securities, OneId))
-    ∷ (codes "/tenderers", (Queries queries.Tenderers, Plain))
-    ∷ (codes "/contracts/{c}", (Queries queries.Contract, Number))
-    ∷ []
+route_table = map command_route all_commands ++ map query_route all_queries
 
 -- the rows of a router with one more pattern, if its text is one
 abbrev pub with_pattern : Result Scan InsertError → Endpoint × Shape → RowsOf (RouteOf (Endpoint × Shape)) → RowsOf (RouteOf (Endpoint × Shape))

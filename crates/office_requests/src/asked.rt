@@ -5,7 +5,7 @@ ghost use Rattle.office_commands.specs.Commands.{kind_of};
 ghost use Rattle.office_commands.specs.Queries as queries;
 ghost use Rattle.office_requests.specs.declared.route.Endpoint.TheVariants.{Commands, Queries};
 ghost use Rattle.office_requests.specs.Inside.Answers.{ReadsAs};
-ghost use Rattle.office_requests.specs.Asking.{asked_by_route, asked_by, command_at, endpoint_of, is_told_by_path, lot_command, may_ask, named_command, numbered_command, query_at};
+ghost use Rattle.office_requests.specs.Asking.{CanBeAsked, WhatIsAskedCanBeGiven, asked_by_route, asked_by, command_at, endpoint_of, is_told_by_path, may_ask, query_at};
 
 use crate::bodies::{
     cancellation, contract_amendment, ending, examination, import_of, notice_amendment,
@@ -43,91 +43,6 @@ fn may_ask(caller: &Caller, endpoint: Endpoint) -> bool
     }
 }
 
-// The command of a route whose path names one thing.
-#[tactic(auto, unfolding(crate::specs::Asking::named_command))]
-fn named_command<'a>(
-    alloc: Global,
-    kind: CommandKind,
-    name: Id,
-    body: &[u8],
-) -> Result<Command<'a>, Refusal>
-    requires { length body.now ≤ 65536 }
-    ensures read { ReadsAs result (named_command kind name body.now) }
-    ensures path { is_told_by_path (Commands kind) ≡ true → result ≡ named_command kind name body.now }
-    ensures kind { IfOk result (λ command. kind_of command ≡ kind) }
-{
-    match kind {
-        CommandKind::Import => import_of(alloc, name, body),
-        CommandKind::Register => registration(alloc, name, &object_in_body(alloc, body)?),
-        CommandKind::Publish => publication(alloc, name, &object_in_body(alloc, body)?),
-        CommandKind::AmendNotice => notice_amendment(alloc, name, &object_in_body(alloc, body)?),
-        CommandKind::Cancel => cancellation(alloc, name, &object_in_body(alloc, body)?),
-        CommandKind::Open => Ok(Command::Open { notice: name }),
-        _ => Err(Refusal::NoRoute),
-    }
-}
-
-// The command of a route whose path names a lot of a notice.
-#[tactic(auto, unfolding(crate::specs::Asking::lot_command))]
-fn lot_command<'a>(
-    alloc: Global,
-    kind: CommandKind,
-    notice: Id,
-    lot: Id,
-    query: &[u8],
-    body: &'a [u8],
-) -> Result<Command<'a>, Refusal>
-    ensures read { ReadsAs result (lot_command kind notice lot query.now body.now) }
-    ensures path { is_told_by_path (Commands kind) ≡ true → result ≡ lot_command kind notice lot query.now body.now }
-    ensures kind { IfOk result (λ command. kind_of command ≡ kind) }
-{
-    match kind {
-        CommandKind::Present => Ok(Command::Present {
-            notice,
-            lot,
-            security: security(alloc, query)?,
-            sealed: sealed(body)?,
-        }),
-        CommandKind::Award => Ok(Command::Award { notice, lot }),
-        _ => Err(Refusal::NoRoute),
-    }
-}
-
-// The command of a route whose path has a number.
-#[tactic(auto, unfolding(crate::specs::Asking::numbered_command))]
-fn numbered_command<'a>(
-    alloc: Global,
-    kind: CommandKind,
-    number: AskedNumber,
-    body: &'a [u8],
-) -> Result<Command<'a>, Refusal>
-    ensures read { ReadsAs result (numbered_command kind number body.now) }
-    ensures path { is_told_by_path (Commands kind) ≡ true → result ≡ numbered_command kind number body.now }
-    ensures kind { IfOk result (λ command. kind_of command ≡ kind) }
-{
-    match kind {
-        CommandKind::Modify => Ok(Command::Modify {
-            receipt: number,
-            sealed: sealed(body)?,
-        }),
-        CommandKind::Withdraw => Ok(Command::Withdraw { receipt: number }),
-        CommandKind::Examine => examination(number, &object_in_body(alloc, body)?),
-        CommandKind::Fail => Ok(Command::Fail { award: number }),
-        CommandKind::Sign => Ok(Command::Sign {
-            award: number,
-            security: performance_of(alloc, body)?,
-        }),
-        CommandKind::AmendContract => contract_amendment(
-            alloc,
-            number,
-            &object_in_body(alloc, body)?,
-        ),
-        CommandKind::Pay => payment(number, &object_in_body(alloc, body)?),
-        CommandKind::End => ending(number, &object_in_body(alloc, body)?),
-        _ => Err(Refusal::NoRoute),
-    }
-}
-
 // The command of a route with this query and this body.
 #[tactic(auto, unfolding(crate::specs::Asking::command_at))]
 fn command_at<'a>(
@@ -142,11 +57,64 @@ fn command_at<'a>(
     ensures path { is_told_by_path (Commands kind) ≡ true → result ≡ command_at kind place query.now body.now }
     ensures kind { IfOk result (λ command. kind_of command ≡ kind) }
 {
-    match place {
-        Place::Nowhere => Err(Refusal::NoRoute),
-        Place::Named(name) => named_command(alloc, kind, name, body),
-        Place::Within(notice, lot) => lot_command(alloc, kind, notice, lot, query, body),
-        Place::Numbered(number) => numbered_command(alloc, kind, number, body),
+    match (kind, place) {
+        (CommandKind::Import, Place::Named(batch)) => import_of(alloc, batch, body),
+        (CommandKind::Register, Place::Named(tenderer)) => registration(
+            alloc,
+            tenderer,
+            &object_in_body(alloc, body)?,
+        ),
+        (CommandKind::Publish, Place::Named(notice)) => publication(
+            alloc,
+            notice,
+            &object_in_body(alloc, body)?,
+        ),
+        (CommandKind::AmendNotice, Place::Named(notice)) => notice_amendment(
+            alloc,
+            notice,
+            &object_in_body(alloc, body)?,
+        ),
+        (CommandKind::Cancel, Place::Named(notice)) => cancellation(
+            alloc,
+            notice,
+            &object_in_body(alloc, body)?,
+        ),
+        (CommandKind::Open, Place::Named(notice)) => Ok(Command::Open { notice }),
+        (CommandKind::Present, Place::Within(notice, lot)) => Ok(Command::Present {
+            notice,
+            lot,
+            security: security(alloc, query)?,
+            sealed: sealed(body)?,
+        }),
+        (CommandKind::Modify, Place::Numbered(receipt)) => Ok(Command::Modify {
+            receipt,
+            sealed: sealed(body)?,
+        }),
+        (CommandKind::Withdraw, Place::Numbered(receipt)) => Ok(Command::Withdraw { receipt }),
+        (CommandKind::Examine, Place::Numbered(receipt)) => examination(
+            receipt,
+            &object_in_body(alloc, body)?,
+        ),
+        (CommandKind::Award, Place::Within(notice, lot)) => Ok(Command::Award { notice, lot }),
+        (CommandKind::Fail, Place::Numbered(award)) => Ok(Command::Fail { award }),
+        (CommandKind::Sign, Place::Numbered(award)) => Ok(Command::Sign {
+            award,
+            security: performance_of(alloc, body)?,
+        }),
+        (CommandKind::AmendContract, Place::Numbered(contract)) => contract_amendment(
+            alloc,
+            contract,
+            &object_in_body(alloc, body)?,
+        ),
+        (CommandKind::Pay, Place::Numbered(contract)) => payment(
+            contract,
+            &object_in_body(alloc, body)?,
+        ),
+        (CommandKind::End, Place::Numbered(contract)) => ending(
+            contract,
+            &object_in_body(alloc, body)?,
+        ),
+        _ => Err(Refusal::NoRoute),
     }
 }
 
@@ -206,7 +174,7 @@ fn asked_by<'a>(
 /// What the caller asks by a route and a request: `Forbidden` where the caller may not, and so no memory is taken; else `BadBody`
 /// where the query or the body is wrong; `Unavailable` where memory was refused, and none is taken where the path alone says what is asked. The route is that of
 /// this request.
-#[tactic(auto, using(crate::proofs::FieldSteps::read_or_wanting))]
+#[tactic(auto, using(crate::proofs::FieldSteps::read_or_wanting, crate::proofs::AskedCommands::read_is))]
 pub fn command_of<'a>(
     alloc: Global,
     caller: &Caller,
@@ -216,6 +184,7 @@ pub fn command_of<'a>(
     ensures asked { (result ≡ asked_by_route caller.now route.now request.now) ⊎ (result ≡ Err Unavailable) }
     ensures path { is_told_by_path route.now.endpoint ≡ true → result ≡ asked_by_route caller.now route.now request.now }
     ensures kind { IfOk result (λ asked. endpoint_of asked ≡ route.now.endpoint) }
+    ensures given { IfOk result CanBeAsked }
     ensures forbidden { may_ask caller.now route.now.endpoint ≡ false → result ≡ Err Forbidden }
 {
     if !may_ask(caller, route.endpoint) {
@@ -223,3 +192,9 @@ pub fn command_of<'a>(
     }
     asked_by(alloc, route, behind(request.target(), b'?'), request.body())
 }
+
+/// A law: what a request asks can be given.
+#[tactic(auto, using(crate::proofs::AskedCommands::asked_is))]
+pub fn can_be_given()
+    ensures { WhatIsAskedCanBeGiven }
+{}

@@ -20,19 +20,6 @@ pub enum Allow {
     Post,
 }
 
-/// Which parameters a path has, and in which of its segments.
-#[derive(Clone, Copy)]
-pub enum Shape {
-    /// None.
-    Plain,
-    /// An identifier in segment 2.
-    OneId,
-    /// Identifiers in segments 2 and 4.
-    TwoIds,
-    /// A number in segment 2.
-    Number,
-}
-
 /// The parameters of a path.
 #[derive(Clone, Copy)]
 pub enum Place {

@@ -1,99 +1,22 @@
 //! The table of routes.
 ghost use Rattle.std.specs.Prelude.{◌≡◌, [], IfOk, map, Some, option_and_then};
-ghost use Rattle.office_requests.specs.Routing.{route_table, inserted, asked_at, id_in, number_in_path, place_at, route_with, route_at, routed};
+ghost use Rattle.matchit.specs.Route.{parse_route};
+ghost use Rattle.office_requests.specs.Routing.{route_table, command_route, query_route, inserted, with_pattern, asked_at, id_in, number_in_path, place_at, route_with, route_at, routed};
 
 use crate::forms::{FromText, number_between};
 use crate::path::{before, segment};
 use crate::route::Endpoint::{Commands, Queries};
-use crate::route::Shape::{Number, OneId, Plain, TwoIds};
-use crate::route::{Allow, Endpoint, Place, Route, Shape};
+use crate::route::{Allow, Endpoint, Place, Route};
 use matchit::Router;
 use office_commands::command::{CommandKind, QueryKind};
+use office_commands::table::Shape::{Number, OneId, Plain, TwoIds};
+use office_commands::table::{COMMANDS, QUERIES, RouteRow, Shape, command_row, query_row};
 use office_values::given::AskedNumber;
 use office_values::id::Id;
 use office_values::number::read_number;
 use office_values::refusal::Refusal;
 use office_wire::request::Request;
 use std::alloc::{AllocError, Global};
-
-// A pattern of paths, what is asked there, and the parameters that the pattern has.
-#[derive(Clone, Copy)]
-struct Row(&'static str, Endpoint, Shape);
-
-const ROWS: [Row; 32] = [
-    Row("/budget/{batch}", Commands(CommandKind::Import), OneId),
-    Row("/tenderers/{id}", Commands(CommandKind::Register), OneId),
-    Row("/notices/{n}", Commands(CommandKind::Publish), OneId),
-    Row(
-        "/notices/{n}/amend",
-        Commands(CommandKind::AmendNotice),
-        OneId,
-    ),
-    Row("/notices/{n}/cancel", Commands(CommandKind::Cancel), OneId),
-    Row("/notices/{n}/open", Commands(CommandKind::Open), OneId),
-    Row(
-        "/notices/{n}/lots/{l}/tenders",
-        Commands(CommandKind::Present),
-        TwoIds,
-    ),
-    Row("/tenders/{r}/modify", Commands(CommandKind::Modify), Number),
-    Row(
-        "/tenders/{r}/withdraw",
-        Commands(CommandKind::Withdraw),
-        Number,
-    ),
-    Row(
-        "/tenders/{r}/examine",
-        Commands(CommandKind::Examine),
-        Number,
-    ),
-    Row(
-        "/notices/{n}/lots/{l}/award",
-        Commands(CommandKind::Award),
-        TwoIds,
-    ),
-    Row("/awards/{a}/fail", Commands(CommandKind::Fail), Number),
-    Row("/awards/{a}/sign", Commands(CommandKind::Sign), Number),
-    Row(
-        "/contracts/{c}/amend",
-        Commands(CommandKind::AmendContract),
-        Number,
-    ),
-    Row("/contracts/{c}/pay", Commands(CommandKind::Pay), Number),
-    Row("/contracts/{c}/end", Commands(CommandKind::End), Number),
-    Row("/lines/{b}", Queries(QueryKind::Line), OneId),
-    Row("/ledger", Queries(QueryKind::Ledger), Plain),
-    Row("/notices/{n}/minutes", Queries(QueryKind::Minutes), OneId),
-    Row("/notices/{n}/register", Queries(QueryKind::Register), OneId),
-    Row("/notices/{n}/releases", Queries(QueryKind::Releases), OneId),
-    Row("/notices/{n}/record", Queries(QueryKind::Record), OneId),
-    Row("/tenders/{r}", Queries(QueryKind::Tender), Number),
-    Row("/securities/{s}", Queries(QueryKind::Security), Number),
-    Row(
-        "/contracts/{c}/security",
-        Queries(QueryKind::Performance),
-        Number,
-    ),
-    Row("/notices", Queries(QueryKind::Notices), Plain),
-    Row("/notices/{n}/terms", Queries(QueryKind::Terms), OneId),
-    Row(
-        "/notices/{n}/tenders",
-        Queries(QueryKind::OwnTenders),
-        OneId,
-    ),
-    Row(
-        "/notices/{n}/evaluation",
-        Queries(QueryKind::Evaluation),
-        OneId,
-    ),
-    Row(
-        "/notices/{n}/securities",
-        Queries(QueryKind::Securities),
-        OneId,
-    ),
-    Row("/tenderers", Queries(QueryKind::Tenderers), Plain),
-    Row("/contracts/{c}", Queries(QueryKind::Contract), Number),
-];
 
 /// The routes of the office, made once and asked for each request.
 #[derive(Drop)]
@@ -102,15 +25,45 @@ pub struct Routes {
     ghost built: { router ≡ inserted route_table [] },
 }
 
-// A router with these rows.
-fn router_of(alloc: Global, rows: &[Row]) -> Result<Router<(Endpoint, Shape)>, AllocError>
-    ensures { IfOk result (λ router. router ≡ inserted (map (λ (r : Row). (r.0.now, (r.1, r.2))) rows.now) []) }
+// Adds what is asked at a pattern to a router.
+fn with_row(
+    router: Router<(Endpoint, Shape)>,
+    row: RouteRow,
+    endpoint: Endpoint,
+) -> Result<Router<(Endpoint, Shape)>, AllocError>
+    ensures { IfOk result (λ made. made ≡ with_pattern (parse_route row.pattern.now) (endpoint, row.shape) router) }
 {
-    let mut router = Router::new(alloc);
-    'rows: for Row(pattern, endpoint, shape) in rows {
-        if router.insert(pattern, (*endpoint, *shape)).is_err() {
-            return Err(AllocError);
-        }
+    let mut router = router;
+    if router.insert(row.pattern, (endpoint, row.shape)).is_err() {
+        return Err(AllocError);
+    }
+    Ok(router)
+}
+
+// Adds the patterns of these commands to a router.
+fn with_commands(
+    router: Router<(Endpoint, Shape)>,
+    kinds: &[CommandKind],
+) -> Result<Router<(Endpoint, Shape)>, AllocError>
+    ensures { IfOk result (λ made. made ≡ inserted (map command_route kinds.now) router) }
+{
+    let mut router = router;
+    'kinds: for kind in kinds {
+        router = with_row(router, command_row(*kind), Commands(*kind))?;
+    }
+    Ok(router)
+}
+
+// Adds the patterns of these queries to a router.
+fn with_queries(
+    router: Router<(Endpoint, Shape)>,
+    kinds: &[QueryKind],
+) -> Result<Router<(Endpoint, Shape)>, AllocError>
+    ensures { IfOk result (λ made. made ≡ inserted (map query_route kinds.now) router) }
+{
+    let mut router = router;
+    'kinds: for kind in kinds {
+        router = with_row(router, query_row(*kind), Queries(*kind))?;
     }
     Ok(router)
 }
@@ -152,7 +105,8 @@ fn place_at(path: &[u8], shape: Shape) -> Option<Place>
 impl Routes {
     /// The routes of the office.
     pub fn new(alloc: Global) -> Result<Routes, AllocError> {
-        let router = router_of(alloc, &ROWS)?;
+        let router = with_commands(Router::new(alloc), &COMMANDS)?;
+        let router = with_queries(router, &QUERIES)?;
         Ok(Routes { router })
     }
 

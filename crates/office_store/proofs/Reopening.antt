@@ -16,8 +16,11 @@ use Rattle.sqlite_trees.specs.View.{IsClean, IsQuiet}
 use Rattle.sqlite_trees.proofs.Doubt.{no_doubt}
 use Rattle.sqlite.specs.Effect.{Database, IsDatabase}
 use Rattle.sqlite.specs.Held.{Held, AreDatabases}
-use Rattle.sqlite.specs.State.{HasCleanDisk, Survives}
-use Rattle.sqlite.specs.Files.{file_state, over_files, image_of, IsOpened, Finds, IsCleanLeft}
+use Rattle.sqlite.specs.State.{HasCleanDisk, Survives, store_error}
+use Rattle.sqlite.specs.declared.error.Error.{Error}
+use Rattle.sqlite_trees.specs.declared.error.StoreError.{StoreError}
+use Rattle.sqlite_trees.specs.declared.error.StoreError.TheVariants as stores
+use Rattle.sqlite.specs.Files.{file_state, over_files, image_of, IsOpened, IsClosed, ExcusesClose, FailsToClose, Finds, IsCleanLeft}
 use Rattle.sqlite.specs.Start.{FindsIn}
 use Rattle.sqlite.specs.Closing.{HoldsAlone, IsCopied}
 use Rattle.sqlite.specs.declared.file.Leftover.{Leftover}
@@ -25,16 +28,19 @@ use Rattle.sqlite.specs.declared.file.Leftover.TheVariants as left
 use Rattle.sqlite.proofs.ListingLemmas.{empty_is_sound}
 use Rattle.sqlite.proofs.Theorems.{opens_again}
 use Rattle.office_base.specs.Tables.{Tables}
+use Rattle.office_base.specs.Faults.{IsFaultOf}
+use Rattle.office_tables.specs.Failing.{fault_of}
 use Rattle.office_tables.specs.Earlier.{ShowsOffice, HoldsOffice as HasOffice}
 use Rattle.office_tables.specs.Laws.{TreesTellOneOffice}
 use Rattle.office_tables.specs.Steps.{Refused}
 use Rattle.office_store.specs.Founding.{LeavesOffice, IsNoOffice}
 use Rattle.office_store.specs.SqlMeaning.{LeavesNoOther}
-use Rattle.office_store.specs.Reopening.{Found, FilesHoldOffice, HoldStill, IsLeftOf, IsPutDown, IsReason, IsUsableLeft, LeavesFound, MayCommit}
+use Rattle.office_store.specs.Reopening.{Found, FilesHoldOffice, ClosingFails, HoldStill, IsHalfClosed, IsLeftOf, IsPutDown, IsReason, IsUsableLeft, LeavesFound, MayCommit}
 use Rattle.office_store.specs.declared.found.OpenFault.{OpenFault}
 use Rattle.office_store.specs.declared.found.OpenFault.TheVariants as fault
 use Rattle.office_store.proofs.Founding.{no_schema}
 use Rattle.office_store.proofs.Once.{schema_once}
+use Rattle.office_store.proofs.Shelves.{has_cause}
 
 pub finds_in : {D : Type 0} {g : Ghosts D} (files : Files D) (now : Held (FileStore D g)) → Finds files now → FindsIn (image_of g files) (file_state now)
 finds_in files now found = record { holds = found.holds; reads = found.reads }
@@ -96,6 +102,22 @@ put_down last store numbered sound quiet = record {
         (found.0, ∣ found.2 ∣₁, (at.0, at.1, inl at.2)),
       ));
 }
+
+-- ---- a closing that failed
+
+pub half_closed : {D : Type 0} {g : Ghosts D} (last : Held (FileStore D g)) (store : FileStore D g) → IsClosed last store → IsHalfClosed last store
+half_closed last store it = record { clean = λ clean. omega (arith, clean, it.quiet.clean); left = it.quiet.outcomes; sound = it.sound }
+
+pub closing_cause : {D : Type 0} {g : Ghosts D} (last : Held (FileStore D g)) (store : FileStore D g) (e : Error) → FailsToClose last store e → IsFaultOf (ClosingFails last store) (fault_of e)
+closing_cause last store e (cause, is, why, tells) = by cause is why
+  where
+    by : (cause : StoreError) → e ≡ store_error cause → ExcusesClose last store cause → IsFaultOf (ClosingFails last store) (fault_of e)
+    by stores.OutOfMemory is why = has_cause e (inl is)
+    by stores.Io is why = has_cause e (inr (inr why))
+    by stores.Corrupt is why = has_cause e (inr (inr why))
+    by stores.Full is why = has_cause e (inr (inr why))
+    by stores.Broken is why = has_cause e (inr why)
+    by stores.Unstorable is why = absurd why
 
 -- ---- a refused opening
 

@@ -64,7 +64,7 @@ caused : {Cause : Type 0} (fault : ShelfFault) → Cause → IsFaultOf Cause fau
 caused NoMemory cause = tt
 caused Store cause = cause
 
-has_cause : {Cause : Type 0} (e : Error) → IsExcused Cause e → IsFaultOf Cause (fault_of e)
+pub has_cause : {Cause : Type 0} (e : Error) → IsExcused Cause e → IsFaultOf Cause (fault_of e)
 has_cause {Cause} e (inl memory) = subst (λ e. IsFaultOf Cause (fault_of e)) (sym memory) tt
 has_cause e (inr cause) = caused (fault_of e) cause
 

@@ -1,12 +1,11 @@
 -- What an opening finds in a database, and what it makes there.
-use Rattle.std.specs.Prelude.{◌≡◌, ◌⊎◌, ◌&&◌, ℕ, Bool, true, false, not, nat_lt, nat_le, pos, IsTrue, List, [], ◌∷◌, codes}
+use Rattle.std.specs.Prelude.{◌≡◌, ◌⊎◌, ◌&&◌, ℕ, Bool, true, false, not, nat_lt, nat_le, pos, IsTrue, List, [], ◌∷◌}
 use Rattle.std.specs.List.{list_any}
 use Rattle.sqlite_value.specs.declared.value.Value.TheVariants.{Int}
 use Rattle.sqlite_value.specs.Order.{Row}
 use Rattle.sqlite_trees.specs.Tree.{Trees}
 use Rattle.sqlite_trees.specs.declared.store.Store.{Ghosts}
 use Rattle.sqlite_schema.specs.declared.schema.Schema.{Schema}
-use Rattle.sqlite_schema.specs.Names.{same_name, is_key}
 use Rattle.sqlite_catalog.specs.Change.{is_used}
 use Rattle.sqlite.specs.Effect.{Database, IsDatabase}
 use Rattle.sqlite.specs.Held.{Held, state}
@@ -28,10 +27,6 @@ use Rattle.office_store.specs.declared.opened.Origin.TheVariants as from
 -- a table, an index or a view of the schema has the name of a table of the office's; those of its indexes are none
 abbrev pub takes_a_name : Schema → Bool
 takes_a_name schema = list_any (λ k. is_used schema (table_of k).name) all_tables
-
--- a table `office` has its first column for a rowid
-abbrev pub has_rowids : Schema → Bool
-has_rowids schema = list_any (λ t. same_name t.name (codes "office") && is_key t.key 0) schema.tables
 
 -- the version that the rows tell: the number that is their one row; 0, which is none, where they are no such row
 abbrev pub version_in : List Row → ℕ

@@ -1,7 +1,7 @@
 -- What others have in a file whose office is migrated.
-use Rattle.std.specs.Prelude.{◌≡◌, ◌&&◌, ◌||◌, ℕ, Bool, false, not, is_some, List, codes}
+use Rattle.std.specs.Prelude.{◌≡◌, ◌&&◌, ◌||◌, ◌==◌, ℕ, Bool, false, nat_le, not, is_some, List, [], ◌∷◌, codes, drop, length, take}
+use Rattle.std.specs.Char.{is_ascii_alphanumeric}
 use Rattle.std.specs.List.{list_any}
-use Rattle.sqlite_catalog.specs.Listing.{mentions}
 use Rattle.sqlite_schema.specs.declared.schema.Schema.{Schema}
 use Rattle.sqlite_schema.specs.declared.schema.Table.{Table}
 use Rattle.sqlite_schema.specs.declared.schema.View.{View}
@@ -24,9 +24,31 @@ is_changed edition name = is_changed_where (had_former edition) name
 abbrev pub refers_there : ℕ → Table → Bool
 refers_there edition t = list_any (λ r. is_changed edition r.parent) t.references
 
--- the text of a view has the name of one that is emptied
+-- SQLite reads the byte as part of a word: a letter, a digit, `_`, `$`, or a byte that isn't ASCII
+abbrev pub is_of_word : ℕ → Bool
+is_of_word b = is_ascii_alphanumeric b || b == 95 || b == 36 || nat_le 128 b
+
+-- the text begins with such a byte
+abbrev pub goes_on : List ℕ → Bool
+goes_on [] = false
+goes_on (b ∷ text) = is_of_word b
+
+-- the text begins with this word, which ends there
+abbrev pub begins_with : List ℕ → List ℕ → Bool
+begins_with word text = nat_le (length word) (length text) && (same_name (take (length word) text) word && not (goes_on (drop (length word) text)))
+
+-- the word is one of the words of a text that follows a byte of a word, or doesn't
+abbrev pub mentions_from : Bool → List ℕ → List ℕ → Bool
+mentions_from within word [] = false
+mentions_from within word (b ∷ text) = (not within && begins_with word (b ∷ text)) || mentions_from (is_of_word b) word text
+
+-- the word is one of the words of the text, in either case
+abbrev pub mentions : List ℕ → List ℕ → Bool
+mentions word text = mentions_from false word text
+
+-- the text of a view has the name of a table whose rows a migration changes
 abbrev pub shows_there : ℕ → View → Bool
-shows_there edition v = not (is_some v.foreign) && (mentions (codes "office") v.sql || (had_former edition && mentions (codes "notices") v.sql))
+shows_there edition v = not (is_some v.foreign) && (mentions (codes "office") v.sql || (had_former edition && (mentions (codes "notices") v.sql || mentions (codes "notices_2") v.sql)))
 
 -- something of others leads there: a foreign key, or a view
 abbrev pub leads_there : ℕ → Schema → Bool

@@ -1,18 +1,19 @@
 -- What an opening of two files finds in them, what it does and what it leaves, and what a closing leaves for the next.
-use Rattle.std.specs.Prelude.{◌≡◌, ◌⊎◌, ⊤, IsTrue, length}
+use Rattle.std.specs.Prelude.{◌≡◌, ◌⊎◌, ⊤, false, IsTrue, length}
 use Rattle.sqlite_disk.specs.declared.Disk.{Ghosts}
 use Rattle.sqlite_disk.specs.declared.Files.{Files}
+use Rattle.sqlite_disk.specs.Disk.{MoreFaults}
 use Rattle.sqlite_wal.specs.Files.{outcomes}
 use Rattle.sqlite_wal.specs.Reads.{AreClean}
 use Rattle.sqlite_wal.specs.Recovery.{Image}
 use Rattle.sqlite_store.specs.declared.store.FileStore.{FileStore}
-use Rattle.sqlite_store.specs.FileStore.{recovers, view}
+use Rattle.sqlite_store.specs.FileStore.{faults, recovers, view}
 use Rattle.sqlite_store.specs.FileStore.{state as store_state}
 use Rattle.sqlite_trees.specs.Tree.{Trees}
 use Rattle.sqlite_trees.specs.View.{IsClean}
 use Rattle.sqlite_trees.specs.declared.store.Store.{Ghosts as StoreGhosts}
 use Rattle.sqlite.specs.Effect.{Database}
-use Rattle.sqlite.specs.Held.{Held, state}
+use Rattle.sqlite.specs.Held.{Held, AreDatabases, state}
 use Rattle.sqlite.specs.State.{HasCleanDisk, Survives}
 use Rattle.sqlite.specs.Files.{file_state, over_files, image_of, HoldsDatabase, IsOpened, IsClosed, IsCleanLeft, LeavesFiles}
 use Rattle.sqlite.specs.Start.{FindsIn}
@@ -110,6 +111,17 @@ module _ {D : Type 0} {g : Ghosts D} where
     pub clean : IsClean (view store) → HasCleanDisk (file_state last)
     pub left : IsClean (view store) → LeavesOffices (file_state last) → (image : Image) → (store_state store).may_leave image
         → ∥ ((u : Tables) × MayLeave (file_state last) u × FilesHoldOffice image u) ∥₁
+
+  -- A closing failed, or a stop ended it. The disk was as clean as its store is; a stop now leaves of the store what it could leave of the shelf, a database
+  -- each time.
+  pub record IsHalfClosed (last : Held (FileStore D g)) (store : FileStore D g) : Type 0 where
+    pub clean : IsClean (view store) → HasCleanDisk (file_state last)
+    pub left : (db : Trees) → recovers store db → (file_state last).may_leave db
+    pub sound : IsClean (view store) → AreDatabases (recovers store)
+
+  -- why a closing fails, unless by want of memory: the store was shut, or the disk failed once more
+  abbrev pub ClosingFails : Held (FileStore D g) → FileStore D g → Type 0
+  ClosingFails last store = ((view last.store).is_open ≡ false) ⊎ MoreFaults (faults last.store) (faults store)
 
   -- What was found stays: the files hold it, or, where they couldn't be closed, a stop leaves it or what the opening committed.
   abbrev pub LeavesFound : (Trees → Type 0) → Held (FileStore D g) → Leftover D g → Type 0

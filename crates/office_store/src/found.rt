@@ -8,7 +8,7 @@ ghost use Rattle.office_base.specs.Tables.{Tables};
 ghost use Rattle.office_tables.specs.Earlier.{ShowsOffice};
 ghost use Rattle.office_tables.specs.Steps.{Refused, ShowsTables};
 ghost use Rattle.office_tables.specs.Tables.Office.{this_version};
-ghost use Rattle.office_store.specs.Founding.{Founded, LeavesNew, LeavesOffice, Enters, IsNoOffice, IsSoundOpen, takes_a_name, has_rowids, version_in, is_other_version, origin_of};
+ghost use Rattle.office_store.specs.Founding.{Founded, LeavesNew, LeavesOffice, Enters, IsNoOffice, IsSoundOpen, takes_a_name, version_in, is_other_version, origin_of};
 ghost use Rattle.office_store.specs.SqlMeaning.{LeavesShown};
 
 use crate::migrate::ready;
@@ -22,7 +22,6 @@ use office_tables::tables::table_names;
 use office_tables::version::ask_version;
 use sqlite::{Alter, Connection, Error, Row};
 use sqlite_catalog::layout::is_used;
-use sqlite_schema::names::same_name;
 use sqlite_schema::schema::Schema;
 use sqlite_value::value::ValueRef;
 use std::alloc::Global;
@@ -112,14 +111,6 @@ fn is_other_version(rows: &[Row]) -> bool
     !(0 < version && version <= VERSION)
 }
 
-// Whether the key of the table `office` is its rowid, as this program makes it.
-fn has_rowids(schema: &Schema) -> bool
-    ensures { result ≡ has_rowids schema.now }
-{
-    let tables = schema.tables.as_slice();
-    tables.iter().any(|table| same_name(table.name.as_slice(), b"office") && table.key == Some(0))
-}
-
 // A store that answered may have been shut by the end of the transaction in which it was asked: this one is open.
 pub(crate) fn still_open<S: Alter>(conn: &mut Connection<S>) -> Result<(), OpenFault>
     ensures is_open { HasCleanDisk (state S.Store conn.new) → OnOk result (IsTrue (state S.Store conn.new).is_open) }
@@ -160,15 +151,11 @@ pub(crate) fn enter<S: Alter>(alloc: Global, conn: &mut Connection<S>) -> Result
         return Err(OpenFault::Store);
     }
     let taken = takes_a_name(conn.schema());
-    let has_key = has_rowids(conn.schema());
     let knows_late = has_late(conn.schema());
     match ask_version(conn) {
         Ok(rows) => {
             if is_other_version(rows.as_slice()) {
                 return Err(OpenFault::NotAnOffice);
-            }
-            if !has_key {
-                return Err(OpenFault::Store);
             }
             let edition = edition_of(version_in(rows.as_slice()), knows_late);
             match ready(alloc, conn, edition) {

@@ -6,9 +6,12 @@ ghost use Rattle.sqlite.specs.Files.{file_state, image_of};
 ghost use Rattle.sqlite.specs.Held.{state};
 ghost use Rattle.sqlite.specs.State.{HasCleanDisk};
 ghost use Rattle.sqlite.specs.Steps.{over_memory};
+ghost use Rattle.sqlite_store.specs.FileStore.{view};
+ghost use Rattle.sqlite_trees.specs.View.{IsClean};
+ghost use Rattle.office_base.specs.Faults.{IsFaultOf};
 ghost use Rattle.office_base.specs.Tables.{no_tables};
 ghost use Rattle.office_tables.specs.Steps.{ShowsTables};
-ghost use Rattle.office_store.specs.Reopening.{AreUsable, EntersFound, IsLeftOf, IsPutDown, IsUsableLeft, OpensAgain, OpensBlank, OpensHeld, RefusesFiles};
+ghost use Rattle.office_store.specs.Reopening.{AreUsable, ClosingFails, EntersFound, IsHalfClosed, IsLeftOf, IsPutDown, IsUsableLeft, OpensAgain, OpensBlank, OpensHeld, RefusesFiles};
 ghost use Rattle.office_store.specs.SqlMeaning.{LeavesNoOther, LeavesOffices, LeavesShown};
 
 use crate::found::{OpenFault, enter, open_fault};
@@ -103,17 +106,17 @@ impl<D: Disk + Drop> SqlShelf<FileStore<D>> {
         self.into_connection().into_store()
     }
 
-    /// Closes the office, and gives its files back. A refusal gives nothing back.
-    pub fn close_files(self) -> Result<Files<D>, ShelfFault>
+    /// Closes the office, and gives its files back. If that fails it gives back the store, which isn't closed; so it does if the disk takes nothing from some
+    /// call on, as when the program is stopped there. The office stays in it.
+    pub fn close_files(self) -> Result<Files<D>, (ShelfFault, FileStore<D>)>
         ensures copied { IfOk result (λ files. AreClean D.Disk files.log files.db → IsCopied self.0 files) }
         ensures usable { IfOk result (λ files. AreUsable D.Disk files) }
+        ensures stopped { IfErr result (λ e. IsHalfClosed self.0 e.1) }
+        ensures cause { IfErr result (λ e. IsClean (view e.1) → IsFaultOf (ClosingFails self.0 e.1) e.0) }
     {
         match self.into_connection().close_files() {
             Ok(files) => Ok(files),
-            Err((error, store)) => {
-                drop(store.close());
-                Err(fault(error))
-            }
+            Err((error, store)) => Err((fault(error), store)),
         }
     }
 }

@@ -1,8 +1,7 @@
 //! What others have in a file that leads to the tables which a migration changes.
-ghost use Rattle.std.specs.Prelude.{◌≡◌};
+ghost use Rattle.std.specs.Prelude.{◌≡◌, false};
 ghost use Rattle.std.specs.List.{list_any};
-ghost use Rattle.sqlite_catalog.specs.Listing.{mentions};
-ghost use Rattle.office_store.specs.Others.{is_changed, leads_there, refers_there, shows_there};
+ghost use Rattle.office_store.specs.Others.{begins_with, goes_on, is_changed, is_of_word, leads_there, mentions, mentions_from, refers_there, shows_there};
 
 use office_tables::editions::had_former;
 use sqlite_schema::names::same_name;
@@ -23,16 +22,41 @@ fn refers_there(edition: u64, table: &Table) -> bool
     references.iter().any(|reference| is_changed(edition, reference.parent.as_slice()))
 }
 
-// Whether the word stands somewhere in the text, in either case.
+fn is_of_word(byte: u8) -> bool
+    ensures { result ≡ is_of_word byte }
+{
+    byte.is_ascii_alphanumeric() || byte == b'_' || byte == b'$' || byte >= 128
+}
+
+fn goes_on(text: &[u8]) -> bool
+    ensures { result ≡ goes_on text.now }
+{
+    match text {
+        [byte, ..] => is_of_word(*byte),
+        [] => false,
+    }
+}
+
+fn begins_with(word: &[u8], text: &[u8]) -> bool
+    ensures { result ≡ begins_with word.now text.now }
+{
+    match text.split_at_checked(word.len()) {
+        Some((front, rest)) => same_name(front, word) && !goes_on(rest),
+        None => false,
+    }
+}
+
+// Whether the word is one of the words of the text, in either case: `officers` isn't `office`.
 fn mentions(word: &[u8], text: &[u8]) -> bool
     ensures { result ≡ mentions word.now text.now }
 {
     let mut rest = text;
-    while let [_, after @ ..] = rest {
-        let front = &rest[..word.len().min(rest.len())];
-        if same_name(front, word) {
+    let mut within = false;
+    while let [byte, after @ ..] = rest {
+        if !within && begins_with(word, rest) {
             return true;
         }
+        within = is_of_word(*byte);
         rest = after;
     }
     false
@@ -46,7 +70,8 @@ fn shows_there(edition: u64, view: &View) -> bool
         return false;
     }
     let sql = view.sql.as_slice();
-    mentions(b"office", sql) || (had_former(edition) && mentions(b"notices", sql))
+    mentions(b"office", sql)
+        || (had_former(edition) && (mentions(b"notices", sql) || mentions(b"notices_2", sql)))
 }
 
 fn some_refer(edition: u64, tables: &[Table]) -> bool

@@ -94,19 +94,13 @@ settings_of members = do
   currency ← setting_or_fault Currency (text_in is_currency_code (codes "currency") members)
   language ← setting_or_fault Language (text_in is_language_code (codes "language") members)
   base ← setting_or_fault Base (text_in is_line_text (codes "base") members)
-  publisher ← setting_or_fault Publisher (text_in is_line_text (codes "publisher") members)
+  name ← setting_or_fault Publisher (text_in is_line_text (codes "publisher") members)
   extensions ← setting_or_fault Extensions (lines_at (codes "extensions") members)
   clerk_key ← setting_or_fault ClerkKey (digest_at (codes "clerk_key") members)
   buyer ← buyer_of (table_at (codes "buyer") members)
   Ok (record {
-    prefix = prefix;
-    currency = currency;
-    language = language;
-    base = base;
-    publisher = publisher;
-    extensions = extensions;
+    publisher = record { prefix = prefix; currency = currency; language = language; base = base; name = name; extensions = extensions; buyer = buyer };
     clerk_key = clerk_key;
-    buyer = buyer;
   })
 
 -- the table that a text writes in TOML, if it is UTF-8 and TOML

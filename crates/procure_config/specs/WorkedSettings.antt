@@ -12,12 +12,14 @@ city_text = codes "prefix = 'ocds-a1b2c3'" ++ 10 ∷ codes "currency = 'EUR'" ++
 -- as they are read
 abbrev pub city_settings : Settings
 city_settings = record {
-  prefix = codes "ocds-a1b2c3";
-  currency = codes "EUR";
-  language = codes "en";
-  base = codes "http://127.0.0.1:8080";
-  publisher = codes "City Office";
-  extensions = codes "lots" ∷ [];
+  publisher = record {
+    prefix = codes "ocds-a1b2c3";
+    currency = codes "EUR";
+    language = codes "en";
+    base = codes "http://127.0.0.1:8080";
+    name = codes "City Office";
+    extensions = codes "lots" ∷ [];
+    buyer = record { id = codes "city"; name = codes "City Office" };
+  };
   clerk_key = 0 ∷ 1 ∷ 2 ∷ 3 ∷ 4 ∷ 5 ∷ 6 ∷ 7 ∷ 8 ∷ 9 ∷ 10 ∷ 11 ∷ 12 ∷ 13 ∷ 14 ∷ 15 ∷ 16 ∷ 17 ∷ 18 ∷ 19 ∷ 20 ∷ 21 ∷ 22 ∷ 23 ∷ 24 ∷ 25 ∷ 26 ∷ 27 ∷ 28 ∷ 29 ∷ 30 ∷ 31 ∷ [];
-  buyer = record { id = codes "city"; name = codes "City Office" };
 }

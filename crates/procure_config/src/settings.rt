@@ -10,7 +10,7 @@ ghost use Rattle.procure_config.specs.Configuration.{ReadsAs, name_text, passing
 
 use hex::FromHex;
 use office_values::id::Id;
-use office_values::settings::{Buyer, Currency, Extensions, Language, Prefix, Settings};
+use office_values::settings::{Buyer, Currency, Extensions, Language, Prefix, Publisher, Settings};
 use office_values::text::TextLine;
 use std::alloc::{AllocError, Global};
 use toml::{Table, Value};
@@ -236,22 +236,25 @@ fn settings_of(alloc: Global, table: &Table) -> Result<Settings, SettingsFault>
     let currency = setting_or_fault(SettingName::Currency, read_currency(table))?;
     let language = setting_or_fault(SettingName::Language, read_language(table))?;
     let base = setting_or_fault(SettingName::Base, read_line(alloc, table, "base")?)?;
-    let publisher = setting_or_fault(
+    let name = setting_or_fault(
         SettingName::Publisher,
         read_line(alloc, table, "publisher")?,
     )?;
     let extensions = setting_or_fault(SettingName::Extensions, read_extensions(alloc, table)?)?;
     let clerk_key = setting_or_fault(SettingName::ClerkKey, read_clerk_key(table))?;
     let buyer = read_buyer(alloc, table)?;
-    Ok(Settings {
+    let publisher = Publisher {
         prefix,
         currency,
         language,
         base,
-        publisher,
+        name,
         extensions,
-        clerk_key,
         buyer,
+    };
+    Ok(Settings {
+        publisher,
+        clerk_key,
     })
 }
 

@@ -89,7 +89,7 @@ of_refusal failed Input is = absurd is
 of_refusal failed Output is = absurd is
 
 module _ (settings : OfficeSettings) (query : Query) (s : Tables) (before after : Option (List ℕ)) where
-  pub printed : (text : List ℕ) (result : Result (Unit {0}) ProgramFault) → IsSeen settings Public query s (Ok text) → OnOk result (Appends before after text)
+  pub printed : (text : List ℕ) (result : Result (Unit {0}) ProgramFault) → IsSeen settings.publisher Public query s (Ok text) → OnOk result (Appends before after text)
       → OnErr result (AppendsPart before after text) → IfErr result (λ (why : ProgramFault). why ≡ Output) → IsPrinted settings query s before after result
   printed text (Ok done) seen whole part why = (text, seen, whole)
   printed text (Err why) seen whole part is =

@@ -1,5 +1,5 @@
 -- An office that was opened in files goes on from what they had, in what is found of them once they are closed.
-use Rattle.std.proofs.Common.{◌≡◌, inl, inr, Result, Ok, Err, IfOk, ℕ, ◌+◌, ◌≤◌, List, [], ◌∷◌, ◌++◌, length, refl, sym, subst, ◌∙◌, arith, length-append}
+use Rattle.std.proofs.Common.{◌≡◌, inl, inr, Result, Ok, Err, IfOk, ℕ, ◌+◌, ◌≤◌, List, [], ◌∷◌, ◌++◌, length, refl, sym, ap, subst, ◌∙◌, arith, length-append}
 use Rattle.std.proofs.Math.Logic.{∥∥₁_elim, ∥∥₁_map}
 use Rattle.sqlite_disk.specs.declared.Disk.{Ghosts}
 use Rattle.sqlite_disk.specs.declared.Files.{Files}
@@ -10,11 +10,12 @@ use Rattle.sqlite.specs.Held.{Held as Connected}
 use Rattle.sqlite.specs.Files.{file_state, over_files}
 use Rattle.sqlite.specs.Closing.{HoldsAlone, IsCopied}
 use Rattle.sqlite.specs.State.{HasCleanDisk}
+use Rattle.office_values.specs.declared.settings.Publisher.{Publisher}
 use Rattle.office_values.specs.declared.settings.Settings.{Settings}
 use Rattle.office_base.specs.Shelves.{Keeps, Meaning}
 use Rattle.office_base.specs.Tables.{Tables}
 use Rattle.office_tables.specs.Steps.{ShowsTables}
-use Rattle.office_publications.specs.Keys.{KeysMayChange, SameButKey}
+use Rattle.office_publications.specs.Standing.{IsReached}
 use Rattle.office_desk.specs.Desks.{DeskOf}
 use Rattle.office_store.specs.Reopening.{FilesHoldOffice, OpensHeld}
 use Rattle.office_store.specs.SqlMeaning.{LeavesNoOther, LeavesShown, sql_meaning}
@@ -111,30 +112,30 @@ days_follow = record { closed = days_closed; stopped = days_stopped }
 -- ---- under another key of the clerk
 
 -- an office stands in the files under another key too
-stands_under : KeysMayChange → (before after : Settings) (image : Image) (h : Held) → SameButKey before after → h.settings ≡ before → StandsIn image h → StandsIn image (under_settings after h)
-stands_under changes before after image h same are stands =
-    (stands.0, stands.1, changes h.settings after h.tables (subst (λ (u : Settings). SameButKey u after) (sym are) same) stands.2)
+stands_under : (before after : Settings) (image : Image) (h : Held) → after.publisher ≡ before.publisher → h.settings ≡ before → StandsIn image h → StandsIn image (under_settings after h)
+stands_under before after image h same are stands =
+    (stands.0, stands.1, subst (λ (p : Publisher). IsReached p h.tables) (ap (λ (u : Settings). u.publisher) are ∙ sym same) stands.2)
 
 -- what the office is at the end of the first day, under the key of the second
-second_day : KeysMayChange → (before after : Settings) (mid : Image) (h : Held) (xs : List Step) → SameButKey before after → h.settings ≡ before
+second_day : (before after : Settings) (mid : Image) (h : Held) (xs : List Step) → after.publisher ≡ before.publisher → h.settings ≡ before
     → StandsIn mid (office_left office_answers h xs) → StandsIn mid (under_settings after (office_left office_answers h xs))
-second_day changes before after mid h xs same are = stands_under changes before after mid (office_left office_answers h xs) same (settings_stay xs h ∙ are)
+second_day before after mid h xs same are = stands_under before after mid (office_left office_answers h xs) same (settings_stay xs h ∙ are)
 
 led_on : (after : Settings) (last : Image) (n m : ℕ) (h : Held) (xs : List Step) → length xs ≤ n → LeftIn last m (under_settings after (office_left office_answers h xs)) → LedOn after n m last h
 led_on after last n m h xs few (ys, more, left) = (xs, ys, few, more, left)
 
-keys_closed : KeysMayChange → (before after : Settings) (first mid last : Image) (n m : ℕ) → SameButKey before after → FilesGoOn first before n mid → FilesGoOn mid after m last
+keys_closed : (before after : Settings) (first mid last : Image) (n m : ℕ) → after.publisher ≡ before.publisher → FilesGoOn first before n mid → FilesGoOn mid after m last
     → (h : Held) → h.settings ≡ before → StandsIn first h → LedOn after n m last h
-keys_closed changes before after first mid last n m same earlier behind h are stands =
+keys_closed before after first mid last n m same earlier behind h are stands =
     let (xs, few, there) = earlier h are stands in
-    led_on after last n m h xs few (behind (under_settings after (office_left office_answers h xs)) refl (second_day changes before after mid h xs same are there))
+    led_on after last n m h xs few (behind (under_settings after (office_left office_answers h xs)) refl (second_day before after mid h xs same are there))
 
-keys_stopped : KeysMayChange → (before after : Settings) (first mid last : Image) (n m : ℕ) → SameButKey before after → DayIn first before n mid → DayIn mid after m last
+keys_stopped : (before after : Settings) (first mid last : Image) (n m : ℕ) → after.publisher ≡ before.publisher → DayIn first before n mid → DayIn mid after m last
     → (h : Held) → h.settings ≡ before → StandsIn first h → ∥ LedOn after n m last h ∥₁
-keys_stopped changes before after first mid last n m same earlier behind h are stands =
+keys_stopped before after first mid last n m same earlier behind h are stands =
     ∥∥₁_elim (as_stopped before first mid n earlier h are stands) squash₁ (λ (one : LeftIn mid n h).
-    ∥∥₁_map (as_stopped after mid last m behind (under_settings after (office_left office_answers h one.0)) refl (second_day changes before after mid h one.0 same are one.2))
+    ∥∥₁_map (as_stopped after mid last m behind (under_settings after (office_left office_answers h one.0)) refl (second_day before after mid h one.0 same are one.2))
     (λ (other : LeftIn last m (under_settings after (office_left office_answers h one.0))). led_on after last n m h one.0 one.1 other))
 
-pub keys_follow : KeysMayChange → KeysFollow
-keys_follow changes = record { closed = keys_closed changes; stopped = keys_stopped changes }
+pub keys_follow : KeysFollow
+keys_follow = record { closed = keys_closed; stopped = keys_stopped }

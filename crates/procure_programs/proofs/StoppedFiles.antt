@@ -19,7 +19,7 @@ use Rattle.office_wire.specs.Runs.{Step, office_left}
 use Rattle.office_http.specs.Answering.{Held, IsWholeAfter, LeftAfter, is_accepted, meant_in, office_answers}
 use Rattle.office_http.specs.Stops.{LeftBySteps}
 use Rattle.procure_programs.specs.Placed.{OpensEmpty}
-use Rattle.procure_programs.specs.Serving.{StandsIn, StopsFiles, WasServed}
+use Rattle.procure_programs.specs.Serving.{StopsFiles, WasServed}
 use Rattle.procure_programs.proofs.OpenedFiles.{settings_stay, shows_files}
 use Rattle.procure_programs.proofs.ServingSteps.{left_by}
 
@@ -30,7 +30,7 @@ record IsLeftWhole (h : Held) (most : ℕ) (u : Tables) : Type 0 where
   done : List Step
   few : length done ≤ most
   is : u ≡ (office_left office_answers h done).tables
-  stands : IsReached h.settings u
+  stands : IsReached h.settings.publisher u
 
 -- one step leaves what was before it, or what is after it
 left_or_whole : (accepted busy : Bool) (Before IsAfter : Type 0) → LeftAfter accepted busy Before IsAfter → Before ⊎ IsAfter
@@ -77,9 +77,9 @@ module _ {D : Type 0} {g : Ghosts D} (image : Image) (settings : Settings) (most
         | inr whole ↦
             let k : Held = office_left office_answers h whole.done in
             let same : k.settings ≡ h.settings = settings_stay whole.done h in
-            let there : IsReached k.settings k.tables = subst (λ (s : Settings). IsReached s k.tables) (sym same) (subst (IsReached h.settings) whole.is whole.stands) in (
+            let there : IsReached k.settings.publisher k.tables = subst (λ (s : Settings). IsReached s.publisher k.tables) (sym same) (subst (IsReached h.settings.publisher) whole.is whole.stands) in (
               whole.done,
               omega (arith, whole.few, few),
-              (order (publishing k.settings) there.commands k.tables there.reaches, inl (subst (FilesHoldOffice now) whole.is found.2), there),
+              (order (publishing k.settings.publisher) there.commands k.tables there.reaches, inl (subst (FilesHoldOffice now) whole.is found.2), there),
             )
       ])

@@ -15,7 +15,6 @@ use Rattle.office_values.specs.declared.settings.Settings.{Settings}
 use Rattle.office_base.specs.Shelves.{Meaning}
 use Rattle.office_base.specs.Tables.{Tables, IsSorted, no_tables}
 use Rattle.office_machine.specs.Machine.{Given, Reaches}
-use Rattle.office_publications.specs.Keys.{SameButKey}
 use Rattle.office_publications.specs.Publishing.{publishing}
 use Rattle.office_publications.specs.Standing.{IsReached}
 use Rattle.office_desk.specs.Desks.{DeskOf}
@@ -53,9 +52,9 @@ pub record ServesOpened {D : Type 0} {g : Ghosts D} (image : Image) (settings : 
 -- so it is, and all accepted commands, these joined, are kept
 abbrev pub TurnsKeepCommands : {S : Type 0} → Meaning S → ℕ → DeskOf S → DeskOf S → Type 0
 TurnsKeepCommands M most old new =
-    M.honest new.shelf → (h : Held) → StandsAs M old h → (xs : List Given) → Reaches (publishing h.settings) xs h.tables
+    M.honest new.shelf → (h : Held) → StandsAs M old h → (xs : List Given) → Reaches (publishing h.settings.publisher) xs h.tables
     → (steps : List Step) × (length steps ≤ most) × StandsAs M new (office_left office_answers h steps)
-    × OfficeIsKept h.settings (accepted_steps h steps xs) (office_left office_answers h steps).tables
+    × OfficeIsKept h.settings.publisher (accepted_steps h steps xs) (office_left office_answers h steps).tables
 
 -- two files with these bytes have an office with this content: they hold it, or they hold nothing yet, and it is the empty one
 abbrev pub HaveOffice : Image → Tables → Type 0
@@ -63,7 +62,7 @@ HaveOffice image t = FilesHoldOffice image t ⊎ (HoldNothing image × (t ≡ no
 
 -- an office stands in two files with these bytes, as its commands left it
 abbrev pub StandsIn : Image → Held → Type 0
-StandsIn image h = IsSorted h.tables × HaveOffice image h.tables × IsReached h.settings h.tables
+StandsIn image h = IsSorted h.tables × HaveOffice image h.tables × IsReached h.settings.publisher h.tables
 
 -- under these settings an office goes on from one pair of files to the other, by so many steps at most
 abbrev pub FilesGoOn : Image → Settings → ℕ → Image → Type 0
@@ -114,10 +113,12 @@ LedOn after n m last h =
     (steps : List Step) × (later : List Step) × (length steps ≤ n) × (length later ≤ m)
     × StandsIn last (office_left office_answers (under_settings after (office_left office_answers h steps)) later)
 
--- Where a day finds the files as another left them, and the clerk's key is another from then on, all else being the same, the office goes on under the new key
--- from where the earlier day left it: with its rows and its releases, whichever of the days end by a stop.
+-- Where a day finds the files as another left them, under the same publisher and perhaps another key of the clerk, the office goes on under that key from where
+-- the earlier day left it: with its rows and its releases, whichever of the days end by a stop.
 pub record KeysFollow : Type 0 where
-  pub closed : (before after : Settings) (first mid last : Image) (n m : ℕ) → SameButKey before after → FilesGoOn first before n mid → FilesGoOn mid after m last
+  pub closed : (before after : Settings) (first mid last : Image) (n m : ℕ) → after.publisher ≡ before.publisher
+      → FilesGoOn first before n mid → FilesGoOn mid after m last
       → (h : Held) → h.settings ≡ before → StandsIn first h → LedOn after n m last h
-  pub stopped : (before after : Settings) (first mid last : Image) (n m : ℕ) → SameButKey before after → DayIn first before n mid → DayIn mid after m last
+  pub stopped : (before after : Settings) (first mid last : Image) (n m : ℕ) → after.publisher ≡ before.publisher
+      → DayIn first before n mid → DayIn mid after m last
       → (h : Held) → h.settings ≡ before → StandsIn first h → ∥ LedOn after n m last h ∥₁

@@ -22,8 +22,8 @@ use Rattle.procure_programs.specs.declared.showing.Printout.TheVariants.{Seen}
 
 -- what the public sees by a query, its refusal as the program's fault; there is no other fault
 abbrev pub IsShown : Settings → Query → Tables → Result (Vec ℕ Global) ProgramFault → Type 0
-IsShown settings query s (Ok text) = IsSeen settings Public query s (Ok text.items)
-IsShown settings query s (Err (Refused why)) = IsSeen settings Public query s (Err why)
+IsShown settings query s (Ok text) = IsSeen settings.publisher Public query s (Ok text.items)
+IsShown settings query s (Err (Refused why)) = IsSeen settings.publisher Public query s (Err why)
 IsShown settings query s (Err _) = ⊥
 
 -- a fault of the office, which refuses: no other one
@@ -40,9 +40,10 @@ IsOfPrinting has_failed _ = ⊥
 -- what the public sees by a query is printed, all of it, behind what the output held before; a front of it where the output failed; and nothing where it is
 -- refused. There is no other fault.
 abbrev pub IsPrinted : Settings → Query → Tables → Option (List ℕ) → Option (List ℕ) → Result (Unit {0}) ProgramFault → Type 0
-IsPrinted settings query s before after (Ok done) = (text : List ℕ) × IsSeen settings Public query s (Ok text) × Appends before after text
-IsPrinted settings query s before after (Err fault.Output) = (text : List ℕ) × IsSeen settings Public query s (Ok text) × AppendsPart before after text
-IsPrinted settings query s before after (Err (Refused why)) = IsSeen settings Public query s (Err why) × (after ≡ before)
+IsPrinted settings query s before after (Ok done) = (text : List ℕ) × IsSeen settings.publisher Public query s (Ok text) × Appends before after text
+IsPrinted settings query s before after (Err fault.Output) =
+    (text : List ℕ) × IsSeen settings.publisher Public query s (Ok text) × AppendsPart before after text
+IsPrinted settings query s before after (Err (Refused why)) = IsSeen settings.publisher Public query s (Err why) × (after ≡ before)
 IsPrinted settings query s before after (Err _) = ⊥
 
 -- a paper of a notice that is named; NoRoute where the name can be no notice's

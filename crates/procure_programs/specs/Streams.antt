@@ -22,5 +22,5 @@ pub record AnswersBlocks {S : Type 0} (M : Meaning S) (came rest : ReaderView) (
   pub run : HasRun M ended came.left rest.left old new before.contents after.contents
   pub read : IsErrOf ended ends.Read → HasStopped rest
   pub written : IsErrOf ended ends.Write → after.has_failed ≡ true
-  pub known : M.honest new.shelf → (input : List ℕ) → came.remaining ≡ Some input → (s : Tables) → M.holds old.shelf s → IsReached old.settings s
+  pub known : M.honest new.shelf → (input : List ℕ) → came.remaining ≡ Some input → (s : Tables) → M.holds old.shelf s → IsReached old.settings.publisher s
       → (steps : List Step) × Ran office_answers ended input rest.remaining (held_by old s) steps before.contents after.contents

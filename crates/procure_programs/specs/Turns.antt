@@ -30,7 +30,7 @@ pub record EndsConnection (ended : Result ⊤ RunFault) (read : Option ReaderVie
 -- their front, or the one refusal of them; a front of it where the writer failed; and nothing where the reader failed. So the office is left.
 abbrev pub AnswersConnection : {S : Type 0} → Meaning S → ℕ → Option (List ℕ) → Option (List ℕ) → Option (List ℕ) → DeskOf S → DeskOf S → Result ⊤ RunFault → Type 0
 AnswersConnection M moment came before after old new result =
-    M.honest new.shelf → (input : List ℕ) → came ≡ Some input → (s : Tables) → M.holds old.shelf s → IsReached old.settings s
+    M.honest new.shelf → (input : List ℕ) → came ≡ Some input → (s : Tables) → M.holds old.shelf s → IsReached old.settings.publisher s
     → (now : Option (List ℕ)) × (h : Held) × Served office_answers result input now moment (held_by old s) h before after × StandsAs M new h
 
 -- A connection was taken, behind that the clock was read, the request that came was answered at that moment, and the connection was closed. How it ended is a

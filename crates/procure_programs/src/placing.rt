@@ -1,5 +1,7 @@
-//! Puts an empty database where a new office is to stand, whole or not at all: the pages of a file that is made so are smaller than those that the
-//! ported `sqlite` gives a new file. What stands at the path otherwise is left as it is, to the store, which takes or refuses it.
+//! Puts an empty database at a path that nothing has yet: its pages are smaller than those that the ported `sqlite` gives a new file.
+//!
+//! A file is put in one way only: by `hard_link`, which fails if its name is taken. So no file that exists is replaced or written to, whatever it holds. No
+//! contract can name what a file holds; this holds by how the module is built, and `tests/pages` tries it.
 
 ghost use Rattle.std.specs.Prelude.{IfErr};
 ghost use Rattle.procure_programs.specs.FaultsTold.{IsOfStore};
@@ -7,83 +9,64 @@ ghost use Rattle.procure_programs.specs.FaultsTold.{IsOfStore};
 use crate::blank::empty_database;
 use crate::faults::of_unplaced_file;
 use procure_config::fault::ProgramFault;
-use std::fs::{self, File, Metadata, OpenOptions};
+use std::fs::{self, File, OpenOptions};
 use std::io::{self, ErrorKind};
-use std::os::unix::fs::{FileExt, MetadataExt, OpenOptionsExt, PermissionsExt, fchown};
+use std::os::unix::fs::{FileExt, MetadataExt, OpenOptionsExt};
 use std::path::PathBuf;
+use std::string::String;
 
-/// Where the path names nothing, or a file of one byte at most, which SQLite takes for an empty one, puts an empty database there. A file with a log or a
-/// journal beside it is left as it is: their pages are not those of the new file.
+/// Puts an empty database at the path if nothing has its name. It is written and synced under a second name, `PATH-procure-new`, then linked to the path, and
+/// the second name is removed. A file that exists is left to the store, an empty one too. So is a path beside which a log or a journal holds something: their
+/// pages are not those of the new file.
 pub fn place_empty(rt: &HostRuntime, path: &str) -> Result<(), ProgramFault>
     ensures fault { IfErr result IsOfStore }
 {
     if path == ":memory:" || path.starts_with("file:") {
         return Ok(());
     }
-    match place_where_empty(rt, path) {
+    match place_where_free(rt, path) {
         Ok(()) => Ok(()),
         Err(error) => Err(of_unplaced_file(error)),
     }
 }
 
-fn place_where_empty(rt: &HostRuntime, path: &str) -> io::Result<()> {
-    let real = resolve(rt, path)?;
-    if !is_empty_file(&fs::metadata(rt, real.as_str())?) || has_other(rt, real.as_str())? {
-        return Ok(());
-    }
-    let file = OpenOptions::new()
-        .read(true)
-        .write(true)
-        .open(rt, real.as_str())?;
-    // Held until the file is replaced, so that of two programs that start at once one alone does so.
-    file.try_lock()?;
-    let (found, named) = (file.metadata()?, fs::metadata(rt, real.as_str())?);
-    if !is_empty_file(&named) {
-        return Ok(());
-    }
-    if found.dev() != named.dev() || found.ino() != named.ino() {
-        return Err(ErrorKind::WouldBlock.into());
-    }
-    replace(rt, real, &file)
-}
-
-// The path with no link in it. The file is made if it is missing, and no link is followed to do so.
-fn resolve(rt: &HostRuntime, path: &str) -> io::Result<PathBuf> {
+fn place_where_free(rt: &HostRuntime, path: &str) -> io::Result<()> {
     match fs::canonicalize(rt, path) {
+        Ok(real) => leave_one_name(rt, real.as_str()),
         Err(error) if error.kind() == ErrorKind::NotFound => {
-            make_file(rt, path)?;
-            fs::canonicalize(rt, path)
+            if has_other(rt, path)? {
+                return Ok(());
+            }
+            put_new(rt, path)
         }
-        found => found,
-    }
-}
-
-// Another program may have made it just now.
-fn make_file(rt: &HostRuntime, path: &str) -> io::Result<()> {
-    match OpenOptions::new()
-        .write(true)
-        .create_new(true)
-        .mode(0o644)
-        .open(rt, path)
-    {
-        Ok(_) => Ok(()),
-        Err(error) if error.kind() == ErrorKind::AlreadyExists => Ok(()),
         Err(error) => Err(error),
     }
 }
 
-// The store refuses what is no file or has two names.
-fn is_empty_file(found: &Metadata) -> bool {
-    found.is_file() && found.nlink() == 1 && found.len() <= 1
+fn second_name(rt: &HostRuntime, path: &str) -> io::Result<String> {
+    Ok(format!(in rt.alloc(); "{path}-procure-new")?)
 }
 
-// Whether a log or a journal lies beside the file that is not empty.
-fn has_other(rt: &HostRuntime, real: &str) -> io::Result<bool> {
-    let log = format!(in rt.alloc(); "{real}-wal")?;
+// A start that was stopped may have left the file its second name; the store refuses a file with two names. A file of its own under that name stays.
+fn leave_one_name(rt: &HostRuntime, real: &str) -> io::Result<()> {
+    let beside = second_name(rt, real)?;
+    let file = fs::metadata(rt, real)?;
+    match fs::symlink_metadata(rt, beside.as_str()) {
+        Ok(other) if other.dev() == file.dev() && other.ino() == file.ino() => {
+            let _ = fs::remove_file(rt, beside.as_str());
+        }
+        _ => {}
+    }
+    Ok(())
+}
+
+// Whether a log or a journal that isn't empty lies beside the file.
+fn has_other(rt: &HostRuntime, path: &str) -> io::Result<bool> {
+    let log = format!(in rt.alloc(); "{path}-wal")?;
     if has_bytes(rt, log.as_str())? {
         return Ok(true);
     }
-    let journal = format!(in rt.alloc(); "{real}-journal")?;
+    let journal = format!(in rt.alloc(); "{path}-journal")?;
     has_bytes(rt, journal.as_str())
 }
 
@@ -95,47 +78,57 @@ fn has_bytes(rt: &HostRuntime, path: &str) -> io::Result<bool> {
     }
 }
 
-// Puts the empty database at the path, in the place of this file, and syncs the folder.
-fn replace(rt: &HostRuntime, mut real: PathBuf, file: &File) -> io::Result<()> {
-    let beside = format!(in rt.alloc(); "{}-procure-new", real.as_str())?;
-    match write_beside(rt, beside.as_str(), file) {
-        Ok(()) => fs::rename(rt, beside.as_str(), real.as_str())?,
-        Err(error) => {
-            let _ = fs::remove_file(rt, beside.as_str());
-            return Err(error);
-        }
-    }
-    real.pop();
-    fs::open(rt, real.as_str())?.sync_all()
+// While one start writes and links its file, another one in the same folder waits: else it could link a file that isn't written yet.
+fn put_new(rt: &HostRuntime, path: &str) -> io::Result<()> {
+    let folder = folder_of(rt, path)?;
+    folder.lock()?;
+    let beside = second_name(rt, path)?;
+    let written = write_beside(rt, beside.as_str());
+    let put = match written {
+        Ok(()) => link_new(rt, beside.as_str(), path),
+        Err(error) => Err(error),
+    };
+    let removed = remove_left(rt, beside.as_str());
+    put?;
+    removed?;
+    folder.sync_all()
 }
 
-// A file of that name is what a program left that was stopped.
-fn write_beside(rt: &HostRuntime, beside: &str, file: &File) -> io::Result<()> {
+fn folder_of(rt: &HostRuntime, path: &str) -> io::Result<File> {
+    let mut folder = PathBuf::from_str(rt.alloc(), path)?;
+    folder.pop();
+    folder.push(".")?;
+    fs::open(rt, folder.as_str())
+}
+
+fn remove_left(rt: &HostRuntime, beside: &str) -> io::Result<()> {
     match fs::remove_file(rt, beside) {
-        Err(error) if error.kind() != ErrorKind::NotFound => return Err(error),
-        _ => {}
+        Err(error) if error.kind() == ErrorKind::NotFound => Ok(()),
+        other => other,
     }
+}
+
+// A file of this name was left by a start that was stopped.
+fn write_beside(rt: &HostRuntime, beside: &str) -> io::Result<()> {
+    remove_left(rt, beside)?;
     let new = OpenOptions::new()
         .write(true)
         .create_new(true)
-        .mode(0o600)
+        .mode(0o644)
         .open(rt, beside)?;
     new.write_all_at(&empty_database(), 0)?;
-    copy_access(file, &new)?;
     new.sync_all()
 }
 
-// The mode of the file, and its group and owner where this process may.
-fn copy_access(from: &File, to: &File) -> io::Result<()> {
-    let found = from.metadata()?;
-    unless_denied(fchown(to, None, Some(found.gid())))?;
-    unless_denied(fchown(to, Some(found.uid()), None))?;
-    to.set_permissions(fs::Permissions::from_mode(found.mode() & 0o777))
-}
-
-fn unless_denied(outcome: io::Result<()>) -> io::Result<()> {
-    match outcome {
-        Err(error) if error.kind() == ErrorKind::PermissionDenied => Ok(()),
-        other => other,
+// If the name is taken by now, or the file system has no hard links, nothing is put, and the store opens or makes the file.
+fn link_new(rt: &HostRuntime, beside: &str, path: &str) -> io::Result<()> {
+    match fs::hard_link(rt, beside, path) {
+        Err(error) => match error.kind() {
+            ErrorKind::AlreadyExists | ErrorKind::PermissionDenied | ErrorKind::Unsupported => Ok(
+                (),
+            ),
+            _ => Err(error),
+        },
+        Ok(()) => Ok(()),
     }
 }

@@ -55,7 +55,8 @@ fn close_office<D: Disk + Drop>(
 {
     match shelf.close_files() {
         Ok(files) => Ok((files, worked)),
-        Err(fault) => {
+        Err((fault, store)) => {
+            drop(store.close());
             worked?;
             Err(of_shelf(fault))
         }

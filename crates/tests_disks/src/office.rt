@@ -75,7 +75,10 @@ impl OfficeOnDisks {
     pub fn close(self) -> Option<Disks> {
         match self.into_shelf().close_files() {
             Ok(files) => Some(Disks { files }),
-            Err(_) => None,
+            Err((_, store)) => {
+                drop(store.close());
+                None
+            }
         }
     }
 

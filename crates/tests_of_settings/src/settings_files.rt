@@ -98,15 +98,16 @@ fn are_lines(lines: &[TextLine], wanted: &[&str]) -> bool {
 
 // Whether these are the worked settings, but for the extensions.
 fn are_worked(settings: &Settings) -> bool {
-    settings.prefix.as_str() == "ocds-a1b2c3"
-        && settings.currency.as_str() == "EUR"
-        && settings.language.as_str() == "en"
-        && settings.base.as_str() == "http://127.0.0.1:8080"
-        && settings.publisher.as_str() == "City Office"
+    let publisher = &settings.publisher;
+    publisher.prefix.as_str() == "ocds-a1b2c3"
+        && publisher.currency.as_str() == "EUR"
+        && publisher.language.as_str() == "en"
+        && publisher.base.as_str() == "http://127.0.0.1:8080"
+        && publisher.name.as_str() == "City Office"
         && settings.clerk_key[0] == 0xba
         && settings.clerk_key[31] == 0xad
-        && settings.buyer.id.as_str() == "city"
-        && settings.buyer.name.as_str() == "City Office"
+        && publisher.buyer.id.as_str() == "city"
+        && publisher.buyer.name.as_str() == "City Office"
 }
 
 // Whether the worked settings with these extensions are read.
@@ -117,7 +118,7 @@ fn is_read(alloc: Global, extensions: &str, wanted: &[&str]) -> bool {
     }
     match read_settings(alloc, text.as_bytes()) {
         Ok(settings) => {
-            are_worked(&settings) && are_lines(settings.extensions.as_slice(), wanted)
+            are_worked(&settings) && are_lines(settings.publisher.extensions.as_slice(), wanted)
         }
         Err(_) => false,
     }

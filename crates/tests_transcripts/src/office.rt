@@ -1,6 +1,6 @@
 //! The settings of the office that transcripts speak of.
 use office_values::id::Id;
-use office_values::settings::{Buyer, Currency, Extensions, Language, Prefix, Settings};
+use office_values::settings::{Buyer, Currency, Extensions, Language, Prefix, Publisher, Settings};
 use office_values::text::TextLine;
 use std::alloc::Global;
 
@@ -27,14 +27,17 @@ fn buyer(alloc: Global) -> Option<Buyer> {
 
 /// Its settings, with the clerk's key `abc`; None where memory is wanting.
 pub fn settings(alloc: Global) -> Option<Settings> {
-    Some(Settings {
+    let publisher = Publisher {
         prefix: Prefix::read(b"ocds-a1b2c3")?,
         currency: Currency::read(b"EUR")?,
         language: Language::read(b"en")?,
         base: text(alloc, "http://127.0.0.1:8080")?,
-        publisher: text(alloc, "City Office")?,
+        name: text(alloc, "City Office")?,
         extensions: Extensions::from_vec(Vec::new(alloc))?,
-        clerk_key: CLERK_KEY,
         buyer: buyer(alloc)?,
+    };
+    Some(Settings {
+        publisher,
+        clerk_key: CLERK_KEY,
     })
 }

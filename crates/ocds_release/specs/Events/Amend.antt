@@ -1,12 +1,11 @@
 -- An amendment of a notice.
-use Rattle.std.specs.Prelude.{ℕ, [], ◌∷◌, codes}
+use Rattle.std.specs.Prelude.{ℕ, List, [], ◌∷◌, codes}
 use Rattle.serde_json.specs.Data.{Data}
 use Rattle.office_values.specs.Moments.{moment_text}
-use Rattle.office_values.specs.declared.settings.Settings.{Settings}
-use Rattle.ocds_release.specs.Objects.{text, four_digit_id, array_of, object_of}
+use Rattle.ocds_release.specs.Objects.{Entry, text, four_digit_id, array_of, object_of}
 use Rattle.ocds_release.specs.Texts.{moved_text}
 use Rattle.ocds_release.specs.Amendments.{amendment}
-use Rattle.ocds_release.specs.Releases.{release, tags}
+use Rattle.ocds_release.specs.Releases.{tags}
 use Rattle.ocds_release.specs.declared.event.NoticeAmended.{NoticeAmended}
 
 -- the tender with its new deadline, and the amendment, whose id is the release's number in four digits (OCDS 1.1, Tender)
@@ -18,8 +17,8 @@ amended_tender seq t e = object_of (
     ∷ [])
 
 -- tag `tenderAmendment`, and the tender
-abbrev pub amend_release : Settings → ℕ → ℕ → NoticeAmended → Data
-amend_release settings seq t e = release settings seq t e.notice (
+abbrev pub amend_body : ℕ → ℕ → NoticeAmended → List Entry
+amend_body seq t e =
     tags (codes "tenderAmendment" ∷ [])
     ∷ (codes "tender", amended_tender seq t e)
-    ∷ [])
+    ∷ []

@@ -1,13 +1,13 @@
 -- An amendment of a contract.
 use Rattle.std.specs.Prelude.{ℕ, List, [], ◌∷◌, codes}
 use Rattle.serde_json.specs.Data.{Data}
-use Rattle.office_values.specs.declared.settings.Settings.{Settings}
+use Rattle.office_values.specs.declared.settings.Publisher.{Publisher}
 use Rattle.office_commands.specs.declared.contract.ChangeKind.{ChangeKind}
 use Rattle.office_commands.specs.declared.contract.ChangeKind.TheVariants.{Raise, Cut}
-use Rattle.ocds_release.specs.Objects.{text, decimal_id, array_of, object_of, money}
+use Rattle.ocds_release.specs.Objects.{Entry, text, decimal_id, array_of, object_of, money}
 use Rattle.ocds_release.specs.Texts.{raised_text, cut_text}
 use Rattle.ocds_release.specs.Amendments.{amendment}
-use Rattle.ocds_release.specs.Releases.{release, tags}
+use Rattle.ocds_release.specs.Releases.{tags}
 use Rattle.ocds_release.specs.declared.event.ContractAmended.{ContractAmended}
 
 -- what the amendment did
@@ -25,8 +25,8 @@ amended_contract currency t e = object_of (
     ∷ [])
 
 -- tag `contractAmendment`, and the contract
-abbrev pub amend_contract_release : Settings → ℕ → ℕ → ContractAmended → Data
-amend_contract_release settings seq t e = release settings seq t e.notice (
+abbrev pub amend_contract_body : Publisher → ℕ → ContractAmended → List Entry
+amend_contract_body publisher t e =
     tags (codes "contractAmendment" ∷ [])
-    ∷ (codes "contracts", array_of (amended_contract settings.currency t e ∷ []))
-    ∷ [])
+    ∷ (codes "contracts", array_of (amended_contract publisher.currency t e ∷ []))
+    ∷ []

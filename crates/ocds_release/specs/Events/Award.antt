@@ -2,10 +2,10 @@
 use Rattle.std.specs.Prelude.{ℕ, List, [], ◌∷◌, codes}
 use Rattle.serde_json.specs.Data.{Data}
 use Rattle.office_values.specs.Moments.{moment_text}
-use Rattle.office_values.specs.declared.settings.Settings.{Settings}
-use Rattle.ocds_release.specs.Objects.{text, texts, decimal_id, array_of, object_of, money, tenderer_reference}
+use Rattle.office_values.specs.declared.settings.Publisher.{Publisher}
+use Rattle.ocds_release.specs.Objects.{Entry, text, texts, decimal_id, array_of, object_of, money, tenderer_reference}
 use Rattle.ocds_release.specs.Texts.{tenderer_id}
-use Rattle.ocds_release.specs.Releases.{release, tags}
+use Rattle.ocds_release.specs.Releases.{tags}
 use Rattle.ocds_release.specs.declared.event.Awarded.{Awarded}
 
 -- the winner, who is a supplier now (OCDS 1.1, Organization, codelist partyRole)
@@ -27,9 +27,9 @@ award_data currency t e = object_of (
     ∷ [])
 
 -- tag `award`, the winner as a party, and the award
-abbrev pub award_release : Settings → ℕ → ℕ → Awarded → Data
-award_release settings seq t e = release settings seq t e.notice (
+abbrev pub award_body : Publisher → ℕ → Awarded → List Entry
+award_body publisher t e =
     tags (codes "award" ∷ [])
     ∷ (codes "parties", array_of (winner_party e ∷ []))
-    ∷ (codes "awards", array_of (award_data settings.currency t e ∷ []))
-    ∷ [])
+    ∷ (codes "awards", array_of (award_data publisher.currency t e ∷ []))
+    ∷ []

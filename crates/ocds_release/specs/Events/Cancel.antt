@@ -1,12 +1,10 @@
 -- A cancellation.
 use Rattle.std.specs.Prelude.{ℕ, List, [], ◌∷◌, codes, map}
 use Rattle.serde_json.specs.Data.{Data, object}
-use Rattle.office_values.specs.declared.settings.Settings.{Settings}
-use Rattle.ocds_release.specs.Objects.{text, texts, four_digit_id, array_of, put_unless_empty}
+use Rattle.ocds_release.specs.Objects.{Entry, text, texts, four_digit_id, array_of, put_unless_empty}
 use Rattle.ocds_release.specs.Amendments.{amendment}
 use Rattle.ocds_release.specs.Awards.{ended_award}
 use Rattle.ocds_release.specs.Tenders.{lot_in_status, tender_members}
-use Rattle.ocds_release.specs.Releases.{release}
 use Rattle.ocds_release.specs.declared.event.NoticeCancelled.{NoticeCancelled}
 
 -- a lot that was cancelled
@@ -25,9 +23,9 @@ cancel_tag [] = texts (codes "tenderCancellation" ∷ [])
 cancel_tag (award ∷ awards) = texts (codes "tenderCancellation" ∷ codes "awardCancellation" ∷ [])
 
 -- the tags, the tender, and the awards that end
-abbrev pub cancel_release : Settings → ℕ → ℕ → NoticeCancelled → Data
-cancel_release settings seq t e = release settings seq t e.notice (
+abbrev pub cancel_body : ℕ → ℕ → NoticeCancelled → List Entry
+cancel_body seq t e =
     (codes "tag", cancel_tag e.awards)
     ∷ (codes "tender", cancelled_tender seq t e)
     ∷ (codes "awards", array_of (map ended_award e.awards))
-    ∷ [])
+    ∷ []

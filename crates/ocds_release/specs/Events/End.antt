@@ -1,9 +1,8 @@
 -- The end of a contract.
-use Rattle.std.specs.Prelude.{ℕ, [], ◌∷◌, codes}
+use Rattle.std.specs.Prelude.{ℕ, List, [], ◌∷◌, codes}
 use Rattle.serde_json.specs.Data.{Data}
-use Rattle.office_values.specs.declared.settings.Settings.{Settings}
-use Rattle.ocds_release.specs.Objects.{text, decimal_id, array_of, object_of}
-use Rattle.ocds_release.specs.Releases.{release, tags}
+use Rattle.ocds_release.specs.Objects.{Entry, text, decimal_id, array_of, object_of}
+use Rattle.ocds_release.specs.Releases.{tags}
 use Rattle.ocds_release.specs.declared.event.ContractEnded.{ContractEnded}
 
 -- the contract, which is over (OCDS 1.1, codelist contractStatus)
@@ -15,8 +14,8 @@ ended_contract_data contract = object_of (
     ∷ [])
 
 -- tag `contractTermination`, and the contract
-abbrev pub end_release : Settings → ℕ → ℕ → ContractEnded → Data
-end_release settings seq t e = release settings seq t e.notice (
+abbrev pub end_body : ContractEnded → List Entry
+end_body e =
     tags (codes "contractTermination" ∷ [])
     ∷ (codes "contracts", array_of (ended_contract_data e.contract ∷ []))
-    ∷ [])
+    ∷ []

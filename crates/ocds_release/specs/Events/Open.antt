@@ -1,11 +1,10 @@
 -- The opening of tenders.
-use Rattle.std.specs.Prelude.{ℕ, [], ◌∷◌, codes, map, length}
+use Rattle.std.specs.Prelude.{List, [], ◌∷◌, codes, map, length}
 use Rattle.serde_json.specs.Data.{Data, number, unsigned}
-use Rattle.office_values.specs.declared.settings.Settings.{Settings}
-use Rattle.ocds_release.specs.Objects.{text, texts, array_of, object_of, tenderer_reference}
+use Rattle.ocds_release.specs.Objects.{Entry, text, texts, array_of, object_of, tenderer_reference}
 use Rattle.ocds_release.specs.Texts.{tenderer_id}
 use Rattle.ocds_release.specs.Tenderers.{Tenderer}
-use Rattle.ocds_release.specs.Releases.{release, tags}
+use Rattle.ocds_release.specs.Releases.{tags}
 use Rattle.ocds_release.specs.declared.event.Opened.{Opened}
 
 -- a tenderer as a party, with the address (OCDS 1.1, Organization, Address)
@@ -30,9 +29,9 @@ opened_tender e = object_of (
     ∷ [])
 
 -- tag `tenderUpdate`, the tenderers as parties, and the tender
-abbrev pub open_release : Settings → ℕ → ℕ → Opened → Data
-open_release settings seq t e = release settings seq t e.notice (
+abbrev pub open_body : Opened → List Entry
+open_body e =
     tags (codes "tenderUpdate" ∷ [])
     ∷ (codes "parties", array_of (map opened_party e.tenderers))
     ∷ (codes "tender", opened_tender e)
-    ∷ [])
+    ∷ []

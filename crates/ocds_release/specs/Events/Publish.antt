@@ -2,16 +2,16 @@
 use Rattle.std.specs.Prelude.{ℕ, List, [], ◌∷◌, ◌++◌, codes, map}
 use Rattle.serde_json.specs.Data.{Data, Members, object, no_members, number, unsigned}
 use Rattle.office_values.specs.Moments.{moment_text}
-use Rattle.office_values.specs.declared.settings.Settings.{Settings}
+use Rattle.office_values.specs.declared.settings.Publisher.{Publisher}
 use Rattle.office_commands.specs.declared.item.Item.{Item}
 use Rattle.office_commands.specs.declared.lot.NewLot.{NewLot}
 use Rattle.office_commands.specs.declared.notice.Criteria.{Criteria}
 use Rattle.office_commands.specs.declared.notice.Criteria.TheVariants.{Price, Points}
 use Rattle.office_base.specs.Sums.{sum_over}
 use Rattle.ocds_release.specs.LotsInOrder.{lots_in_order}
-use Rattle.ocds_release.specs.Objects.{text, texts, array_of, object_of, with_entries, money}
+use Rattle.ocds_release.specs.Objects.{Entry, text, texts, array_of, object_of, with_entries, money}
 use Rattle.ocds_release.specs.Texts.{buyer_id, item_id_text}
-use Rattle.ocds_release.specs.Releases.{release, tags, buyer_of}
+use Rattle.ocds_release.specs.Releases.{tags, buyer_of}
 use Rattle.ocds_release.specs.declared.event.Published.{Published}
 
 -- what decides between tenders (OCDS 1.1, codelist awardCriteria)
@@ -49,10 +49,10 @@ abbrev pub estimate_of : NewLot → ℕ
 estimate_of lot = lot.estimate
 
 -- the buyer as a party (OCDS 1.1, Organization, codelist partyRole)
-abbrev pub buyer_party : Settings → Data
-buyer_party settings = object_of (
-    (codes "id", text (buyer_id settings.buyer.id))
-    ∷ (codes "name", text settings.buyer.name)
+abbrev pub buyer_party : Publisher → Data
+buyer_party publisher = object_of (
+    (codes "id", text (buyer_id publisher.buyer.id))
+    ∷ (codes "name", text publisher.buyer.name)
     ∷ (codes "roles", texts (codes "buyer" ∷ codes "procuringEntity" ∷ []))
     ∷ [])
 
@@ -65,31 +65,31 @@ abbrev pub period : ℕ → ℕ → Data
 period from to = object_of ((codes "endDate", text (moment_text to)) ∷ (codes "startDate", text (moment_text from)) ∷ [])
 
 -- what the tender is, beside its value, its lots and its period (OCDS 1.1, Tender)
-abbrev pub tender_terms : Settings → Published → Members
-tender_terms settings e = with_entries (
+abbrev pub tender_terms : Publisher → Published → Members
+tender_terms publisher e = with_entries (
     (codes "awardCriteria", text (criteria_code e.criteria))
     ∷ (codes "id", text e.notice)
     ∷ (codes "procurementMethod", text (codes "open"))
-    ∷ (codes "procuringEntity", buyer_of settings)
+    ∷ (codes "procuringEntity", buyer_of publisher)
     ∷ (codes "status", text (codes "active"))
     ∷ (codes "submissionMethod", texts (codes "electronicSubmission" ∷ []))
     ∷ (codes "title", text e.title)
     ∷ []) no_members
 
 -- the tender: the sum of the estimates as its value, its lots in the order of their identifiers, their items, from now to the deadline
-abbrev pub published_tender : Settings → ℕ → Published → Data
-published_tender settings t e = object (with_entries (
-    (codes "value", money (sum_over estimate_of e.lots) settings.currency)
+abbrev pub published_tender : Publisher → ℕ → Published → Data
+published_tender publisher t e = object (with_entries (
+    (codes "value", money (sum_over estimate_of e.lots) publisher.currency)
     ∷ (codes "items", array_of (items_of_lots (lots_in_order e.lots)))
-    ∷ (codes "lots", array_of (map (published_lot settings.currency) (lots_in_order e.lots)))
+    ∷ (codes "lots", array_of (map (published_lot publisher.currency) (lots_in_order e.lots)))
     ∷ (codes "tenderPeriod", period t e.deadline)
-    ∷ []) (tender_terms settings e))
+    ∷ []) (tender_terms publisher e))
 
 -- tags `planning` and `tender`, the buyer as a party, the sum of the estimates as the budget, and the tender
-abbrev pub publish_release : Settings → ℕ → ℕ → Published → Data
-publish_release settings seq t e = release settings seq t e.notice (
+abbrev pub publish_body : Publisher → ℕ → Published → List Entry
+publish_body publisher t e =
     tags (codes "planning" ∷ codes "tender" ∷ [])
-    ∷ (codes "parties", array_of (buyer_party settings ∷ []))
-    ∷ (codes "planning", planning settings.currency (sum_over estimate_of e.lots))
-    ∷ (codes "tender", published_tender settings t e)
-    ∷ [])
+    ∷ (codes "parties", array_of (buyer_party publisher ∷ []))
+    ∷ (codes "planning", planning publisher.currency (sum_over estimate_of e.lots))
+    ∷ (codes "tender", published_tender publisher t e)
+    ∷ []

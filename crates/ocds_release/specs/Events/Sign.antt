@@ -2,10 +2,10 @@
 use Rattle.std.specs.Prelude.{ℕ, List, [], ◌∷◌, codes}
 use Rattle.serde_json.specs.Data.{Data}
 use Rattle.office_values.specs.Moments.{moment_text}
-use Rattle.office_values.specs.declared.settings.Settings.{Settings}
-use Rattle.ocds_release.specs.Objects.{text, decimal_id, array_of, object_of, money}
+use Rattle.office_values.specs.declared.settings.Publisher.{Publisher}
+use Rattle.ocds_release.specs.Objects.{Entry, text, decimal_id, array_of, object_of, money}
 use Rattle.ocds_release.specs.Tenders.{tender_with_lot}
-use Rattle.ocds_release.specs.Releases.{release, tags}
+use Rattle.ocds_release.specs.Releases.{tags}
 use Rattle.ocds_release.specs.declared.event.Signed.{Signed}
 
 -- the contract at the price of its award, whose number it has (OCDS 1.1, Contract)
@@ -19,9 +19,9 @@ signed_contract currency t e = object_of (
     ∷ [])
 
 -- tag `contract`, the contract, and the tender with its status and the lot, which is complete
-abbrev pub sign_release : Settings → ℕ → ℕ → Signed → Data
-sign_release settings seq t e = release settings seq t e.notice (
+abbrev pub sign_body : Publisher → ℕ → Signed → List Entry
+sign_body publisher t e =
     tags (codes "contract" ∷ [])
-    ∷ (codes "contracts", array_of (signed_contract settings.currency t e ∷ []))
+    ∷ (codes "contracts", array_of (signed_contract publisher.currency t e ∷ []))
     ∷ (codes "tender", tender_with_lot e.notice e.status e.lot (codes "complete"))
-    ∷ [])
+    ∷ []

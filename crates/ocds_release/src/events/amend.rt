@@ -1,16 +1,15 @@
 //! An amendment of a notice.
 ghost use Rattle.std.specs.Prelude.{◌≡◌, IfOk};
 ghost use Rattle.serde_json.specs.View.{view};
-ghost use Rattle.ocds_release.specs.Events.Amend.{amend_release, amended_tender};
+ghost use Rattle.ocds_release.specs.Inside.Built.{Says};
+ghost use Rattle.ocds_release.specs.Events.Amend.{amend_body, amended_tender};
 
 use crate::amendment::amendment_of;
 use crate::event::NoticeAmended;
 use crate::object::{Object, list_of_one, object_with};
 use crate::part::{Part, value_of};
-use crate::release::{Head, release_with};
 use office_base::counts::Sequence;
 use office_values::moment::Moment;
-use office_values::settings::Settings;
 use serde_json::Value;
 use std::alloc::{AllocError, Global};
 
@@ -37,25 +36,16 @@ fn tender_of<'a>(
 /// The release of an amendment of a notice.
 pub(crate) fn amend<'a>(
     alloc: Global,
-    settings: &'a Settings,
+    release: Object,
     seq: Sequence,
     t: Moment,
     event: &'a NoticeAmended<'a>,
 ) -> Result<Value, AllocError>
-    ensures { IfOk result (λ v. view v ≡ amend_release settings.now seq t event.now) }
+    ensures { IfOk result (Says release (amend_body seq t event.now)) }
 {
     let tender = tender_of(alloc, seq, t, event)?;
-    let head = Head {
-        notice: event.notice,
-        seq,
-        t,
-    };
-    let mut release = release_with(
-        alloc,
-        settings,
-        head,
-        &[("tag", Part::Only("tenderAmendment"))],
-    )?;
+    let mut release = release;
+    release.put(alloc, &[("tag", Part::Only("tenderAmendment"))])?;
     release.put_value(alloc, "tender", tender)?;
     Ok(release.into_value())
 }

@@ -2,17 +2,16 @@
 ghost use Rattle.std.specs.Prelude.{◌≡◌, IfOk};
 ghost use Rattle.serde_json.specs.View.{view};
 ghost use Rattle.ocds_release.specs.Objects.{text};
-ghost use Rattle.ocds_release.specs.Events.AmendContract.{amend_contract_release, amended_contract, change_text};
+ghost use Rattle.ocds_release.specs.Inside.Built.{Says};
+ghost use Rattle.ocds_release.specs.Events.AmendContract.{amend_contract_body, amended_contract, change_text};
 
 use crate::amendment::amendment_of;
 use crate::event::ContractAmended;
 use crate::object::{Object, list_of_one};
 use crate::part::{Part, value_of};
-use crate::release::{Head, release_with};
-use office_base::counts::Sequence;
 use office_commands::contract::ChangeKind;
 use office_values::moment::Moment;
-use office_values::settings::{Currency, Settings};
+use office_values::settings::{Currency, Publisher};
 use serde_json::Value;
 use std::alloc::{AllocError, Global};
 
@@ -54,25 +53,16 @@ fn contract_of<'a>(
 /// The release of an amendment of a contract.
 pub(crate) fn amend_contract<'a>(
     alloc: Global,
-    settings: &'a Settings,
-    seq: Sequence,
+    release: Object,
+    publisher: &'a Publisher,
     t: Moment,
     event: &'a ContractAmended<'a>,
 ) -> Result<Value, AllocError>
-    ensures { IfOk result (λ v. view v ≡ amend_contract_release settings.now seq t event.now) }
+    ensures { IfOk result (Says release (amend_contract_body publisher.now t event.now)) }
 {
-    let contract = contract_of(alloc, settings.currency, t, event)?;
-    let head = Head {
-        notice: event.notice,
-        seq,
-        t,
-    };
-    let mut release = release_with(
-        alloc,
-        settings,
-        head,
-        &[("tag", Part::Only("contractAmendment"))],
-    )?;
+    let contract = contract_of(alloc, publisher.currency, t, event)?;
+    let mut release = release;
+    release.put(alloc, &[("tag", Part::Only("contractAmendment"))])?;
     release.put_value(alloc, "contracts", list_of_one(alloc, contract)?)?;
     Ok(release.into_value())
 }

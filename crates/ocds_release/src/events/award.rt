@@ -1,15 +1,14 @@
 //! An award.
 ghost use Rattle.std.specs.Prelude.{◌≡◌, IfOk};
 ghost use Rattle.serde_json.specs.View.{view};
-ghost use Rattle.ocds_release.specs.Events.Award.{award_release, winner_party as winning_party, award_data};
+ghost use Rattle.ocds_release.specs.Inside.Built.{Says};
+ghost use Rattle.ocds_release.specs.Events.Award.{award_body, winner_party as winning_party, award_data};
 
 use crate::event::Awarded;
 use crate::object::{Object, list_of_one, object_with};
 use crate::part::{Part, value_of};
-use crate::release::{Head, release_with};
-use office_base::counts::Sequence;
 use office_values::moment::Moment;
-use office_values::settings::{Currency, Settings};
+use office_values::settings::{Currency, Publisher};
 use serde_json::Value;
 use std::alloc::{AllocError, Global};
 
@@ -57,21 +56,17 @@ fn award_of<'a>(
 /// The release of an award.
 pub(crate) fn award<'a>(
     alloc: Global,
-    settings: &'a Settings,
-    seq: Sequence,
+    release: Object,
+    publisher: &'a Publisher,
     t: Moment,
     event: &'a Awarded<'a>,
 ) -> Result<Value, AllocError>
-    ensures { IfOk result (λ v. view v ≡ award_release settings.now seq t event.now) }
+    ensures { IfOk result (Says release (award_body publisher.now t event.now)) }
 {
     let winner = winner_of(alloc, event)?;
-    let award = award_of(alloc, settings.currency, t, event)?;
-    let head = Head {
-        notice: event.notice,
-        seq,
-        t,
-    };
-    let mut release = release_with(alloc, settings, head, &[("tag", Part::Only("award"))])?;
+    let award = award_of(alloc, publisher.currency, t, event)?;
+    let mut release = release;
+    release.put(alloc, &[("tag", Part::Only("award"))])?;
     release.put_value(alloc, "parties", list_of_one(alloc, winner)?)?;
     release.put_value(alloc, "awards", list_of_one(alloc, award)?)?;
     Ok(release.into_value())

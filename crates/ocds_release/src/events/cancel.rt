@@ -3,20 +3,19 @@ ghost use Rattle.std.specs.Prelude.{◌≡◌, IfOk, map};
 ghost use Rattle.serde_json.specs.View.{view};
 ghost use Rattle.ocds_release.specs.Awards.{ended_award};
 ghost use Rattle.ocds_release.specs.Tenders.{lot_in_status};
-ghost use Rattle.ocds_release.specs.Events.Cancel.{cancel_release, cancelled_lot_data, cancelled_tender, cancel_tag};
+ghost use Rattle.ocds_release.specs.Inside.Built.{Says};
+ghost use Rattle.ocds_release.specs.Events.Cancel.{cancel_body, cancelled_lot_data, cancelled_tender, cancel_tag};
 
 use crate::amendment::amendment_of;
 use crate::event::NoticeCancelled;
 use crate::events::fail::ended_award_of;
-use crate::object::list_of_one;
+use crate::object::{Object, list_of_one};
 use crate::part::{Part, value_of};
-use crate::release::{Head, release_with};
 use crate::tender::{lot_in_status, tender_with_lots};
 use office_base::counts::Sequence;
 use office_values::given::GivenNumber;
 use office_values::id::Id;
 use office_values::moment::Moment;
-use office_values::settings::Settings;
 use serde_json::{Value, json};
 use std::alloc::{AllocError, Global};
 
@@ -72,22 +71,17 @@ fn tag_of(alloc: Global, awards: &[GivenNumber]) -> Result<Value, AllocError>
 /// The release of a cancellation.
 pub(crate) fn cancel<'a>(
     alloc: Global,
-    settings: &'a Settings,
+    release: Object,
     seq: Sequence,
     t: Moment,
     event: &'a NoticeCancelled<'a>,
 ) -> Result<Value, AllocError>
-    ensures { IfOk result (λ v. view v ≡ cancel_release settings.now seq t event.now) }
+    ensures { IfOk result (Says release (cancel_body seq t event.now)) }
 {
     let tender = tender_of(alloc, seq, t, event)?;
     let ended = event.awards.as_slice();
     let awards = Value::Array(awards_of(alloc, ended)?);
-    let head = Head {
-        notice: event.notice,
-        seq,
-        t,
-    };
-    let mut release = release_with(alloc, settings, head, &[])?;
+    let mut release = release;
     release.put_value(alloc, "tag", tag_of(alloc, ended)?)?;
     release.put_value(alloc, "tender", tender)?;
     release.put_value(alloc, "awards", awards)?;

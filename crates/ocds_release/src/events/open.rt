@@ -1,18 +1,16 @@
 //! The opening of tenders.
 ghost use Rattle.std.specs.Prelude.{◌≡◌, IfOk, map};
 ghost use Rattle.serde_json.specs.View.{view};
+ghost use Rattle.ocds_release.specs.Objects.{array_of};
 ghost use Rattle.ocds_release.specs.Tenderers.{tenderer_shown};
-ghost use Rattle.ocds_release.specs.Events.Open.{open_release, opened_party, tenderer_reference_of, opened_tender};
+ghost use Rattle.ocds_release.specs.Inside.Built.{Says};
+ghost use Rattle.ocds_release.specs.Events.Open.{open_body, opened_party, tenderer_reference_of, opened_tender};
 
 use crate::event::Opened;
 use crate::object::{Object, object_with};
 use crate::part::{Part, value_of};
-use crate::release::{Head, release_with};
-use office_base::counts::Sequence;
 use office_base::records::TendererRow;
 use office_values::id::Id;
-use office_values::moment::Moment;
-use office_values::settings::Settings;
 use serde_json::Value;
 use std::alloc::{AllocError, Global};
 
@@ -75,29 +73,26 @@ fn tender_of(alloc: Global, event: &Opened) -> Result<Value, AllocError>
     Ok(tender.into_value())
 }
 
+// The tenderers as parties.
+fn party_list<'a>(alloc: Global, event: &'a Opened<'a>) -> Result<Value, AllocError>
+    ensures { IfOk result (λ v. view v ≡ array_of (map opened_party event.now.tenderers)) }
+{
+    let parties = parties_of(alloc, event.tenderers.as_slice())?;
+    Ok(Value::Array(parties))
+}
+
 /// The release of an opening of tenders.
 pub(crate) fn open<'a>(
     alloc: Global,
-    settings: &'a Settings,
-    seq: Sequence,
-    t: Moment,
+    release: Object,
     event: &'a Opened<'a>,
 ) -> Result<Value, AllocError>
-    ensures { IfOk result (λ v. view v ≡ open_release settings.now seq t event.now) }
+    ensures { IfOk result (Says release (open_body event.now)) }
 {
-    let parties = Value::Array(parties_of(alloc, event.tenderers.as_slice())?);
+    let parties = party_list(alloc, event)?;
     let tender = tender_of(alloc, event)?;
-    let head = Head {
-        notice: event.notice,
-        seq,
-        t,
-    };
-    let mut release = release_with(
-        alloc,
-        settings,
-        head,
-        &[("tag", Part::Only("tenderUpdate"))],
-    )?;
+    let mut release = release;
+    release.put(alloc, &[("tag", Part::Only("tenderUpdate"))])?;
     release.put_value(alloc, "parties", parties)?;
     release.put_value(alloc, "tender", tender)?;
     Ok(release.into_value())

@@ -1,36 +1,35 @@
 //! A payment.
 ghost use Rattle.std.specs.Prelude.{◌≡◌, IfOk};
 ghost use Rattle.serde_json.specs.View.{view};
-ghost use Rattle.ocds_release.specs.Events.Pay.{pay_release, paid_contract, transaction};
+ghost use Rattle.ocds_release.specs.Inside.Built.{Says};
+ghost use Rattle.ocds_release.specs.Events.Pay.{pay_body, paid_contract, transaction};
 
 use crate::event::Paid;
 use crate::object::{Object, list_of_one, object_with};
 use crate::part::Part;
-use crate::release::{Head, release_with};
-use office_base::counts::Sequence;
 use office_values::moment::Moment;
-use office_values::settings::Settings;
+use office_values::settings::Publisher;
 use serde_json::Value;
 use std::alloc::{AllocError, Global};
 
 // The payment as a transaction.
 fn transaction_of<'a>(
     alloc: Global,
-    settings: &'a Settings,
+    publisher: &'a Publisher,
     t: Moment,
     event: &'a Paid<'a>,
 ) -> Result<Value, AllocError>
-    ensures { IfOk result (λ v. view v ≡ transaction settings.now t event.now) }
+    ensures { IfOk result (λ v. view v ≡ transaction publisher.now t event.now) }
 {
     object_with(
         alloc,
         &[
             ("id", Part::Id(event.entry)),
             ("date", Part::Moment(t)),
-            ("value", Part::Money(event.amount.get(), settings.currency)),
+            ("value", Part::Money(event.amount.get(), publisher.currency)),
             (
                 "payer",
-                Part::Buyer(settings.buyer.id, settings.buyer.name.as_str()),
+                Part::Buyer(publisher.buyer.id, publisher.buyer.name.as_str()),
             ),
             (
                 "payee",
@@ -43,13 +42,13 @@ fn transaction_of<'a>(
 // The contract with its transaction.
 fn contract_of<'a>(
     alloc: Global,
-    settings: &'a Settings,
+    publisher: &'a Publisher,
     t: Moment,
     event: &'a Paid<'a>,
 ) -> Result<Value, AllocError>
-    ensures { IfOk result (λ v. view v ≡ paid_contract settings.now t event.now) }
+    ensures { IfOk result (λ v. view v ≡ paid_contract publisher.now t event.now) }
 {
-    let transaction = transaction_of(alloc, settings, t, event)?;
+    let transaction = transaction_of(alloc, publisher, t, event)?;
     let mut implementation = Object::new(alloc);
     implementation.put_value(alloc, "transactions", list_of_one(alloc, transaction)?)?;
     let number = event.contract.get();
@@ -68,25 +67,16 @@ fn contract_of<'a>(
 /// The release of a payment.
 pub(crate) fn pay<'a>(
     alloc: Global,
-    settings: &'a Settings,
-    seq: Sequence,
+    release: Object,
+    publisher: &'a Publisher,
     t: Moment,
     event: &'a Paid<'a>,
 ) -> Result<Value, AllocError>
-    ensures { IfOk result (λ v. view v ≡ pay_release settings.now seq t event.now) }
+    ensures { IfOk result (Says release (pay_body publisher.now t event.now)) }
 {
-    let contract = contract_of(alloc, settings, t, event)?;
-    let head = Head {
-        notice: event.notice,
-        seq,
-        t,
-    };
-    let mut release = release_with(
-        alloc,
-        settings,
-        head,
-        &[("tag", Part::Only("implementation"))],
-    )?;
+    let contract = contract_of(alloc, publisher, t, event)?;
+    let mut release = release;
+    release.put(alloc, &[("tag", Part::Only("implementation"))])?;
     release.put_value(alloc, "contracts", list_of_one(alloc, contract)?)?;
     Ok(release.into_value())
 }

@@ -2,22 +2,20 @@
 ghost use Rattle.std.specs.Prelude.{◌≡◌, ◌≤◌, ◌++◌, IfOk, OnOk, map, length};
 ghost use Rattle.serde_json.specs.View.{view};
 ghost use Rattle.office_base.specs.Sums.{sum_over};
-ghost use Rattle.ocds_release.specs.Inside.Built.{members_in};
 ghost use Rattle.ocds_release.specs.LotsInOrder.{lots_in_order};
-ghost use Rattle.ocds_release.specs.Events.Publish.{publish_release, published_lot, published_item, items_of_lot, items_of_lots, estimate_of, period, criteria_code, buyer_party, planning, published_tender, tender_terms};
+ghost use Rattle.ocds_release.specs.Inside.Built.{Says, members_in};
+ghost use Rattle.ocds_release.specs.Events.Publish.{publish_body, published_lot, published_item, items_of_lot, items_of_lots, estimate_of, period, criteria_code, buyer_party, planning, published_tender, tender_terms};
 
 use crate::event::Published;
 use crate::lots_in_order::in_order;
 use crate::object::{Object, list_of_one, object_with};
 use crate::part::Part;
-use crate::release::{Head, release_with};
-use office_base::counts::Sequence;
 use office_commands::item::Item;
 use office_commands::lot::NewLot;
 use office_commands::notice::Criteria;
 use office_values::id::Id;
 use office_values::moment::Moment;
-use office_values::settings::{Currency, Settings};
+use office_values::settings::{Currency, Publisher};
 use serde_json::Value;
 use std::alloc::{AllocError, Global};
 
@@ -100,14 +98,14 @@ fn criteria_code(criteria: Criteria) -> &'static str
 }
 
 // The buyer as a party.
-fn buyer_party_of(alloc: Global, settings: &Settings) -> Result<Value, AllocError>
-    ensures { IfOk result (λ v. view v ≡ buyer_party settings.now) }
+fn buyer_party_of(alloc: Global, publisher: &Publisher) -> Result<Value, AllocError>
+    ensures { IfOk result (λ v. view v ≡ buyer_party publisher.now) }
 {
     object_with(
         alloc,
         &[
-            ("id", Part::BuyerId(settings.buyer.id)),
-            ("name", Part::Text(settings.buyer.name.as_str())),
+            ("id", Part::BuyerId(publisher.buyer.id)),
+            ("name", Part::Text(publisher.buyer.name.as_str())),
             ("roles", Part::Both("buyer", "procuringEntity")),
         ],
     )
@@ -137,10 +135,10 @@ fn period_of(alloc: Global, from: Moment, to: Moment) -> Result<Value, AllocErro
 // The terms of the tender, beside its lots and its period.
 fn terms_of<'a>(
     alloc: Global,
-    settings: &'a Settings,
+    publisher: &'a Publisher,
     event: &'a Published<'a>,
 ) -> Result<Object, AllocError>
-    ensures { IfOk result (λ tender. members_in tender ≡ tender_terms settings.now event.now) }
+    ensures { IfOk result (λ tender. members_in tender ≡ tender_terms publisher.now event.now) }
 {
     let mut tender = Object::new(alloc);
     tender.put(
@@ -151,7 +149,7 @@ fn terms_of<'a>(
             ("procurementMethod", Part::Text("open")),
             (
                 "procuringEntity",
-                Part::Buyer(settings.buyer.id, settings.buyer.name.as_str()),
+                Part::Buyer(publisher.buyer.id, publisher.buyer.name.as_str()),
             ),
             ("status", Part::Text("active")),
             ("submissionMethod", Part::Only("electronicSubmission")),
@@ -164,24 +162,24 @@ fn terms_of<'a>(
 // The tender.
 fn tender_of<'a>(
     alloc: Global,
-    settings: &'a Settings,
+    publisher: &'a Publisher,
     t: Moment,
     event: &'a Published<'a>,
 ) -> Result<Value, AllocError>
-    ensures { IfOk result (λ v. view v ≡ published_tender settings.now t event.now) }
+    ensures { IfOk result (λ v. view v ≡ published_tender publisher.now t event.now) }
 {
     let given = event.lots.as_slice();
     let lots = in_order(alloc, given)?;
-    let mut tender = terms_of(alloc, settings, event)?;
+    let mut tender = terms_of(alloc, publisher, event)?;
     tender.put(
         alloc,
-        &[("value", Part::Money(estimates(given), settings.currency))],
+        &[("value", Part::Money(estimates(given), publisher.currency))],
     )?;
     tender.put_value(alloc, "items", Value::Array(items_of(alloc, &lots)?))?;
     tender.put_value(
         alloc,
         "lots",
-        Value::Array(lots_of(alloc, settings.currency, &lots)?),
+        Value::Array(lots_of(alloc, publisher.currency, &lots)?),
     )?;
     tender.put_value(alloc, "tenderPeriod", period_of(alloc, t, event.deadline)?)?;
     Ok(tender.into_value())
@@ -190,24 +188,20 @@ fn tender_of<'a>(
 /// The release of a publication.
 pub(crate) fn publish<'a>(
     alloc: Global,
-    settings: &'a Settings,
-    seq: Sequence,
+    release: Object,
+    publisher: &'a Publisher,
     t: Moment,
     event: &'a Published<'a>,
 ) -> Result<Value, AllocError>
-    ensures { IfOk result (λ v. view v ≡ publish_release settings.now seq t event.now) }
+    ensures { IfOk result (Says release (publish_body publisher.now t event.now)) }
 {
     let amount = estimates(event.lots.as_slice());
-    let buyer = buyer_party_of(alloc, settings)?;
-    let planning = planning_of(alloc, settings.currency, amount)?;
-    let tender = tender_of(alloc, settings, t, event)?;
-    let head = Head {
-        notice: event.notice,
-        seq,
-        t,
-    };
+    let buyer = buyer_party_of(alloc, publisher)?;
+    let planning = planning_of(alloc, publisher.currency, amount)?;
+    let tender = tender_of(alloc, publisher, t, event)?;
+    let mut release = release;
     let tag = Part::Both("planning", "tender");
-    let mut release = release_with(alloc, settings, head, &[("tag", tag)])?;
+    release.put(alloc, &[("tag", tag)])?;
     release.put_value(alloc, "parties", list_of_one(alloc, buyer)?)?;
     release.put_value(alloc, "planning", planning)?;
     release.put_value(alloc, "tender", tender)?;

@@ -1,16 +1,15 @@
 //! The signing of a contract.
 ghost use Rattle.std.specs.Prelude.{◌≡◌, IfOk};
 ghost use Rattle.serde_json.specs.View.{view};
-ghost use Rattle.ocds_release.specs.Events.Sign.{sign_release, signed_contract};
+ghost use Rattle.ocds_release.specs.Inside.Built.{Says};
+ghost use Rattle.ocds_release.specs.Events.Sign.{sign_body, signed_contract};
 
 use crate::event::Signed;
-use crate::object::{list_of_one, object_with};
+use crate::object::{Object, list_of_one, object_with};
 use crate::part::Part;
-use crate::release::{Head, release_with};
 use crate::tender::tender_with_lot;
-use office_base::counts::Sequence;
 use office_values::moment::Moment;
-use office_values::settings::{Currency, Settings};
+use office_values::settings::{Currency, Publisher};
 use serde_json::Value;
 use std::alloc::{AllocError, Global};
 
@@ -39,21 +38,17 @@ fn contract_of(
 /// The release of the signing of a contract.
 pub(crate) fn sign(
     alloc: Global,
-    settings: &Settings,
-    seq: Sequence,
+    release: Object,
+    publisher: &Publisher,
     t: Moment,
     event: &Signed,
 ) -> Result<Value, AllocError>
-    ensures { IfOk result (λ v. view v ≡ sign_release settings.now seq t event.now) }
+    ensures { IfOk result (Says release (sign_body publisher.now t event.now)) }
 {
-    let contract = contract_of(alloc, settings.currency, t, event)?;
+    let contract = contract_of(alloc, publisher.currency, t, event)?;
     let tender = tender_with_lot(alloc, event.notice, event.status, event.lot, "complete")?;
-    let head = Head {
-        notice: event.notice,
-        seq,
-        t,
-    };
-    let mut release = release_with(alloc, settings, head, &[("tag", Part::Only("contract"))])?;
+    let mut release = release;
+    release.put(alloc, &[("tag", Part::Only("contract"))])?;
     release.put_value(alloc, "contracts", list_of_one(alloc, contract)?)?;
     release.put_value(alloc, "tender", tender)?;
     Ok(release.into_value())

@@ -14,7 +14,7 @@ use office_base::shelf::Lookups;
 use office_commands::command::Caller;
 use office_values::id::Id;
 use office_values::refusal::{Refusal, Thing};
-use office_values::settings::Settings;
+use office_values::settings::Publisher;
 use std::alloc::Global;
 
 /// The package of a notice's releases.
@@ -22,12 +22,12 @@ use std::alloc::Global;
 pub(crate) fn look_at_releases<H: Lookups>(
     alloc: Global,
     shelf: &mut H,
-    settings: &Settings,
+    publisher: &Publisher,
     caller: &Caller,
     notice: Id,
 ) -> Result<Vec<u8>, Refusal>
     requires { may_look caller.now kinds.Releases ≡ true }
-    ensures looks { Looks H.meaning shelf.old shelf.new (λ s. IsSeen settings.now caller.now (Releases notice) s (read_text result)) }
+    ensures looks { Looks H.meaning shelf.old shelf.new (λ s. IsSeen publisher.now caller.now (Releases notice) s (read_text result)) }
     ensures tells { TellsQuery H.meaning shelf.old shelf.new caller.now (Releases notice) result }
     ensures shown { H.meaning.honest shelf.new → (s : Tables) → H.meaning.holds shelf.old s → OnOk result (HasShown (Releases notice) s) }
 {
@@ -35,7 +35,7 @@ pub(crate) fn look_at_releases<H: Lookups>(
     let Some(row) = shelf.get_notice(&notice)? else {
         return Err(Refusal::NoSuch(Thing::Notice));
     };
-    texts::releases_text(alloc, shelf, settings, &notice, row.releases)
+    texts::releases_text(alloc, shelf, publisher, &notice, row.releases)
 }
 
 /// The package of a notice's record.
@@ -43,12 +43,12 @@ pub(crate) fn look_at_releases<H: Lookups>(
 pub(crate) fn look_at_record<H: Lookups>(
     alloc: Global,
     shelf: &mut H,
-    settings: &Settings,
+    publisher: &Publisher,
     caller: &Caller,
     notice: Id,
 ) -> Result<Vec<u8>, Refusal>
     requires { may_look caller.now kinds.Record ≡ true }
-    ensures looks { Looks H.meaning shelf.old shelf.new (λ s. IsSeen settings.now caller.now (Record notice) s (read_text result)) }
+    ensures looks { Looks H.meaning shelf.old shelf.new (λ s. IsSeen publisher.now caller.now (Record notice) s (read_text result)) }
     ensures tells { TellsQuery H.meaning shelf.old shelf.new caller.now (Record notice) result }
     ensures shown { H.meaning.honest shelf.new → (s : Tables) → H.meaning.holds shelf.old s → OnOk result (HasShown (Record notice) s) }
 {
@@ -56,5 +56,5 @@ pub(crate) fn look_at_record<H: Lookups>(
     let Some(row) = shelf.get_notice(&notice)? else {
         return Err(Refusal::NoSuch(Thing::Notice));
     };
-    texts::record_text(alloc, shelf, settings, &notice, row.releases)
+    texts::record_text(alloc, shelf, publisher, &notice, row.releases)
 }

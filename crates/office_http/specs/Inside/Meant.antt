@@ -5,7 +5,8 @@ use Rattle.office_values.specs.declared.settings.Settings.{Settings}
 use Rattle.office_base.specs.Faults.{HasRisen}
 use Rattle.office_base.specs.Tables.{Tables}
 use Rattle.office_base.specs.Shelves.{Meaning}
-use Rattle.office_machine.specs.Machine.{IsCommand, IsRegistered}
+use Rattle.office_commands.specs.Commands.{IsCommand}
+use Rattle.office_machine.specs.Machine.{IsRegistered}
 use Rattle.office_publications.specs.Standing.{IsReached}
 use Rattle.office_requests.specs.declared.route.Allow.{Allow}
 use Rattle.office_http.specs.Certain.{refusal_meant, takes_none}
@@ -22,7 +23,7 @@ CanBeMeant s (Sees caller query) = Unit {0}
 
 -- a shelf holds this office, which stands as its commands left it
 abbrev pub HoldsStanding : {S : Type 0} → Meaning S → Settings → S → Tables → Type 0
-HoldsStanding M settings new s = M.holds new s × IsReached settings s
+HoldsStanding M settings new s = M.holds new s × IsReached settings.publisher s
 
 -- what was meant was answered with this text, perhaps with Unavailable, the shelf holds the office after it, and a stop leaves what it then may
 abbrev pub Answered : {S : Type 0} → Meaning S → Settings → S → S → Tables → ℕ → Meant → List ℕ → Type 0
@@ -33,7 +34,7 @@ Answered M settings old new s moment m text =
 -- so is whatever can be meant
 abbrev pub AnswersMeant : {S : Type 0} → Meaning S → Settings → S → S → ℕ → (Tables → Meant) → List ℕ → Type 0
 AnswersMeant M settings old new moment m text =
-    M.honest new → (s : Tables) → M.holds old s → IsReached settings s → CanBeMeant s (m s) → Answered M settings old new s moment (m s) text
+    M.honest new → (s : Tables) → M.holds old s → IsReached settings.publisher s → CanBeMeant s (m s) → Answered M settings old new s moment (m s) text
 
 -- where the refusal of what is meant is found without memory, it is told, or the store's count of faults rose
 abbrev pub IsCertain : {S : Type 0} → Meaning S → S → S → ℕ → (Tables → Meant) → List ℕ → Type 0

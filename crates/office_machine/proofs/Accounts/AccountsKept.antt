@@ -6,7 +6,8 @@ use Rattle.office_commands.specs.declared.commands.Command.{Command}
 use Rattle.office_base.specs.Rows.{row_at}
 use Rattle.office_base.specs.Rules.{first_of}
 use Rattle.office_base.specs.Tables.{Tables, IsSorted, no_tables, after_puts}
-use Rattle.office_machine.specs.Machine.{Means, Given, Reaches, IsCommand, tests_for, puts_for, with_merges}
+use Rattle.office_commands.specs.Commands.{IsCommand}
+use Rattle.office_machine.specs.Machine.{Means, Given, Reaches, tests_for, puts_for, with_merges}
 use Rattle.office_machine.specs.Parents.{HaveParents}
 use Rattle.office_machine.specs.Readings.{Readings}
 use Rattle.office_base.specs.declared.records.CompiledRow.{CompiledRow}
@@ -14,7 +15,7 @@ use Rattle.office_machine.specs.Accounts.{AreBalanced}
 use Rattle.office_machine.proofs.Accounts.Aside.{kept_published}
 use Rattle.office_machine.proofs.Accounts.Balance.{balanced}
 use Rattle.office_machine.proofs.Accounts.Kept.{AccountsStand}
-use Rattle.office_machine.proofs.Commands.AllLawful.{lawful}
+use Rattle.office_machine.proofs.Commands.{lawful}
 use Rattle.office_machine.proofs.Accounts.Idle.{idle_keeps}
 use Rattle.office_machine.proofs.Commands.Lawful.{given, KeepsBooks, Idle, Moving}
 use Rattle.office_machine.proofs.Parents.ParentsThere.{parents_there}

@@ -17,22 +17,12 @@ use Rattle.office_machine.proofs.Rows.Keyed.{still_there}
 -- the put is of another record; the clock keeps at least n numbers of awards
 abbrev pub IsAside : ℕ → Put → Type 0
 IsAside n (puts.Line r) = ⊥
-IsAside n (puts.Batch r) = Unit {0}
-IsAside n (puts.Tenderer r) = Unit {0}
-IsAside n (puts.Notice r) = Unit {0}
 IsAside n (puts.Lot r) = ⊥
-IsAside n (puts.Envelope r) = Unit {0}
-IsAside n (puts.Seal r) = Unit {0}
-IsAside n (puts.DropSeal r) = Unit {0}
-IsAside n (puts.Security r) = Unit {0}
 IsAside n (puts.Award r) = ⊥
 IsAside n (puts.Contract r) = ⊥
 IsAside n (puts.Entry r) = ⊥
-IsAside n (puts.Release r) = Unit {0}
-IsAside n (puts.Compiled r) = Unit {0}
-IsAside n (puts.Late r) = Unit {0}
-IsAside n (puts.Performance r) = Unit {0}
 IsAside n (puts.Clock r) = n ≤ r.awards
+IsAside n _ = Unit {0}
 
 abbrev pub AreAside : ℕ → List Put → Type 0
 AreAside n ps = AllByRecursion (IsAside n) ps
@@ -49,22 +39,13 @@ pub record SameBooks (n : ℕ) (s s' : Tables) : Type 0 where
 
 one_aside : (n : ℕ) (p : Put) (s : Tables) → IsAside n p → SameBooks n s (after_put p s)
 one_aside n (puts.Line r) s a = absurd a
-one_aside n (puts.Batch r) s a = record { lines = refl; lots = refl; awards = refl; contracts = refl; entries = refl; notices = λ k h. h; numbers = λ h. h }
-one_aside n (puts.Tenderer r) s a = record { lines = refl; lots = refl; awards = refl; contracts = refl; entries = refl; notices = λ k h. h; numbers = λ h. h }
 one_aside n (puts.Notice r) s a = record { lines = refl; lots = refl; awards = refl; contracts = refl; entries = refl; notices = λ k h. still_there keyed.notices s.notices r k h; numbers = λ h. h }
 one_aside n (puts.Lot r) s a = absurd a
-one_aside n (puts.Envelope r) s a = record { lines = refl; lots = refl; awards = refl; contracts = refl; entries = refl; notices = λ k h. h; numbers = λ h. h }
-one_aside n (puts.Seal r) s a = record { lines = refl; lots = refl; awards = refl; contracts = refl; entries = refl; notices = λ k h. h; numbers = λ h. h }
-one_aside n (puts.DropSeal r) s a = record { lines = refl; lots = refl; awards = refl; contracts = refl; entries = refl; notices = λ k h. h; numbers = λ h. h }
-one_aside n (puts.Security r) s a = record { lines = refl; lots = refl; awards = refl; contracts = refl; entries = refl; notices = λ k h. h; numbers = λ h. h }
 one_aside n (puts.Award r) s a = absurd a
 one_aside n (puts.Contract r) s a = absurd a
 one_aside n (puts.Entry r) s a = absurd a
-one_aside n (puts.Release r) s a = record { lines = refl; lots = refl; awards = refl; contracts = refl; entries = refl; notices = λ k h. h; numbers = λ h. h }
-one_aside n (puts.Compiled r) s a = record { lines = refl; lots = refl; awards = refl; contracts = refl; entries = refl; notices = λ k h. h; numbers = λ h. h }
-one_aside n (puts.Late r) s a = record { lines = refl; lots = refl; awards = refl; contracts = refl; entries = refl; notices = λ k h. h; numbers = λ h. h }
-one_aside n (puts.Performance r) s a = record { lines = refl; lots = refl; awards = refl; contracts = refl; entries = refl; notices = λ k h. h; numbers = λ h. h }
 one_aside n (puts.Clock r) s a = record { lines = refl; lots = refl; awards = refl; contracts = refl; entries = refl; notices = λ k h. h; numbers = λ h. a }
+one_aside n _ s a = record { lines = refl; lots = refl; awards = refl; contracts = refl; entries = refl; notices = λ k h. h; numbers = λ h. h }
 
 -- such puts leave the books
 pub all_aside : (n : ℕ) (ps : List Put) (s : Tables) → AreAside n ps → SameBooks n s (after_puts ps s)

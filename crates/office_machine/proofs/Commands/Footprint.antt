@@ -6,11 +6,9 @@ use Rattle.office_base.specs.declared.puts.Put.TheVariants as puts
 use Rattle.office_base.specs.Transitions.{put_if}
 use Rattle.office_base.specs.Tables.{Tables, after_put, after_puts}
 
--- an office's tables
+-- an office's tables; the others are those of which the laws here ask nothing: batches and tenderers
 pub data TableName : Type 0 where
   Lines : TableName
-  Batches : TableName
-  Tenderers : TableName
   Notices : TableName
   Lots : TableName
   Envelopes : TableName
@@ -24,11 +22,10 @@ pub data TableName : Type 0 where
   LateRules : TableName
   Performances : TableName
   Clock : TableName
+  Others : TableName
 
 abbrev pub table_of : Put → TableName
 table_of (puts.Line r) = Lines
-table_of (puts.Batch r) = Batches
-table_of (puts.Tenderer r) = Tenderers
 table_of (puts.Notice r) = Notices
 table_of (puts.Lot r) = Lots
 table_of (puts.Envelope r) = Envelopes
@@ -43,11 +40,10 @@ table_of (puts.Compiled r) = Merges
 table_of (puts.Late r) = LateRules
 table_of (puts.Performance r) = Performances
 table_of (puts.Clock r) = Clock
+table_of _ = Others
 
 abbrev pub same_table : TableName → TableName → Bool
 same_table Lines Lines = true
-same_table Batches Batches = true
-same_table Tenderers Tenderers = true
 same_table Notices Notices = true
 same_table Lots Lots = true
 same_table Envelopes Envelopes = true
@@ -61,6 +57,7 @@ same_table Merges Merges = true
 same_table LateRules LateRules = true
 same_table Performances Performances = true
 same_table Clock Clock = true
+same_table Others Others = true
 same_table _ _ = false
 
 -- the table is one of those named
@@ -109,14 +106,8 @@ clash is isnt = absurd (let both : true ≡ false = sym is ∙ isnt in cc)
 
 one_leaves : (test : TableName → Bool) (p : Put) (t : Tables) → IsOn test p → Leaves test t (after_put p t)
 one_leaves test (puts.Line r) t on = record { lines = λ off. clash on off; notices = λ _. refl; lots = λ _. refl; awards = λ _. refl; contracts = λ _. refl; entries = λ _. refl; releases = λ _. refl; compiled = λ _. refl; late_rules = λ _. refl; performances = λ _. refl; clock = λ _. refl }
-one_leaves test (puts.Batch r) t on = record { lines = λ _. refl; notices = λ _. refl; lots = λ _. refl; awards = λ _. refl; contracts = λ _. refl; entries = λ _. refl; releases = λ _. refl; compiled = λ _. refl; late_rules = λ _. refl; performances = λ _. refl; clock = λ _. refl }
-one_leaves test (puts.Tenderer r) t on = record { lines = λ _. refl; notices = λ _. refl; lots = λ _. refl; awards = λ _. refl; contracts = λ _. refl; entries = λ _. refl; releases = λ _. refl; compiled = λ _. refl; late_rules = λ _. refl; performances = λ _. refl; clock = λ _. refl }
 one_leaves test (puts.Notice r) t on = record { lines = λ _. refl; notices = λ off. clash on off; lots = λ _. refl; awards = λ _. refl; contracts = λ _. refl; entries = λ _. refl; releases = λ _. refl; compiled = λ _. refl; late_rules = λ _. refl; performances = λ _. refl; clock = λ _. refl }
 one_leaves test (puts.Lot r) t on = record { lines = λ _. refl; notices = λ _. refl; lots = λ off. clash on off; awards = λ _. refl; contracts = λ _. refl; entries = λ _. refl; releases = λ _. refl; compiled = λ _. refl; late_rules = λ _. refl; performances = λ _. refl; clock = λ _. refl }
-one_leaves test (puts.Envelope r) t on = record { lines = λ _. refl; notices = λ _. refl; lots = λ _. refl; awards = λ _. refl; contracts = λ _. refl; entries = λ _. refl; releases = λ _. refl; compiled = λ _. refl; late_rules = λ _. refl; performances = λ _. refl; clock = λ _. refl }
-one_leaves test (puts.Seal r) t on = record { lines = λ _. refl; notices = λ _. refl; lots = λ _. refl; awards = λ _. refl; contracts = λ _. refl; entries = λ _. refl; releases = λ _. refl; compiled = λ _. refl; late_rules = λ _. refl; performances = λ _. refl; clock = λ _. refl }
-one_leaves test (puts.DropSeal n) t on = record { lines = λ _. refl; notices = λ _. refl; lots = λ _. refl; awards = λ _. refl; contracts = λ _. refl; entries = λ _. refl; releases = λ _. refl; compiled = λ _. refl; late_rules = λ _. refl; performances = λ _. refl; clock = λ _. refl }
-one_leaves test (puts.Security r) t on = record { lines = λ _. refl; notices = λ _. refl; lots = λ _. refl; awards = λ _. refl; contracts = λ _. refl; entries = λ _. refl; releases = λ _. refl; compiled = λ _. refl; late_rules = λ _. refl; performances = λ _. refl; clock = λ _. refl }
 one_leaves test (puts.Award r) t on = record { lines = λ _. refl; notices = λ _. refl; lots = λ _. refl; awards = λ off. clash on off; contracts = λ _. refl; entries = λ _. refl; releases = λ _. refl; compiled = λ _. refl; late_rules = λ _. refl; performances = λ _. refl; clock = λ _. refl }
 one_leaves test (puts.Contract r) t on = record { lines = λ _. refl; notices = λ _. refl; lots = λ _. refl; awards = λ _. refl; contracts = λ off. clash on off; entries = λ _. refl; releases = λ _. refl; compiled = λ _. refl; late_rules = λ _. refl; performances = λ _. refl; clock = λ _. refl }
 one_leaves test (puts.Entry r) t on = record { lines = λ _. refl; notices = λ _. refl; lots = λ _. refl; awards = λ _. refl; contracts = λ _. refl; entries = λ off. clash on off; releases = λ _. refl; compiled = λ _. refl; late_rules = λ _. refl; performances = λ _. refl; clock = λ _. refl }
@@ -125,6 +116,7 @@ one_leaves test (puts.Compiled r) t on = record { lines = λ _. refl; notices = 
 one_leaves test (puts.Late r) t on = record { lines = λ _. refl; notices = λ _. refl; lots = λ _. refl; awards = λ _. refl; contracts = λ _. refl; entries = λ _. refl; releases = λ _. refl; compiled = λ _. refl; late_rules = λ off. clash on off; performances = λ _. refl; clock = λ _. refl }
 one_leaves test (puts.Performance r) t on = record { lines = λ _. refl; notices = λ _. refl; lots = λ _. refl; awards = λ _. refl; contracts = λ _. refl; entries = λ _. refl; releases = λ _. refl; compiled = λ _. refl; late_rules = λ _. refl; performances = λ off. clash on off; clock = λ _. refl }
 one_leaves test (puts.Clock r) t on = record { lines = λ _. refl; notices = λ _. refl; lots = λ _. refl; awards = λ _. refl; contracts = λ _. refl; entries = λ _. refl; releases = λ _. refl; compiled = λ _. refl; late_rules = λ _. refl; performances = λ _. refl; clock = λ off. clash on off }
+one_leaves test _ t on = record { lines = λ _. refl; notices = λ _. refl; lots = λ _. refl; awards = λ _. refl; contracts = λ _. refl; entries = λ _. refl; releases = λ _. refl; compiled = λ _. refl; late_rules = λ _. refl; performances = λ _. refl; clock = λ _. refl }
 
 pub leaves : (test : TableName → Bool) (ps : List Put) (t : Tables) → AreOn test ps → Leaves test t (after_puts ps t)
 leaves test [] t a = record { lines = λ _. refl; notices = λ _. refl; lots = λ _. refl; awards = λ _. refl; contracts = λ _. refl; entries = λ _. refl; releases = λ _. refl; compiled = λ _. refl; late_rules = λ _. refl; performances = λ _. refl; clock = λ _. refl }

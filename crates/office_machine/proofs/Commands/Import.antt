@@ -13,7 +13,7 @@ use Rattle.office_machine.proofs.Commands.Lawful.{given, Lawful, Moving}
 use Rattle.office_machine.proofs.Worlds.WorldsPut.{plain-map, plain-append, plain_pairs}
 use Rattle.office_machine.proofs.Commands.Import.Accounts.{import_keeps, covered}
 use Rattle.office_machine.proofs.Commands.Import.Columns.{none_below}
-use Rattle.office_machine.proofs.Commands.Footprint.{Lines, Batches}
+use Rattle.office_machine.proofs.Commands.Footprint.{Lines, Others}
 use Rattle.office_machine.proofs.FateLaws.QuietFates.{kept_after, one_more, all_append, all_of_map}
 use Rattle.office_machine.proofs.FateLaws.Seen.{seen, IsQuiet}
 use Rattle.office_machine.proofs.FateLaws.FatesHold.{Keeps}
@@ -30,7 +30,7 @@ fates_kept readings batch rows xs t m caller kept own allowed =
 
 pub import_budget : (batch : List ℕ) (rows : List BudgetRow) → Lawful (Import batch rows)
 import_budget batch rows = record {
-  touches = Lines ∷ Batches ∷ [];
+  touches = Lines ∷ Others ∷ [];
   alone = (refl, refl, refl);
   accounts = Moving (λ readings xs s moment caller kept order own allowed. import_keeps readings xs s moment caller batch rows kept order allowed);
   fates = λ readings. fates_kept readings batch rows;

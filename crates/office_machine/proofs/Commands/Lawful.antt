@@ -6,10 +6,11 @@ use Rattle.office_commands.specs.declared.commands.Command.TheVariants.{Publish,
 use Rattle.office_base.specs.Rules.{first_of}
 use Rattle.office_base.specs.Tables.{Tables, IsSorted, after_puts}
 use Rattle.office_machine.specs.Readings.{Readings}
-use Rattle.office_machine.specs.Machine.{Given, IsCommand, IsRegistered, may_give, tests_for, puts_for}
+use Rattle.office_commands.specs.Commands.{IsCommand}
+use Rattle.office_machine.specs.Machine.{Given, IsRegistered, may_give, tests_for, puts_for}
 use Rattle.office_machine.specs.Parents.{HaveParents}
 use Rattle.office_machine.specs.Publications.{published_for}
-use Rattle.office_machine.specs.Rules.{rule_of}
+use Rattle.office_machine.specs.Commands.{rule_of}
 use Rattle.office_machine.proofs.Accounts.Aside.{IsIdle}
 use Rattle.office_machine.proofs.Commands.Footprint.{TableName, Awards, Contracts, LateRules, is_in}
 use Rattle.office_machine.proofs.Accounts.Idle.{touches_books}

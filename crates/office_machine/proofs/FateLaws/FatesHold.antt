@@ -14,7 +14,8 @@ use Rattle.office_base.specs.declared.records.SecurityState.{SecurityState}
 use Rattle.office_base.specs.States.{is_sealed, is_held}
 use Rattle.office_base.specs.Rules.{first_of}
 use Rattle.office_base.specs.Tables.{Tables, envelope_at, seal_at, security_at, after_puts}
-use Rattle.office_machine.specs.Machine.{Given, IsCommand, tests_for, puts_for}
+use Rattle.office_commands.specs.Commands.{IsCommand}
+use Rattle.office_machine.specs.Machine.{Given, tests_for, puts_for}
 use Rattle.office_machine.specs.Readings.{Readings}
 use Rattle.office_machine.specs.Fates.{Reception, received_by, received_after, received_at, tender_decided, fate_after, fate_of_tender, security_received, security_decided, security_after, fate_of_security, is_kept, EnvelopeIs, SecurityIs}
 use Rattle.office_machine.proofs.FateLaws.Views.{IsSound}

@@ -15,7 +15,7 @@ use Rattle.office_machine.proofs.FateLaws.Matched.{EnvelopeStands, NoneStands, S
 use Rattle.office_machine.proofs.FateLaws.Seen.{after-append}
 use Rattle.office_machine.proofs.FateLaws.FatesHold.{FatesStand}
 use Rattle.office_machine.proofs.FateLaws.QuietFates.{publication_keeps}
-use Rattle.office_machine.proofs.Commands.AllLawful.{lawful}
+use Rattle.office_machine.proofs.Commands.{lawful}
 use Rattle.office_machine.proofs.Runs.{along}
 use Rattle.office_machine.proofs.Passed.{allowed_by}
 use Rattle.office_machine.proofs.Rows.Numbered.{FindsAll, keys_are}

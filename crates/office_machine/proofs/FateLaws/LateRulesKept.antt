@@ -1,5 +1,5 @@
 -- The notices of which tenders may be withdrawn late are those whose accepted publication said so.
-use Rattle.std.specs.Prelude.{◌≡◌, ℕ, Bool, true, false, cond, ◌&&◌, ◌||◌, List, [], ◌∷◌, ◌++◌, map, Option, Some, None}
+use Rattle.std.specs.Prelude.{◌≡◌, ℕ, Bool, true, false, cond, ◌&&◌, ◌||◌, List, ◌∷◌, ◌++◌, map, Option, Some, None}
 use Rattle.std.proofs.Common.{refl, sym, ap, ◌∙◌, subst}
 use Rattle.office_commands.specs.declared.command.Caller.{Caller}
 use Rattle.office_commands.specs.declared.commands.Command.{Command}
@@ -19,9 +19,9 @@ use Rattle.office_base.specs.Tables.{Tables, late_at, find_late, put_late, after
 use Rattle.office_base.proofs.ExactKeys.{equal_ids, same_id_is}
 use Rattle.tender_core.specs.Rules.Publish.{late_puts, reserving_line_put, new_lot_put, publish_parts, publish_puts, publish_rows}
 use Rattle.office_machine.specs.Late.{LateRulesAreKept, is_forfeiting, late_row, lets_late, was_let_late}
-use Rattle.office_machine.specs.Machine.{Given, Means, Reaches, command_tests, effect, next, publication, publication_puts, time_of}
+use Rattle.office_machine.specs.Machine.{Given, Means, Reaches, command_tests, effect, publication, publication_puts, time_of}
 use Rattle.office_machine.proofs.Accounts.Aside.{after-append}
-use Rattle.office_machine.proofs.Commands.AllLawful.{lawful}
+use Rattle.office_machine.proofs.Commands.{lawful}
 use Rattle.office_machine.proofs.Commands.Footprint.{TableName, LateRules, AreOn, leaves, on-append, on-map}
 use Rattle.office_machine.proofs.Commands.Lawful.{puts_late_rules}
 use Rattle.office_machine.proofs.Commands.Tail.{is_touched}

@@ -37,7 +37,7 @@ use Rattle.office_machine.specs.Machine.{Given, Means, Reaches, time_of, effect,
 use Rattle.office_machine.specs.Fates.{PerformancesHaveFates, PerformancesAreKept}
 use Rattle.office_machine.specs.Parents.{HaveParents, HavePerformances, PerformancesAreThere}
 use Rattle.office_machine.specs.Publications.{published_for}
-use Rattle.office_machine.proofs.Commands.AllLawful.{lawful}
+use Rattle.office_machine.proofs.Commands.{lawful}
 use Rattle.office_machine.proofs.Commands.Lawful.{puts_contracts}
 use Rattle.office_machine.proofs.Runs.{along}
 use Rattle.office_machine.proofs.Commands.Footprint.{TableName, Securities, leaves, on-append, on-if, on-map}

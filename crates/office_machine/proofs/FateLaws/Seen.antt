@@ -63,9 +63,6 @@ notices-same rows r same q =
 
 -- a change that the fates don't see
 abbrev pub IsQuiet : View → ℕ → Put → Type 0
-IsQuiet V n (puts.Line r) = Unit {0}
-IsQuiet V n (puts.Batch r) = Unit {0}
-IsQuiet V n (puts.Tenderer r) = Unit {0}
 IsQuiet V n (puts.Notice r) = V.notice_at r.notice ≡ Some r.state
 IsQuiet V n (puts.Lot r) = ⊥
 IsQuiet V n (puts.Envelope r) = ⊥
@@ -73,13 +70,8 @@ IsQuiet V n (puts.Seal r) = ⊥
 IsQuiet V n (puts.DropSeal r) = ⊥
 IsQuiet V n (puts.Security r) = ⊥
 IsQuiet V n (puts.Award r) = ⊥
-IsQuiet V n (puts.Contract r) = Unit {0}
-IsQuiet V n (puts.Entry r) = Unit {0}
-IsQuiet V n (puts.Release r) = Unit {0}
-IsQuiet V n (puts.Compiled r) = Unit {0}
-IsQuiet V n (puts.Late r) = Unit {0}
-IsQuiet V n (puts.Performance r) = Unit {0}
 IsQuiet V n (puts.Clock r) = r.receipts ≡ n
+IsQuiet V n _ = Unit {0}
 
 pub record Same (t u : Tables) : Type 0 where
   pub seen_is : seen u ≡ seen t
@@ -87,9 +79,6 @@ pub record Same (t u : Tables) : Type 0 where
   pub receipts_are : u.clock.receipts ≡ t.clock.receipts
 
 quiet_put : (p : Put) (t : Tables) → IsQuiet (seen t) t.clock.receipts p → Same t (after_put p t)
-quiet_put (puts.Line r) t h = record { seen_is = refl; seals_are = refl; receipts_are = refl }
-quiet_put (puts.Batch r) t h = record { seen_is = refl; seals_are = refl; receipts_are = refl }
-quiet_put (puts.Tenderer r) t h = record { seen_is = refl; seals_are = refl; receipts_are = refl }
 quiet_put (puts.Notice r) t h = record {
   seen_is = alike (seen (after_put (puts.Notice r) t)) (seen t) (λ r. refl) (λ s. refl) (λ a. refl) (λ k. refl) (notices-same t.notices r h);
   seals_are = refl;
@@ -101,13 +90,8 @@ quiet_put (puts.Seal r) t h = absurd h
 quiet_put (puts.DropSeal r) t h = absurd h
 quiet_put (puts.Security r) t h = absurd h
 quiet_put (puts.Award r) t h = absurd h
-quiet_put (puts.Contract r) t h = record { seen_is = refl; seals_are = refl; receipts_are = refl }
-quiet_put (puts.Entry r) t h = record { seen_is = refl; seals_are = refl; receipts_are = refl }
-quiet_put (puts.Release r) t h = record { seen_is = refl; seals_are = refl; receipts_are = refl }
-quiet_put (puts.Compiled r) t h = record { seen_is = refl; seals_are = refl; receipts_are = refl }
-quiet_put (puts.Late r) t h = record { seen_is = refl; seals_are = refl; receipts_are = refl }
-quiet_put (puts.Performance r) t h = record { seen_is = refl; seals_are = refl; receipts_are = refl }
 quiet_put (puts.Clock r) t h = record { seen_is = refl; seals_are = refl; receipts_are = h }
+quiet_put _ t h = record { seen_is = refl; seals_are = refl; receipts_are = refl }
 
 pub quiet_puts : (V : View) (n : ℕ) (ps : List Put) (t : Tables) → seen t ≡ V → t.clock.receipts ≡ n → AllByRecursion (IsQuiet V n) ps
     → Same t (after_puts ps t)

@@ -44,22 +44,13 @@ grows_on t u v g h = record {
 
 grows-put : (p : Put) (t : Tables) → Grows t (after_put p t)
 grows-put (puts.Line r) t = record { lines = still_there keyed.lines t.lines r; notices = λ k h. h; lots = λ k h. h; envelopes = λ k h. h; securities = λ k h. h; contracts = λ k h. h; tenderers = λ k h. h }
-grows-put (puts.Batch r) t = record { lines = λ k h. h; notices = λ k h. h; lots = λ k h. h; envelopes = λ k h. h; securities = λ k h. h; contracts = λ k h. h; tenderers = λ k h. h }
 grows-put (puts.Tenderer r) t = record { lines = λ k h. h; notices = λ k h. h; lots = λ k h. h; envelopes = λ k h. h; securities = λ k h. h; contracts = λ k h. h; tenderers = still_there keyed.tenderers t.tenderers r }
 grows-put (puts.Notice r) t = record { lines = λ k h. h; notices = still_there keyed.notices t.notices r; lots = λ k h. h; envelopes = λ k h. h; securities = λ k h. h; contracts = λ k h. h; tenderers = λ k h. h }
 grows-put (puts.Lot r) t = record { lines = λ k h. h; notices = λ k h. h; lots = still_there keyed.lots t.lots r; envelopes = λ k h. h; securities = λ k h. h; contracts = λ k h. h; tenderers = λ k h. h }
 grows-put (puts.Envelope r) t = record { lines = λ k h. h; notices = λ k h. h; lots = λ k h. h; envelopes = still_there keyed.envelopes t.envelopes r; securities = λ k h. h; contracts = λ k h. h; tenderers = λ k h. h }
-grows-put (puts.Seal r) t = record { lines = λ k h. h; notices = λ k h. h; lots = λ k h. h; envelopes = λ k h. h; securities = λ k h. h; contracts = λ k h. h; tenderers = λ k h. h }
-grows-put (puts.DropSeal n) t = record { lines = λ k h. h; notices = λ k h. h; lots = λ k h. h; envelopes = λ k h. h; securities = λ k h. h; contracts = λ k h. h; tenderers = λ k h. h }
 grows-put (puts.Security r) t = record { lines = λ k h. h; notices = λ k h. h; lots = λ k h. h; envelopes = λ k h. h; securities = still_there keyed.securities t.securities r; contracts = λ k h. h; tenderers = λ k h. h }
-grows-put (puts.Award r) t = record { lines = λ k h. h; notices = λ k h. h; lots = λ k h. h; envelopes = λ k h. h; securities = λ k h. h; contracts = λ k h. h; tenderers = λ k h. h }
 grows-put (puts.Contract r) t = record { lines = λ k h. h; notices = λ k h. h; lots = λ k h. h; envelopes = λ k h. h; securities = λ k h. h; contracts = still_there keyed.contracts t.contracts r; tenderers = λ k h. h }
-grows-put (puts.Entry r) t = record { lines = λ k h. h; notices = λ k h. h; lots = λ k h. h; envelopes = λ k h. h; securities = λ k h. h; contracts = λ k h. h; tenderers = λ k h. h }
-grows-put (puts.Release r) t = record { lines = λ k h. h; notices = λ k h. h; lots = λ k h. h; envelopes = λ k h. h; securities = λ k h. h; contracts = λ k h. h; tenderers = λ k h. h }
-grows-put (puts.Compiled r) t = record { lines = λ k h. h; notices = λ k h. h; lots = λ k h. h; envelopes = λ k h. h; securities = λ k h. h; contracts = λ k h. h; tenderers = λ k h. h }
-grows-put (puts.Late r) t = record { lines = λ k h. h; notices = λ k h. h; lots = λ k h. h; envelopes = λ k h. h; securities = λ k h. h; contracts = λ k h. h; tenderers = λ k h. h }
-grows-put (puts.Performance r) t = record { lines = λ k h. h; notices = λ k h. h; lots = λ k h. h; envelopes = λ k h. h; securities = λ k h. h; contracts = λ k h. h; tenderers = λ k h. h }
-grows-put (puts.Clock r) t = record { lines = λ k h. h; notices = λ k h. h; lots = λ k h. h; envelopes = λ k h. h; securities = λ k h. h; contracts = λ k h. h; tenderers = λ k h. h }
+grows-put _ t = record { lines = λ k h. h; notices = λ k h. h; lots = λ k h. h; envelopes = λ k h. h; securities = λ k h. h; contracts = λ k h. h; tenderers = λ k h. h }
 
 pub grows-puts : (ps : List Put) (t : Tables) → Grows t (after_puts ps t)
 grows-puts [] t = grows_itself t
@@ -67,14 +58,8 @@ grows-puts (p ∷ ps) t = grows_on t (after_put p t) (after_puts ps (after_put p
 
 -- what the row of a put speaks of is there
 abbrev pub Parents : Tables → Put → Type 0
-Parents u (puts.Line r) = Unit {0}
-Parents u (puts.Batch r) = Unit {0}
-Parents u (puts.Tenderer r) = Unit {0}
-Parents u (puts.Notice r) = Unit {0}
 Parents u (puts.Lot r) = LotHas u r
 Parents u (puts.Envelope r) = EnvelopeHas u r
-Parents u (puts.Seal r) = Unit {0}
-Parents u (puts.DropSeal n) = Unit {0}
 Parents u (puts.Security r) = SecurityHas u r
 Parents u (puts.Award r) = AwardHas u r
 Parents u (puts.Contract r) = ContractHas u r
@@ -83,7 +68,7 @@ Parents u (puts.Release r) = ReleaseHas u r
 Parents u (puts.Compiled r) = MergeHas u r
 Parents u (puts.Late r) = LateHas u r
 Parents u (puts.Performance r) = PerformanceHas u r
-Parents u (puts.Clock r) = Unit {0}
+Parents u _ = Unit {0}
 
 abbrev pub AllParents : Tables → List Put → Type 0
 AllParents u ps = AllByRecursion (Parents u) ps
@@ -98,14 +83,8 @@ row_has {R = R} {key = key} t P xs r own old k x h =
     ]
 
 put_has : (u : Tables) (p : Put) (t : Tables) → Parents u p → HaveParents u t → HaveParents u (after_put p t)
-put_has u (puts.Line r) t own h = record { lots = h.lots; envelopes = h.envelopes; securities = h.securities; awards = h.awards; contracts = h.contracts; entries = h.entries; performances = h.performances; releases = h.releases; merges = h.merges; late_rules = h.late_rules }
-put_has u (puts.Batch r) t own h = record { lots = h.lots; envelopes = h.envelopes; securities = h.securities; awards = h.awards; contracts = h.contracts; entries = h.entries; performances = h.performances; releases = h.releases; merges = h.merges; late_rules = h.late_rules }
-put_has u (puts.Tenderer r) t own h = record { lots = h.lots; envelopes = h.envelopes; securities = h.securities; awards = h.awards; contracts = h.contracts; entries = h.entries; performances = h.performances; releases = h.releases; merges = h.merges; late_rules = h.late_rules }
-put_has u (puts.Notice r) t own h = record { lots = h.lots; envelopes = h.envelopes; securities = h.securities; awards = h.awards; contracts = h.contracts; entries = h.entries; performances = h.performances; releases = h.releases; merges = h.merges; late_rules = h.late_rules }
 put_has u (puts.Lot r) t own h = record { lots = row_has keyed.lots (LotHas u) t.lots r own h.lots; envelopes = h.envelopes; securities = h.securities; awards = h.awards; contracts = h.contracts; entries = h.entries; performances = h.performances; releases = h.releases; merges = h.merges; late_rules = h.late_rules }
 put_has u (puts.Envelope r) t own h = record { lots = h.lots; envelopes = row_has keyed.envelopes (EnvelopeHas u) t.envelopes r own h.envelopes; securities = h.securities; awards = h.awards; contracts = h.contracts; entries = h.entries; performances = h.performances; releases = h.releases; merges = h.merges; late_rules = h.late_rules }
-put_has u (puts.Seal r) t own h = record { lots = h.lots; envelopes = h.envelopes; securities = h.securities; awards = h.awards; contracts = h.contracts; entries = h.entries; performances = h.performances; releases = h.releases; merges = h.merges; late_rules = h.late_rules }
-put_has u (puts.DropSeal n) t own h = record { lots = h.lots; envelopes = h.envelopes; securities = h.securities; awards = h.awards; contracts = h.contracts; entries = h.entries; performances = h.performances; releases = h.releases; merges = h.merges; late_rules = h.late_rules }
 put_has u (puts.Security r) t own h = record { lots = h.lots; envelopes = h.envelopes; securities = row_has keyed.securities (SecurityHas u) t.securities r own h.securities; awards = h.awards; contracts = h.contracts; entries = h.entries; performances = h.performances; releases = h.releases; merges = h.merges; late_rules = h.late_rules }
 put_has u (puts.Award r) t own h = record { lots = h.lots; envelopes = h.envelopes; securities = h.securities; awards = row_has keyed.awards (AwardHas u) t.awards r own h.awards; contracts = h.contracts; entries = h.entries; performances = h.performances; releases = h.releases; merges = h.merges; late_rules = h.late_rules }
 put_has u (puts.Contract r) t own h = record { lots = h.lots; envelopes = h.envelopes; securities = h.securities; awards = h.awards; contracts = row_has keyed.contracts (ContractHas u) t.contracts r own h.contracts; entries = h.entries; performances = h.performances; releases = h.releases; merges = h.merges; late_rules = h.late_rules }
@@ -114,7 +93,7 @@ put_has u (puts.Release r) t own h = record { lots = h.lots; envelopes = h.envel
 put_has u (puts.Compiled r) t own h = record { lots = h.lots; envelopes = h.envelopes; securities = h.securities; awards = h.awards; contracts = h.contracts; entries = h.entries; performances = h.performances; releases = h.releases; merges = row_has keyed.compiled (MergeHas u) t.compiled r own h.merges; late_rules = h.late_rules }
 put_has u (puts.Late r) t own h = record { lots = h.lots; envelopes = h.envelopes; securities = h.securities; awards = h.awards; contracts = h.contracts; entries = h.entries; performances = h.performances; releases = h.releases; merges = h.merges; late_rules = row_has keyed.late_rules (LateHas u) t.late_rules r own h.late_rules }
 put_has u (puts.Performance r) t own h = record { lots = h.lots; envelopes = h.envelopes; securities = h.securities; awards = h.awards; contracts = h.contracts; entries = h.entries; performances = row_has keyed.performances (PerformanceHas u) t.performances r own h.performances; releases = h.releases; merges = h.merges; late_rules = h.late_rules }
-put_has u (puts.Clock r) t own h = record { lots = h.lots; envelopes = h.envelopes; securities = h.securities; awards = h.awards; contracts = h.contracts; entries = h.entries; performances = h.performances; releases = h.releases; merges = h.merges; late_rules = h.late_rules }
+put_has u _ t own h = record { lots = h.lots; envelopes = h.envelopes; securities = h.securities; awards = h.awards; contracts = h.contracts; entries = h.entries; performances = h.performances; releases = h.releases; merges = h.merges; late_rules = h.late_rules }
 
 puts_have : (u : Tables) (ps : List Put) (t : Tables) → AllParents u ps → HaveParents u t → HaveParents u (after_puts ps t)
 puts_have u [] t own h = h

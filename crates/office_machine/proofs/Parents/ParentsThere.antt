@@ -13,7 +13,7 @@ use Rattle.office_machine.specs.Parents.{HaveParents, ParentsAreThere}
 use Rattle.office_machine.specs.Publications.{published_for}
 use Rattle.office_machine.proofs.Accounts.Aside.{after-append}
 use Rattle.office_machine.proofs.Parents.ParentsPut.{Grows, grows-puts, AllParents, parents_after, parents-append}
-use Rattle.office_machine.proofs.Commands.AllLawful.{lawful}
+use Rattle.office_machine.proofs.Commands.{lawful}
 use Rattle.office_machine.proofs.Commands.Tail.{CountsNext, with_notice}
 use Rattle.office_machine.proofs.Runs.{along}
 use Rattle.office_machine.proofs.Passed.{allowed_by, may_by}

@@ -24,29 +24,14 @@ use Rattle.office_machine.specs.Readings.{Readings}
 use Rattle.office_machine.specs.Replies.{Reply, Refused}
 use Rattle.office_machine.specs.Requests.{reply_by}
 use Rattle.office_machine.specs.Rule.{Rule}
-use Rattle.office_machine.specs.Rules.{rule_of}
+use Rattle.office_machine.specs.Commands.{rule_of}
 use Rattle.office_machine.specs.Sights.{Packages, package_told, shown}
 
 -- A put leaves the rest of the office as it does without them.
 
 put_beside : (merges : List CompiledRow) (p : Put) (s : Tables) → after_put p (with_merges merges s) ≡ with_merges (after_put p (with_merges merges s)).compiled (after_put p s)
 put_beside merges (puts.Line r) s = refl
-put_beside merges (puts.Batch r) s = refl
-put_beside merges (puts.Tenderer r) s = refl
-put_beside merges (puts.Notice r) s = refl
-put_beside merges (puts.Lot r) s = refl
-put_beside merges (puts.Envelope r) s = refl
-put_beside merges (puts.Seal r) s = refl
-put_beside merges (puts.DropSeal n) s = refl
-put_beside merges (puts.Security r) s = refl
-put_beside merges (puts.Award r) s = refl
-put_beside merges (puts.Contract r) s = refl
-put_beside merges (puts.Entry r) s = refl
-put_beside merges (puts.Release r) s = refl
-put_beside merges (puts.Compiled r) s = refl
-put_beside merges (puts.Late r) s = refl
-put_beside merges (puts.Performance r) s = refl
-put_beside merges (puts.Clock r) s = refl
+put_beside merges _ s = refl
 
 puts_beside : (ps : List Put) (merges : List CompiledRow) (s : Tables)
     → after_puts ps (with_merges merges s) ≡ with_merges (after_puts ps (with_merges merges s)).compiled (after_puts ps s)

@@ -8,7 +8,7 @@ use Rattle.office_machine.specs.Machine.{Means, Given, refusal_of, time_of, effe
 use Rattle.office_machine.specs.Parents.{HaveParents}
 use Rattle.office_machine.specs.Publications.{published_for}
 use Rattle.office_machine.proofs.Accounts.Aside.{after-append}
-use Rattle.office_machine.proofs.Commands.AllLawful.{lawful}
+use Rattle.office_machine.proofs.Commands.{lawful}
 use Rattle.office_machine.proofs.Commands.Footprint.{leaves}
 use Rattle.office_machine.proofs.Passed.{allowed_by}
 use Rattle.office_machine.proofs.Commands.Tail.{CountsNext, is_touched, with_notice}

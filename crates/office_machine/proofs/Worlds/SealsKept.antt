@@ -14,7 +14,8 @@ use Rattle.office_machine.specs.Publications.{published_for}
 use Rattle.office_machine.specs.Counted.{releases_in}
 use Rattle.office_base.specs.Tables.{Tables, notice_at, find_seal, envelope_at, seal_at, after_puts}
 use Rattle.office_base.specs.declared.records.ReleaseRow.{ReleaseRow}
-use Rattle.office_machine.specs.Machine.{Means, Given, IsCommand, CanBeGiven, Reaches, time_of, refusal_of, effect, done, next, publication_puts, publication}
+use Rattle.office_commands.specs.Commands.{IsCommand}
+use Rattle.office_machine.specs.Machine.{Means, Given, CanBeGiven, Reaches, time_of, refusal_of, effect, done, next, publication_puts, publication}
 use Rattle.office_machine.specs.Worlds.{ChosenTender, is_theirs, AlikeRows, Pairs, AlikeOffices, IsNext, SameBut, Same, Presented, Modified, OpensAlike}
 use Rattle.office_machine.specs.Requests.{Demand, Asks, Looks, Request, given_by_request, reply_by, office_by, accepted_by, reply_to, office_after, accepted_with, IsDemand, AreRequests}
 use Rattle.office_machine.specs.Replies.{Refused}

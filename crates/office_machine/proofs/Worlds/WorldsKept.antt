@@ -24,7 +24,7 @@ use Rattle.office_machine.proofs.Parents.ParentsPut.{grows-puts}
 use Rattle.office_machine.proofs.Passed.{witness}
 use Rattle.office_machine.proofs.Worlds.WorldsPut.{Alike, AlikeIn, pair_puts}
 use Rattle.office_machine.proofs.Worlds.WorldsStep.{tests_same, GivesNoReceipt}
-use Rattle.office_machine.proofs.Commands.AllLawful.{lawful}
+use Rattle.office_machine.proofs.Commands.{lawful}
 
 pub with_own : (th : ChosenTender) (s : Tables) (es es' : List EnvelopeRow) → AllByRecursion (λ e. envelope_at e.receipt s ≡ Some e) es → Pairs (AlikeRows th) es es'
     → Pairs (Alike th (λ n. holds_of (is_theirs th) (envelope_at n s))) es es'

@@ -121,23 +121,10 @@ module _ (th : ChosenTender) (W : ℕ → Bool) where
 
   -- one put that is the same in both
   same_put : (p : Put) (s s' : Tables) → AlikeIn th W s s' → IsPlain p → IsSorted s → IsSorted s' → AlikeIn th W (after_put p s) (after_put p s')
-  same_put (puts.Line r) s s' a plain o o' = record { but_sealed = ap (after_put (puts.Line r)) a.but_sealed; envelopes = a.envelopes; seals = a.seals }
-  same_put (puts.Batch r) s s' a plain o o' = record { but_sealed = ap (after_put (puts.Batch r)) a.but_sealed; envelopes = a.envelopes; seals = a.seals }
-  same_put (puts.Tenderer r) s s' a plain o o' = record { but_sealed = ap (after_put (puts.Tenderer r)) a.but_sealed; envelopes = a.envelopes; seals = a.seals }
-  same_put (puts.Notice r) s s' a plain o o' = record { but_sealed = ap (after_put (puts.Notice r)) a.but_sealed; envelopes = a.envelopes; seals = a.seals }
-  same_put (puts.Lot r) s s' a plain o o' = record { but_sealed = ap (after_put (puts.Lot r)) a.but_sealed; envelopes = a.envelopes; seals = a.seals }
-  same_put (puts.Security r) s s' a plain o o' = record { but_sealed = ap (after_put (puts.Security r)) a.but_sealed; envelopes = a.envelopes; seals = a.seals }
-  same_put (puts.Award r) s s' a plain o o' = record { but_sealed = ap (after_put (puts.Award r)) a.but_sealed; envelopes = a.envelopes; seals = a.seals }
-  same_put (puts.Contract r) s s' a plain o o' = record { but_sealed = ap (after_put (puts.Contract r)) a.but_sealed; envelopes = a.envelopes; seals = a.seals }
-  same_put (puts.Entry r) s s' a plain o o' = record { but_sealed = ap (after_put (puts.Entry r)) a.but_sealed; envelopes = a.envelopes; seals = a.seals }
-  same_put (puts.Release r) s s' a plain o o' = record { but_sealed = ap (after_put (puts.Release r)) a.but_sealed; envelopes = a.envelopes; seals = a.seals }
-  same_put (puts.Compiled r) s s' a plain o o' = record { but_sealed = ap (after_put (puts.Compiled r)) a.but_sealed; envelopes = a.envelopes; seals = a.seals }
-  same_put (puts.Late r) s s' a plain o o' = record { but_sealed = ap (after_put (puts.Late r)) a.but_sealed; envelopes = a.envelopes; seals = a.seals }
-  same_put (puts.Performance r) s s' a plain o o' = record { but_sealed = ap (after_put (puts.Performance r)) a.but_sealed; envelopes = a.envelopes; seals = a.seals }
-  same_put (puts.Clock r) s s' a plain o o' = record { but_sealed = ap (after_put (puts.Clock r)) a.but_sealed; envelopes = a.envelopes; seals = a.seals }
   same_put (puts.DropSeal k) s s' a plain o o' = record { but_sealed = ap (λ (t : Tables). record t { envelopes = s'.envelopes; seals = drop_seal s'.seals k }) a.but_sealed; envelopes = a.envelopes; seals = λ n out. seal_drop s.seals s'.seals k n o.seals o'.seals (a.seals n out) }
   same_put (puts.Envelope e) s s' a plain o o' = absurd plain
   same_put (puts.Seal r) s s' a plain o o' = absurd plain
+  same_put p s s' a plain o o' = record { but_sealed = ap (after_put p) a.but_sealed; envelopes = a.envelopes; seals = a.seals }
 
   envelope_put : (e e' : EnvelopeRow) (s s' : Tables) → AlikeIn th W s s' → Alike th W e e' → AlikeIn th W (after_put (puts.Envelope e) s) (after_put (puts.Envelope e') s')
   envelope_put e e' s s' a b = record { but_sealed = ap (λ (t : Tables). record t { envelopes = put_envelope s'.envelopes e'; seals = s'.seals }) a.but_sealed; envelopes = pairs-put s.envelopes s'.envelopes e e' a.envelopes b; seals = a.seals }

@@ -6,10 +6,9 @@ use Rattle.office_values.specs.declared.refusal.Thing.TheVariants as things
 use Rattle.office_base.specs.Tables.{Tables}
 use Rattle.office_base.specs.declared.records.EnvelopeState.TheVariants as envelope
 use Rattle.office_base.specs.declared.records.NoticeRow.{NoticeRow}
-use Rattle.office_base.specs.declared.records.NoticeState.TheVariants as notice_in
 use Rattle.office_machine.specs.Replies.{OfNotice, Refused}
 use Rattle.office_machine.specs.Requests.{Request}
-use Rattle.office_machine.specs.Worked.Office.{by_clerk, deadline, february, money, n1, next_day, office, presents, published, refused, setup, states_of_tenders, t1, told, told_in}
+use Rattle.office_machine.specs.Worked.Office.{by_clerk, deadline, february, money, n1, next_day, office, presents, refused, road_repair, setup, states_of_tenders, t1, told, told_in}
 
 -- the notice's deadline is moved
 abbrev pub amend : ℕ → ℕ → Request
@@ -25,21 +24,7 @@ pub record AmendingWorked : Type 0 where
   pub moves_later : told setup (amend february next_day ∷ []) ≡ OfNotice n1 2 february ∷ []
   -- and that is the notice's deadline then, with an amendment and a release more
   pub notice_is : (office (setup ++ amend february next_day ∷ [])).notices
-      ≡ record {
-        notice = n1;
-        title = codes "Road repair";
-        published = published;
-        deadline = next_day;
-        validity = 90;
-        standstill = 10;
-        weight = 0;
-        state = notice_in.Receiving;
-        opened = None;
-        amendments = 1;
-        releases = 2;
-        performance = 0;
-      }
-      ∷ []
+      ≡ record road_repair { deadline = next_day; amendments = 1; releases = 2 } ∷ []
   -- it may stay where it is
   pub stays : told setup (amend february deadline ∷ []) ≡ OfNotice n1 2 february ∷ []
   -- not to an earlier one, not even by a second

@@ -16,8 +16,6 @@ use Rattle.office_base.specs.declared.records.EntryKind.TheVariants as entries
 use Rattle.office_base.specs.declared.records.EntryRow.{EntryRow}
 use Rattle.office_base.specs.declared.records.EnvelopeState.{EnvelopeState}
 use Rattle.office_base.specs.declared.records.EnvelopeState.TheVariants as envelope
-use Rattle.office_base.specs.declared.records.LotRow.{LotRow}
-use Rattle.office_base.specs.declared.records.LotState.TheVariants as lot_in
 use Rattle.office_base.specs.declared.records.NoticeRow.{NoticeRow}
 use Rattle.office_base.specs.declared.records.NoticeState.TheVariants as notice_in
 use Rattle.office_base.specs.declared.records.SecurityState.TheVariants as security_in
@@ -26,31 +24,11 @@ use Rattle.office_machine.specs.Requests.{Request}
 use Rattle.office_machine.specs.Sights.{shown}
 use Rattle.office_machine.specs.Worked.Amending.{amend}
 use Rattle.office_machine.specs.Worked.Contracts.{ends, pays, raises, signed}
-use Rattle.office_machine.specs.Worked.Office.{by, by_clerk, deadline, enrol, february, l1, looks, lot, money, n1, n2, next_day, notice, numbered_name, opens, packages, paving, presents, published, roads, setup, standstill_end, t1, t2, tenderers, told}
+use Rattle.office_machine.specs.Worked.Office.{by, by_clerk, deadline, enrol, february, l1, looks, lot, money, n1, n2, next_day, north, notice, numbered_name, opens, packages, presents, published, road_repair, setup, standstill_end, t1, t2, tenderers, told}
 
 -- a look by anybody
 abbrev pub sees : Caller → Query → Request
 sees caller query = looks caller february query
-
--- the notice N1 as it is published, and its lot
-abbrev pub road_repair : NoticeRow
-road_repair = record {
-  notice = n1;
-  title = codes "Road repair";
-  published = published;
-  deadline = deadline;
-  validity = 90;
-  standstill = 10;
-  weight = 0;
-  performance = 0;
-  state = notice_in.Receiving;
-  opened = None;
-  amendments = 0;
-  releases = 1;
-}
-
-abbrev pub north : LotRow
-north = record { notice = n1; lot = l1; title = codes "North"; line = roads; estimate = 600; security = 50; items = paving; state = lot_in.Undecided; reserved = 600 }
 
 -- so many notices of these names: A000, A001 and so on
 abbrev pub notices_from : ℕ → ℕ → List NoticeRow

@@ -27,8 +27,12 @@ use Rattle.office_base.specs.declared.records.EnvelopeState.{EnvelopeState}
 use Rattle.office_base.specs.declared.records.LineRow.{LineRow}
 use Rattle.office_base.specs.declared.records.LotRow.{LotRow}
 use Rattle.office_base.specs.declared.records.LotState.{LotState}
+use Rattle.office_base.specs.declared.records.LotState.TheVariants as lot_in
+use Rattle.office_base.specs.declared.records.NoticeRow.{NoticeRow}
+use Rattle.office_base.specs.declared.records.NoticeState.TheVariants as notice_in
 use Rattle.office_base.specs.declared.records.SecurityRow.{SecurityRow}
 use Rattle.office_base.specs.declared.records.SecurityState.{SecurityState}
+use Rattle.tender_papers.specs.WorkedPapers.{worked_notice}
 use Rattle.office_machine.specs.Machine.{Given, Means}
 use Rattle.office_machine.specs.Replies.{Refused, Reply}
 use Rattle.office_machine.specs.Requests.{Asks, Looks, Request, all_accepted, last_office, office_after, reply_to}
@@ -251,6 +255,15 @@ examined = tendered ++ opens deadline ∷ examines 1 ∷ examines 2 ∷ []
 -- and the lot is awarded
 abbrev pub awarded : List Request
 awarded = examined ++ awards decided ∷ []
+
+-- What is kept.
+
+-- the notice once it is published with one lot of 600, and this lot
+abbrev pub road_repair : NoticeRow
+road_repair = record worked_notice { published = published; validity = 90; state = notice_in.Receiving; opened = None }
+
+abbrev pub north : LotRow
+north = record { notice = n1; lot = l1; title = codes "North"; line = roads; estimate = 600; security = 50; items = paving; state = lot_in.Undecided; reserved = 600 }
 
 -- What is told.
 

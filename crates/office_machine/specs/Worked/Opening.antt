@@ -9,14 +9,12 @@ use Rattle.office_base.specs.declared.reading.Reading.{Reading}
 use Rattle.office_base.specs.declared.reading.Reading.TheVariants.{Nonconforming, Priced, Unreadable}
 use Rattle.office_base.specs.declared.records.EnvelopeRow.{EnvelopeRow}
 use Rattle.office_base.specs.declared.records.EnvelopeState.TheVariants as envelope
-use Rattle.office_base.specs.declared.records.LotRow.{LotRow}
-use Rattle.office_base.specs.declared.records.LotState.TheVariants as lot_in
 use Rattle.office_base.specs.declared.records.NoticeRow.{NoticeRow}
 use Rattle.office_base.specs.declared.records.NoticeState.TheVariants as notice_in
 use Rattle.office_base.specs.declared.records.ReleaseRow.{ReleaseRow}
 use Rattle.office_machine.specs.Replies.{Minuted, Minutes, OpenedAll, Refused}
 use Rattle.office_machine.specs.Requests.{Request}
-use Rattle.office_machine.specs.Worked.Office.{by, cancels, deadline, february, l1, looks, money, n1, office, opens, paving, presents, published, refused, roads, setup, states_of_tenders, t1, t2, t3, tendered, told, two_notices}
+use Rattle.office_machine.specs.Worked.Office.{by, cancels, deadline, february, l1, looks, money, n1, north, office, opens, presents, refused, road_repair, setup, states_of_tenders, t1, t2, t3, tendered, told, two_notices}
 
 -- anybody looks at the minutes
 abbrev pub sees_minutes : Request
@@ -38,36 +36,9 @@ readings first second third =
     map (λ (e : EnvelopeRow). e.reading)
     (office (setup ++ presents t1 february first ∷ presents t2 february second ∷ presents t3 february third ∷ opens deadline ∷ [])).envelopes
 
--- the notice and its lot once opened at a moment, with so many releases
+-- the notice once opened at a moment, with so many releases
 abbrev pub notice_opened : ℕ → ℕ → NoticeRow
-notice_opened moment releases = record {
-  notice = n1;
-  title = codes "Road repair";
-  published = published;
-  deadline = deadline;
-  validity = 90;
-  standstill = 10;
-  weight = 0;
-  state = notice_in.Opened;
-  opened = Some moment;
-  amendments = 0;
-  releases = releases;
-  performance = 0;
-}
-
--- the lot, still undecided
-abbrev pub lot_then : LotRow
-lot_then = record {
-  notice = n1;
-  lot = l1;
-  title = codes "North";
-  line = roads;
-  estimate = 600;
-  security = 50;
-  items = paving;
-  state = lot_in.Undecided;
-  reserved = 600;
-}
+notice_opened moment releases = record road_repair { state = notice_in.Opened; opened = Some moment; releases = releases }
 
 -- a line of the minutes
 abbrev pub minuted : ℕ → List ℕ → List ℕ → Reading → Minuted
@@ -92,13 +63,13 @@ pub record OpeningWorked : Type 0 where
   pub not_once_cancelled : refused tendered (cancels february ∷ opens deadline ∷ []) ≡ None ∷ Some NotOpenForTenders ∷ []
   -- the minutes are anybody's then: who tendered, and how each tender reads
   pub minutes_are_seen : told (tendered ++ opens deadline ∷ []) (sees_minutes ∷ [])
-      ≡ Minutes (notice_opened deadline 2) (lot_then ∷ [])
+      ≡ Minutes (notice_opened deadline 2) (north ∷ [])
       (minuted 1 t1 (codes "Alpha") (Priced 500 500 0) ∷ minuted 2 t2 (codes "Beta") (Priced 550 550 0) ∷ [])
       ∷ []
   -- a withdrawn tender and a late one are not opened, and not in the minutes
   pub one_is_opened : told one_of_three (opens (deadline + 2) ∷ sees_minutes ∷ [])
       ≡ OpenedAll n1 1 2 (deadline + 2)
-      ∷ Minutes (notice_opened (deadline + 2) 2) (lot_then ∷ []) (minuted 2 t2 (codes "Beta") (Priced 550 550 0) ∷ [])
+      ∷ Minutes (notice_opened (deadline + 2) 2) (north ∷ []) (minuted 2 t2 (codes "Beta") (Priced 550 550 0) ∷ [])
       ∷ []
   -- they stay as they were
   pub others_stay : states_of_tenders (one_of_three ++ opens (deadline + 2) ∷ []) ≡ envelope.Withdrawn ∷ envelope.Opened ∷ envelope.Returned ∷ []

@@ -1,5 +1,5 @@
 -- Worked examples of publishing: what a notice reserves, and when it is refused.
-use Rattle.std.specs.Prelude.{◌++◌, ◌∷◌, ◌≡◌, List, None, [], codes, suc, zero, ℕ}
+use Rattle.std.specs.Prelude.{◌++◌, ◌∷◌, ◌≡◌, List, [], codes, suc, zero, ℕ}
 use Prim.Native.Nat.{suc-le-suc, zero-le}
 use Rattle.office_commands.specs.declared.budget.BudgetKind.TheVariants.{Add}
 use Rattle.office_commands.specs.declared.commands.Command.TheVariants.{Import, Publish}
@@ -9,11 +9,9 @@ use Rattle.office_commands.specs.declared.notice.Criteria.TheVariants.{Price}
 use Rattle.office_values.specs.declared.refusal.Refusal.TheVariants.{DeadlinePassed, Exists, InsufficientFunds, LimitReached, NoSuch}
 use Rattle.office_values.specs.declared.refusal.Thing.TheVariants as things
 use Rattle.office_base.specs.Joined.{ledger_of}
-use Rattle.office_base.specs.declared.records.LotState.TheVariants as lot_in
-use Rattle.office_base.specs.declared.records.NoticeState.TheVariants as notice_in
 use Rattle.office_machine.specs.Replies.{OfNotice, Refused}
 use Rattle.office_machine.specs.Requests.{Request}
-use Rattle.office_machine.specs.Worked.Office.{by_clerk, deadline, february, january, l1, l2, lot, money, n1, n2, notice, numbered_name, office, paving, pots, pots_are, publish, published, roads, row, setup, told}
+use Rattle.office_machine.specs.Worked.Office.{by_clerk, deadline, february, january, l1, l2, lot, money, n1, n2, north, notice, numbered_name, office, pots, pots_are, publish, published, road_repair, roads, row, setup, told}
 
 -- two lots of 600 and 400, and of 600 and 401
 abbrev pub two_lots : Request
@@ -84,35 +82,8 @@ pub record PublishingWorked : Type 0 where
   -- but not for 51
   pub fifty_one_items : told money (publish Price (lot_with 51 ∷ []) ∷ []) ≡ Refused LimitReached ∷ []
   -- what a notice is then
-  pub notice_is : (office setup).notices
-      ≡ record {
-        notice = n1;
-        title = codes "Road repair";
-        published = published;
-        deadline = deadline;
-        validity = 90;
-        standstill = 10;
-        weight = 0;
-        state = notice_in.Receiving;
-        opened = None;
-        amendments = 0;
-        releases = 1;
-        performance = 0;
-      }
-      ∷ []
+  pub notice_is : (office setup).notices ≡ road_repair ∷ []
   -- and its lot
-  pub lot_is : (office setup).lots
-      ≡ record {
-        notice = n1;
-        lot = l1;
-        title = codes "North";
-        line = roads;
-        estimate = 600;
-        security = 50;
-        items = paving;
-        state = lot_in.Undecided;
-        reserved = 600;
-      }
-      ∷ []
+  pub lot_is : (office setup).lots ≡ north ∷ []
   -- its first release
   pub release_is : (office setup).releases ≡ record { notice = n1; seq = 1; moment = published; text = [] } ∷ []

@@ -17,7 +17,7 @@ use Rattle.office_machine.specs.Requests.{AreRequests, Request}
 use Rattle.office_machine.specs.Seals.{ReleasesHideSeals, SameButSeals, PackagesHideSeals, without_digest}
 use Rattle.office_machine.specs.Worlds.{ChosenTender}
 use Rattle.office_machine.specs.Worked.Listing.{held_security, own}
-use Rattle.office_machine.specs.Worked.Office.{accepted, awards, by, deadline, decided, february, l1, looks, means, n1, office, opens, packages, paving, presents, published, roads, setup, t1, t2, told}
+use Rattle.office_machine.specs.Worked.Office.{accepted, awards, by, deadline, decided, february, l1, looks, means, n1, north, office, opens, packages, presents, road_repair, setup, t1, t2, told}
 
 -- T1 and its tenders for the lot
 abbrev pub theirs : ChosenTender
@@ -72,34 +72,7 @@ telling these those =
     ∷ Refused NotOpened
     ∷ Withdrew 2 envelope.Withdrawn february
     ∷ OpenedAll n1 0 2 deadline
-    ∷ Minutes
-    (record {
-      notice = n1;
-      title = codes "Road repair";
-      published = published;
-      deadline = deadline;
-      validity = 90;
-      standstill = 10;
-      weight = 0;
-      state = notice_in.Opened;
-      opened = Some deadline;
-      amendments = 0;
-      releases = 2;
-      performance = 0;
-    })
-    (record {
-      notice = n1;
-      lot = l1;
-      title = codes "North";
-      line = roads;
-      estimate = 600;
-      security = 50;
-      items = paving;
-      state = lot_in.Undecided;
-      reserved = 600;
-    }
-    ∷ [])
-    []
+    ∷ Minutes (record road_repair { state = notice_in.Opened; opened = Some deadline; releases = 2 }) (north ∷ []) []
     ∷ EvaluationSeen n1 (record { lot = l1; state = lot_in.Undecided; tenders = []; awards = [] } ∷ [])
     ∷ Awarded l1 None 3 decided
     ∷ []

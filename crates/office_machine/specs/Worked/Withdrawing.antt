@@ -9,8 +9,8 @@ use Rattle.office_base.specs.declared.records.SecurityState.TheVariants as secur
 use Rattle.office_machine.specs.Fates.{fate_of_security, fate_of_tender}
 use Rattle.office_machine.specs.Replies.{Awarded, Examined, Minutes, Refused, Withdrew}
 use Rattle.office_machine.specs.Requests.{Request}
-use Rattle.office_machine.specs.Worked.Office.{accepted, awards, by, by_clerk, cancels, deadline, decided, examines, expiry, february, l1, lenient, lot, money, n1, office, opens, pots, pots_are, presents, published, setup, states_of_securities, states_of_tenders, t1, t2, tenderers, told}
-use Rattle.office_machine.specs.Worked.Opening.{lot_then, minuted, notice_opened, sees_minutes}
+use Rattle.office_machine.specs.Worked.Office.{accepted, awards, by, by_clerk, cancels, deadline, decided, examines, expiry, february, l1, lenient, lot, money, n1, north, office, opens, pots, pots_are, presents, published, setup, states_of_securities, states_of_tenders, t1, t2, tenderers, told}
+use Rattle.office_machine.specs.Worked.Opening.{minuted, notice_opened, sees_minutes}
 
 -- the notice of the other examples, but that its tenders can be withdrawn late
 abbrev pub lenient_setup : List Request
@@ -52,7 +52,7 @@ pub record WithdrawingWorked : Type 0 where
   pub nobody_wins : told (one ++ withdraws t1 deadline 1 ∷ opens deadline ∷ []) (awards deadline ∷ []) ≡ Awarded l1 None 3 deadline ∷ []
   pub opened_too : states_of_tenders (one ++ withdraws t1 deadline 1 ∷ opens deadline ∷ []) ≡ envelope.Opened ∷ []
   pub listed : told (one ++ withdraws t1 deadline 1 ∷ opens deadline ∷ []) (sees_minutes ∷ [])
-      ≡ Minutes (notice_opened deadline 2) (lot_then ∷ []) (minuted 1 t1 (codes "Alpha") (Priced 500 500 0) ∷ []) ∷ []
+      ≡ Minutes (notice_opened deadline 2) (north ∷ []) (minuted 1 t1 (codes "Alpha") (Priced 500 500 0) ∷ []) ∷ []
   pub all_is_free : pots (one ++ withdraws t1 deadline 1 ∷ opens deadline ∷ awards deadline ∷ []) ≡ pots_are 1000 1000 0 0 0
   pub stays_forfeited : states_of_securities (one ++ withdraws t1 deadline 1 ∷ opens deadline ∷ awards deadline ∷ []) ≡ security_in.Forfeited ∷ []
   -- after the opening too, before the examination; it can't be examined then, and needn't be

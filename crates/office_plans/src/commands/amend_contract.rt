@@ -33,7 +33,7 @@ use office_publications::worth::contract_value_after;
 use office_values::given::AskedNumber;
 use office_values::id::Id;
 use office_values::refusal::Refusal;
-use office_values::settings::Settings;
+use office_values::settings::Publisher;
 use office_values::text::TextLine;
 use std::alloc::Global;
 use tender_core::asking::Asking;
@@ -83,7 +83,7 @@ fn reply(
 // office.
 fn release(
     alloc: Global,
-    settings: &Settings,
+    publisher: &Publisher,
     asking: &Asking,
     rows: &AmendContractRows,
     contract: &ContractRow,
@@ -93,7 +93,7 @@ fn release(
     rationale: &TextLine,
 ) -> Result<Released, Refusal>
     ensures release { IfOk result (λ release. (s : Tables) (number : ℕ) → rows.now ≡ amend_contract_rows s number → rows.now.contract ≡ Some contract.now
-        → IsReleased settings.now (given_by asking.now s (AmendContract number entry kind amount rationale.now)) release) }
+        → IsReleased publisher.now (given_by asking.now s (AmendContract number entry kind amount rationale.now)) release) }
     ensures none { IfErr result (λ why. why ≡ Unavailable) }
 {
     rows_are_kept::<ContractRow>();
@@ -111,14 +111,14 @@ fn release(
         rationale,
     });
     let t = asking.time(&rows.clock);
-    make_release(alloc, settings, contract.notice, &rows.notice, t, &event)
+    make_release(alloc, publisher, contract.notice, &rows.notice, t, &event)
 }
 
 /// Plans the amendment of a contract: a refusal takes no memory beside the rows.
 pub fn plan<H: Lookups>(
     alloc: Global,
     shelf: &mut H,
-    settings: &Settings,
+    publisher: &Publisher,
     asking: &Asking,
     contract: AskedNumber,
     entry: Id,
@@ -128,7 +128,7 @@ pub fn plan<H: Lookups>(
 ) -> Result<Planned, Refusal>
     requires { may asking.now.caller.now kinds.AmendContract ≡ true }
     ensures looks { Looks H.meaning shelf.old shelf.new (λ s.
-        IsPlanned settings.now (given_by asking.now s (AmendContract contract entry kind amount rationale)) result) }
+        IsPlanned publisher.now (given_by asking.now s (AmendContract contract entry kind amount rationale)) result) }
     ensures tells { TellsRefusal H.meaning shelf.old shelf.new (λ s. given_by asking.now s (AmendContract contract entry kind amount rationale)) result }
 {
     looks_follow::<H>();
@@ -140,7 +140,7 @@ pub fn plan<H: Lookups>(
     let text = reply(alloc, asking, &rows, contract, kind, amount)?;
     let row = rows.contract.as_ref().unwrap();
     let release = release(
-        alloc, settings, asking, &rows, row, entry, kind, amount, &rationale,
+        alloc, publisher, asking, &rows, row, entry, kind, amount, &rationale,
     )?;
     let puts = puts(alloc, t, rows, entry, kind, amount, rationale)?;
     published(alloc, shelf, puts, text, release)

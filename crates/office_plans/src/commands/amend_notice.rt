@@ -23,7 +23,7 @@ use office_base::shelf::{Lookups, ShelfFault};
 use office_values::id::Id;
 use office_values::moment::Moment;
 use office_values::refusal::Refusal;
-use office_values::settings::Settings;
+use office_values::settings::Publisher;
 use office_values::text::TextLine;
 use std::alloc::Global;
 use tender_core::amend_notice::{AmendNoticeRows, puts, refusal};
@@ -52,7 +52,7 @@ fn deadline_in(row: &Option<NoticeRow>) -> Moment
 // The release of an accepted amendment.
 fn release(
     alloc: Global,
-    settings: &Settings,
+    publisher: &Publisher,
     asking: &Asking,
     rows: &AmendNoticeRows,
     notice: Id,
@@ -60,7 +60,7 @@ fn release(
     rationale: &TextLine,
 ) -> Result<Released, Refusal>
     ensures release { IfOk result (λ release. (s : Tables) → rows.now ≡ amend_notice_rows s notice
-        → IsReleased settings.now (given_by asking.now s (AmendNotice notice deadline rationale.now)) release) }
+        → IsReleased publisher.now (given_by asking.now s (AmendNotice notice deadline rationale.now)) release) }
     ensures none { IfErr result (λ why. why ≡ Unavailable) }
 {
     let before = deadline_in(&rows.notice);
@@ -72,21 +72,21 @@ fn release(
         rationale,
     });
     let t = asking.time(&rows.clock);
-    make_release(alloc, settings, notice, &rows.notice, t, &event)
+    make_release(alloc, publisher, notice, &rows.notice, t, &event)
 }
 
 /// Plans the amendment of a notice: a refusal takes no memory beside the rows. Its rationale is kept for the release alone.
 pub fn plan<H: Lookups>(
     alloc: Global,
     shelf: &mut H,
-    settings: &Settings,
+    publisher: &Publisher,
     asking: &Asking,
     notice: Id,
     deadline: Moment,
     rationale: TextLine,
 ) -> Result<Planned, Refusal>
     requires { may asking.now.caller.now kinds.AmendNotice ≡ true }
-    ensures looks { Looks H.meaning shelf.old shelf.new (λ s. IsPlanned settings.now (given_by asking.now s (AmendNotice notice deadline rationale)) result) }
+    ensures looks { Looks H.meaning shelf.old shelf.new (λ s. IsPlanned publisher.now (given_by asking.now s (AmendNotice notice deadline rationale)) result) }
     ensures tells { TellsRefusal H.meaning shelf.old shelf.new (λ s. given_by asking.now s (AmendNotice notice deadline rationale)) result }
 {
     looks_follow::<H>();
@@ -96,7 +96,9 @@ pub fn plan<H: Lookups>(
         return Err(why);
     }
     let text = notice_reply(alloc, asking, notice, &rows.notice, &rows.clock)?;
-    let release = release(alloc, settings, asking, &rows, notice, deadline, &rationale)?;
+    let release = release(
+        alloc, publisher, asking, &rows, notice, deadline, &rationale,
+    )?;
     let puts = puts(alloc, t, rows, deadline)?;
     published(alloc, shelf, puts, text, release)
 }

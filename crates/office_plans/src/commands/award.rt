@@ -32,7 +32,7 @@ use office_values::given::GivenNumber;
 use office_values::id::Id;
 use office_values::moment::Moment;
 use office_values::refusal::Refusal;
-use office_values::settings::Settings;
+use office_values::settings::Publisher;
 use std::alloc::{AllocError, Global};
 use tender_core::asking::Asking;
 
@@ -146,7 +146,7 @@ fn reply(
 fn won<H: Lookups>(
     alloc: Global,
     shelf: &mut H,
-    settings: &Settings,
+    publisher: &Publisher,
     asking: &Asking,
     rows: &AwardRows,
     notice: Id,
@@ -154,7 +154,7 @@ fn won<H: Lookups>(
     best: &EnvelopeRow,
 ) -> Result<Released, Refusal>
     ensures looks { Looks H.meaning shelf.old shelf.new (λ s. IfOk result (λ release. rows.now ≡ awarded_rows s notice lot
-        → Some best.now ≡ winner rows.now.notice rows.now.envelopes → IsReleased settings.now (given_by asking.now s (Award notice lot)) release)) }
+        → Some best.now ≡ winner rows.now.notice rows.now.envelopes → IsReleased publisher.now (given_by asking.now s (Award notice lot)) release)) }
     ensures none { IfErr result (λ why. why ≡ Unavailable) }
 {
     let tenderer = shelf.get_tenderer(&best.tenderer)?;
@@ -172,21 +172,21 @@ fn won<H: Lookups>(
         price: price_of(best),
     });
     let t = asking.time(&rows.clock);
-    make_release(alloc, settings, notice, &rows.notice, t, &event)
+    make_release(alloc, publisher, notice, &rows.notice, t, &event)
 }
 
 // The release where none of the lot's tenders may win.
 fn lost<H: Lookups>(
     alloc: Global,
     shelf: &mut H,
-    settings: &Settings,
+    publisher: &Publisher,
     asking: &Asking,
     rows: &AwardRows,
     notice: Id,
     lot: Id,
 ) -> Result<Released, Refusal>
     ensures looks { Looks H.meaning shelf.old shelf.new (λ s. IfOk result (λ release. rows.now ≡ awarded_rows s notice lot
-        → None ≡ winner rows.now.notice rows.now.envelopes → IsReleased settings.now (given_by asking.now s (Award notice lot)) release)) }
+        → None ≡ winner rows.now.notice rows.now.envelopes → IsReleased publisher.now (given_by asking.now s (Award notice lot)) release)) }
     ensures none { IfErr result (λ why. why ≡ Unavailable) }
 {
     let lots = shelf.list_lots_of_notice(&notice)?;
@@ -197,14 +197,14 @@ fn lost<H: Lookups>(
         status,
     });
     let t = asking.time(&rows.clock);
-    make_release(alloc, settings, notice, &rows.notice, t, &event)
+    make_release(alloc, publisher, notice, &rows.notice, t, &event)
 }
 
 // The release of an accepted award.
 fn release<H: Lookups>(
     alloc: Global,
     shelf: &mut H,
-    settings: &Settings,
+    publisher: &Publisher,
     asking: &Asking,
     rows: &AwardRows,
     notice: Id,
@@ -213,12 +213,12 @@ fn release<H: Lookups>(
 ) -> Result<Released, Refusal>
     ensures looks { Looks H.meaning shelf.old shelf.new (λ s. IfOk result (λ release. rows.now ≡ awarded_rows s notice lot
         → option_map (λ e. e.now) best.entry ≡ winner rows.now.notice rows.now.envelopes
-        → IsReleased settings.now (given_by asking.now s (Award notice lot)) release)) }
+        → IsReleased publisher.now (given_by asking.now s (Award notice lot)) release)) }
     ensures none { IfErr result (λ why. why ≡ Unavailable) }
 {
     match best {
-        Some(tender) => won(alloc, shelf, settings, asking, rows, notice, lot, tender),
-        None => lost(alloc, shelf, settings, asking, rows, notice, lot),
+        Some(tender) => won(alloc, shelf, publisher, asking, rows, notice, lot, tender),
+        None => lost(alloc, shelf, publisher, asking, rows, notice, lot),
     }
 }
 
@@ -226,13 +226,13 @@ fn release<H: Lookups>(
 pub fn plan<H: Lookups>(
     alloc: Global,
     shelf: &mut H,
-    settings: &Settings,
+    publisher: &Publisher,
     asking: &Asking,
     notice: Id,
     lot: Id,
 ) -> Result<Planned, Refusal>
     requires { may asking.now.caller.now kinds.Award ≡ true }
-    ensures looks { Looks H.meaning shelf.old shelf.new (λ s. IsPlanned settings.now (given_by asking.now s (Award notice lot)) result) }
+    ensures looks { Looks H.meaning shelf.old shelf.new (λ s. IsPlanned publisher.now (given_by asking.now s (Award notice lot)) result) }
     ensures tells { TellsRefusal H.meaning shelf.old shelf.new (λ s. given_by asking.now s (Award notice lot)) result }
 {
     looks_follow::<H>();
@@ -243,7 +243,7 @@ pub fn plan<H: Lookups>(
         return Err(why);
     }
     let text = reply(alloc, asking, &rows, lot, best)?;
-    let release = release(alloc, shelf, settings, asking, &rows, notice, lot, best)?;
+    let release = release(alloc, shelf, publisher, asking, &rows, notice, lot, best)?;
     let puts = puts(alloc, t, rows)?;
     published(alloc, shelf, puts, text, release)
 }

@@ -28,7 +28,7 @@ use office_base::rows::Rows;
 use office_base::shelf::{Lookups, ShelfFault};
 use office_values::id::Id;
 use office_values::refusal::Refusal;
-use office_values::settings::Settings;
+use office_values::settings::Publisher;
 use office_values::text::TextLine;
 use std::alloc::Global;
 use tender_core::asking::Asking;
@@ -91,14 +91,14 @@ fn with_lines<H: Lookups>(
 // The release of an accepted cancellation: of the lots that are open, and the active awards of these.
 fn release(
     alloc: Global,
-    settings: &Settings,
+    publisher: &Publisher,
     asking: &Asking,
     rows: &CancelRows,
     notice: Id,
     rationale: &TextLine,
 ) -> Result<Released, Refusal>
     ensures release { IfOk result (λ release. (s : Tables) → rows.now ≡ cancel_named s notice
-        → IsReleased settings.now (given_by asking.now s (Cancel notice rationale.now)) release) }
+        → IsReleased publisher.now (given_by asking.now s (Cancel notice rationale.now)) release) }
     ensures none { IfErr result (λ why. why ≡ Unavailable) }
 {
     let lots = rows.lots.as_slice();
@@ -118,20 +118,20 @@ fn release(
         status,
     });
     let t = asking.time(&rows.clock);
-    make_release(alloc, settings, notice, &rows.notice, t, &event)
+    make_release(alloc, publisher, notice, &rows.notice, t, &event)
 }
 
 /// Plans a cancellation: a refusal takes no memory beside the rows, and asks for no line. Its rationale is kept for the release alone.
 pub fn plan<H: Lookups>(
     alloc: Global,
     shelf: &mut H,
-    settings: &Settings,
+    publisher: &Publisher,
     asking: &Asking,
     notice: Id,
     rationale: TextLine,
 ) -> Result<Planned, Refusal>
     requires { may asking.now.caller.now kinds.Cancel ≡ true }
-    ensures looks { Looks H.meaning shelf.old shelf.new (λ s. IsPlanned settings.now (given_by asking.now s (Cancel notice rationale)) result) }
+    ensures looks { Looks H.meaning shelf.old shelf.new (λ s. IsPlanned publisher.now (given_by asking.now s (Cancel notice rationale)) result) }
     ensures tells { TellsRefusal H.meaning shelf.old shelf.new (λ s. given_by asking.now s (Cancel notice rationale)) result }
 {
     looks_follow::<H>();
@@ -144,7 +144,7 @@ pub fn plan<H: Lookups>(
     }
     let rows = with_lines(alloc, shelf, found)?;
     let text = notice_reply(alloc, asking, notice, &rows.notice, &rows.clock)?;
-    let release = release(alloc, settings, asking, &rows, notice, &rationale)?;
+    let release = release(alloc, publisher, asking, &rows, notice, &rationale)?;
     let puts = puts(alloc, t, rows)?;
     published(alloc, shelf, puts, text, release)
 }

@@ -30,7 +30,7 @@ use office_commands::contract::How;
 use office_machine::laws;
 use office_values::given::AskedNumber;
 use office_values::refusal::Refusal;
-use office_values::settings::Settings;
+use office_values::settings::Publisher;
 use std::alloc::Global;
 use tender_core::asking::Asking;
 
@@ -77,13 +77,13 @@ fn reply(
 // The release of an accepted end of this contract.
 fn release(
     alloc: Global,
-    settings: &Settings,
+    publisher: &Publisher,
     asking: &Asking,
     rows: &EndRows,
     contract: &ContractRow,
 ) -> Result<Released, Refusal>
     ensures release { IfOk result (λ release. (s : Tables) (number : ℕ) (how : How) → rows.now ≡ end_rows s number
-        → rows.now.contract ≡ Some contract.now → IsReleased settings.now (given_by asking.now s (End number how)) release) }
+        → rows.now.contract ≡ Some contract.now → IsReleased publisher.now (given_by asking.now s (End number how)) release) }
     ensures none { IfErr result (λ why. why ≡ Unavailable) }
 {
     let event = Event::End(ContractEnded {
@@ -91,20 +91,20 @@ fn release(
         contract: contract.contract,
     });
     let t = asking.time(&rows.clock);
-    make_release(alloc, settings, contract.notice, &rows.notice, t, &event)
+    make_release(alloc, publisher, contract.notice, &rows.notice, t, &event)
 }
 
 /// Plans the end of a contract: a refusal takes no memory beside the rows.
 pub fn plan<H: Lookups>(
     alloc: Global,
     shelf: &mut H,
-    settings: &Settings,
+    publisher: &Publisher,
     asking: &Asking,
     contract: AskedNumber,
     how: How,
 ) -> Result<Planned, Refusal>
     requires { may asking.now.caller.now kinds.End ≡ true }
-    ensures looks { Looks H.meaning shelf.old shelf.new (λ s. IsPlanned settings.now (given_by asking.now s (End contract how)) result) }
+    ensures looks { Looks H.meaning shelf.old shelf.new (λ s. IsPlanned publisher.now (given_by asking.now s (End contract how)) result) }
     ensures tells { TellsRefusal H.meaning shelf.old shelf.new (λ s. given_by asking.now s (End contract how)) result }
 {
     looks_follow::<H>();
@@ -115,7 +115,7 @@ pub fn plan<H: Lookups>(
     }
     let text = reply(alloc, asking, &rows, contract)?;
     let row = rows.contract.as_ref().unwrap();
-    let release = release(alloc, settings, asking, &rows, row)?;
+    let release = release(alloc, publisher, asking, &rows, row)?;
     let puts = puts(alloc, t, rows, how)?;
     published(alloc, shelf, puts, text, release)
 }

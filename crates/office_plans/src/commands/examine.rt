@@ -9,7 +9,7 @@ ghost use Rattle.office_machine.specs.Replies.{Examined};
 ghost use Rattle.office_plans.specs.Asking.{given_by};
 ghost use Rattle.office_plans.specs.Published.{IsPlanned, TellsRefusal};
 ghost use Rattle.office_plans.specs.Replies.{reply_text};
-ghost use Rattle.office_values.specs.declared.settings.Settings.{Settings};
+ghost use Rattle.office_values.specs.declared.settings.Publisher.{Publisher};
 
 use crate::objects::{Plain, object_text};
 use crate::parents::{lot_of_envelope, notice_of_envelope};
@@ -69,8 +69,8 @@ pub fn plan<H: Lookups>(
     quality: Option<Quality>,
 ) -> Result<Planned, Refusal>
     requires { may asking.now.caller.now kinds.Examine ≡ true }
-    ensures looks { (settings : Settings) → Looks H.meaning shelf.old shelf.new (λ s.
-        IsPlanned settings (given_by asking.now s (Examine receipt responsive quality)) result) }
+    ensures looks { (publisher : Publisher) → Looks H.meaning shelf.old shelf.new (λ s.
+        IsPlanned publisher (given_by asking.now s (Examine receipt responsive quality)) result) }
     ensures tells { TellsRefusal H.meaning shelf.old shelf.new (λ s. given_by asking.now s (Examine receipt responsive quality)) result }
 {
     let rows = load(shelf, receipt)?;

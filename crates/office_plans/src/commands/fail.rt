@@ -26,7 +26,7 @@ use office_base::shelf::{Lookups, ShelfFault};
 use office_values::given::AskedNumber;
 use office_values::moment::Moment;
 use office_values::refusal::Refusal;
-use office_values::settings::Settings;
+use office_values::settings::Publisher;
 use std::alloc::{AllocError, Global};
 use tender_core::asking::Asking;
 
@@ -87,13 +87,13 @@ fn reply(
 // The release of an accepted failing of this award.
 fn release(
     alloc: Global,
-    settings: &Settings,
+    publisher: &Publisher,
     asking: &Asking,
     rows: &FailRows,
     award: &AwardRow,
 ) -> Result<Released, Refusal>
     ensures release { IfOk result (λ release. (s : Tables) (number : ℕ) → rows.now ≡ fail_rows s number → rows.now.award ≡ Some award.now
-        → IsReleased settings.now (given_by asking.now s (Fail number)) release) }
+        → IsReleased publisher.now (given_by asking.now s (Fail number)) release) }
     ensures none { IfErr result (λ why. why ≡ Unavailable) }
 {
     let event = Event::Fail(AwardFailed {
@@ -101,19 +101,19 @@ fn release(
         award: award.award,
     });
     let t = asking.time(&rows.clock);
-    make_release(alloc, settings, award.notice, &rows.notice, t, &event)
+    make_release(alloc, publisher, award.notice, &rows.notice, t, &event)
 }
 
 /// Plans that the winner of an award is passed over: a refusal takes no memory beside the rows.
 pub fn plan<H: Lookups>(
     alloc: Global,
     shelf: &mut H,
-    settings: &Settings,
+    publisher: &Publisher,
     asking: &Asking,
     award: AskedNumber,
 ) -> Result<Planned, Refusal>
     requires { may asking.now.caller.now kinds.Fail ≡ true }
-    ensures looks { Looks H.meaning shelf.old shelf.new (λ s. IsPlanned settings.now (given_by asking.now s (Fail award)) result) }
+    ensures looks { Looks H.meaning shelf.old shelf.new (λ s. IsPlanned publisher.now (given_by asking.now s (Fail award)) result) }
     ensures tells { TellsRefusal H.meaning shelf.old shelf.new (λ s. given_by asking.now s (Fail award)) result }
 {
     looks_follow::<H>();
@@ -124,7 +124,7 @@ pub fn plan<H: Lookups>(
     }
     let text = reply(alloc, asking, &rows, award)?;
     let row = rows.award.as_ref().unwrap();
-    let release = release(alloc, settings, asking, &rows, row)?;
+    let release = release(alloc, publisher, asking, &rows, row)?;
     let puts = puts(alloc, t, rows)?;
     published(alloc, shelf, puts, text, release)
 }

@@ -9,7 +9,7 @@ ghost use Rattle.office_plans.specs.Asking.{given_by};
 ghost use Rattle.office_plans.specs.Named.{import_named};
 ghost use Rattle.office_plans.specs.Published.{IsPlanned};
 ghost use Rattle.office_plans.specs.Replies.{reply_text};
-ghost use Rattle.office_values.specs.declared.settings.Settings.{Settings};
+ghost use Rattle.office_values.specs.declared.settings.Publisher.{Publisher};
 
 use crate::objects::{Plain, object_text};
 use crate::planned::Planned;
@@ -71,7 +71,7 @@ pub fn plan<H: Lookups>(
     rows: BudgetRows,
 ) -> Result<Planned, Refusal>
     requires { may asking.now.caller.now kinds.Import ≡ true }
-    ensures { (settings : Settings) → Looks H.meaning shelf.old shelf.new (λ s. IsPlanned settings (given_by asking.now s (Import batch rows)) result) }
+    ensures { (publisher : Publisher) → Looks H.meaning shelf.old shelf.new (λ s. IsPlanned publisher (given_by asking.now s (Import batch rows)) result) }
 {
     rows_are_kept::<Standing>();
     imports_agree();

@@ -9,7 +9,7 @@ ghost use Rattle.office_machine.specs.Replies.{received_reply};
 ghost use Rattle.office_plans.specs.Asking.{given_by};
 ghost use Rattle.office_plans.specs.Published.{IsPlanned, TellsRefusal};
 ghost use Rattle.office_plans.specs.Replies.{reply_text};
-ghost use Rattle.office_values.specs.declared.settings.Settings.{Settings};
+ghost use Rattle.office_values.specs.declared.settings.Publisher.{Publisher};
 ghost use Rattle.tender_core.specs.Rules.Modify.{modify_rows, replacing};
 
 use crate::objects::number_of;
@@ -66,8 +66,8 @@ pub fn plan<H: Lookups>(
     sealed: Sealed<'_>,
 ) -> Result<Planned, Refusal>
     requires { may asking.now.caller.now kinds.Modify ≡ true }
-    ensures looks { (settings : Settings) → Looks H.meaning shelf.old shelf.new (λ s.
-        IsPlanned settings (given_by asking.now s (Modify receipt sealed.entry)) result) }
+    ensures looks { (publisher : Publisher) → Looks H.meaning shelf.old shelf.new (λ s.
+        IsPlanned publisher (given_by asking.now s (Modify receipt sealed.entry)) result) }
     ensures tells { TellsRefusal H.meaning shelf.old shelf.new (λ s. given_by asking.now s (Modify receipt sealed.entry)) result }
 {
     let rows = load(shelf, receipt)?;

@@ -27,7 +27,7 @@ use office_base::shelf::{Lookups, ShelfFault};
 use office_values::id::Id;
 use office_values::moment::Moment;
 use office_values::refusal::Refusal;
-use office_values::settings::Settings;
+use office_values::settings::Publisher;
 use std::alloc::{AllocError, Global};
 use tender_core::asking::Asking;
 use tender_core::laws::readings_are_put;
@@ -85,33 +85,33 @@ fn reply(
 fn release<H: Lookups>(
     alloc: Global,
     shelf: &mut H,
-    settings: &Settings,
+    publisher: &Publisher,
     asking: &Asking,
     rows: &OpenRows,
     notice: Id,
     tenders: &[OpenedTender],
 ) -> Result<Released, Refusal>
     ensures looks { Looks H.meaning shelf.old shelf.new (λ s. IfOk result (λ release. rows.now ≡ open_rows s notice → tenders.now ≡ tenders_read notice s
-        → IsReleased settings.now (given_by asking.now s (Open notice)) release)) }
+        → IsReleased publisher.now (given_by asking.now s (Open notice)) release)) }
     ensures none { IfErr result (λ why. why ≡ Unavailable) }
 {
     let found = load_tenderers(alloc, shelf, tenders)?;
     let tenderers = Tenderers::of(found.as_slice());
     let event = Event::Open(Opened { notice, tenderers });
     let t = asking.time(&rows.clock);
-    make_release(alloc, settings, notice, &rows.notice, t, &event)
+    make_release(alloc, publisher, notice, &rows.notice, t, &event)
 }
 
 /// Plans the opening of the tenders of a notice: a refused one takes no memory beside the notice's row, and reads no tender.
 pub fn plan<H: Lookups>(
     alloc: Global,
     shelf: &mut H,
-    settings: &Settings,
+    publisher: &Publisher,
     asking: &Asking,
     notice: Id,
 ) -> Result<Planned, Refusal>
     requires { may asking.now.caller.now kinds.Open ≡ true }
-    ensures looks { Looks H.meaning shelf.old shelf.new (λ s. IsPlanned settings.now (given_by asking.now s (Open notice)) result) }
+    ensures looks { Looks H.meaning shelf.old shelf.new (λ s. IsPlanned publisher.now (given_by asking.now s (Open notice)) result) }
     ensures tells { TellsRefusal H.meaning shelf.old shelf.new (λ s. given_by asking.now s (Open notice)) result }
 {
     looks_follow::<H>();
@@ -126,7 +126,7 @@ pub fn plan<H: Lookups>(
     let release = release(
         alloc,
         shelf,
-        settings,
+        publisher,
         asking,
         &rows,
         notice,

@@ -31,7 +31,7 @@ use office_machine::laws;
 use office_values::given::AskedNumber;
 use office_values::id::Id;
 use office_values::refusal::Refusal;
-use office_values::settings::Settings;
+use office_values::settings::Publisher;
 use std::alloc::Global;
 use tender_core::asking::Asking;
 
@@ -77,7 +77,7 @@ fn reply(
 fn release<H: Lookups>(
     alloc: Global,
     shelf: &mut H,
-    settings: &Settings,
+    publisher: &Publisher,
     asking: &Asking,
     rows: &PayRows,
     contract: &ContractRow,
@@ -85,7 +85,7 @@ fn release<H: Lookups>(
     amount: EntryAmount,
 ) -> Result<Released, Refusal>
     ensures looks { Looks H.meaning shelf.old shelf.new (λ s. IfOk result (λ release. (number : ℕ) → rows.now ≡ pay_rows s number
-        → rows.now.contract ≡ Some contract.now → IsReleased settings.now (given_by asking.now s (Pay number entry amount)) release)) }
+        → rows.now.contract ≡ Some contract.now → IsReleased publisher.now (given_by asking.now s (Pay number entry amount)) release)) }
     ensures none { IfErr result (λ why. why ≡ Unavailable) }
 {
     let tenderer = shelf.get_tenderer(&contract.tenderer)?;
@@ -100,21 +100,21 @@ fn release<H: Lookups>(
         payee,
     });
     let t = asking.time(&rows.clock);
-    make_release(alloc, settings, contract.notice, &rows.notice, t, &event)
+    make_release(alloc, publisher, contract.notice, &rows.notice, t, &event)
 }
 
 /// Plans a payment under a contract: a refusal takes no memory beside the rows.
 pub fn plan<H: Lookups>(
     alloc: Global,
     shelf: &mut H,
-    settings: &Settings,
+    publisher: &Publisher,
     asking: &Asking,
     contract: AskedNumber,
     entry: Id,
     amount: EntryAmount,
 ) -> Result<Planned, Refusal>
     requires { may asking.now.caller.now kinds.Pay ≡ true }
-    ensures looks { Looks H.meaning shelf.old shelf.new (λ s. IsPlanned settings.now (given_by asking.now s (Pay contract entry amount)) result) }
+    ensures looks { Looks H.meaning shelf.old shelf.new (λ s. IsPlanned publisher.now (given_by asking.now s (Pay contract entry amount)) result) }
     ensures tells { TellsRefusal H.meaning shelf.old shelf.new (λ s. given_by asking.now s (Pay contract entry amount)) result }
 {
     looks_follow::<H>();
@@ -125,7 +125,7 @@ pub fn plan<H: Lookups>(
     }
     let text = reply(alloc, asking, &rows, contract, amount)?;
     let row = rows.contract.as_ref().unwrap();
-    let release = release(alloc, shelf, settings, asking, &rows, row, entry, amount)?;
+    let release = release(alloc, shelf, publisher, asking, &rows, row, entry, amount)?;
     let puts = puts(alloc, t, rows, entry, amount)?;
     published(alloc, shelf, puts, text, release)
 }

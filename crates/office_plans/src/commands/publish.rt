@@ -25,7 +25,7 @@ use office_commands::lot::NewLot;
 use office_commands::notice::NewNotice;
 use office_values::id::Id;
 use office_values::refusal::Refusal;
-use office_values::settings::Settings;
+use office_values::settings::Publisher;
 use std::alloc::Global;
 use tender_core::asking::Asking;
 use tender_core::laws::publishes_agree;
@@ -66,14 +66,14 @@ fn load<H: Lookups>(
 // The release of an accepted publication, which has at most 20 lots.
 fn release(
     alloc: Global,
-    settings: &Settings,
+    publisher: &Publisher,
     asking: &Asking,
     rows: &PublishRows,
     notice: Id,
     content: &NewNotice,
 ) -> Result<Released, Refusal>
     ensures release { IfOk result (λ release. (s : Tables) → rows.now ≡ publish_named s notice content.now.lots
-        → IsReleased settings.now (given_by asking.now s (Publish notice content.now)) release) }
+        → IsReleased publisher.now (given_by asking.now s (Publish notice content.now)) release) }
     ensures none { IfErr result (λ why. why ≡ Unavailable) }
 {
     let Some(lots) = PublishedLots::read(content.lots.as_slice()) else {
@@ -88,7 +88,7 @@ fn release(
         lots,
     });
     let t = asking.time(&rows.clock);
-    make_release(alloc, settings, notice, &rows.notice, t, &event)
+    make_release(alloc, publisher, notice, &rows.notice, t, &event)
 }
 
 /// Plans the publication of a notice: a refusal takes no memory beside the rows. The lines of its lots among these are gathered in a table,
@@ -96,13 +96,13 @@ fn release(
 pub fn plan<H: Lookups>(
     alloc: Global,
     shelf: &mut H,
-    settings: &Settings,
+    publisher: &Publisher,
     asking: &Asking,
     notice: Id,
     content: NewNotice,
 ) -> Result<Planned, Refusal>
     requires { may asking.now.caller.now kinds.Publish ≡ true }
-    ensures { Looks H.meaning shelf.old shelf.new (λ s. IsPlanned settings.now (given_by asking.now s (Publish notice content)) result) }
+    ensures { Looks H.meaning shelf.old shelf.new (λ s. IsPlanned publisher.now (given_by asking.now s (Publish notice content)) result) }
 {
     looks_follow::<H>();
     rows_are_kept::<LineRow>();
@@ -113,7 +113,7 @@ pub fn plan<H: Lookups>(
         return Err(why);
     }
     let text = notice_reply(alloc, asking, notice, &rows.notice, &rows.clock)?;
-    let release = release(alloc, settings, asking, &rows, notice, &content)?;
+    let release = release(alloc, publisher, asking, &rows, notice, &content)?;
     let puts = puts(alloc, t, rows, notice, content)?;
     published(alloc, shelf, puts, text, release)
 }

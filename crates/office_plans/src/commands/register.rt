@@ -8,7 +8,7 @@ ghost use Rattle.office_machine.specs.Replies.{Enrolled};
 ghost use Rattle.office_plans.specs.Asking.{given_by};
 ghost use Rattle.office_plans.specs.Published.{IsPlanned, TellsRefusal};
 ghost use Rattle.office_plans.specs.Replies.{reply_text};
-ghost use Rattle.office_values.specs.declared.settings.Settings.{Settings};
+ghost use Rattle.office_values.specs.declared.settings.Publisher.{Publisher};
 ghost use Rattle.tender_core.specs.Rules.Register.{register_rows};
 
 use crate::objects::{Plain, object_text};
@@ -57,8 +57,8 @@ pub fn plan<H: Lookups>(
     key: [u8; 32],
 ) -> Result<Planned, Refusal>
     requires { may asking.now.caller.now kinds.Register ≡ true }
-    ensures looks { (settings : Settings) → Looks H.meaning shelf.old shelf.new (λ s.
-        IsPlanned settings (given_by asking.now s (Register tenderer name address key)) result) }
+    ensures looks { (publisher : Publisher) → Looks H.meaning shelf.old shelf.new (λ s.
+        IsPlanned publisher (given_by asking.now s (Register tenderer name address key)) result) }
     ensures tells { TellsRefusal H.meaning shelf.old shelf.new (λ s. given_by asking.now s (Register tenderer name address key)) result }
 {
     let rows = load(shelf, &tenderer)?;

@@ -30,7 +30,7 @@ use office_commands::tender::NamedSecurity;
 use office_values::given::AskedNumber;
 use office_values::moment::Moment;
 use office_values::refusal::Refusal;
-use office_values::settings::Settings;
+use office_values::settings::Publisher;
 use std::alloc::{AllocError, Global};
 use tender_core::asking::Asking;
 
@@ -96,13 +96,13 @@ fn reply(
 fn release<H: Lookups>(
     alloc: Global,
     shelf: &mut H,
-    settings: &Settings,
+    publisher: &Publisher,
     asking: &Asking,
     rows: &SignRows,
     award: &AwardRow,
 ) -> Result<Released, Refusal>
     ensures looks { Looks H.meaning shelf.old shelf.new (λ s. IfOk result (λ release. (number : ℕ) (named : Option NamedSecurity) → rows.now ≡ sign_rows s number
-        → rows.now.award ≡ Some award.now → IsReleased settings.now (given_by asking.now s (Sign number named)) release)) }
+        → rows.now.award ≡ Some award.now → IsReleased publisher.now (given_by asking.now s (Sign number named)) release)) }
     ensures none { IfErr result (λ why. why ≡ Unavailable) }
 {
     let lots = shelf.list_lots_of_notice(&award.notice)?;
@@ -115,20 +115,20 @@ fn release<H: Lookups>(
         status,
     });
     let t = asking.time(&rows.clock);
-    make_release(alloc, settings, award.notice, &rows.notice, t, &event)
+    make_release(alloc, publisher, award.notice, &rows.notice, t, &event)
 }
 
 /// Plans the signing of the contract of an award, with a performance security where one is named: a refusal takes no memory beside the rows.
 pub fn plan<H: Lookups>(
     alloc: Global,
     shelf: &mut H,
-    settings: &Settings,
+    publisher: &Publisher,
     asking: &Asking,
     award: AskedNumber,
     security: Option<NamedSecurity>,
 ) -> Result<Planned, Refusal>
     requires { may asking.now.caller.now kinds.Sign ≡ true }
-    ensures looks { Looks H.meaning shelf.old shelf.new (λ s. IsPlanned settings.now (given_by asking.now s (Sign award security)) result) }
+    ensures looks { Looks H.meaning shelf.old shelf.new (λ s. IsPlanned publisher.now (given_by asking.now s (Sign award security)) result) }
     ensures tells { TellsRefusal H.meaning shelf.old shelf.new (λ s. given_by asking.now s (Sign award security)) result }
 {
     looks_follow::<H>();
@@ -139,7 +139,7 @@ pub fn plan<H: Lookups>(
     }
     let text = reply(alloc, asking, &rows, award)?;
     let row = rows.award.as_ref().unwrap();
-    let release = release(alloc, shelf, settings, asking, &rows, row)?;
+    let release = release(alloc, shelf, publisher, asking, &rows, row)?;
     let puts = puts(alloc, t, rows, security)?;
     published(alloc, shelf, puts, text, release)
 }

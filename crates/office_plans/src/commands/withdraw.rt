@@ -9,7 +9,7 @@ ghost use Rattle.office_machine.specs.Replies.{Withdrew, state_after};
 ghost use Rattle.office_plans.specs.Asking.{given_by};
 ghost use Rattle.office_plans.specs.Published.{IsPlanned, TellsRefusal};
 ghost use Rattle.office_plans.specs.Replies.{reply_text};
-ghost use Rattle.office_values.specs.declared.settings.Settings.{Settings};
+ghost use Rattle.office_values.specs.declared.settings.Publisher.{Publisher};
 ghost use Rattle.tender_core.specs.Rules.Withdraw.{withdraw_rows};
 
 use crate::objects::{Plain, object_text};
@@ -106,7 +106,7 @@ pub fn plan<H: Lookups>(
     receipt: AskedNumber,
 ) -> Result<Planned, Refusal>
     requires { may asking.now.caller.now kinds.Withdraw ≡ true }
-    ensures looks { (settings : Settings) → Looks H.meaning shelf.old shelf.new (λ s. IsPlanned settings (given_by asking.now s (Withdraw receipt)) result) }
+    ensures looks { (publisher : Publisher) → Looks H.meaning shelf.old shelf.new (λ s. IsPlanned publisher (given_by asking.now s (Withdraw receipt)) result) }
     ensures tells { TellsRefusal H.meaning shelf.old shelf.new (λ s. given_by asking.now s (Withdraw receipt)) result }
 {
     let rows = load(shelf, receipt)?;

@@ -9,7 +9,7 @@ use Rattle.ocds_release.proofs.package_texts.push_first.Goals as goal
 
 pub returns-then-is_empty : goal.returns-then-is_empty
 returns-then-is_empty c ms =
-    let ls = c.args.settings.now.extensions in
+    let ls = c.args.publisher.now.extensions in
     let old = c.args.text.now.items in
     let date = text (moment_text c.args.published) in
     let slice : c.as_slice.result.now ≡ ls = c.as_slice.ensures.value in
@@ -20,7 +20,7 @@ returns-then-is_empty c ms =
 
 pub returns : goal.returns
 returns c ms =
-    let ls = c.args.settings.now.extensions in
+    let ls = c.args.publisher.now.extensions in
     let old = c.args.text.now.items in
     let first = c.push_value.new.text.items in
     let date = text (moment_text c.args.published) in

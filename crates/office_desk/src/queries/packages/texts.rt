@@ -31,7 +31,7 @@ use office_publications::merges::{load_kept, merge_kept};
 use office_values::id::Id;
 use office_values::moment::Moment;
 use office_values::refusal::Refusal;
-use office_values::settings::Settings;
+use office_values::settings::Publisher;
 use serde_json::Value;
 use std::alloc::{AllocError, Global};
 
@@ -159,19 +159,19 @@ fn whole_text<H: Lookups>(
 // The package of a notice's releases, which come to this, before the first of them.
 fn releases_package(
     alloc: Global,
-    settings: &Settings,
+    publisher: &Publisher,
     notice: &Id,
     extent: Extent,
 ) -> Result<PackageText, Refusal>
-    ensures text { IfOk result (λ opened. (s : Tables) → IsReached settings.now s → IsExtentOf extent (releases_of_notice notice.now s)
-        → completed opened (releases_of_notice notice.now s) ≡ packages settings.now (queries.Releases notice.now) s) }
+    ensures text { IfOk result (λ opened. (s : Tables) → IsReached publisher.now s → IsExtentOf extent (releases_of_notice notice.now s)
+        → completed opened (releases_of_notice notice.now s) ≡ packages publisher.now (queries.Releases notice.now) s) }
     ensures none { IfErr result (λ why. why ≡ Unavailable) }
 {
     told();
     let Some(last) = extent.last else {
         return Err(Refusal::Unavailable);
     };
-    match open_releases(alloc, settings, notice, last, extent.bytes) {
+    match open_releases(alloc, publisher, notice, last, extent.bytes) {
         Ok(opened) => Ok(opened),
         Err(_) => Err(Refusal::Unavailable),
     }
@@ -183,19 +183,19 @@ fn releases_package(
 pub(super) fn releases_text<H: Lookups>(
     alloc: Global,
     shelf: &mut H,
-    settings: &Settings,
+    publisher: &Publisher,
     notice: &Id,
     count: ReleaseCount,
 ) -> Result<Vec<u8>, Refusal>
-    ensures looks { Looks H.meaning shelf.old shelf.new (λ s. IsReached settings.now s → releases_in (notice_at notice.now s) ≡ count
-        → IfOk result (λ text. text.items ≡ packages settings.now (queries.Releases notice.now) s)) }
+    ensures looks { Looks H.meaning shelf.old shelf.new (λ s. IsReached publisher.now s → releases_in (notice_at notice.now s) ≡ count
+        → IfOk result (λ text. text.items ≡ packages publisher.now (queries.Releases notice.now) s)) }
     ensures there { Looks H.meaning shelf.old shelf.new (λ s. OnOk result (AreAllThere notice.now count s)) }
     ensures none { IfErr result (λ why. why ≡ Unavailable) }
 {
     told();
     looks_follow::<H>();
     let extent = measure(alloc, shelf, notice, count)?;
-    let opened = releases_package(alloc, settings, notice, extent)?;
+    let opened = releases_package(alloc, publisher, notice, extent)?;
     whole_text(shelf, notice, count, opened)
 }
 
@@ -206,24 +206,24 @@ fn dashed(alloc: Global, first: &str, second: &str) -> Result<String, AllocError
 }
 
 // The ocid of the notice's contracting process.
-fn ocid_of(alloc: Global, settings: &Settings, notice: &Id) -> Result<String, AllocError>
-    ensures { IfOk result (λ text. string_bytes text ≡ ocid_text settings.now.prefix notice.now) }
+fn ocid_of(alloc: Global, publisher: &Publisher, notice: &Id) -> Result<String, AllocError>
+    ensures { IfOk result (λ text. string_bytes text ≡ ocid_text publisher.now.prefix notice.now) }
 {
-    dashed(alloc, settings.prefix.as_str(), notice.as_str())
+    dashed(alloc, publisher.prefix.as_str(), notice.as_str())
 }
 
 // The compiled release, from the merge of the releases, the last of which is of this moment.
 fn compiled(
     alloc: Global,
-    settings: &Settings,
+    publisher: &Publisher,
     notice: &Id,
     last: Moment,
     merge: Value,
 ) -> Result<Value, Refusal>
-    ensures release { IfOk result (λ release. view release ≡ with_head (ocid_text settings.now.prefix notice.now) (moment_text last) (view merge)) }
+    ensures release { IfOk result (λ release. view release ≡ with_head (ocid_text publisher.now.prefix notice.now) (moment_text last) (view merge)) }
     ensures none { IfErr result (λ why. why ≡ Unavailable) }
 {
-    let ocid = ocid_of(alloc, settings, notice)?;
+    let ocid = ocid_of(alloc, publisher, notice)?;
     let date = last.to_text();
     match with_compiled_head(alloc, ocid.as_str(), date.as_str(), merge) {
         Ok(release) => Ok(release),
@@ -235,12 +235,12 @@ fn compiled(
 fn load_compiled<H: Lookups>(
     alloc: Global,
     shelf: &mut H,
-    settings: &Settings,
+    publisher: &Publisher,
     notice: &Id,
     last: Moment,
 ) -> Result<Value, Refusal>
-    ensures looks { Looks H.meaning shelf.old shelf.new (λ s. IfOk result (λ release. IsReached settings.now s
-        → view release ≡ with_head (ocid_text settings.now.prefix notice.now) (moment_text last) (merge_or_null (bodies notice.now s)))) }
+    ensures looks { Looks H.meaning shelf.old shelf.new (λ s. IfOk result (λ release. IsReached publisher.now s
+        → view release ≡ with_head (ocid_text publisher.now.prefix notice.now) (moment_text last) (merge_or_null (bodies notice.now s)))) }
     ensures merge { Looks H.meaning shelf.old shelf.new (λ s. OnOk result (HasMerge notice.now s)) }
     ensures none { IfErr result (λ why. why ≡ Unavailable) }
 {
@@ -249,19 +249,19 @@ fn load_compiled<H: Lookups>(
     if !merge.is_object() {
         return Err(Refusal::Unavailable);
     }
-    compiled(alloc, settings, notice, last, merge)
+    compiled(alloc, publisher, notice, last, merge)
 }
 
 // The package of a notice's record, whose releases come to this, before the first of them. What they compile to is let go once it is written.
 fn record_package<H: Lookups>(
     alloc: Global,
     shelf: &mut H,
-    settings: &Settings,
+    publisher: &Publisher,
     notice: &Id,
     extent: Extent,
 ) -> Result<PackageText, Refusal>
-    ensures looks { Looks H.meaning shelf.old shelf.new (λ s. IfOk result (λ opened. IsReached settings.now s → IsExtentOf extent (releases_of_notice notice.now s)
-        → completed opened (releases_of_notice notice.now s) ≡ packages settings.now (queries.Record notice.now) s)) }
+    ensures looks { Looks H.meaning shelf.old shelf.new (λ s. IfOk result (λ opened. IsReached publisher.now s → IsExtentOf extent (releases_of_notice notice.now s)
+        → completed opened (releases_of_notice notice.now s) ≡ packages publisher.now (queries.Record notice.now) s)) }
     ensures merge { Looks H.meaning shelf.old shelf.new (λ s. OnOk result (HasMerge notice.now s)) }
     ensures none { IfErr result (λ why. why ≡ Unavailable) }
 {
@@ -269,8 +269,8 @@ fn record_package<H: Lookups>(
     let Some(last) = extent.last else {
         return Err(Refusal::Unavailable);
     };
-    let release = load_compiled(alloc, shelf, settings, notice, last)?;
-    match open_record(alloc, settings, notice, last, &release, extent.bytes) {
+    let release = load_compiled(alloc, shelf, publisher, notice, last)?;
+    match open_record(alloc, publisher, notice, last, &release, extent.bytes) {
         Ok(opened) => Ok(opened),
         Err(_) => Err(Refusal::Unavailable),
     }
@@ -282,12 +282,12 @@ fn record_package<H: Lookups>(
 pub(super) fn record_text<H: Lookups>(
     alloc: Global,
     shelf: &mut H,
-    settings: &Settings,
+    publisher: &Publisher,
     notice: &Id,
     count: ReleaseCount,
 ) -> Result<Vec<u8>, Refusal>
-    ensures looks { Looks H.meaning shelf.old shelf.new (λ s. IsReached settings.now s → releases_in (notice_at notice.now s) ≡ count
-        → IfOk result (λ text. text.items ≡ packages settings.now (queries.Record notice.now) s)) }
+    ensures looks { Looks H.meaning shelf.old shelf.new (λ s. IsReached publisher.now s → releases_in (notice_at notice.now s) ≡ count
+        → IfOk result (λ text. text.items ≡ packages publisher.now (queries.Record notice.now) s)) }
     ensures there { Looks H.meaning shelf.old shelf.new (λ s. OnOk result (AreAllThere notice.now count s)) }
     ensures merge { Looks H.meaning shelf.old shelf.new (λ s. OnOk result (HasMerge notice.now s)) }
     ensures none { IfErr result (λ why. why ≡ Unavailable) }
@@ -295,6 +295,6 @@ pub(super) fn record_text<H: Lookups>(
     told();
     looks_follow::<H>();
     let extent = measure(alloc, shelf, notice, count)?;
-    let opened = record_package(alloc, shelf, settings, notice, extent)?;
+    let opened = record_package(alloc, shelf, publisher, notice, extent)?;
     whole_text(shelf, notice, count, opened)
 }

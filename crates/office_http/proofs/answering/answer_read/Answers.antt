@@ -29,12 +29,12 @@ pub returns-clause-answered : goal.returns-clause-answered
 returns-clause-answered g c honest s held stands =
     let before = c.answer_asked.ensures.before honest in
     let m = meant_asked c.in-Ok-caller_of.caller c.command_of-asked.result in
-    let family : Settings → Type 0 = λ u. IsReached u s → CanBeMeant s m
+    let family : Settings → Type 0 = λ u. IsReached u.publisher s → CanBeMeant s m
     → Answered g.H.Lookups.meaning u c.caller_of.new.desk.shelf c.answer_asked.new.desk.shelf s c.args.moment m c.answer_asked.result in
     let answered = subst family c.caller_of.ensures.settings (c.answer_asked.ensures.answered honest s (c.caller_of.ensures.looks.0.same before s held)) stands in
     let a = asked_answered g.H.Lookups.meaning c.args.desk.now.settings c.caller_of.new.desk.shelf c.answer_asked.new.desk.shelf s c.args.moment c.answer_asked.result c.args.request.now
     c.in-Ok.route c.in-Ok-caller_of.caller c.command_of-asked.result (sym c.in-Ok.ensures)
-    (c.in-Ok-caller_of.ensures.looks.1 before s held) c.command_of-asked.ensures.asked answered in (
+    (c.in-Ok-caller_of.ensures.looks.1 before s held) c.command_of-asked.ensures.asked c.command_of-asked.ensures.given answered in (
       a.0,
       a.1,
       a.2.0,

@@ -3,7 +3,7 @@ use Rattle.office_http.proofs.answering.answer_request.Goals as goal
 
 pub returns-clause-kept : goal.returns-clause-kept
 returns-clause-kept g c honest s held xs reached keeps =
-    let stands : IsReached c.args.desk.now.settings s = record { commands = xs; reaches = reached; keeps = keeps } in
+    let stands : IsReached c.args.desk.now.settings.publisher s = record { commands = xs; reaches = reached; keeps = keeps } in
     let answered = c.answer_read.ensures.answered honest s held stands in (
       answered.0,
       answered.1,

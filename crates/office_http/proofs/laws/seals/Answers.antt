@@ -17,6 +17,7 @@ returns-clause-answers c =
       looks = c.merges_apart.ensures.looks;
       kept = c.merges_apart.ensures.kept;
       fates = c.merges.ensures.fates;
+      asked = c.can_be_given.ensures;
     })
 
 pub returns-clause-runs : goal.returns-clause-runs
@@ -29,6 +30,7 @@ returns-clause-runs c =
       looks = c.merges_apart.ensures.looks;
       kept = c.merges_apart.ensures.kept;
       fates = c.merges.ensures.fates;
+      asked = c.can_be_given.ensures;
     })
 
 pub returns-clause-meanings : goal.returns-clause-meanings

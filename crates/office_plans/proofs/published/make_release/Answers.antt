@@ -14,8 +14,8 @@ returns-in-Ok-clause-release c = λ x is for_notice row time.
     let number : seq ≡ releases_in (notice_at a.notice x.before) + 1 =
     c.in-Some.ensures.next ∙ ap (λ r. releases_in r + 1) row in
     record {
-      is = is_published c.keeping.ensures.released a.settings.now x a.event.now a.notice is for_notice seq a.t (view c.in-Ok.release) number time made;
+      is = is_published c.keeping.ensures.released a.publisher.now x a.event.now a.notice is for_notice seq a.t (view c.in-Ok.release) number time made;
       for_notice = for_notice;
       next = number;
-      storable = subst IsStorable (sym made) (c.releases_can_be_kept.ensures.storable a.settings.now seq a.t a.event.now);
+      storable = subst IsStorable (sym made) (c.releases_can_be_kept.ensures.storable a.publisher.now seq a.t a.event.now);
     }

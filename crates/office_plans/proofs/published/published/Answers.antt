@@ -13,12 +13,12 @@ returns g c =
     let p = c.in_ok-publication.publication in
     let kept = c.in_ok-publication.ensures.kept in (
       kept.0,
-      λ honest s held settings x at given allowed is told released.
+      λ honest s held publisher x at given allowed is told released.
           let behind = c.in_ok-publication.ensures.follows.1 honest s held in
           let onto = c.in_ok-publication.ensures.goes_on.1 honest s held in
           let many = c.in_ok-publication.ensures.counted.1 honest s held in
-          is_planned settings x r p released given allowed
-          (follows settings x r released (ap (λ (u : Tables). has_last_release r.notice (r.seq - 1) u) at ∙ behind) (subst (λ (u : Tables). HasMerge r.notice u) (sym at) onto)
+          is_planned publisher x r p released given allowed
+          (follows publisher x r released (ap (λ (u : Tables). has_last_release r.notice (r.seq - 1) u) at ∙ behind) (subst (λ (u : Tables). HasMerge r.notice u) (sym at) onto)
           (subst (λ (u : Tables). AreSoMany r.notice (r.seq - 1) u) (sym at) many)) c.args.puts.items c.args.text.items is told
           (λ keeps. subst (λ (u : Tables). IsKept u r p) (sym at)
           (kept.1 honest s held released.storable (subst (KeepsReleasesOf r.notice) at (keeps r.notice released.for_notice))))

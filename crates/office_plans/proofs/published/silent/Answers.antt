@@ -3,13 +3,13 @@ use Rattle.office_plans.proofs.Silent.{nothing_published}
 use Rattle.office_plans.proofs.published.silent.Goals as goal
 
 pub returns : goal.returns
-returns c settings x given allowed event notice is told = record {
+returns c publisher x given allowed event notice is told = record {
   given = given;
   allowed = allowed;
   follows = λ n for. nothing_published notice for;
   put = λ keeps. record {
-    puts = c.new.ensures.puts ∙ is ∙ sym (c.keeping.ensures.unpublished settings x event);
-    reads = λ r for. nothing_published (c.keeping.ensures.silent settings x event) for;
+    puts = c.new.ensures.puts ∙ is ∙ sym (c.keeping.ensures.unpublished publisher x event);
+    reads = λ r for. nothing_published (c.keeping.ensures.silent publisher x event) for;
   };
   reply = c.new.ensures.reply ∙ told;
 }

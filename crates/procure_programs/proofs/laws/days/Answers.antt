@@ -5,4 +5,4 @@ pub returns-clause-one : goal.returns-clause-one
 returns-clause-one c = days_follow
 
 pub returns-clause-keys : goal.returns-clause-keys
-returns-clause-keys c = keys_follow c.keys.ensures.stands
+returns-clause-keys c = keys_follow

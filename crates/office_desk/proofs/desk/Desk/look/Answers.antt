@@ -9,7 +9,7 @@ use Rattle.office_desk.proofs.desk.Desk.look.Goals as goal
 pub returns-clause-looks : goal.returns-clause-looks
 returns-clause-looks g c =
     let family : DeskOf g.row.H.Denot → Type 0 = λ d. Looks g.H.Lookups.meaning d.shelf c.look_at.new.shelf
-    (λ s. IsSeen d.settings c.args.caller.now c.args.query s (read_text c.look_at.result)) in
+    (λ s. IsSeen d.settings.publisher c.args.caller.now c.args.query s (read_text c.look_at.result)) in
     subst family c.self.view_is c.look_at.ensures.looks
 
 pub returns-clause-shown : goal.returns-clause-shown

@@ -18,7 +18,7 @@ rule asking notice deadline rationale = record { clock = λ s. refl; tested = λ
 pub returns-in-Some-clause-looks : goal.returns-in-Some-clause-looks
 returns-in-Some-clause-looks g c =
     let a = c.args in
-    not_planned (rule a.asking.now a.notice a.deadline a.rationale) _ _ c.time-t.ensures _ a.settings.now _ _ _ _ c.in_ok-rows.ensures.0 c.requires c.refusal.ensures c.in-Some.is
+    not_planned (rule a.asking.now a.notice a.deadline a.rationale) _ _ c.time-t.ensures _ a.publisher.now _ _ _ _ c.in_ok-rows.ensures.0 c.requires c.refusal.ensures c.in-Some.is
 
 pub returns-clause-looks : goal.returns-clause-looks
 returns-clause-looks g c =
@@ -29,7 +29,7 @@ returns-clause-looks g c =
     (λ s are joined.
     let allowed = refused_on ruled _ _ moment _ c.requires c.refusal.ensures s are ∙ c.in_default.is in
     let puts = puts_on ruled _ _ moment (λ (rows : AmendNoticeRows) (t : ℕ). amend_notice_puts rows t a.deadline) _ c.in_ok-puts.ensures.puts s are refl in
-    joined a.settings.now (given_by a.asking.now s (AmendNotice a.notice a.deadline a.rationale)) refl tt allowed puts (c.in_ok-text.ensures s (ap (λ (rows : AmendNoticeRows). rows.notice) are) (ap (λ (rows : AmendNoticeRows). rows.clock) are)) (c.in_ok-release.ensures.release s are))
+    joined a.publisher.now (given_by a.asking.now s (AmendNotice a.notice a.deadline a.rationale)) refl tt allowed puts (c.in_ok-text.ensures s (ap (λ (rows : AmendNoticeRows). rows.notice) are) (ap (λ (rows : AmendNoticeRows). rows.clock) are)) (c.in_ok-release.ensures.release s are))
 
 pub returns-in_err-rows-clause-tells : goal.returns-in_err-rows-clause-tells
 returns-in_err-rows-clause-tells g c =

@@ -21,7 +21,7 @@ rule asking notice lot = record { clock = λ s. refl; tested = λ s. refl }
 pub returns-in-Some-clause-looks : goal.returns-in-Some-clause-looks
 returns-in-Some-clause-looks g c =
     let a = c.args in
-    not_planned (rule a.asking.now a.notice a.lot) _ _ c.time-t.ensures _ a.settings.now _ _ _ _ c.in_ok-rows.ensures.0 c.requires c.refusal.ensures c.in-Some.is
+    not_planned (rule a.asking.now a.notice a.lot) _ _ c.time-t.ensures _ a.publisher.now _ _ _ _ c.in_ok-rows.ensures.0 c.requires c.refusal.ensures c.in-Some.is
 
 pub returns-clause-looks : goal.returns-clause-looks
 returns-clause-looks g c =
@@ -32,7 +32,7 @@ returns-clause-looks g c =
     (λ s are released joined.
     let allowed = refused_on ruled _ _ moment _ c.requires c.refusal.ensures s are ∙ c.in_default.is in
     let puts = puts_on ruled _ _ moment (λ (rows : AwardRows) (t : ℕ). award_puts rows t) _ c.in_ok-puts.ensures.puts s are (same_puts a.notice a.lot s (time_of (given_by a.asking.now s (Award a.notice a.lot)))) in
-    joined a.settings.now (given_by a.asking.now s (Award a.notice a.lot)) refl tt allowed puts (c.in_ok-text.ensures s a.notice are c.best_tender-best.ensures) (released are c.best_tender-best.ensures))
+    joined a.publisher.now (given_by a.asking.now s (Award a.notice a.lot)) refl tt allowed puts (c.in_ok-text.ensures s a.notice are c.best_tender-best.ensures) (released are c.best_tender-best.ensures))
 
 pub returns-in_err-rows-clause-tells : goal.returns-in_err-rows-clause-tells
 returns-in_err-rows-clause-tells g c =

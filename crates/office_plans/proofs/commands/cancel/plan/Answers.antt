@@ -1,4 +1,4 @@
-use Rattle.std.specs.Prelude.{◌≡◌, List, [], filter, map, max, ℕ}
+use Rattle.std.specs.Prelude.{List, [], filter, map, max, ℕ}
 use Rattle.std.proofs.Common.{◌∙◌, ap, refl, sym}
 use Rattle.office_commands.specs.declared.commands.Command.TheVariants.{Cancel}
 use Rattle.office_base.specs.Tables.{Tables, lots_of_notice}
@@ -28,7 +28,7 @@ decided asking notice rationale = record { clock = λ s. refl; tested = λ s. re
 pub returns-in-Some-clause-looks : goal.returns-in-Some-clause-looks
 returns-in-Some-clause-looks g c =
     let a = c.args in
-    not_planned (refused a.asking.now a.notice a.rationale) _ _ c.time-t.ensures _ a.settings.now _ _ _ _ c.in_ok-found.ensures.0 c.requires c.refusal.ensures c.in-Some.is
+    not_planned (refused a.asking.now a.notice a.rationale) _ _ c.time-t.ensures _ a.publisher.now _ _ _ _ c.in_ok-found.ensures.0 c.requires c.refusal.ensures c.in-Some.is
 
 pub returns-clause-looks : goal.returns-clause-looks
 returns-clause-looks g c =
@@ -43,7 +43,7 @@ returns-clause-looks g c =
     let puts = puts_on (decided a.asking.now a.notice a.rationale) _ _ later (λ (rows : CancelRows) (t : ℕ). cancel_puts rows t) _ c.in_ok-puts.ensures.puts s named
     (sym (c.cancels_agree.ensures.puts (lines_named s (map line_of_lot (filter is_open_lot (lots_of_notice a.notice s)))) s.lines (cancel_rows s a.notice)
     (time_of (given_by a.asking.now s (Cancel a.notice a.rationale))) (lines_agree c.rows_are_kept.ensures s line_of_lot (filter is_open_lot (lots_of_notice a.notice s))))) in
-    joined a.settings.now (given_by a.asking.now s (Cancel a.notice a.rationale)) refl tt allowed puts
+    joined a.publisher.now (given_by a.asking.now s (Cancel a.notice a.rationale)) refl tt allowed puts
     (c.in_ok-text.ensures s (ap (λ (rows : CancelRows). rows.notice) named) (ap (λ (rows : CancelRows). rows.clock) named)) (c.in_ok-release.ensures.release s named))
 
 pub returns-in_err-found-clause-tells : goal.returns-in_err-found-clause-tells

@@ -19,7 +19,7 @@ rule asking award = record { clock = λ s. refl; tested = λ s. refl }
 pub returns-in-Some-clause-looks : goal.returns-in-Some-clause-looks
 returns-in-Some-clause-looks g c =
     let a = c.args in
-    not_planned (rule a.asking.now a.award) _ _ c.time-t.ensures _ a.settings.now _ _ _ _ c.in_ok-rows.ensures.0 c.requires c.refusal.ensures c.in-Some.is
+    not_planned (rule a.asking.now a.award) _ _ c.time-t.ensures _ a.publisher.now _ _ _ _ c.in_ok-rows.ensures.0 c.requires c.refusal.ensures c.in-Some.is
 
 pub returns-clause-looks : goal.returns-clause-looks
 returns-clause-looks g c =
@@ -31,7 +31,7 @@ returns-clause-looks g c =
     let allowed = refused_on ruled _ _ moment _ c.requires c.refusal.ensures s are ∙ c.in_default.is in
     let puts = puts_on ruled _ _ moment (λ (rows : FailRows) (t : ℕ). fail_puts rows t) _ c.in_ok-puts.ensures.puts s are refl in
     let row = sym c.as_ref.ensures.value ∙ ap option_copied c.unwrap-row.ensures in
-    joined a.settings.now (given_by a.asking.now s (Fail a.award)) refl tt allowed puts (c.in_ok-text.ensures s are) (c.in_ok-release.ensures.release s a.award are row))
+    joined a.publisher.now (given_by a.asking.now s (Fail a.award)) refl tt allowed puts (c.in_ok-text.ensures s are) (c.in_ok-release.ensures.release s a.award are row))
 
 pub returns-in_err-rows-clause-tells : goal.returns-in_err-rows-clause-tells
 returns-in_err-rows-clause-tells g c =

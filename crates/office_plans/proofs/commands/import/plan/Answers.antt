@@ -29,18 +29,18 @@ rule kept laws asking batch rows = record {
 }
 
 pub returns-in_err-puts : goal.returns-in_err-puts
-returns-in_err-puts g c settings = (
+returns-in_err-puts g c publisher = (
   c.in_ok-loaded.ensures.0,
   λ honest s held.
       let a = c.args in
       let refused = refused_on (rule c.rows_are_kept.ensures c.imports_agree.ensures a.asking.now a.batch a.rows) _ _ c.time-t.ensures _ c.requires refl s
       (c.in_ok-loaded.ensures.1 honest s held) in
-      told_refused settings (given_by a.asking.now s (Import a.batch a.rows)) c.from_residual-in_err-puts.result _ _ c.from_residual-in_err-puts.ensures.1 refused
+      told_refused publisher (given_by a.asking.now s (Import a.batch a.rows)) c.from_residual-in_err-puts.result _ _ c.from_residual-in_err-puts.ensures.1 refused
       (refuses _ _ _ _ c.in_err-puts.ensures),
 )
 
 pub returns : goal.returns
-returns g c settings =
+returns g c publisher =
     let a = c.args in
     let laws = c.imports_agree.ensures in
     let ruled = rule c.rows_are_kept.ensures laws a.asking.now a.batch a.rows in
@@ -58,5 +58,5 @@ returns g c settings =
           let told =
           c.in_ok-text.ensures ∙ ap (λ n. reply_text (Imported a.batch n c.time-t.result)) count
           ∙ ap (λ t. reply_text (Imported a.batch (length a.rows) t)) (time_is ruled _ _ moment s are) in
-          c.silent.ensures settings (given_by a.asking.now s (Import a.batch a.rows)) tt allowed refl refl puts told,
+          c.silent.ensures publisher (given_by a.asking.now s (Import a.batch a.rows)) tt allowed refl refl puts told,
     )

@@ -23,12 +23,12 @@ rule : (asking : Asking) (receipt : ℕ) (sealed : List ℕ) → IsTested asking
 rule asking receipt sealed = record { clock = λ s. refl; tested = λ s. refl }
 
 pub returns-in-Some-clause-looks : goal.returns-in-Some-clause-looks
-returns-in-Some-clause-looks g c settings =
+returns-in-Some-clause-looks g c publisher =
     let a = c.args in
-    not_planned (rule a.asking.now a.receipt a.sealed) _ _ c.time-t.ensures _ settings _ _ _ _ c.in_ok-rows.ensures.0 c.requires c.refusal.ensures c.in-Some.is
+    not_planned (rule a.asking.now a.receipt a.sealed) _ _ c.time-t.ensures _ publisher _ _ _ _ c.in_ok-rows.ensures.0 c.requires c.refusal.ensures c.in-Some.is
 
 pub returns-clause-looks : goal.returns-clause-looks
-returns-clause-looks g c settings =
+returns-clause-looks g c publisher =
     let a = c.args in
     let ruled = rule a.asking.now a.receipt a.sealed in
     let moment = c.time-t.ensures in (
@@ -43,7 +43,7 @@ returns-clause-looks g c settings =
           let told =
           c.in_ok-text.ensures ∙ on_rows ruled _ _ moment (reply (Some c.unwrap-row.result.now)) s are
           ∙ ap (λ tender. reply tender (modify_rows s a.receipt) (time_of (given_by a.asking.now s (Modify a.receipt a.sealed)))) there in
-          c.silent.ensures settings (given_by a.asking.now s (Modify a.receipt a.sealed)) tt allowed refl refl puts told,
+          c.silent.ensures publisher (given_by a.asking.now s (Modify a.receipt a.sealed)) tt allowed refl refl puts told,
     )
 
 pub returns-in_err-rows-clause-tells : goal.returns-in_err-rows-clause-tells

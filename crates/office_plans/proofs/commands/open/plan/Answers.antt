@@ -23,7 +23,7 @@ rule asking notice = record { clock = λ s. refl; tested = λ s. refl }
 pub returns-in-Some-clause-looks : goal.returns-in-Some-clause-looks
 returns-in-Some-clause-looks g c =
     let a = c.args in
-    not_planned (rule a.asking.now a.notice) _ _ c.time-t.ensures _ a.settings.now _ _ _ _ c.in_ok-rows.ensures.0 c.requires c.refusal.ensures c.in-Some.is
+    not_planned (rule a.asking.now a.notice) _ _ c.time-t.ensures _ a.publisher.now _ _ _ _ c.in_ok-rows.ensures.0 c.requires c.refusal.ensures c.in-Some.is
 
 pub returns-clause-looks : goal.returns-clause-looks
 returns-clause-looks g c =
@@ -38,7 +38,7 @@ returns-clause-looks g c =
     puts_on ruled _ _ moment (λ (rows : OpenRows) (t : ℕ). opened_with rows.clock t rows.notice c.in_ok-tenders.tenders) _ c.in_ok-puts.ensures.puts s are
     (c.readings_are_put.ensures office_readings.read (open_rows s a.notice) time (sealed_tenders a.notice s)
     ∙ ap (λ (ts : List OpenedTender). opened_with s.clock time (notice_at a.notice s) ts) (sym (read ∙ tenders_are a.notice s))) in
-    joined a.settings.now (given_by a.asking.now s (Open a.notice)) refl tt allowed puts (c.in_ok-text.ensures s are (c.as_slice.ensures ∙ read)) (released are (c.as_slice-2.ensures ∙ read)))
+    joined a.publisher.now (given_by a.asking.now s (Open a.notice)) refl tt allowed puts (c.in_ok-text.ensures s are (c.as_slice.ensures ∙ read)) (released are (c.as_slice-2.ensures ∙ read)))
 
 pub returns-in_err-rows-clause-tells : goal.returns-in_err-rows-clause-tells
 returns-in_err-rows-clause-tells g c =

@@ -25,12 +25,12 @@ rule : (asking : Asking) (notice : List ℕ) (lot : List ℕ) (security : Option
 rule asking notice lot security sealed = record { clock = λ s. refl; tested = λ s. sym (own_tests asking.caller.now notice lot s (time_of (given_by asking s (Present notice lot security sealed))) security) }
 
 pub returns-in-Some-clause-looks : goal.returns-in-Some-clause-looks
-returns-in-Some-clause-looks g c settings =
+returns-in-Some-clause-looks g c publisher =
     let a = c.args in
-    not_planned (rule a.asking.now a.notice a.lot a.security a.sealed) _ _ c.time-t.ensures _ settings _ _ _ _ c.in_ok-rows.ensures.0 c.requires c.refusal.ensures c.in-Some.is
+    not_planned (rule a.asking.now a.notice a.lot a.security a.sealed) _ _ c.time-t.ensures _ publisher _ _ _ _ c.in_ok-rows.ensures.0 c.requires c.refusal.ensures c.in-Some.is
 
 pub returns-clause-looks : goal.returns-clause-looks
-returns-clause-looks g c settings =
+returns-clause-looks g c publisher =
     let a = c.args in
     let ruled = rule a.asking.now a.notice a.lot a.security a.sealed in
     let moment = c.time-t.ensures in (
@@ -42,7 +42,7 @@ returns-clause-looks g c settings =
           let reply = λ (rows : PresentRows) (t : ℕ).
           reply_text (received_reply (received sha256 rows.clock t a.asking.now.caller.now a.notice a.lot a.security a.sealed (holds_of (is_in_time t) rows.notice))) in
           let told = c.in_ok-text.ensures a.asking.now.caller.now a.notice a.lot ∙ on_rows ruled _ _ moment reply s are in
-          c.silent.ensures settings (given_by a.asking.now s (Present a.notice a.lot a.security a.sealed)) tt allowed refl refl puts told,
+          c.silent.ensures publisher (given_by a.asking.now s (Present a.notice a.lot a.security a.sealed)) tt allowed refl refl puts told,
     )
 
 pub returns-in_err-rows-clause-tells : goal.returns-in_err-rows-clause-tells

@@ -37,7 +37,7 @@ pub returns-in-Some : goal.returns-in-Some
 returns-in-Some g c =
     let a = c.args in
     let looked = loaded _ _ _ _ a.notice _ a.content.lots c.as_slice.ensures.value c.in_ok-rows.ensures in
-    not_planned (rule c.rows_are_kept.ensures c.publishes_agree.ensures a.asking.now a.notice a.content) _ _ c.time-t.ensures _ a.settings.now _ _ _ _ looked c.requires c.refusal.ensures c.in-Some.is
+    not_planned (rule c.rows_are_kept.ensures c.publishes_agree.ensures a.asking.now a.notice a.content) _ _ c.time-t.ensures _ a.publisher.now _ _ _ _ looked c.requires c.refusal.ensures c.in-Some.is
 
 pub returns : goal.returns
 returns g c =
@@ -51,4 +51,4 @@ returns g c =
     let puts = puts_on ruled _ _ moment (λ (rows : PublishRows) (t : ℕ). publish_puts rows t a.notice a.content) _ c.in_ok-puts.ensures.puts s are
     (sym (c.publishes_agree.ensures.puts (lines_named s (map line_of_new a.content.lots)) s.lines (publish_rows s a.notice)
     (time_of (given_by a.asking.now s (Publish a.notice a.content))) a.notice a.content (lines_agree c.rows_are_kept.ensures s line_of_new a.content.lots))) in
-    joined a.settings.now (given_by a.asking.now s (Publish a.notice a.content)) refl c.as_slice.ensures.differ allowed puts (c.in_ok-text.ensures s (ap (λ (rows : PublishRows). rows.notice) are) (ap (λ (rows : PublishRows). rows.clock) are)) (c.in_ok-release.ensures.release s are))
+    joined a.publisher.now (given_by a.asking.now s (Publish a.notice a.content)) refl c.as_slice.ensures.differ allowed puts (c.in_ok-text.ensures s (ap (λ (rows : PublishRows). rows.notice) are) (ap (λ (rows : PublishRows). rows.clock) are)) (c.in_ok-release.ensures.release s are))

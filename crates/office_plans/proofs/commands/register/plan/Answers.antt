@@ -18,12 +18,12 @@ rule : (asking : Asking) (tenderer : List ℕ) (name : List ℕ) (address : List
 rule asking tenderer name address key = record { clock = λ s. refl; tested = λ s. refl }
 
 pub returns-in-Some-clause-looks : goal.returns-in-Some-clause-looks
-returns-in-Some-clause-looks g c settings =
+returns-in-Some-clause-looks g c publisher =
     let a = c.args in
-    not_planned (rule a.asking.now a.tenderer a.name a.address a.key) _ _ c.time-t.ensures _ settings _ _ _ _ c.in_ok-rows.ensures.0 c.requires c.refusal.ensures c.in-Some.is
+    not_planned (rule a.asking.now a.tenderer a.name a.address a.key) _ _ c.time-t.ensures _ publisher _ _ _ _ c.in_ok-rows.ensures.0 c.requires c.refusal.ensures c.in-Some.is
 
 pub returns-clause-looks : goal.returns-clause-looks
-returns-clause-looks g c settings =
+returns-clause-looks g c publisher =
     let a = c.args in
     let ruled = rule a.asking.now a.tenderer a.name a.address a.key in
     let moment = c.time-t.ensures in (
@@ -33,7 +33,7 @@ returns-clause-looks g c settings =
           let allowed = refused_on ruled _ _ moment _ c.requires c.refusal.ensures s are ∙ c.in_default.is in
           let puts = puts_on ruled _ _ moment (λ (rows : RegisterRows) (t : ℕ). register_puts rows t a.tenderer a.name a.address a.key) _ c.in_ok-puts.ensures.puts s are refl in
           let told = c.in_ok-text.ensures ∙ ap (λ t. reply_text (Enrolled a.tenderer t)) (time_is ruled _ _ moment s are) in
-          c.silent.ensures settings (given_by a.asking.now s (Register a.tenderer a.name a.address a.key)) tt allowed refl refl puts told,
+          c.silent.ensures publisher (given_by a.asking.now s (Register a.tenderer a.name a.address a.key)) tt allowed refl refl puts told,
     )
 
 pub returns-in_err-rows-clause-tells : goal.returns-in_err-rows-clause-tells

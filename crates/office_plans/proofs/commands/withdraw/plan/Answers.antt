@@ -19,12 +19,12 @@ rule : (asking : Asking) (receipt : ℕ) → IsTested asking (Withdraw receipt) 
 rule asking receipt = record { clock = λ s. refl; tested = λ s. refl }
 
 pub returns-in-Some-clause-looks : goal.returns-in-Some-clause-looks
-returns-in-Some-clause-looks g c settings =
+returns-in-Some-clause-looks g c publisher =
     let a = c.args in
-    not_planned (rule a.asking.now a.receipt) _ _ c.time-t.ensures _ settings _ _ _ _ c.in_ok-rows.ensures.0 c.requires c.refusal.ensures c.in-Some.is
+    not_planned (rule a.asking.now a.receipt) _ _ c.time-t.ensures _ publisher _ _ _ _ c.in_ok-rows.ensures.0 c.requires c.refusal.ensures c.in-Some.is
 
 pub returns-clause-looks : goal.returns-clause-looks
-returns-clause-looks g c settings =
+returns-clause-looks g c publisher =
     let a = c.args in
     let ruled = rule a.asking.now a.receipt in
     let moment = c.time-t.ensures in (
@@ -35,7 +35,7 @@ returns-clause-looks g c settings =
           let puts = puts_on ruled _ _ moment (λ (rows : WithdrawRows) (t : ℕ). withdraw_puts rows t) _ c.in_ok-puts.ensures.puts s are refl in
           let reply = λ (rows : WithdrawRows) (t : ℕ). reply_text (Withdrew a.receipt (state_after (is_late rows.late t rows.notice) rows.envelope) t) in
           let told = c.in_ok-text.ensures ∙ on_rows ruled _ _ moment reply s are in
-          c.silent.ensures settings (given_by a.asking.now s (Withdraw a.receipt)) tt allowed refl refl puts told,
+          c.silent.ensures publisher (given_by a.asking.now s (Withdraw a.receipt)) tt allowed refl refl puts told,
     )
 
 pub returns-in_err-rows-clause-tells : goal.returns-in_err-rows-clause-tells

@@ -14,12 +14,12 @@ pub returns-clause-looks : goal.returns-clause-looks
 returns-clause-looks g c =
     let loaded = c.in_ok-kept.ensures.0 in
     let notice = c.args.notice.now in
-    let settings = c.args.settings.now in (
+    let publisher = c.args.publisher.now in (
       loaded.0,
       λ honest s held.
-          made_of c.compiled.result (IsReached settings s) (λ (d : Data). with_head (ocid_text settings.prefix notice) (moment_text c.args.last) d)
+          made_of c.compiled.result (IsReached publisher s) (λ (d : Data). with_head (ocid_text publisher.prefix notice) (moment_text c.args.last) d)
           (view c.in_ok-merge.merge) (merge_or_null (bodies notice s)) c.compiled.ensures.release
-          (λ (stands : IsReached settings s). c.in_ok-merge.ensures.merge notice s (loaded.1 honest s held) (stands.keeps.merged notice)),
+          (λ (stands : IsReached publisher s). c.in_ok-merge.ensures.merge notice s (loaded.1 honest s held) (stands.keeps.merged notice)),
     )
 
 pub returns-clause-merge : goal.returns-clause-merge

@@ -5,7 +5,7 @@ use Rattle.office_desk.proofs.queries.packages.texts.ocid_of.Goals as goal
 
 pub returns : goal.returns
 returns c =
-    let prefix = c.args.settings.now.prefix in
+    let prefix = c.args.publisher.now.prefix in
     let notice = c.args.notice.now in
     let same : c.as_str.result.now ++ 45 ∷ c.as_str-2.result.now ≡ ocid_text prefix notice =
     λ i. c.as_str.ensures.value i ++ 45 ∷ (c.as_str-2.ensures ∙ sym (append-nil notice)) i in

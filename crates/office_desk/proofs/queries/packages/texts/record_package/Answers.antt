@@ -22,17 +22,17 @@ returns-in-Ok-clause-looks g c = (
   c.load_compiled.ensures.looks.0,
   λ honest s held stands extent.
       let notice = c.args.notice.now in
-      let settings = c.args.settings.now in
+      let publisher = c.args.publisher.now in
       let rows = releases_of_notice notice s in
       let family : Option ℕ → Type 0 = λ o. IfSome o (λ moment. (0 < length rows) × (moment_of_last rows ≡ moment)) in
       let last = subst family c.in-Some.is extent.last in
-      let told : IsCompiled settings notice s = c.told.ensures.records settings s stands notice last.0 extent.range in
-      let release : view c.in_ok-release.release ≡ compiled_told settings notice s =
+      let told : IsCompiled publisher notice s = c.told.ensures.records publisher s stands notice last.0 extent.range in
+      let release : view c.in_ok-release.release ≡ compiled_told publisher notice s =
       c.in_ok-release.ensures.looks.1 honest s held stands
-      ∙ (λ i. with_head (ocid_text settings.prefix notice) (moment_text (sym last.1 i)) (merge_or_null (bodies notice s)))
+      ∙ (λ i. with_head (ocid_text publisher.prefix notice) (moment_text (sym last.1 i)) (merge_or_null (bodies notice s)))
       ∙ sym told.is in
-      filled (λ (ds : List Data). completed c.in-Ok.opened rows ≡ compact_text (record_package settings notice ds (view c.in_ok-release.release))) rows
-      (releases_told notice s) (c.told.ensures.releases settings s stands notice) last.0
+      filled (λ (ds : List Data). completed c.in-Ok.opened rows ≡ compact_text (record_package publisher notice ds (view c.in_ok-release.release))) rows
+      (releases_told notice s) (c.told.ensures.releases publisher s stands notice) last.0
       (λ d ds kept. c.in-Ok.ensures rows d ds kept last.1 (subst HasText (sym release) told.has_text))
-      ∙ ap (λ (d : Data). compact_text (record_package settings notice (releases_told notice s) d)) release,
+      ∙ ap (λ (d : Data). compact_text (record_package publisher notice (releases_told notice s) d)) release,
 )

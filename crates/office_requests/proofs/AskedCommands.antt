@@ -1,17 +1,15 @@
--- What is asked by a request can be given: a new notice's lots have an identifier each, and a tenderer who asks is registered.
-use Rattle.std.proofs.Common.{◌≡◌, ℕ, Bool, true, false, List, Option, Some, None, Result, Ok, Err, refl, sym, subst}
-use Rattle.std.specs.Prelude.{IsSome, ◌^◌, not, ◌&&◌, nat_le, length, if◌then◌else◌}
+-- What a request asks can be given: the lots of a new notice have an identifier each.
+use Rattle.std.proofs.Common.{◌≡◌, ℕ, Bool, true, false, List, Option, Some, None, Result, Ok, Err, refl, sym, subst, ◌⊎◌, inl, inr}
+use Rattle.std.specs.Prelude.{◌^◌, not, ◌&&◌, nat_le, length, if◌then◌else◌, IfOk}
 use Rattle.serde_json.specs.Data.{Data}
 use Rattle.office_values.specs.declared.refusal.Field.TheVariants as fields
 use Rattle.office_values.specs.declared.refusal.Refusal.{Refusal}
-use Rattle.office_values.specs.declared.refusal.Refusal.TheVariants.{BadKey, Forbidden}
-use Rattle.office_values.specs.declared.settings.Settings.{Settings}
-use Rattle.office_values.specs.Fields.{is_id}
+use Rattle.office_values.specs.declared.refusal.Refusal.TheVariants.{Forbidden, Unavailable}
+use Rattle.office_commands.specs.Commands.{IsCommand}
 use Rattle.office_commands.specs.Identified.{repeats_id}
 use Rattle.office_commands.specs.Lots.{lot_id}
 use Rattle.office_commands.specs.declared.budget.BudgetRow.{BudgetRow}
 use Rattle.office_commands.specs.declared.command.Caller.{Caller}
-use Rattle.office_commands.specs.declared.command.Caller.TheVariants.{Clerk, Tenderer}
 use Rattle.office_commands.specs.declared.command.CommandKind.{CommandKind}
 use Rattle.office_commands.specs.declared.command.CommandKind.TheVariants as kinds
 use Rattle.office_commands.specs.declared.commands.Command.TheVariants as commands
@@ -19,12 +17,8 @@ use Rattle.office_commands.specs.declared.lot.NewLot.{NewLot}
 use Rattle.office_commands.specs.declared.notice.Criteria.{Criteria}
 use Rattle.office_commands.specs.declared.notice.LateWithdrawal.{LateWithdrawal}
 use Rattle.office_commands.specs.declared.notice.NewNotice.{NewNotice}
-use Rattle.office_base.specs.Tables.{Tables, find_tenderer, tenderer_at}
-use Rattle.office_base.specs.declared.records.TendererRow.{TendererRow}
-use Rattle.office_machine.specs.Machine.{IsCommand, IsRegistered}
-use Rattle.office_desk.specs.Callers.{caller_of, clerk_with_key, fits_key, is_clerk_name, tenderer_with_key, tenderer_named}
 use Rattle.office_wire.specs.Request.{RequestView}
-use Rattle.office_requests.specs.Asking.{asked_by_route, asked_by, command_at, lot_command, may_ask, named_command, numbered_command}
+use Rattle.office_requests.specs.Asking.{CanBeAsked, WhatIsAskedCanBeGiven, asked_by_route, asked_by, command_at, may_ask}
 use Rattle.office_requests.specs.Bodies.{import_of, registration_in, notice_amendment_in, cancellation_in, examination_in}
 use Rattle.office_requests.specs.Bodies.{contract_amendment_in, payment_in, ending_in, sealed_in}
 use Rattle.office_requests.specs.Fields.{◌>>=◌, field_or_refusal, text_in, text_line_in, flag_in, number_in, perhaps_number_in}
@@ -39,10 +33,9 @@ use Rattle.office_requests.specs.declared.route.Endpoint.TheVariants.{Commands, 
 use Rattle.office_requests.specs.declared.route.Place.{Place}
 use Rattle.office_requests.specs.declared.route.Place.TheVariants.{Nowhere, Named, Within, Numbered}
 use Rattle.office_requests.specs.declared.route.Route.{Route}
-use Rattle.office_http.specs.Meaning.{who}
 
 -- what is read, if it isn't refused, is so
-unfoldable pub IsRead : {A : Type 0} → (A → Type 0) → Result A Refusal → Type 0
+unfoldable IsRead : {A : Type 0} → (A → Type 0) → Result A Refusal → Type 0
 IsRead P (Ok value) = P value
 IsRead P (Err why) = Unit {0}
 
@@ -50,7 +43,7 @@ value_read : {A : Type 0} (P : A → Type 0) (value : A) → P value → IsRead 
 unfolding IsRead
 value_read P value is = is
 
-pub why_read : {A : Type 0} (P : A → Type 0) (why : Refusal) → IsRead P (Err why)
+why_read : {A : Type 0} (P : A → Type 0) (why : Refusal) → IsRead P (Err why)
 unfolding IsRead
 why_read P why = tt
 
@@ -190,117 +183,47 @@ ending_read : (contract : ℕ) (body : Data) → IsRead IsCommand (ending_in con
 unfolding ending_in
 ending_read contract body = bound IsCommand _ _ (λ how. value_read IsCommand _ tt)
 
-named_read : (kind : CommandKind) (name body : List ℕ) → IsRead IsCommand (named_command kind name body)
-unfolding named_command
-named_read kinds.Import name body = import_read name _
-named_read kinds.Register name body = bound IsCommand _ _ (λ value. registration_read name value)
-named_read kinds.Publish name body = bound IsCommand _ _ (λ value. publication_read name value)
-named_read kinds.AmendNotice name body = bound IsCommand _ _ (λ value. notice_amendment_read name value)
-named_read kinds.Cancel name body = bound IsCommand _ _ (λ value. cancellation_read name value)
-named_read kinds.Open name body = value_read IsCommand _ tt
-named_read kinds.Present name body = why_read IsCommand _
-named_read kinds.Modify name body = why_read IsCommand _
-named_read kinds.Withdraw name body = why_read IsCommand _
-named_read kinds.Examine name body = why_read IsCommand _
-named_read kinds.Award name body = why_read IsCommand _
-named_read kinds.Fail name body = why_read IsCommand _
-named_read kinds.Sign name body = why_read IsCommand _
-named_read kinds.AmendContract name body = why_read IsCommand _
-named_read kinds.Pay name body = why_read IsCommand _
-named_read kinds.End name body = why_read IsCommand _
-
-lot_read : (kind : CommandKind) (notice lot query body : List ℕ) → IsRead IsCommand (lot_command kind notice lot query body)
-unfolding lot_command
-lot_read kinds.Import notice lot query body = why_read IsCommand _
-lot_read kinds.Register notice lot query body = why_read IsCommand _
-lot_read kinds.Publish notice lot query body = why_read IsCommand _
-lot_read kinds.AmendNotice notice lot query body = why_read IsCommand _
-lot_read kinds.Cancel notice lot query body = why_read IsCommand _
-lot_read kinds.Open notice lot query body = why_read IsCommand _
-lot_read kinds.Present notice lot query body =
+command_read : (kind : CommandKind) (place : Place) (query body : List ℕ) → IsRead IsCommand (command_at kind place query body)
+unfolding command_at
+command_read kinds.Import (Named name) query body = import_read name _
+command_read kinds.Register (Named name) query body = bound IsCommand _ _ (λ value. registration_read name value)
+command_read kinds.Publish (Named name) query body = bound IsCommand _ _ (λ value. publication_read name value)
+command_read kinds.AmendNotice (Named name) query body = bound IsCommand _ _ (λ value. notice_amendment_read name value)
+command_read kinds.Cancel (Named name) query body = bound IsCommand _ _ (λ value. cancellation_read name value)
+command_read kinds.Open (Named name) query body = value_read IsCommand _ tt
+command_read kinds.Present (Within notice lot) query body =
     bound_two IsCommand (security_in query) (sealed_in body)
     (λ security sealed. Ok (commands.Present notice lot security sealed))
     (λ security sealed. value_read IsCommand (commands.Present notice lot security sealed) tt)
-lot_read kinds.Modify notice lot query body = why_read IsCommand _
-lot_read kinds.Withdraw notice lot query body = why_read IsCommand _
-lot_read kinds.Examine notice lot query body = why_read IsCommand _
-lot_read kinds.Award notice lot query body = value_read IsCommand _ tt
-lot_read kinds.Fail notice lot query body = why_read IsCommand _
-lot_read kinds.Sign notice lot query body = why_read IsCommand _
-lot_read kinds.AmendContract notice lot query body = why_read IsCommand _
-lot_read kinds.Pay notice lot query body = why_read IsCommand _
-lot_read kinds.End notice lot query body = why_read IsCommand _
+command_read kinds.Modify (Numbered number) query body = bound IsCommand _ _ (λ sealed. value_read IsCommand _ tt)
+command_read kinds.Withdraw (Numbered number) query body = value_read IsCommand _ tt
+command_read kinds.Examine (Numbered number) query body = bound IsCommand _ _ (λ value. examination_read number value)
+command_read kinds.Award (Within notice lot) query body = value_read IsCommand _ tt
+command_read kinds.Fail (Numbered number) query body = value_read IsCommand _ tt
+command_read kinds.Sign (Numbered number) query body = bound IsCommand _ _ (λ named. value_read IsCommand _ tt)
+command_read kinds.AmendContract (Numbered number) query body = bound IsCommand _ _ (λ value. contract_amendment_read number value)
+command_read kinds.Pay (Numbered number) query body = bound IsCommand _ _ (λ value. payment_read number value)
+command_read kinds.End (Numbered number) query body = bound IsCommand _ _ (λ value. ending_read number value)
+command_read _ _ query body = why_read IsCommand _
 
-numbered_read : (kind : CommandKind) (number : ℕ) (body : List ℕ) → IsRead IsCommand (numbered_command kind number body)
-unfolding numbered_command
-numbered_read kinds.Import number body = why_read IsCommand _
-numbered_read kinds.Register number body = why_read IsCommand _
-numbered_read kinds.Publish number body = why_read IsCommand _
-numbered_read kinds.AmendNotice number body = why_read IsCommand _
-numbered_read kinds.Cancel number body = why_read IsCommand _
-numbered_read kinds.Open number body = why_read IsCommand _
-numbered_read kinds.Present number body = why_read IsCommand _
-numbered_read kinds.Modify number body = bound IsCommand _ _ (λ sealed. value_read IsCommand _ tt)
-numbered_read kinds.Withdraw number body = value_read IsCommand _ tt
-numbered_read kinds.Examine number body = bound IsCommand _ _ (λ value. examination_read number value)
-numbered_read kinds.Award number body = why_read IsCommand _
-numbered_read kinds.Fail number body = value_read IsCommand _ tt
-numbered_read kinds.Sign number body = bound IsCommand _ _ (λ named. value_read IsCommand _ tt)
-numbered_read kinds.AmendContract number body = bound IsCommand _ _ (λ value. contract_amendment_read number value)
-numbered_read kinds.Pay number body = bound IsCommand _ _ (λ value. payment_read number value)
-numbered_read kinds.End number body = bound IsCommand _ _ (λ value. ending_read number value)
-
-command_read : (kind : CommandKind) (place : Place) (query body : List ℕ) → IsRead IsCommand (command_at kind place query body)
-unfolding command_at
-command_read kind Nowhere query body = why_read IsCommand _
-command_read kind (Named name) query body = named_read kind name body
-command_read kind (Within notice lot) query body = lot_read kind notice lot query body
-command_read kind (Numbered number) query body = numbered_read kind number body
-
--- what is asked is a look, or a command that can be given
-abbrev pub IsAsked : Asked → Type 0
-IsAsked (Does command) = IsCommand command
-IsAsked (Looks query) = Unit {0}
-
-by_read : (endpoint : Endpoint) (place : Place) (query body : List ℕ) → IsRead IsAsked (asked_by endpoint place query body)
+by_read : (endpoint : Endpoint) (place : Place) (query body : List ℕ) → IsRead CanBeAsked (asked_by endpoint place query body)
 unfolding asked_by
-by_read (Commands kind) place query body = bound_by IsCommand IsAsked _ _ (command_read kind place query body) (λ command is. value_read IsAsked _ is)
-by_read (Queries kind) place query body = bound IsAsked _ _ (λ look. value_read IsAsked _ tt)
+by_read (Commands kind) place query body = bound_by IsCommand CanBeAsked _ _ (command_read kind place query body) (λ command is. value_read CanBeAsked _ is)
+by_read (Queries kind) place query body = bound CanBeAsked _ _ (λ look. value_read CanBeAsked _ tt)
 
-pub asked_is : (caller : Caller) (route : Route) (request : RequestView) → IsRead IsAsked (asked_by_route caller route request)
+if_read : (read : Result Asked Refusal) → IsRead CanBeAsked read → IfOk read CanBeAsked
+unfolding IsRead
+if_read (Ok asked) is = is
+if_read (Err why) is = tt
+
+pub asked_is : WhatIsAskedCanBeGiven
 asked_is caller route request =
-    where_so IsAsked (may_ask caller route.endpoint) (asked_by route.endpoint route.place (query_of request.head.target) request.body) Forbidden
-    (by_read route.endpoint route.place (query_of request.head.target) request.body)
+    if_read (asked_by_route caller route request)
+    (where_so CanBeAsked (may_ask caller route.endpoint) (asked_by route.endpoint route.place (query_of request.head.target) request.body) Forbidden
+    (by_read route.endpoint route.place (query_of request.head.target) request.body))
 
--- Who asks.
-
-abbrev pub IsKnown : Tables → Caller → Type 0
-IsKnown s caller = IsRegistered caller s.tenderers
-
-row_known : (s : Tables) (name key : List ℕ) (row : Option TendererRow) → find_tenderer s.tenderers name ≡ row → IsRead (IsKnown s) (tenderer_with_key name key row)
-row_known s name key None is = why_read (IsKnown s) BadKey
-row_known s name key (Some row) is =
-    where_so (IsKnown s) (fits_key row.key key) (Ok (Tenderer name)) BadKey
-    (value_read (IsKnown s) (Tenderer name) (subst (λ (o : Option TendererRow). IsSome o) (sym is) refl))
-
-named_known : (s : Tables) (name key : List ℕ) → IsRead (IsKnown s) (tenderer_named s name key)
-named_known s name key = where_so (IsKnown s) (is_id name) (tenderer_with_key name key (tenderer_at name s)) BadKey
-    (row_known s name key (find_tenderer s.tenderers name) refl)
-
-clerk_known : (settings : Settings) (s : Tables) (key : List ℕ) → IsRead (IsKnown s) (clerk_with_key settings key)
-clerk_known settings s key = where_so (IsKnown s) (fits_key settings.clerk_key key) (Ok Clerk) BadKey (value_read (IsKnown s) Clerk tt)
-
-pair_known : (settings : Settings) (s : Tables) (name key : List ℕ) (clerk : Bool)
-    → IsRead (IsKnown s) (if clerk then clerk_with_key settings key else tenderer_named s name key)
-pair_known settings s name key true = clerk_known settings s key
-pair_known settings s name key false = named_known s name key
-
-caller_known : (settings : Settings) (s : Tables) (name key : Option (List ℕ)) → IsRead (IsKnown s) (caller_of settings s name key)
-caller_known settings s None None = value_read (IsKnown s) _ tt
-caller_known settings s None (Some key) = why_read (IsKnown s) BadKey
-caller_known settings s (Some name) None = why_read (IsKnown s) BadKey
-caller_known settings s (Some name) (Some key) = pair_known settings s name key (is_clerk_name name)
-
-pub who_known : (settings : Settings) (s : Tables) (values : Result (Option (List ℕ) × Option (List ℕ)) Refusal) → IsRead (IsKnown s) (who settings s values)
-who_known settings s (Err why) = why_read (IsKnown s) why
-who_known settings s (Ok values) = caller_known settings s values.0 values.1
+-- so can what was read of it, unless memory was refused
+pub read_is : (caller : Caller) (route : Route) (request : RequestView) (read : Result Asked Refusal)
+    → (read ≡ asked_by_route caller route request) ⊎ (read ≡ Err Unavailable) → IfOk read CanBeAsked
+read_is caller route request read (inl is) = subst (λ (r : Result Asked Refusal). IfOk r CanBeAsked) (sym is) (asked_is caller route request)
+read_is caller route request read (inr is) = subst (λ (r : Result Asked Refusal). IfOk r CanBeAsked) (sym is) tt
