@@ -1,4 +1,5 @@
 -- The rows that a row speaks of.
+pub mod NoOrphans
 pub mod ParentsPut
 pub mod ParentsThere
 pub mod PerformancesAsked
