@@ -1,11 +1,11 @@
 -- The sealed tenders of a notice, with what is read in them.
-use Rattle.std.specs.Prelude.{ℕ, Bool, ◌&&◌, cond, List, is_some, map, filter}
-use Rattle.office_base.specs.Tables.{Tables, lot_cmp, lot_key, find_lot, lot_at, seal_at, envelopes_of_notice}
+use Rattle.std.specs.Prelude.{ℕ, cond, List, is_some, map}
+use Rattle.office_base.specs.Tables.{Tables, lot_cmp, lot_key, find_lot, lot_at}
 use Rattle.office_base.specs.declared.records.EnvelopeRow.{EnvelopeRow}
 use Rattle.office_base.specs.declared.records.LotRow.{LotRow}
-use Rattle.tender_core.specs.Rules.Open.{is_sealed_envelope, with_reading}
+use Rattle.tender_core.specs.Rules.Open.{with_reading}
 use Rattle.tender_core.specs.declared.opening.OpenedTender.{OpenedTender}
-use Rattle.office_machine.specs.Rule.{sealed_tender}
+use Rattle.office_machine.specs.Rule.{sealed_of_notice, sealed_tender}
 use Rattle.office_machine.specs.OfficeMeans.{office_readings}
 use Rattle.office_plans.specs.LookedUp.{IsAsIn, with_row}
 
@@ -17,18 +17,10 @@ with_lot s lots key = cond (is_some (find_lot lots key)) lots (with_row lot_cmp 
 abbrev pub HasLotOf : Tables → List LotRow → EnvelopeRow → Type 0
 HasLotOf s lots e = IsAsIn lot_cmp lot_key s.lots lots (e.notice, e.lot)
 
--- the seal of a tender is there, and its lot
-abbrev pub has_seal_and_lot : Tables → EnvelopeRow → Bool
-has_seal_and_lot s e = is_some (seal_at e.receipt s) && is_some (lot_at (e.notice, e.lot) s)
-
 -- the tender with what is read in the bytes of its seal
 abbrev pub tender_read : Tables → EnvelopeRow → OpenedTender
 tender_read s e = with_reading office_readings.read (sealed_tender s e)
 
--- the sealed ones of a notice's tenders, which alone are opened
-abbrev pub sealed_of_notice : List ℕ → Tables → List EnvelopeRow
-sealed_of_notice notice s = filter is_sealed_envelope (envelopes_of_notice notice s)
-
--- each of them, read
+-- the sealed tenders of a notice, read
 abbrev pub tenders_read : List ℕ → Tables → List OpenedTender
 tenders_read notice s = map (tender_read s) (sealed_of_notice notice s)

@@ -1,5 +1,5 @@
 -- What an accepted command puts: what the machine puts, and the merge that its release joins.
-use Rattle.std.specs.Prelude.{◌≡◌, ℕ, Bool, true, ◌||◌, nat_eq, List, ◌∷◌, [], ◌++◌, Option, Some, None, is_some}
+use Rattle.std.specs.Prelude.{◌≡◌, ℕ, ◌+◌, Bool, true, false, ◌||◌, nat_eq, List, ◌∷◌, [], ◌++◌, Option, Some, None, is_some}
 use Rattle.serde_json.specs.Written.{compact_text}
 use Rattle.ocds_merge.specs.Merge.{merge_or_null}
 use Rattle.ocds_merge.specs.Stored.{KeepsMerge}
@@ -52,10 +52,15 @@ KeepsItsReleases x = (notice : List ℕ) → published_for x.before x.command �
 abbrev pub has_last_release : List ℕ → ℕ → Tables → Bool
 has_last_release notice releases t = nat_eq releases 0 || is_some (release_at (notice, releases) t)
 
--- what is kept of a notice can be gone on from: its last release is there, and the merge, where one is kept, is an object; where none is, all
--- releases that its row counts are there, and objects
+-- a release of this notice has this number
+abbrev pub has_release : List ℕ → ℕ → Tables → Bool
+has_release notice number t = is_some (release_at (notice, number) t)
+
+-- the next release can follow those of a notice. The last one that its row counts exists, and none has the next number. A merge that is kept is an
+-- object. If none is kept, all releases that the row counts exist, and are objects.
 pub record CanBeFollowed (notice : List ℕ) (t : Tables) : Type 0 where
   pub last : has_last_release notice (releases_in (notice_at notice t)) t ≡ true
+  pub next : has_release notice (releases_in (notice_at notice t) + 1) t ≡ false
   pub merge : HasMerge notice t
   pub counted : AreSoMany notice (releases_in (notice_at notice t)) t
 

@@ -12,6 +12,7 @@ ghost use Rattle.office_plans.specs.Released.{IsReleased};
 ghost use Rattle.office_values.specs.declared.refusal.Refusal.TheVariants.{Unavailable};
 
 use crate::lines::load_line;
+use crate::orphans::has_rows_of_notice;
 use crate::planned::Planned;
 use crate::published::{Released, make_release, published};
 use crate::replies::notice_reply;
@@ -92,7 +93,7 @@ fn release(
 }
 
 /// Plans the publication of a notice: a refusal takes no memory beside the rows. The lines of its lots among these are gathered in a table,
-/// so that a refused one may be `Unavailable` though no look-up failed.
+/// so that a refused one may be `Unavailable` though no look-up failed. `Unavailable` also if a lot, a tender or a release of the notice exists.
 pub fn plan<H: Lookups>(
     alloc: Global,
     shelf: &mut H,
@@ -111,6 +112,10 @@ pub fn plan<H: Lookups>(
     let t = asking.time(&rows.clock);
     if let Some(why) = refusal(t, &rows, &content) {
         return Err(why);
+    }
+    let found = has_rows_of_notice(shelf, &notice)?;
+    if found {
+        return Err(Refusal::Unavailable);
     }
     let text = notice_reply(alloc, asking, notice, &rows.notice, &rows.clock)?;
     let release = release(alloc, publisher, asking, &rows, notice, &content)?;
