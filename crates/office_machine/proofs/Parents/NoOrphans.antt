@@ -49,7 +49,7 @@ apart find a b there none = by (same_id a b) refl
 module _ (s : Tables) (have : HaveParents s s) (order : IsSorted s) where
   pub no_rows_of_notice : (notice : List ℕ) → notice_at notice s ≡ None → has_rows_of_notice notice s ≡ false
   no_rows_of_notice notice none =
-      let at = λ k. notice_at k s in
+      let at : List ℕ → Option NoticeRow = λ k. notice_at k s in
       let lots : has_rows (lots_of_notice notice s) ≡ false =
       none_found keyed.lots (of_notice notice) s.lots order.lots (λ k l is. apart at l.notice notice (have.lots k l is).notice none) in
       let tenders : has_rows (envelopes_of_notice notice s) ≡ false =
