@@ -1,18 +1,16 @@
 -- In an office that commands reach no row is without its parent, and no row has the next number.
-use Rattle.std.specs.Prelude.{◌≡◌, ℕ, ◌+◌, ◌≤◌, Bool, true, false, cond, not, ◌&&◌, ◌||◌, List, [], ◌∷◌, filter, Option, Some, None, IsSome, is_some, ⊥}
-use Rattle.std.proofs.Common.{refl, sym, ◌∙◌, ap, subst, arith}
+use Rattle.std.specs.Prelude.{◌≡◌, ℕ, ◌+◌, Bool, true, false, cond, not, ◌&&◌, ◌||◌, List, [], ◌∷◌, filter, Option, Some, None, IsSome, is_some}
+use Rattle.std.proofs.Common.{refl, sym, ◌∙◌, ap, arith}
 use Rattle.std.specs.List.{AllByRecursion, list_any}
 use Rattle.std.specs.declared.cmp.Ordering.{Ordering}
 use Rattle.office_values.specs.Ids.{same_id}
 use Rattle.office_commands.specs.declared.budget.BudgetRow.{BudgetRow}
 use Rattle.office_base.specs.Rows.{row_at, IsInOrder, holds_of}
-use Rattle.office_base.specs.States.{is_active, is_sealed}
 use Rattle.office_base.specs.Tables.{IsSorted, Tables, award_at, contract_at, envelope_at, line_at, lot_at, notice_at, seal_at, of_line, of_notice, envelopes_of_notice, lots_of_line, lots_of_notice, releases_of_notice}
 use Rattle.office_base.specs.declared.records.AwardRow.{AwardRow}
 use Rattle.office_base.specs.declared.records.ContractRow.{ContractRow}
 use Rattle.office_base.specs.declared.records.EnvelopeRow.{EnvelopeRow}
 use Rattle.office_base.specs.declared.records.LineRow.{LineRow}
-use Rattle.office_base.specs.declared.records.LotRow.{LotRow}
 use Rattle.office_base.specs.declared.records.NoticeRow.{NoticeRow}
 use Rattle.office_base.specs.declared.records.ReleaseRow.{ReleaseRow}
 use Rattle.office_base.proofs.ExactKeys.{equal_ids}
@@ -23,7 +21,7 @@ use Rattle.office_machine.specs.Commands.Open.{lacks_tender}
 use Rattle.office_machine.specs.Machine.{Given}
 use Rattle.office_machine.specs.Orphans.{award_is_taken, contract_is_taken, has_rows, has_rows_of_notice, names_lost_line, receipt_is_taken}
 use Rattle.office_machine.specs.Parents.{HaveParents}
-use Rattle.office_machine.specs.Rule.{has_seal_and_lot, sealed_of_notice}
+use Rattle.office_machine.specs.Rule.{has_seal_and_lot}
 use Rattle.office_machine.proofs.Accounts.Kept.{AccountsStand}
 use Rattle.office_machine.proofs.Parents.ParentsPut.{all-filter, all-table}
 use Rattle.office_machine.proofs.Parents.Whole.{IsWhole}
