@@ -98,8 +98,8 @@ abbrev pub accepted_after : Given → Result (List ℕ) Refusal → List Given �
 accepted_after x (Ok reply) xs = x ∷ xs
 accepted_after x (Err why) xs = xs
 
--- These accepted commands lead to the office. Its accounts are the sums that they moved. Each tender and each security, of a tender or of a contract, has the fate that
--- they gave it.
+-- These accepted commands lead to the office. Its accounts are the sums that they moved. Each tender and each security, of a tender or of a contract, has the
+-- fate that they gave it.
 pub record OfficeIsKept (publisher : Publisher) (xs : List Given) (s : Tables) : Type 0 where
   pub reaches : Reaches (publishing publisher) xs s
   pub accounts : AccountsHold xs s

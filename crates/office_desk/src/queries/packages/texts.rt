@@ -178,8 +178,8 @@ fn releases_package(
 }
 
 /// The package of all releases that a notice's row counts, made of their stored texts. It builds no tree, writes no text again, and holds one release at a time
-/// beside the package. `Unavailable` also if the notice has no release, if one of them is missing, or if a text isn't a JSON object of at most 127 levels and
-/// so can't be merged. None of this can happen in a reached office.
+/// beside the package. `Unavailable` also if the notice has no release, or if one of them is missing or can't be merged. A text that isn't a JSON object of at
+/// most 127 levels can't be merged. None of this can happen in a reached office.
 pub(super) fn releases_text<H: Lookups>(
     alloc: Global,
     shelf: &mut H,
