@@ -111,7 +111,7 @@ document_of text = if is_utf8 text then parse_document text else None
 abbrev pub settings_in : List ℕ → Result Settings SettingsFault
 settings_in text = option_map_or settings_of (document_of text) (Err NotToml)
 
--- The call returns the wanted result, or it reports that memory is too small.
+-- The call returns the result that the definition says, or it reports that memory is too small.
 abbrev pub ReadsAs : {A : Type 0} → Result A SettingsFault → Result A SettingsFault → Type 0
 ReadsAs (Ok value) wanted = wanted ≡ Ok value
 ReadsAs (Err fault) wanted = (fault ≡ NoMemory) ⊎ (wanted ≡ Err fault)
