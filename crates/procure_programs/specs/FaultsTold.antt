@@ -27,7 +27,7 @@ abbrev pub of_shelf : ShelfFault → ProgramFault
 of_shelf shelf.NoMemory = no_memory
 of_shelf shelf.Store = Store
 
--- A run that came to its end is Ok. Otherwise the result is the run's fault.
+-- A run that ended without a fault is Ok. Otherwise the result is the run's fault.
 abbrev pub IsToldOfRun : Result ℕ RunFault → Result (Unit {0}) ProgramFault → Type 0
 IsToldOfRun (Ok n) result = result ≡ Ok tt
 IsToldOfRun (Err fault) result = result ≡ Err (of_run fault)

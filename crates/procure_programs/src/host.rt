@@ -11,7 +11,7 @@ use std::io::{Read, Write};
 use std::net::{Ipv4Addr, Net, OpenListener, OpenStream, SocketAddr, SocketAddrV4};
 use std::time::{Clock, Duration, SystemTime, UNIX_EPOCH};
 
-/// A host takes connections one after another, tells the time, and closes them.
+/// A host takes connections one after another, reads the clock, and closes connections.
 pub trait Host {
     /// The source of a connection's bytes.
     type Reader: Read + Drop;
