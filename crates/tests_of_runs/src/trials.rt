@@ -1,7 +1,7 @@
 //! Tries a request while one of its allocations is refused, each time another one. The answer must be as written or `Unavailable`. After `Unavailable` the
 //! office must hold the same rows as before, and answer the same request as written.
 //!
-//! A library that is loaded before the C library refuses (`tests/refused_rows`). Lines on the standard error tell it what to do. `refuse N` means that the Nth
+//! A library that is loaded before the C library refuses (`tests/refused_rows`). It follows lines on the standard error. `refuse N` means that the Nth
 //! allocation from then on is refused, or none if N is 0. `enough` means that no further one is refused.
 use crate::rows::rows_of;
 use office_base::shelf::{Lookups, Shelf};
