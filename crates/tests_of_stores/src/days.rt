@@ -8,7 +8,7 @@ use std::alloc::Global;
 use tests_disks::disks::Disks;
 use tests_transcripts::session::Wrong;
 
-// What stops on a day.
+// The thing that stops on a day.
 #[derive(Clone, Copy)]
 enum Stopping {
     Process,

@@ -184,8 +184,8 @@ struct Looked {
     is_whole: bool,
 }
 
-// The counts of stops that left an office of version 1 (with the table of late withdrawals or without it) and one of version 2, and the files that were looked
-// at last. Most stops leave the same bytes as the previous one.
+// The counts of stops that left an office of version 1 and of those that left one of version 2, and the files that were looked at last. Version 1 may have the
+// table of late withdrawals. Most stops leave the same bytes as the previous one.
 #[derive(Drop)]
 struct Found {
     is_late: bool,

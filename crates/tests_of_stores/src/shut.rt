@@ -8,7 +8,7 @@ use tests_disks::office::OfficeOnDisks;
 use tests_transcripts::session::Wrong;
 use tests_transcripts::setup::{MONEY, TENDERERS};
 
-// How a command ended whose disk stops, and what the office reported about its store afterwards.
+// The end of a command whose disk stops, and the office's report about its store afterwards.
 #[derive(Clone, Copy)]
 enum Ending {
     Unopened,

@@ -96,7 +96,7 @@ fn append_answers(
     Ok(())
 }
 
-// Appends all rows of these files: by the first questions, of the tables that are the same in every version, and by the last questions.
+// Appends all rows of these files: those of the first questions, those of the tables that are the same in every version, and those of the last questions.
 fn append_rows(
     alloc: Global,
     bytes: &mut Vec<u8>,
@@ -110,8 +110,8 @@ fn append_rows(
     append_answers(bytes, &mut database, last)
 }
 
-/// All rows of these files, whether or not they are an office's: by the first questions, of the tables that are the same in every version, and by the last
-/// questions.
+/// All rows of these files, whether or not they are an office's. The first and the last questions ask for rows that differ by version. The rows between them
+/// are of the tables that are the same in every version.
 pub(crate) fn answers_in(
     alloc: Global,
     disks: Disks,

@@ -126,8 +126,8 @@ fn tenderers_and_notices_are_read(rt: HostRuntime) {
             ]
         )
     );
-    // A line feed in a title; then a word that isn't a state, one with a capital letter, an empty state, a text as a moment, and a performance security above
-    // the bound.
+    // A line feed in a title; then a word that isn't a state, one with a capital letter, and an empty state. Then a text as a moment, and a performance
+    // security above the bound.
     assert!(rt;
         are_refused(
             alloc,
@@ -186,7 +186,7 @@ fn lots_are_read(rt: HostRuntime) {
 #[test]
 fn tenders_are_read(rt: HostRuntime) {
     let alloc = rt.alloc();
-    // A price with another word, a word without its price, and a price without a word; then a word that isn't a state, a flag that is 2, one that is a text,
+    // A price with another word, a word without its price, and a price without a word. Then a word that isn't a state, a flag that is 2, one that is a text,
     // and one that is neither yes nor no.
     assert!(rt;
         are_refused(
