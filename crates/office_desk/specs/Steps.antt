@@ -40,9 +40,9 @@ IsReplyOrRefusal publisher x (Err why) = (refusal_of x ≡ Some why) ⊎ (why �
 abbrev pub IsOfficeAfter : {S : Type 0} → Meaning S → Publisher → S → (Tables → Given) → Tables → Type 0
 IsOfficeAfter M publisher old x u = (t : Tables) → M.holds old t → KeepsItsReleases (x t) → (refusal_of (x t) ≡ None) × (u ≡ next_with_merges publisher (x t))
 
--- The effect of a command that was asked for. After Ok it is done, if the notice for which it publishes keeps its releases. After a refusal nothing has
--- changed. A stop leaves one of the two as a whole. After a refusal it leaves only what it could leave before, and after `Unavailable` perhaps the whole
--- command.
+-- The effect of a command that was asked for. After Ok the command is done, if the notice for which it publishes keeps its releases. After a refusal nothing
+-- has changed. A stop leaves the tables without the command or with all of it. After a refusal it leaves only what it could leave before, and after
+-- `Unavailable` perhaps the tables with the command.
 pub record Does {S T : Type 0} (M : Meaning S) (publisher : Publisher) (old new : S) (result : Result T Refusal) (x : Tables → Given) : Type 0 where
   pub before : M.honest new → M.honest old
   pub all : M.honest new → (t : Tables) → M.holds old t → KeepsItsReleases (x t) → OnOk result (M.holds new (next_with_merges publisher (x t)))
@@ -68,8 +68,8 @@ abbrev pub IsNotOverdrawn : Option ContractRow → List EntryRow → Type 0
 IsNotOverdrawn None entries = Unit {0}
 IsNotOverdrawn (Some c) entries = is_overdrawn entries c ≡ false
 
--- The office has the rows that the answer shows, even if no commands lead to this office. The releases need each release that the notice's row counts, and the
--- record also a merge that is an object. A contract needs an outstanding amount.
+-- The facts that an answer shows hold, even if no commands lead to this office. For the releases, each release that the notice's row counts exists and can be
+-- merged. For the record, its merge is also an object. A contract isn't overdrawn.
 abbrev pub HasShown : Query → Tables → Type 0
 HasShown (queries.Releases notice) s = HasReleases notice s
 HasShown (queries.Record notice) s = HasReleases notice s × HasMerge notice s

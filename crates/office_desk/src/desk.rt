@@ -85,8 +85,8 @@ impl<H: Shelf + Drop> Desk<H> {
     }
 
     /// The caller, by the name and the key of a request, each of which may be absent. Without both it is the public. With the clerk's key it is the clerk, and
-    /// with a registered tenderer's key that tenderer. Anything else is `BadKey`. Only a name that is an identifier is looked up, so only then can the answer
-    /// be `Unavailable`.
+    /// with a registered tenderer's key that tenderer. Anything else is `BadKey`. Only an identifier other than `clerk` is looked up, so only then can the
+    /// answer be `Unavailable`.
     pub fn caller(&mut self, name: Option<&[u8]>, key: Option<&[u8]>) -> Result<Caller, Refusal>
         ensures looks { Looks H.meaning self.old.shelf self.new.shelf (λ s.
             (result ≡ caller_of self.old.settings s (option_map (λ x. x.now) name.entry) (option_map (λ x. x.now) key.entry)) ⊎ (result ≡ Err Refusal.Unavailable)) }
@@ -117,8 +117,8 @@ impl<H: Shelf + Drop> Desk<H> {
         }
     }
 
-    /// The plan of a command, which changes nothing. A refused command gets its refusal, or the store has counted another fault. This isn't promised of a
-    /// command that names budget lines.
+    /// The plan of a command, which changes nothing. A refused command gets its refusal, or the store has counted another fault. This isn't promised of an
+    /// import and a publication, because they gather budget lines first.
     pub fn plan(
         &mut self,
         moment: Moment,
@@ -179,7 +179,7 @@ impl<H: Shelf + Drop> Desk<H> {
         }
     }
 
-    /// Answers a command: plans it and carries it out. A tenderer who gives it must be registered.
+    /// Answers a command: plans it and carries it out. Its clauses assume that a tenderer who gives it is registered.
     pub fn ask(
         &mut self,
         moment: Moment,

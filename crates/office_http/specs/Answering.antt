@@ -55,13 +55,13 @@ reply_to_meant settings s moment (Gives caller command) =
     told_as (reply_by (refusal_of (given s moment caller command)) (publishing settings.publisher) (given s moment caller command))
 reply_to_meant settings s moment (Sees caller query) = told_as (told (packages settings.publisher) s caller query)
 
--- The office after it.
+-- The office after the answer.
 abbrev pub tables_after : Settings → Tables → ℕ → Meant → Tables
 tables_after settings s moment (Refuses why method) = s
 tables_after settings s moment (Gives by command) = office_kept (refusal_of (given s moment by command)) settings.publisher (given s moment by command)
 tables_after settings s moment (Sees caller query) = s
 
--- It is a command that isn't refused.
+-- The meaning is a command that isn't refused.
 abbrev pub is_accepted : Tables → ℕ → Meant → Bool
 is_accepted s moment (Refuses why method) = false
 is_accepted s moment (Gives caller command) = is_none (refusal_of (given s moment caller command))
@@ -135,7 +135,7 @@ abbrev pub StandsAs : {S : Type 0} → Meaning S → DeskOf S → Held → Type 
 StandsAs M desk h = IsHeld M desk h × IsReached h.settings.publisher h.tables
 
 -- A reached office answers the meaning of a request with this text, perhaps with `Unavailable`. The store then holds the office after it, which is reached too.
--- A stop leaves only the states of `StopsAfter`: after an accepted command the new tables, and after `Unavailable` perhaps them.
+-- `StopsAfter` says which states a stop may leave.
 abbrev pub IsAnswered : {S : Type 0} → Meaning S → Settings → S → S → ℕ → (Tables → Meant) → List ℕ → Type 0
 IsAnswered M settings old new moment m text =
     M.honest new → (s : Tables) → M.holds old s → IsReached settings.publisher s
@@ -175,7 +175,7 @@ IsTold M settings old new moment m text =
 abbrev pub IsRefusedText : List ℕ → Type 0
 IsRefusedText text = (why : Refusal) × (method : Option Allow) × (text ≡ response_of (Refused why method))
 
--- A refused request gets a refusal. A query gets one too, or the office has all rows that its answer shows.
+-- A refused request gets a refusal. A query gets one too, or all facts that its answer shows hold (`HasShown`).
 abbrev pub ShowsMeant : Meant → Tables → List ℕ → Type 0
 ShowsMeant (Refuses why method) s text = IsRefusedText text
 ShowsMeant (Gives caller command) s text = Unit {0}

@@ -62,7 +62,7 @@ response_of (reply.Text body) = response_with 200 plain_text [] body
 response_of (reply.Refused refusal method) =
     response_with (status_of_refusal refusal) json (allow_field method ++ challenge_field (status_of_refusal refusal)) (refusal_body refusal)
 
--- The reply names a method exactly if the path has another method than the request.
+-- A refusal names a method exactly if it is `WrongMethod`, number 5.
 abbrev pub NamesMethod : Reply → Type 0
 NamesMethod (reply.Json body) = ⊤
 NamesMethod (reply.Text body) = ⊤

@@ -84,8 +84,8 @@ GoesOnFor N M store zero before after old new = (after ≡ before) × (new ≡ o
 GoesOnFor {S = S} {T = T} N M store (suc n) before after old new =
     (host : T) × (mid : DeskOf S) × GoesOnFor N M store n before host old mid × IsOneTurn N M store host after mid new
 
--- The end of serving if not all connections are taken. Either one more connection is served and then the store is closed for good, or one is taken for which
--- the clock can't be read.
+-- The end of serving if not all connections are taken. Either one more connection is served and then the store is known to be closed for good, or one is taken
+-- for which the clock can't be read.
 abbrev pub EndsBy : {S T R W : Type 0} → Hosting T R W → Meaning S → Standing S → ProgramFault → T → T → DeskOf S → DeskOf S → Type 0
 EndsBy N M store Store before after old new =
     (answer : Result Bool ShelfFault) × ServesAndAsks N M store before after old new answer × IsTrue (is_known_shut answer)
@@ -103,8 +103,8 @@ ServesInTurn N M store count before after old new (Ok done) = GoesOnFor N M stor
 ServesInTurn {S = S} {T = T} N M store count before after old new (Err fault) =
     (n : ℕ) × (n < count) × (host : T) × (mid : DeskOf S) × GoesOnFor N M store n before host old mid × EndsBy N M store fault host after mid new
 
--- An office was served at 127.0.0.1 and this port. If another program has the port, the result is `Input` and nothing changed. Otherwise this many connections
--- were served in turn, or fewer with a fault.
+-- An office was served at 127.0.0.1 and this port. If the port isn't free, the result is `Input` and nothing changed. Otherwise this many connections were
+-- served in turn, or fewer with a fault.
 abbrev pub ServesAt : {S X T R W : Type 0} → (X → SocketAddrV4 → Option T → Type 0) → Hosting T R W → Meaning S → Standing S → X → ℕ → ℕ → DeskOf S → DeskOf S → Result (Unit {0}) ProgramFault → Type 0
 ServesAt {T = T} binds N M store network port count old new result =
     (address : SocketAddrV4) × IsLoopbackAt port address
