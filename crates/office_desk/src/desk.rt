@@ -179,7 +179,7 @@ impl<H: Shelf + Drop> Desk<H> {
         }
     }
 
-    /// Answers a command: plans it and carries it out. Its clauses assume that a tenderer who gives it is registered.
+    /// Answers a command: plans it and carries it out. Clause `joins` assumes that a tenderer who gives it is registered.
     pub fn ask(
         &mut self,
         moment: Moment,

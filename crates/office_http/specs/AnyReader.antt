@@ -17,9 +17,9 @@ abbrev pub KeepsSteps : Held → List Step → Type 0
 KeepsSteps h steps =
     (xs : List Given) → Reaches (publishing h.settings.publisher) xs h.tables → OfficeIsKept h.settings.publisher (accepted_steps h steps xs) (office_left office_answers h steps).tables
 
--- A run went through steps. Each has a request of the grammar, for which at least one read was made, and the reads that were left before and after the run
--- limit their number. The office is the one to which they lead, the output has their responses, a stop leaves only what they allow, and all accepted commands
--- are kept.
+-- A run went through these steps, each with a request of the grammar. There are at most as many steps as reads that it made: `reads` were allowed before it,
+-- and `left` are after it. The office is the one to which the steps lead, and the output has their responses. A stop leaves only states that the steps allow,
+-- and all accepted commands are kept.
 abbrev pub HasRun : {S : Type 0} → Meaning S → Result ℕ RunFault → ℕ → ℕ → DeskOf S → DeskOf S → Option (List ℕ) → Option (List ℕ) → Type 0
 HasRun M result reads left old new before after =
     M.honest new.shelf → (h : Held) → StandsAs M old h

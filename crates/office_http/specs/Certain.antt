@@ -33,7 +33,7 @@ refusal_meant s moment (Refuses why method) = Some (why, method)
 refusal_meant s moment (Gives caller command) = option_map (λ (why : Refusal). (why, None)) (refusal_of (given s moment caller command))
 refusal_meant s moment (Sees caller query) = option_map (λ (why : Refusal). (why, None)) (refusal_in (text_of (told no_packages s caller query)))
 
--- The decision needs no memory, because the command names no budget lines.
+-- The decision needs no memory. Only an import and a publication need some, for the budget lines that they name.
 abbrev pub takes_none : Meant → Bool
 takes_none (Refuses why method) = true
 takes_none (Gives caller command) = not (gathers_lines command)
