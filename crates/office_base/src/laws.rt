@@ -23,8 +23,7 @@ pub fn looks_follow<H: Lookups>()
 {}
 
 /// A law: a reader who takes page after page gets each notice and each tenderer once, in the order of their identifiers. The pages may have any size above 0,
-/// and
-/// the tables don't change meanwhile.
+/// and the tables don't change meanwhile.
 pub fn pages()
     ensures { TablesArePaged }
 {}

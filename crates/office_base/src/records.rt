@@ -49,8 +49,7 @@ pub enum NoticeState {
 }
 
 /// A notice with its terms. `weight` is the points that the price can give, and 0 if the price alone decides. `performance` is the least performance security
-/// of
-/// each contract, and 0 if none is required.
+/// of each contract, and 0 if none is required.
 #[derive(Clone, Drop)]
 pub struct NoticeRow {
     pub notice: Id,
@@ -101,8 +100,7 @@ pub enum EnvelopeState {
 }
 
 /// A tender that was received: the length and the SHA-256 of its bytes, its security, what its opening read, and the result of its examination. `failed` is
-/// true if
-/// it can't win any more, because its tenderer failed to sign or withdrew it after the deadline.
+/// true if it can't win any more, because its tenderer failed to sign or withdrew it after the deadline.
 #[derive(Clone, Drop)]
 pub struct EnvelopeRow {
     pub receipt: GivenNumber,

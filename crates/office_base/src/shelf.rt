@@ -191,8 +191,7 @@ pub trait Lookups {
         ensures { LooksUp meaning self.old self.new result (λ t rows. rows.items ≡ releases_of_notice notice.now t) };
 
     /// The amount that each lot of a line has reserved, in the order of notices and identifiers. The sums of each contract of these lots, lot by lot, in the
-    /// order of
-    /// their numbers.
+    /// order of their numbers.
     fn list_amounts_of_line(&mut self, line: &Id) -> Result<LineAmounts, ShelfFault>
         ensures { LooksUp meaning self.old self.new result (λ t amounts. amounts ≡ amounts_of_line line.now t) };
 

@@ -46,8 +46,8 @@ command_row commands.AmendContract = row Clerk (codes "/contracts/{c}/amend") Nu
 command_row commands.Pay = row Clerk (codes "/contracts/{c}/pay") Number Body
 command_row commands.End = row Clerk (codes "/contracts/{c}/end") Number Body
 
--- the row of a query. Anybody may ask for the books, the notices and the evaluation. Tenderers ask for their tenders.
--- The clerk asks for the register of tenders, the securities of a notice and the tenderers. Both ask for a single security or contract.
+-- the row of a query. Anybody may ask for the books, the notices and the evaluation. Tenderers ask for their tenders. The clerk asks for the register of
+-- tenders, the securities of a notice and the tenderers. Both ask for a single security or contract.
 abbrev pub query_row : QueryKind → TableRow
 query_row queries.Line = row Anybody (codes "/lines/{b}") OneId Nothing
 query_row queries.Ledger = row Anybody (codes "/ledger") Plain Nothing

@@ -97,8 +97,7 @@ where
     }
 
     // The rows of a group, for an index that lists every row. It looks up each key that the index lists for the group, and leaves out a row that is gone or
-    // belongs
-    // to another group now.
+    // belongs to another group now.
     fn indexed<'a>(
         &self,
         alloc: Global,
@@ -142,8 +141,7 @@ where
     }
 
     /// The rows of a group in the table of this index, borrowed, in the order of their keys. It looks up each row that belongs or once belonged to the group.
-    /// If the
-    /// index isn't whole, it goes through all rows.
+    /// If the index isn't whole, it goes through all rows.
     pub fn rows_of_group<'a, I: Indexes<R>>(
         &self,
         alloc: Global,

@@ -77,8 +77,7 @@ fn sums_under(
 }
 
 /// The amount that each lot of a line has reserved, and the sums of each contract of these lots, lot by lot. It goes, for each lot, through the contracts of
-/// its
-/// notice, and through the entries of the lot's own contracts.
+/// its notice, and through the entries of the lot's own contracts.
 pub fn amounts_of_line(
     alloc: Global,
     tables: &MemoryTables,
@@ -117,8 +116,7 @@ fn ledger_row(
 }
 
 /// The ledger, in the order of the lines; None if a sum of a line is outside its range. It goes once through the lines, their lots and all entries, and, for
-/// each
-/// lot, through the contracts of its notice.
+/// each lot, through the contracts of its notice.
 pub fn ledger(alloc: Global, tables: &MemoryTables) -> Result<Option<Vec<LedgerRow>>, AllocError>
     ensures { IsSorted (tables_of tables.now) → IfOk result (λ rows. IsLedger (tables_of tables.now) (option_map (λ found. found.items) rows)) }
 {
