@@ -24,11 +24,11 @@ notices_after after most t = take most (rows_after id_cmp notice_key after t.not
 abbrev pub tenderers_after : Option (List ℕ) → ℕ → Tables → List TendererRow
 tenderers_after after most t = take most (rows_after id_cmp tenderer_key after t.tenderers)
 
--- the key at which the next page begins, found from up to `most + 1` rows: that of row `most` if there are more rows, and nothing otherwise
+-- The key after which the next page begins, found in up to `most + 1` rows: that of row `most`. It is nothing if there are no more rows.
 abbrev pub next_after : {K X : Type 0} → (X → K) → ℕ → List X → Option K
 next_after key most rows = cond (nat_lt most (length rows)) (option_map key (slice_get rows (most - 1))) None
 
--- the rows from a key on, or nothing if there is no key
+-- the rows that `go` gives for a key, or none if there is no key
 abbrev pub followed : {K X : Type 0} → Option K → (K → List X) → List X
 followed None go = []
 followed (Some k) go = go k
