@@ -156,7 +156,7 @@ is_lowest : (rows : List EnvelopeRow) → IsLowestAnswer rows (lowest_price rows
 is_lowest [] = tt
 is_lowest (e ∷ rows) = lowest_more e rows (lowest_price rows) (is_lowest rows) (is_admissible e) refl
 
--- a property of all rows is one of each row
+-- if all rows have a property, so has each row
 pub of_one : (P : EnvelopeRow → Type 0) (rows : List EnvelopeRow) (k : ℕ) (e : EnvelopeRow) → AllByRecursion P rows → k < length rows → slice_index_or rows k e ≡ e → P e
 of_one P [] k e all lt is = absurd (let none : k < 0 = lt in omega arith)
 of_one P (f ∷ rows) zero e all lt is = subst P is all.0

@@ -118,7 +118,7 @@ module _ {G K : Type 0} {S : G → G → Ordering} {R : K → K → Ordering} (s
     indexed_after_drop k rows index is_whole h whole =
         all-drop R key (λ r. has_key S R index (group r) (key r) ≡ true) rows k (h whole)
 
--- a property of the rows with and without a new row is one of the rows after a put that succeeded or failed
+-- if a property is true of the rows with a new one and of those without it, it is true after a put that succeeded or failed
 pub put_or_not : {K X Y E : Type 0} (R : K → K → Ordering) (key : X → K) (P : List X → Type 0) (r : X) (rows after : List X) (result : Result Y E)
     → OnOk result (after ≡ row_put R key rows r) → OnErr result (after ≡ rows) → P (row_put R key rows r) → P rows → P after
 put_or_not R key P r rows after (Ok v) put kept with_it without = subst P (sym put) with_it

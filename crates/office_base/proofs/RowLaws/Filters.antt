@@ -14,7 +14,7 @@ abbrev pub if_passes : {X : Type 0} → (X → Bool) → Option X → Option X
 if_passes p None = None
 if_passes p (Some x) = cond (p x) (Some x) None
 
--- a property of all rows is one of the rows that pass a test
+-- if all rows have a property, so have those that pass a test
 pub all_filter : {X : Type 0} (P : X → Type 0) (p : X → Bool) (xs : List X) → AllByRecursion P xs → AllByRecursion P (filter p xs)
 all_filter P p [] h = tt
 all_filter P p (x ∷ xs) h = elim (p x) as (λ b. AllByRecursion P (cond b (x ∷ filter p xs) (filter p xs))) [ true ↦ (h.0, all_filter P p xs h.1) | false ↦ all_filter P p xs h.1 ]

@@ -12,7 +12,7 @@ use Rattle.office_base.proofs.RowLaws.Keyed.{IsKeyed}
 use Rattle.office_base.proofs.RowLaws.Starts.{all_above}
 
 module _ {K X : Type 0} {R : K → K → Ordering} (o : IsTotalOrder R) (key : X → K) where
-  -- a property of all rows, and of finding nothing, is one of the result of a look-up
+  -- if a property is true of all rows and of finding nothing, it is true of the result of a look-up
   pub all-found : (P : Option X → Type 0) (xs : List X) (q : K) → P None → AllByRecursion (λ x. P (Some x)) xs → P (row_at R key xs q)
   unfolding row_at
   all-found P [] q none h = none
@@ -33,7 +33,7 @@ module _ {K X : Type 0} {R : K → K → Ordering} (o : IsTotalOrder R) (key : X
 
 -- these lemmas need no total order
 module _ {K X : Type 0} (R : K → K → Ordering) (key : X → K) where
-  -- a property of all rows is one of a row that is found
+  -- if all rows have a property, so has a row that is found
   pub of_found : (P : X → Type 0) (xs : List X) (k : K) (v : X) → AllByRecursion P xs → row_at R key xs k ≡ Some v → P v
   unfolding row_at
   of_found P [] k v all e = absurd (let i : ◌≡◌ {A = Option X} None (Some v) = e in cc)

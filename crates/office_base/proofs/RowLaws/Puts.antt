@@ -88,7 +88,7 @@ module _ {K X : Type 0} {R : K → K → Ordering} (o : IsTotalOrder R) (key : X
   in_order-put [] r h = (tt, tt)
   in_order-put (x ∷ xs) r h = order_step r x xs h (in_order-put xs r h.1) (R (key r) (key x)) refl
 
-  -- a property of all rows and of one more row is one of all rows after that row is put, by the order of its key and the first one
+  -- if all rows and a new one have a property, so have all rows after the new one was put; this is the step for the first row
   all_step : (P : X → Type 0) (r x : X) (xs : List X) → P r → AllByRecursion P (x ∷ xs) → AllByRecursion P (row_put R key xs r)
       → (c : Ordering) → AllByRecursion P (by_order c (r ∷ x ∷ xs) (r ∷ xs) (x ∷ row_put R key xs r))
   all_step P r x xs one h ih Less = (one, h)
