@@ -8,7 +8,7 @@ use office_values::id::Id;
 pub trait Known {
     ghost is_known: { Self → Type 0 };
 
-    /// Makes the property of this value known; it does nothing at run time.
+    /// Makes the property of this value known, at no cost.
     fn look(&self)
         ensures { is_known self.now };
 }

@@ -24,6 +24,7 @@ use Rattle.office_base.specs.Tables.{Tables, notice_at, lot_at, envelopes_of_lot
 use Rattle.office_base.specs.Parents.{line_of_lot}
 use Rattle.award_core.specs.declared.award.AwardRows.{AwardRows}
 
+-- whether an examination found a tender responsive; false if there was none
 abbrev pub is_responsive : Option Bool → Bool
 is_responsive None = false
 is_responsive (Some b) = b
