@@ -62,7 +62,7 @@ NoticeFits x =
 abbrev pub notice_form : Form (List ℕ) NoticeRow
 notice_form = indexed_form notices id_cmp notice_key notice_values notice_read
 
--- a notice of an earlier program, which knew no performance securities and had a table of its own: none is asked. This program keeps the table with no rows
+-- The table of notices in version 1, which had no performance securities. This program keeps the table, without rows.
 abbrev pub create_former_notices : List ℕ
 create_former_notices = codes "CREATE TABLE notices (notice TEXT NOT NULL PRIMARY KEY CHECK (length(notice) BETWEEN 1 AND 32), title TEXT NOT NULL CHECK (length(title) BETWEEN 1 AND 200), published INTEGER NOT NULL CHECK (published BETWEEN 0 AND 4102444799), deadline INTEGER NOT NULL CHECK (deadline BETWEEN 0 AND 4102444799), validity INTEGER NOT NULL CHECK (validity BETWEEN 1 AND 365), standstill INTEGER NOT NULL CHECK (standstill BETWEEN 0 AND 90), weight INTEGER NOT NULL CHECK (weight BETWEEN 0 AND 100), state TEXT NOT NULL CHECK (state IN ('receiving', 'opened', 'cancelled')), opened INTEGER CHECK (opened BETWEEN 0 AND 4102444799), amendments INTEGER NOT NULL CHECK (amendments BETWEEN 0 AND 50), releases INTEGER NOT NULL CHECK (releases BETWEEN 0 AND 9999)) STRICT"
 
@@ -81,7 +81,7 @@ former_values x =
 abbrev pub former_read : Row → NoticeRow
 former_read r = record (notice_read r) { performance = 0 }
 
--- what such a program's notice is for this one
+-- a notice of version 1 as this program reads it: it asks for no performance security
 abbrev pub asks_nothing : NoticeRow → NoticeRow
 asks_nothing x = record x { performance = 0 }
 

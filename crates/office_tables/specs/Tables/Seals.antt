@@ -21,11 +21,11 @@ seals = table_by_rowid (codes "seals") (number_column (codes "receipt") ∷ byte
 abbrev pub upsert_seals : List ℕ
 upsert_seals = codes "INSERT INTO seals (receipt, bytes) VALUES (?1, ?2) ON CONFLICT (receipt) DO UPDATE SET bytes = ?2"
 
--- and the text that drops one
+-- deletes the bytes of a tender
 abbrev pub delete_seal : List ℕ
 delete_seal = codes "DELETE FROM seals WHERE receipt = ?1"
 
--- the values of the bytes of a tender, in the order of the columns
+-- a tender's receipt and its bytes, in the order of the columns
 abbrev pub seal_values : SealRow → Row
 seal_values x = Int (pos x.receipt) ∷ Blob x.bytes ∷ []
 
