@@ -53,7 +53,7 @@ impl Stored for BatchRow {
     }
 }
 
-/// The batch of this identifier.
+/// The budget file of this identifier.
 pub fn get_batch<S: Alter>(
     alloc: Global,
     conn: &mut Connection<S>,

@@ -51,7 +51,7 @@ impl Stored for CompiledRow {
     }
 }
 
-/// The merge of the releases of this notice, where it is kept.
+/// The merge of this notice's releases, if one is stored.
 pub fn get_compiled<S: Alter>(
     alloc: Global,
     conn: &mut Connection<S>,

@@ -88,7 +88,7 @@ impl Stored for EnvelopeRow {
     }
 }
 
-/// The tender of this receipt.
+/// The tender that has this receipt.
 pub fn get_envelope<S: Alter>(
     alloc: Global,
     conn: &mut Connection<S>,

@@ -24,7 +24,7 @@ pub(crate) const CREATE: &str =
 pub(crate) const PUT: &str =
     "INSERT INTO late_rules (notice) VALUES (?1) ON CONFLICT (notice) DO UPDATE SET notice = ?1";
 
-/// The values of the row that lets tenders for a notice be withdrawn late.
+/// The values of the row that allows late withdrawals for a notice.
 pub fn late_values(row: &LateRow) -> [ValueRef<'_>; 1]
     ensures row { bound result ≡ late_values row.now }
     ensures fits { LateFits row.now }
@@ -47,7 +47,7 @@ impl Stored for LateRow {
     }
 }
 
-/// The row that lets tenders of this notice be withdrawn late.
+/// The row that allows late withdrawals for this notice, if it does.
 pub fn get_late<S: Alter>(
     alloc: Global,
     conn: &mut Connection<S>,

@@ -1,4 +1,4 @@
-//! The table of lots: its SQL texts, its rows as values, and its look-ups.
+//! The table of lots: its SQL texts, its rows as values, its look-ups, and its put.
 ghost use Rattle.std.specs.Prelude.{◌≡◌, [], ◌∷◌, IsTrue, OnOk, OnErr};
 ghost use Rattle.sqlite.specs.Held.{state};
 ghost use Rattle.sqlite.specs.State.{HasCleanDisk, Survives};
@@ -35,7 +35,7 @@ pub(crate) const CREATE_INDEX: &str = "CREATE INDEX lots_of_line ON lots (line)"
 pub(crate) const PUT: &str =
     "INSERT INTO lots (notice, lot, title, line, estimate, security, items, state, reserved) VALUES (?1, ?2, ?3, ?4, ?5, ?6, ?7, ?8, ?9) ON CONFLICT (notice, lot) DO UPDATE SET title = ?3, line = ?4, estimate = ?5, security = ?6, items = ?7, state = ?8, reserved = ?9";
 
-/// The values of a lot, whose items' text is handed in.
+/// The values of a lot; the caller passes the text of its items.
 pub fn lot_values<'a>(row: &'a LotRow, items: &'a [u8]) -> [ValueRef<'a>; 9]
     requires { items.now ≡ items_text row.now.items }
     ensures row { bound result ≡ lot_values row.now }
@@ -126,7 +126,7 @@ pub fn list_lots_of_line<S: Alter>(
     )
 }
 
-// Adds a lot, or replaces the one of its key.
+// Inserts a lot, or replaces the one that has its key.
 pub(crate) fn put_lot<S: Alter>(
     alloc: Global,
     tx: &mut Transaction<'_, S>,

@@ -56,7 +56,7 @@ impl Stored for ReleaseRow {
     }
 }
 
-/// The release of this notice at this place.
+/// The release of this notice with this number.
 pub fn get_release<S: Alter>(
     alloc: Global,
     conn: &mut Connection<S>,
@@ -73,7 +73,7 @@ pub fn get_release<S: Alter>(
     )
 }
 
-/// The releases of a notice, in their sequence.
+/// The releases of a notice, in the order of their numbers.
 pub fn list_releases_of_notice<S: Alter>(
     alloc: Global,
     conn: &mut Connection<S>,

@@ -24,10 +24,10 @@ pub(crate) const CREATE: &str =
 pub(crate) const PUT: &str =
     "INSERT INTO seals (receipt, bytes) VALUES (?1, ?2) ON CONFLICT (receipt) DO UPDATE SET bytes = ?2";
 
-/// The text that drops one.
+/// Deletes the bytes of a tender.
 pub(crate) const DROP: &str = "DELETE FROM seals WHERE receipt = ?1";
 
-/// The values of a tender's bytes.
+/// A tender's receipt and its bytes, as values.
 pub fn seal_values(row: &SealRow) -> [ValueRef<'_>; 2]
     ensures row { bound result ≡ seal_values row.now }
     ensures fits { SealFits row.now }
@@ -54,7 +54,7 @@ impl Stored for SealRow {
     }
 }
 
-/// The bytes of the tender of this receipt.
+/// The bytes of the tender that has this receipt.
 pub fn get_seal<S: Alter>(
     alloc: Global,
     conn: &mut Connection<S>,

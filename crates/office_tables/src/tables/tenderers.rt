@@ -72,7 +72,7 @@ pub fn get_tenderer<S: Alter>(
     )
 }
 
-/// The first so many tenderers behind this one, or of all, in the order of their identifiers.
+/// The first `most` tenderers after this one, or the first of all, in the order of their identifiers.
 pub fn list_tenderers_after<S: Alter>(
     alloc: Global,
     conn: &mut Connection<S>,
