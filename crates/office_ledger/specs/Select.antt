@@ -1,4 +1,4 @@
--- One select that joins lines, lots, contracts and entries, and shows them in the order of their keys.
+-- The select that joins lines, lots, contracts and entries, and shows them in the order of their keys.
 use Rattle.std.specs.Prelude.{ℕ, List, [], ◌∷◌, codes, None, false, pos, negsuc}
 use Rattle.sqlite_value.specs.declared.value.Value.TheVariants.{Int}
 use Rattle.sqlite_value.specs.declared.keys.Collation.TheVariants.{Binary}
@@ -21,7 +21,7 @@ pub record Trees4 : Type 0 where
   pub contracts : ℕ
   pub entries : ℕ
 
--- lots of the line, contracts of the lot, entries of the contract
+-- the conditions of the joins: lots of the line, contracts of the lot, entries of the contract
 abbrev pub of_the_line : List Term
 of_the_line = equals (col 2 4) (col 1 1) ∷ []
 

@@ -1,4 +1,4 @@
--- One select that joins the lots of a line with contracts and entries, and shows them in the order of their keys.
+-- The select that joins the lots of one line with their contracts and entries, and shows them in the order of their keys.
 use Rattle.std.specs.Prelude.{ℕ, List, [], ◌∷◌, codes, None, false, pos, negsuc}
 use Rattle.sqlite_value.specs.declared.value.Value.TheVariants.{Int}
 use Rattle.sqlite_value.specs.declared.keys.Collation.TheVariants.{Binary}
@@ -10,7 +10,7 @@ use Rattle.office_ledger.specs.Select.{Trees4, equals}
 abbrev pub list_joined_of_line : List ℕ
 list_joined_of_line = codes "SELECT lots.notice, lots.lot, lots.reserved, contracts.contract, contracts.signed, contracts.released, entries.entry, entries.kind, entries.amount FROM lots LEFT JOIN contracts ON contracts.notice = lots.notice AND contracts.lot = lots.lot LEFT JOIN entries ON entries.contract = contracts.contract WHERE lots.line = ?1 ORDER BY lots.notice, lots.lot, contracts.contract, entries.entry"
 
--- lots of the line, contracts of the lot, entries of the contract
+-- the conditions: lots of the line, contracts of the lot, entries of the contract
 abbrev pub is_of_line : List Term
 is_of_line = equals (col 1 4) (col 0 0) ∷ []
 
