@@ -109,6 +109,7 @@ abbrev pub deepest_of : List Data → ℕ
 deepest_of [] = 0
 deepest_of (v ∷ vs) = max (depth v) (deepest_of vs)
 
+-- the merge of a column that is listed newest first, to any depth
 abbrev pub merge_newest_first : List Data → Option Data
 merge_newest_first vs = merge_within (suc (deepest_of vs)) vs
 

@@ -118,7 +118,7 @@ pub(crate) fn none_done(alloc: Global, count: usize) -> Result<Vec<bool>, AllocE
     vec![in alloc; false; count]
 }
 
-/// Notes that a new item is merged into an old one. It must be the first old one with its id.
+/// Notes that a new item is merged into an old one. If it was already merged into another old one, the text is `Unfit`.
 pub(crate) fn note_done(done: &mut Vec<bool>, place: usize) -> Result<(), Unspliced>
     requires { place < length done.old.items }
     ensures was { OnOk result (get_or done.old.items place true ≡ false) }
@@ -170,7 +170,7 @@ fn write_pending(
     Ok(())
 }
 
-/// Writes these items at the end of the old ones, closes the array, and returns the text after the old array.
+/// Writes the items that aren't merged into an old one, closes the array, and returns the text after the old array.
 pub(crate) fn close_list<'a>(
     alloc: Global,
     items: &[Value],

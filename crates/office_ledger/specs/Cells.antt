@@ -54,6 +54,7 @@ pub record Show {X : Type 0} (cells : Row → X → Type 0) (rows : List Row) (x
 
 -- ---- a joined row: the columns of its key, and the columns of the answer
 
+-- the value of a part, or NULL if the row doesn't have it
 abbrev pub perhaps : {X : Type 0} → (X → Value) → Option X → Value
 perhaps cell None = Null
 perhaps cell (Some x) = cell x
@@ -66,6 +67,7 @@ abbrev pub entry_in : Option JoinedContract → Option JoinedEntry
 entry_in None = None
 entry_in (Some c) = c.entry
 
+-- the key of a joined row, part by part: its entry, its contract, the notice and identifier of its lot, and its line
 abbrev pub entry_key : Option JoinedEntry → Row
 entry_key e = perhaps (λ (e : JoinedEntry). Text e.entry) e ∷ []
 
@@ -78,6 +80,7 @@ lot_key l = perhaps (λ (l : JoinedLot). Text l.notice) l ∷ perhaps (λ (l : J
 abbrev pub row_key : JoinedRow → Row
 row_key r = Text r.line ∷ lot_key r.lot
 
+-- the columns of a joined row in the answer, part by part: its entry, its contract, its lot, and its line
 abbrev pub entry_cells : Option JoinedEntry → Row
 entry_cells e = perhaps (λ (e : JoinedEntry). Text e.entry) e ∷ perhaps (λ (e : JoinedEntry). Text (entry_kind_text e.kind)) e ∷ perhaps (λ (e : JoinedEntry). Int (pos e.amount)) e ∷ []
 

@@ -44,5 +44,6 @@ joined_line t r = map (with_lot r) (or_none (flat_map (joined_lot t) (lots_of_li
 abbrev pub joined_lots : List ℕ → Tables → List JoinedLot
 joined_lots line t = flat_map (joined_lot t) (lots_of_line line t)
 
+-- the join of all lines of the office, in the order of its keys
 abbrev pub joined : Tables → List JoinedRow
 joined t = flat_map (joined_line t) t.lines

@@ -37,6 +37,7 @@ pub record Holds (schema : Schema) (name : List ℕ) (columns : List Column) (ke
   -- the table is stored, and isn't one that a statement computes
   pub stored : nat_le (2 ^ 31) tree ≡ false
 
+-- the schema has the four tables, with their columns, in these trees
 pub record HoldsFour (schema : Schema) (at : Trees4) : Type 0 where
   pub lines : Holds schema (codes "lines") line_columns None at.lines
   pub lots : Holds schema (codes "lots") lot_columns None at.lots

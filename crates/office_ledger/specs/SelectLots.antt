@@ -20,9 +20,11 @@ of_its_lot = equals (col 2 2) (col 1 1) ∷ equals (col 2 3) (col 1 2) ∷ []
 abbrev pub of_its_contract : List Term
 of_its_contract = equals (col 3 1) (col 2 0) ∷ []
 
+-- the joins of FROM
 abbrev pub lots_from : Trees4 → Join
 lots_from at = inner at.lots (left at.contracts of_its_lot (left at.entries of_its_contract end))
 
+-- the meaning of the text as a query
 abbrev pub lots_query : Trees4 → Query
 lots_query at = record {
   from = lots_from at;

@@ -36,11 +36,13 @@ JoinIsBegun {S} g = (held : Held S) (t : Tables) (rows : List Row) → HoldsJoin
 abbrev pub joined_lot_cells : JoinedLot → Row
 joined_lot_cells l = lot_cells (Some l)
 
+-- the whole answer of the select for one line is the join of the line's lots
 abbrev pub LotsAreShown : {S : Type 0} → Ghosts S → Type 0
 LotsAreShown {S} g =
     (old new : Held S) (t : Tables) (line : List ℕ) (rows : List Row) → HoldsJoined (state g old).now t → Shown list_joined_of_line (Text line ∷ []) (state g old) (state g new) rows
     → rows ≡ map joined_lot_cells (joined_lots line t)
 
+-- the rows that the select for one line has shown so far are the first rows of the join of the line's lots
 abbrev pub LotsAreBegun : {S : Type 0} → Ghosts S → Type 0
 LotsAreBegun {S} g =
     (held : Held S) (t : Tables) (line : List ℕ) (rows : List Row) → HoldsJoined (state g held).now t → Begins list_joined_of_line (Text line ∷ []) (state g held) rows

@@ -14,6 +14,7 @@ abbrev pub ShowsBy : {K X : Type 0} → (K → K → Ordering) → (X → K) →
 ShowsBy {K} {X} R key cells =
     (form : Value → X → Row) (decode : Row → X) → ((v : Value) (x : X) → cells (form v x) x) → (rows : List Row) (xs : List X) → Stand R key form decode rows xs → Show cells rows xs
 
+-- rows that hold lines, lots, contracts or entries show them
 pub record StoredRowsShow : Type 0 where
   pub lines : ShowsBy id_cmp line_key LineCells
   pub lots : ShowsBy lot_cmp lot_key LotCells

@@ -30,7 +30,7 @@ use Rattle.office_store.proofs.Shelves.{still_shows}
 earlier_after : (edition : ℕ) (old mid : State) (t : Tables) → Refused old mid → IsTrue mid.is_open → HoldsEdition edition old.committed t → HoldsEdition edition mid.committed t
 earlier_after edition old mid t kept open_now = subst (λ (d : Database). HoldsEdition edition d t) (sym (kept.committed open_now))
 
--- a migration after such a query is a migration of the office before it
+-- a migration after a query that committed nothing is a migration of the office before the query
 moved_after : (edition : ℕ) (old mid : State) (t : Tables) (new : Database) → Refused old mid → IsTrue mid.is_open → IsMigrated edition t mid.committed new → IsMigrated edition t old.committed new
 moved_after edition old mid t new kept open_now = subst (λ (d : Database). IsMigrated edition t d new) (kept.committed open_now)
 

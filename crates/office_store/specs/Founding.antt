@@ -85,6 +85,7 @@ abbrev pub IsMadeCurrent : Bool → ℕ → State → State → Type 0
 IsMadeCurrent true edition old new = HasForms edition old.committed.schema × Migrated edition old new
 IsMadeCurrent false edition old new = (IsTrue new.is_open → HasForms edition old.committed.schema) × Refused old new
 
+-- the origin that an opening reports for an office that was migrated, or that was used as it was
 abbrev pub origin_of : Bool → Origin
 origin_of true = from.Migrated
 origin_of false = from.Found

@@ -33,7 +33,7 @@ use Rattle.office_store.specs.declared.found.OpenFault.TheVariants as fault
 abbrev pub StandForOffice : Tables → Trees → Type 0
 StandForOffice t trees = (db : Database) × (trees ≡ db.trees) × HasOffice db t
 
--- two files with these bytes hold a database with the trees of such an office
+-- two files with these bytes hold a database whose trees are those of an office with this content, of this program or of an earlier one
 abbrev pub FilesHoldOffice : Image → Tables → Type 0
 FilesHoldOffice image t = (db : Trees) × ∥ HoldsDatabase image db ∥₁ × StandForOffice t db
 

@@ -35,7 +35,7 @@ pub same_tables : (d e : Database) → IsDatabase d → IsDatabase e → d.trees
 same_tables d e p q same =
     tables_once _ d.schema.tables e.schema.tables (subst (λ (t : Trees). AllZip ReadsTable (filter is_table_row (t catalog_tree)) d.schema.tables) same (listed d p)) (listed e q)
 
--- a name finds the same tree in both
+-- a name finds the same tree in two schemas that list the same tables
 same_place : (d e : Schema) (t : Table) (m n : ℕ) → d.tables ≡ e.tables → IsIn d t m → IsIn e t n → m ≡ n
 same_place d e t m n same a b =
     let places : Some a.place ≡ Some b.place = sym a.named ∙ ap (position_from (λ (u : Table). same_name u.name t.name) 0) same ∙ b.named in

@@ -67,7 +67,7 @@ module _ (task : Task) where
     abbrev pub IsUpserted : Trees → Trees → Row → Type 0
     IsUpserted db next source = IsAdded db next (tried db source) ⊎ IsRenewed db next (tried db source)
 
-    -- tables apart keep their rows in both cases
+    -- tables apart keep their rows, whether the row is new or replaces another
     pub spared : (db next : Trees) (source : Row) → IsUpserted db next source → Spares db next
     spared db next source (inl added) = added.others
     spared db next source (inr renewed) = renewed.others

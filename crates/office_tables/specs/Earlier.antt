@@ -85,7 +85,7 @@ ShowsOffice s t = IsTrue s.is_open → HoldsOffice s.committed t
 abbrev pub TellsEdition : {S T E : Type 0} → Ghosts S → Held S → Held S → Result T E → (ℕ → Tables → T → Type 0) → Type 0
 TellsEdition g old new result right = HasCleanDisk (state g new) → (edition : ℕ) (t : Tables) → ShowsEdition edition (state g old) t → IfOk result (right edition t)
 
--- the tables whose rows a migration changes: that of the version, and both tables of notices if the notices move from one to the other
+-- the tables whose rows a migration changes: `office`, and both tables of notices if the notices move from one to the other
 abbrev pub changed_where : Bool → List OfficeTable
 changed_where true = Office ∷ FormerNotices ∷ Notices ∷ []
 changed_where false = Office ∷ []

@@ -15,6 +15,6 @@ pub record KnowsNoPerformances (t : Tables) : Type 0 where
   pub notices : AllByRecursion (λ n. n.performance ≡ 0) t.notices
   pub securities : t.performances ≡ []
 
--- this is so in each office of an edition before 2
+-- in each office of an edition before 2, no notice asks for a performance security, and none exists
 abbrev pub FirstKnowsNoPerformances : Type 0
 FirstKnowsNoPerformances = (edition : ℕ) (db : Database) (t : Tables) → IsTrue (nat_lt edition 2) → HoldsEdition edition db t → KnowsNoPerformances t

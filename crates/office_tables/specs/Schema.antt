@@ -131,7 +131,7 @@ ComeBack LateRules = ComesBack late_form
 ComeBack FormerNotices = FormerComesBack
 ComeBack Performances = ComesBack performance_form
 
--- this is so for every table
+-- the records of every table are read back from their rows
 abbrev pub RecordsComeBack : Type 0
 RecordsComeBack = (k : OfficeTable) → ComeBack k
 

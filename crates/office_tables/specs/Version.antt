@@ -27,7 +27,7 @@ pub record HasVersion (n : ℕ) (clock : ClockRow) (db : Database) : Type 0 wher
   pub table : IsIn db.schema office place
   pub stand : RowsStand (clock_form_of n) (db.trees place) (clock ∷ [])
 
--- so it is in the last commit of an open store
+-- the last commit of an open store has the table `office` with one row, with this version and this clock
 abbrev pub ShowsVersion : ℕ → ClockRow → State → Type 0
 ShowsVersion n clock s = IsTrue s.is_open → HasVersion n clock s.committed
 

@@ -24,6 +24,7 @@ abbrev pub AllAbove : List ℕ → Members → Type 0
 AllAbove k no_members = ⊤
 AllAbove k (member l e ms) = (slice_cmp nat_cmp k l ≡ Less) × (slice_cmp nat_cmp l k ≡ Greater) × AllAbove k ms
 
+-- the names of the members rise, so no name occurs twice
 abbrev pub IsOrdered : Members → Type 0
 IsOrdered no_members = ⊤
 IsOrdered (member k d ms) = AllAbove k ms × IsOrdered ms

@@ -31,6 +31,7 @@ id_list_of (Some (string s)) = []
 id_list_of (Some (array ds)) = if is_id_list ds then items_list ds else []
 id_list_of (Some (object ms)) = []
 
+-- the first item with this id, if there is one
 abbrev pub find_item : List ℕ → List Data → Option Data
 find_item i [] = None
 find_item i (d ∷ ds) = if bytes_eq (id_of d) i then Some d else find_item i ds

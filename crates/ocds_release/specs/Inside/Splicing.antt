@@ -30,10 +30,12 @@ abbrev pub tail_members : Publisher → List ℕ → List ℕ → Members
 tail_members publisher notice route =
     member (codes "uri") (text (address publisher.base notice route)) (member (codes "version") (text (codes "1.1")) no_members)
 
+-- a package with its members in the order of their names
 abbrev pub ordered_package : Publisher → List ℕ → List ℕ → List ℕ → List ℕ → Data → Data
 ordered_package publisher notice published route name list =
     object (head_members publisher published (member name list (tail_members publisher notice route)))
 
+-- a record with its members in the order of their names
 abbrev pub ordered_record : Publisher → List ℕ → Data → Data → Data
 ordered_record publisher notice compiled releases = object (
     member (codes "compiledRelease") compiled (

@@ -32,6 +32,7 @@ overdrawn_in sums = sums.lost - sums.gained
 
 -- ---- the lots of a line
 
+-- the sums of a line before its first row
 abbrev pub no_sums : LineSums
 no_sums = record { reserved = 0; outstanding = 0; overdrawn = 0; paid = 0; lot = None; contract = None }
 
@@ -39,10 +40,12 @@ no_sums = record { reserved = 0; outstanding = 0; overdrawn = 0; paid = 0; lot =
 abbrev pub with_sums : ContractSums → LineSums → LineSums
 with_sums sums s = record s { outstanding = s.outstanding + outstanding_in sums; overdrawn = s.overdrawn + overdrawn_in sums; paid = s.paid + paid_in sums; contract = None }
 
+-- adds a complete contract to the sums of its line
 abbrev pub settle : Option OpenContract → LineSums → LineSums
 settle None s = s
 settle (Some current) s = with_sums current.sums s
 
+-- the sums of a line after its current contract is complete
 abbrev pub settled : LineSums → LineSums
 settled s = settle s.contract s
 
@@ -51,6 +54,7 @@ abbrev pub is_contract : ℕ → Option OpenContract → Bool
 is_contract contract None = false
 is_contract contract (Some current) = same_number current.contract contract
 
+-- whether the rows that come now are of this lot
 abbrev pub is_lot : List ℕ × List ℕ → Option (List ℕ × List ℕ) → Bool
 is_lot key None = false
 is_lot key (Some current) = same_id current.0 key.0 && same_id current.1 key.1
@@ -60,6 +64,7 @@ abbrev pub entry_added : JoinedEntry → Option OpenContract → Option OpenCont
 entry_added e None = None
 entry_added e (Some current) = Some (contract_with e current)
 
+-- the sums of a line after one more entry of the current contract
 abbrev pub take_entry : JoinedEntry → LineSums → LineSums
 take_entry e s = record s { contract = entry_added e s.contract }
 
@@ -67,10 +72,12 @@ take_entry e s = record s { contract = entry_added e s.contract }
 abbrev pub enter_contract : JoinedContract → LineSums → LineSums
 enter_contract c s = cond (is_contract c.contract s.contract) s (record (settled s) { contract = Some (opened c) })
 
+-- takes the part of a row, if the row has it
 abbrev pub take_perhaps : {X : Type 0} → (X → LineSums → LineSums) → Option X → LineSums → LineSums
 take_perhaps take None s = s
 take_perhaps take (Some x) s = take x s
 
+-- the sums of a line after a row of this contract, with its entry
 abbrev pub take_contract : JoinedContract → LineSums → LineSums
 take_contract c s = take_perhaps take_entry c.entry (enter_contract c s)
 
@@ -78,12 +85,15 @@ take_contract c s = take_perhaps take_entry c.entry (enter_contract c s)
 abbrev pub joined_lot_key : JoinedLot → List ℕ × List ℕ
 joined_lot_key l = (l.notice, l.lot)
 
+-- a new lot adds its reserved amount, and is the current lot
 abbrev pub lot_opened : JoinedLot → LineSums → LineSums
 lot_opened l s = record s { reserved = s.reserved + l.reserved; lot = Some (joined_lot_key l) }
 
+-- counts a lot once, at the first of its rows; the contract before it is then complete
 abbrev pub enter_lot : JoinedLot → LineSums → LineSums
 enter_lot l s = cond (is_lot (joined_lot_key l) s.lot) s (lot_opened l (settled s))
 
+-- the sums of a line after a row of this lot, with its contract
 abbrev pub take_lot : JoinedLot → LineSums → LineSums
 take_lot l s = take_perhaps take_contract l.contract (enter_lot l s)
 
@@ -109,6 +119,7 @@ sums_fit s = nat_eq s.overdrawn 0 && nat_le s.reserved total_limit && nat_le s.o
 abbrev pub pots_by : ℕ → ℕ → LineSums → Pots
 pots_by appropriation free s = record { appropriation = appropriation; free = free; reserved = s.reserved; contracted = s.outstanding; paid = s.paid }
 
+-- the ledger row of a line with these sums, or none if a sum is out of its range
 abbrev pub row_by : OpenLine → LineSums → Option LedgerRow
 row_by line s = cond (sums_fit s) (Some (record { line = line.line; pots = pots_by line.appropriation line.free s })) None
 
@@ -124,6 +135,7 @@ pub record Added : Type 0 where
   pub line : Option OpenLine
   pub sums : LineSums
 
+-- the state before the first row
 abbrev pub nothing_added : Added
 nothing_added = record { rows = Some []; line = None; sums = no_sums }
 
@@ -132,6 +144,7 @@ abbrev pub close : Option OpenLine → Added → Option (List LedgerRow)
 close None s = s.rows
 close (Some line) s = and_row s.rows (row_by line (settled s.sums))
 
+-- the ledger of the rows so far, as if they were all rows
 abbrev pub closed : Added → Option (List LedgerRow)
 closed s = close s.line s
 
@@ -139,6 +152,7 @@ closed s = close s.line s
 abbrev pub done : Added → Added
 done s = record s { rows = closed s; line = None }
 
+-- whether the rows that come now are of this line
 abbrev pub is_line : List ℕ → Option OpenLine → Bool
 is_line line None = false
 is_line line (Some current) = same_id current.line line
@@ -146,9 +160,11 @@ is_line line (Some current) = same_id current.line line
 abbrev pub line_opened : JoinedRow → OpenLine
 line_opened r = record { line = r.line; appropriation = r.appropriation; free = r.free }
 
+-- the first row of a line completes the line before it
 abbrev pub enter_line : JoinedRow → Added → Added
 enter_line r s = cond (is_line r.line s.line) s (record { rows = closed s; line = Some (line_opened r); sums = no_sums })
 
+-- the state after one more joined row
 abbrev pub take_row : JoinedRow → Added → Added
 take_row r s = record (enter_line r s) { sums = take_perhaps take_lot r.lot (enter_line r s).sums }
 
@@ -157,5 +173,6 @@ abbrev pub fold_rows : {R S : Type 0} → (R → S → S) → List R → S → S
 fold_rows take [] s = s
 fold_rows take (r ∷ rs) s = fold_rows take rs (take r s)
 
+-- the state after these joined rows
 abbrev pub added : List JoinedRow → Added
 added rows = fold_rows take_row rows nothing_added

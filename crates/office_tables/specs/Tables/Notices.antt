@@ -73,6 +73,7 @@ former_notices =
     ∷ text_column (codes "state") ∷ perhaps_number_column (codes "opened") ∷ number_column (codes "amendments") ∷ number_column (codes "releases") ∷ []) (1
     ∷ []) create_former_notices
 
+-- the values of a notice in that table, in the order of its columns
 abbrev pub former_values : NoticeRow → Row
 former_values x =
     Text x.notice ∷ Text x.title ∷ Int (pos x.published) ∷ Int (pos x.deadline) ∷ Int (pos x.validity) ∷ Int (pos x.standstill) ∷ Int (pos x.weight)
