@@ -94,8 +94,8 @@ origin_of false = from.Found
 abbrev pub LeavesReadied : ℕ → State → Trees → Type 0
 LeavesReadied edition old trees = IsTrue (nat_lt edition this_version) × LeavesMigrated edition old trees
 
--- An opening may commit these trees. They are an empty office, if the query for the version failed and no table's name was taken. Or they are a migrated
--- office.
+-- An opening may commit these trees. They are an empty office, if the schema rejected the query for the version and no table's name was taken. Or they are a
+-- migrated office.
 abbrev pub LeavesOffice : {S : Type 0} → Ghosts S → Held S → Trees → Type 0
 LeavesOffice g old trees =
     (IsTrue (state g old).is_open × HasNoVersion g old × (takes_a_name old.schema ≡ false) × Leaves no_tables trees)
@@ -108,6 +108,6 @@ Enters g from.Found old new = IsOfEdition g this_version old × IsMadeCurrent fa
 Enters g from.Migrated old new = (edition : ℕ) × IsOfEdition g edition old × IsTrue (nat_lt edition this_version) × IsMadeCurrent true edition (state g old) (state g new)
 Enters g from.Made old new = HasNoVersion g old × (takes_a_name old.schema ≡ false) × Founded (state g old) (state g new)
 
--- The answer is another version or no single row. Or the query failed, and the name of a table of the office is taken.
+-- The answer is another version or no single row. Or the schema rejected the query, and the name of a table of the office is taken.
 abbrev pub IsNoOffice : {S : Type 0} → Ghosts S → Held S → Type 0
 IsNoOffice g old = Answered g old is_other_version ⊎ (HasNoVersion g old × (takes_a_name old.schema ≡ true))
