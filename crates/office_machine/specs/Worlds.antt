@@ -44,8 +44,8 @@ pub record AlikeOffices (th : ChosenTender) (s s' : Tables) : Type 0 where
   pub envelopes : Pairs (AlikeRows th) s.envelopes s'.envelopes
   pub seals : (n : ℕ) → holds_of (is_theirs th) (envelope_at n s) ≡ false → seal_at n s ≡ seal_at n s'
 
--- The two commands of a caller are equal, or differ only in bytes of equal length that the chosen tenderer submits for the chosen lot or replaces a tender for
--- it with.
+-- The two commands of a caller are equal, or differ only in bytes of equal length. The chosen tenderer seals these for the chosen lot, in a new tender or in a
+-- replacement.
 pub data SameBut (th : ChosenTender) (s : Tables) (caller : Caller) (command command' : Command) : Type 0 where
   Same : command ≡ command' → SameBut th s caller command command'
   Presented : (security : Option NamedSecurity) (bytes bytes' : List ℕ) → length bytes ≡ length bytes' → Tenderer th.who ≡ caller

@@ -1,8 +1,8 @@
 //! The laws of sealed tenders.
 ghost use Rattle.office_machine.specs.Seals.{SealsAreKept, WholeRunsAreAlike};
 
-/// Two runs from a reached office whose requests differ only in bytes that one tenderer seals for one lot give every other caller the same replies, until the
-/// lot's notice is opened. The replies to this tenderer differ at most in digests.
+/// Two runs start from a reached office, and their requests differ only in bytes of equal length that one tenderer seals for one lot. Until the lot's notice is
+/// opened, every other caller gets the same replies in both, and this tenderer's replies differ at most in digests.
 pub fn seals()
     ensures { SealsAreKept }
 {}
