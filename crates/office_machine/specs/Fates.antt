@@ -59,7 +59,7 @@ received_by (Present notice lot security bytes) x earlier = Some (presented x no
 received_by (Modify receipt bytes) x earlier = option_map (reception_replacing x bytes) (earlier receipt)
 received_by _ x earlier = None
 
--- The tender of a receipt after a command: a tender that came in stays, and else the new one is it.
+-- The tender of a receipt after a command: the earlier one if there is one, else the new one.
 abbrev pub received_after : Option Reception → Option Reception → Option Reception
 received_after None new = new
 received_after (Some old) new = Some old
@@ -182,7 +182,7 @@ abbrev pub named_for : Command → ℕ → Option NamedSecurity
 named_for (Sign award named) c = cond (same_number c award) named None
 named_for _ c = None
 
--- The performance security of a contract after a command: one that was named stays, and else the new one is it.
+-- The performance security of a contract after a command: the earlier one if there is one, else the new one.
 abbrev pub named_after : Option NamedSecurity → Option NamedSecurity → Option NamedSecurity
 named_after None new = new
 named_after (Some old) new = Some old

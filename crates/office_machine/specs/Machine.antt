@@ -119,8 +119,8 @@ with_merges merges s = record s { compiled = merges }
 abbrev pub AreOfNotices : List CompiledRow → Tables → Type 0
 AreOfNotices merges s = (key : List ℕ) (r : CompiledRow) → find_compiled merges key ≡ Some r → IsSome (notice_at r.notice s)
 
--- One accepted command: it can be given to a reached office, it isn't refused, and it leads to this office. Any merges of releases of the office's notices may
--- be stored beside that.
+-- One accepted command: it can be given to a reached office, it isn't refused, and it leads to this office. Beside that, merges of releases of its notices may
+-- be stored.
 pub record Steps (means : Means) (Reached : Tables → Type 0) (x : Given) (s : Tables) : Type 0 where
   pub reached : Reached x.before
   pub given : CanBeGiven x

@@ -26,17 +26,17 @@ pub record Request : Type 0 where
 abbrev pub given_by_request : Tables → Request → Command → Given
 given_by_request s a command = record { before = s; moment = a.moment; caller = a.caller; command = command }
 
--- The reply to a command that has this refusal, or none.
+-- The reply to a command: its refusal or, if it has none, the reply of its rule.
 abbrev pub reply_by : Option Refusal → Means → Given → Reply
 reply_by None means x = reply_for means.readings x.before (done means.readings x) (time_of x) x.caller x.command
 reply_by (Some why) means x = Refused why
 
--- The office after a command that has this refusal, or none.
+-- The office after a command. A refused command leaves the office as it was.
 abbrev pub office_by : Option Refusal → Means → Given → Tables
 office_by None means x = next means x
 office_by (Some why) means x = x.before
 
--- The accepted commands after a command that has this refusal, or none; the last one is first.
+-- The accepted commands after a command, the last one first. A refused command adds none.
 abbrev pub accepted_by : Option Refusal → Given → List Given → List Given
 accepted_by None x xs = x ∷ xs
 accepted_by (Some why) x xs = xs

@@ -1,4 +1,4 @@
--- Sealed bytes stay secret: two runs that differ only in the bytes that one tenderer seals for one lot get alike replies.
+-- Sealed bytes stay secret: two runs that differ only in bytes that one tenderer seals for one lot get alike replies until the opening.
 use Rattle.std.specs.Prelude.{◌≡◌, ℕ, Bool, true, false, not, ◌&&◌, List, [], ◌∷◌, map, Option, Some, None, is_some, ◌⊎◌}
 use Rattle.office_values.specs.Ids.{same_id}
 use Rattle.office_commands.specs.declared.command.Caller.{Caller}
@@ -47,7 +47,7 @@ pub record SameRequest (th : ChosenTender) (s : Tables) (a b : Request) : Type 0
   pub unavailable : b.unavailable ≡ a.unavailable
   pub demand : SameDemand th s a.caller a.demand b.demand
 
--- The two lists of requests differ, pair by pair, at most in these bytes. The receipts that are replaced are those of the first run.
+-- The two lists of requests differ, pair by pair, at most in these bytes. A replaced tender is looked up in the office of the first run.
 abbrev pub SameButSeals : Means → ChosenTender → Tables → List Request → List Request → Type 0
 SameButSeals means th s [] [] = Unit {0}
 SameButSeals means th s (a ∷ rest) (b ∷ rest') = SameRequest th s a b × SameButSeals means th (office_after means s a) rest rest'
