@@ -50,7 +50,7 @@ tail_of s t notice n is full =
     (loud notice n (cancelled_notice n) _ [] is full refl refl refl tt refl (omega arith)))))))
 
 module _ (s u : Tables) (have : HaveParents s s) (g : Grows s u) (order : IsSorted s) where
-  -- a fact about every row of a table is true of its puts
+  -- if the rows that a row refers to exist, those of its put do, for every row of a table
   lots_have : (make : LotRow → Put) → ((l : LotRow) → LotHas u l → Parents u (make l)) → AllByRecursion (λ l. Parents u (make l)) s.lots
   lots_have make h = all-table keyed.lots (λ l. Parents u (make l)) s.lots order.lots (λ k l is. h l (lot_still s u g l (have.lots k l is)))
 

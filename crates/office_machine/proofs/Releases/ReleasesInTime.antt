@@ -20,7 +20,7 @@ by_later : (m n : ℕ) → m ≤ n → (rows : List ReleaseRow) → AreBy m rows
 by_later m n le [] are = tt
 by_later m n le (r ∷ rows) are = (omega (arith, le, are.0), by_later m n le rows are.1)
 
--- a release that is published later comes last
+-- a later release may be added at the end
 last_by : (rows : List ReleaseRow) (r : ReleaseRow) → AreBy r.moment rows → AreBy r.moment (rows ++ r ∷ [])
 last_by [] r are = (omega arith, tt)
 last_by (q ∷ rows) r are = (are.0, last_by rows r are.1)

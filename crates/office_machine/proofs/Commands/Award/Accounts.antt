@@ -150,7 +150,7 @@ module _ (readings : Readings) (xs : List Given) (s : Tables) (moment : ℕ) (ca
         let c = not_awarded l.state undecided in
         cc
 
-    -- the moves after the award begin with that of the award on the lot's line
+    -- the moves after the award: its own on the lot's line, and the earlier ones
     moves_are : (o : Option EnvelopeRow) → best ≡ o → moved o ≡ moves (x ∷ xs)
     moves_are o won = λ z. move_of_award (line_in (sym lot z)) (reserved_for xs k) (sym won z) ∷ moves xs
 

@@ -50,7 +50,7 @@ from_outside true true n = refl
 from_outside true false n = refl
 from_outside false same n = refl
 
--- the rows of a budget file move nothing into this place or out of it
+-- the place is neither outside nor free, so the rows of a budget file don't touch it
 abbrev IsElsewhere : Pot → Type 0
 IsElsewhere p = (same_pot Outside p ≡ false) × (same_pot Free p ≡ false)
 
