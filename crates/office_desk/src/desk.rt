@@ -221,7 +221,7 @@ impl<H: Shelf + Drop> Desk<H> {
 }
 
 impl<H: StoredShelf + Drop> Desk<H> {
-    /// Whether a fault has closed the store for good. Nothing changes. A fault of this question is counted like any other.
+    /// Whether a fault has closed the store for good. Nothing changes. A fault of this call is counted like any other.
     pub fn is_shut(&mut self) -> Result<bool, ShelfFault>
         ensures told { TellsShut H.meaning H.store self.old.shelf self.new.shelf result }
         ensures settings { self.new.settings ≡ self.old.settings }

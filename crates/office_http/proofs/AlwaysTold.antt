@@ -122,7 +122,7 @@ module _ (settings : Settings) (s : Tables) (moment : ℕ) (text : List ℕ) (Ho
     tells_nobody route why at (inl by) is held = tells_refused (meant settings request s) why None (means route (Err why) at (sym by)) is held
     tells_nobody route why at (inr wanting) is held = tells_unavailable (meant settings request s) (unavailable_refusal why (cc wanting) is) held
 
-    -- The question, or too little memory to read it.
+    -- The command or query, or too little memory to read it.
     wanting_asked : (caller : Caller) → NeedsMeant settings s (meant settings request s)
         → (NeedsMeant settings s (meant_asked caller (Err Unavailable)) → Tells (meant_asked caller (Err Unavailable))) → Tells (meant settings request s)
     wanting_asked caller needs tells = from (tells tt)

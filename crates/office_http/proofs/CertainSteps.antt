@@ -116,7 +116,7 @@ module _ (s : Tables) (moment : ℕ) (caller : Caller) (query : Query) where
 
 -- ---- the meaning of a request
 
--- The question of a route is read without memory if its path alone says it or the caller may not use the route.
+-- A command or query is read without memory if its path alone says which it is or the caller may not use the route.
 found_read : (request : RequestView) (route : Route) (caller : Caller) (read : Result Asked Refusal)
     → (is_told_by_path route.endpoint ≡ true → read ≡ asked_by_route caller route request) → (may_ask caller route.endpoint ≡ false → read ≡ Err Forbidden)
     → (is_told_by_path route.endpoint || not (may_ask caller route.endpoint)) ≡ true → read ≡ asked_by_route caller route request

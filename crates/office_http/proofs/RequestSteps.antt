@@ -1,4 +1,4 @@
--- From a request to its answer: the route, the caller and the question.
+-- From a request to its answer: the route, the caller, and the command or query.
 use Rattle.std.proofs.Common.{◌≡◌, ℕ, ◌⊎◌, inl, inr, true, false, List, Option, None, Result, Ok, Err, sym, ap, ◌∙◌, subst}
 use Rattle.std.specs.Prelude.{IfOk}
 use Rattle.office_commands.specs.declared.command.Caller.{Caller}
@@ -66,7 +66,7 @@ module _ {S : Type 0} (M : Meaning S) (settings : Settings) (old new : S) (s : T
   caller_known : (caller : Caller) → Ok caller ≡ asker → IsRead (IsKnown s) (Ok caller)
   caller_known caller by = subst (λ (c : Result Caller Refusal). IsRead (IsKnown s) c) (sym by) (who_known settings s (credentials_of request.head.fields))
 
-  -- The answer to a question that couldn't be read because memory is too small.
+  -- The answer to a command or query that couldn't be read because memory is too small.
   wanting : (caller : Caller) → Answered M settings old new s moment (meant_asked caller (Err Unavailable)) text
       → Answered M settings old new s moment (meant settings request s) text
   wanting caller (true, is, held, stops) = is_unavailable M settings old new s moment text (meant settings request s) is held stops
@@ -82,7 +82,7 @@ module _ {S : Type 0} (M : Meaning S) (settings : Settings) (old new : S) (s : T
   read_answered route caller read at by (inr is) answered =
       wanting caller (subst (λ (r : Result Asked Refusal). Answered M settings old new s moment (meant_asked caller r) text) is answered)
 
-  -- The question is answered.
+  -- The command or query is answered.
   pub asked_answered : (route : Route) (caller : Caller) (read : Result Asked Refusal) → taken ≡ Ok route
       → (Ok caller ≡ asker) ⊎ (Ok caller ≡ unavailable_caller) → (read ≡ asked_by_route caller route request) ⊎ (read ≡ Err Unavailable)
       → IfOk read CanBeAsked → (CanBeMeant s (meant_asked caller read) → Answered M settings old new s moment (meant_asked caller read) text)
@@ -114,7 +114,7 @@ module _ (settings : Settings) (s : Tables) (text : List ℕ) (request : Request
   read_shown at by (inr is) shown =
       refused_shows (meant settings request s) s text (subst (λ (r : Result Asked Refusal). ShowsMeant (meant_asked caller r) s text) is shown)
 
-  -- The answer to the question shows rows that exist.
+  -- The answer to the query shows rows that exist.
   pub asked_shown : routed request.head.method request.head.target ≡ Ok route
       → (Ok caller ≡ who settings s (credentials_of request.head.fields)) ⊎ (let none : Result Caller Refusal = Err Unavailable in Ok caller ≡ none)
       → (read ≡ asked_by_route caller route request) ⊎ (read ≡ Err Unavailable) → ShowsMeant (meant_asked caller read) s text → ShowsMeant (meant settings request s) s text

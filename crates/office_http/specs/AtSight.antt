@@ -32,8 +32,8 @@ refused_by_route settings request (Err why) = Some why
 refused_by_route settings request (Ok route) =
     if is_known_at_sight (credentials_of request.head.fields) then refused_to route (who settings no_tables (credentials_of request.head.fields)) else None
 
--- The refusal of a request at sight, with the method of the path if the request has another one. None if the refusal depends on the office's tables or on the
--- question.
+-- The refusal of a request at sight, with the method of the path if the request has another one. None if the refusal depends on the office's tables, on the
+-- query string or on the body.
 abbrev pub refused_at_sight : Settings → RequestView → Option (Refusal × Option Allow)
 refused_at_sight settings request = refused_by_route settings request (routed request.head.method request.head.target)
 

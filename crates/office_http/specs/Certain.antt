@@ -39,7 +39,7 @@ takes_none (Refuses why method) = true
 takes_none (Gives caller command) = not (gathers_lines command)
 takes_none (Sees caller query) = true
 
--- The meaning is found without memory. There is no such route, the caller isn't known or may not use it, or the path alone says which question it is.
+-- The meaning is found without memory. There is no such route, the caller isn't known or may not use it, or the path alone says which command or query it is.
 abbrev pub is_found : Result Route (Refusal × Option Allow) → Result Caller Refusal → Bool
 is_found (Err why) asker = true
 is_found (Ok route) (Err why) = true

@@ -1,5 +1,5 @@
--- The meaning of a request to an office. It is the first refusal of its route, its caller, the caller's rights, its query and its body, in this order, or else
--- the question.
+-- The meaning of a request to an office. It is the first refusal of its route, its caller, the caller's rights, its query string and its body, in this order.
+-- If nothing is refused, it is a command or a query.
 use Rattle.std.specs.Prelude.{ℕ, List, Option, None, Result, Ok, Err}
 use Rattle.office_commands.specs.declared.command.Caller.{Caller}
 use Rattle.office_commands.specs.declared.commands.Command.{Command}
@@ -23,7 +23,7 @@ pub data Meant : Type 0 where
   Gives : (caller : Caller) → (command : Command) → Meant
   Sees : (caller : Caller) → (query : Query) → Meant
 
--- The meaning of a caller's question.
+-- The meaning of a caller's command or query, or of its refusal.
 abbrev pub meant_asked : Caller → Result Asked Refusal → Meant
 meant_asked caller (Err why) = Refuses why None
 meant_asked caller (Ok (Does command)) = Gives caller command

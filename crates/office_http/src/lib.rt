@@ -1,4 +1,4 @@
-//! Turns a request into a question to the office, and the office's reply into the bytes of a response.
+//! Turns a request into a command or a query, and the office's reply into the bytes of a response.
 #![tactic(auto)]
 
 pub mod answering;

@@ -72,7 +72,7 @@ once_none M moment office honest h held = ([], tt, held, stops_none M office.she
 pub served_none : {S : Type 0} (M : Meaning S) (n : ℕ) (office : DeskOf S) → TakesTurns M n office office
 served_none M n office honest h held = ([], omega arith, held, stops_none M office.shelf h)
 
--- A question changes nothing.
+-- A call that only asks changes nothing.
 pub served_still : {S : Type 0} (M : Meaning S) (n : ℕ) (first old new : DeskOf S) → TakesTurns M n first old → Keeps M old.shelf new.shelf → new.settings ≡ old.settings → TakesTurns M n first new
 served_still M n first old new so_far keeps same honest h held =
     let (xs, few, ((are, now), stands), stops) = so_far (keeps.before honest) h held in

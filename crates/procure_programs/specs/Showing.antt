@@ -46,7 +46,7 @@ IsPrinted settings query s before after (Err fault.Output) =
 IsPrinted settings query s before after (Err (Refused why)) = IsSeen settings.publisher Public query s (Err why) × (after ≡ before)
 IsPrinted settings query s before after (Err _) = ⊥
 
--- The words ask for a paper of a named notice. The result is `NoRoute` if the name isn't an identifier.
+-- The words ask for a text about a named notice. The result is `NoRoute` if the name isn't an identifier.
 abbrev pub AsksOfNotice : (List ℕ → Query) → List ℕ → Result (Option Printout) ProgramFault → Type 0
 AsksOfNotice query notice (Ok asked) = IsId notice × (asked ≡ Some (Seen (query notice)))
 AsksOfNotice query notice (Err told) = (¬ (IsId notice)) × (told ≡ no_route)

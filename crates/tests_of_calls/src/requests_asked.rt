@@ -25,7 +25,7 @@ fn tenderer() -> Option<Caller> {
     Some(Caller::Tenderer(Id::read(b"T1")?))
 }
 
-// The question of a request, or its refusal.
+// The command or query of a request, or its refusal.
 fn asked_of<'a>(
     alloc: Global,
     routes: &Routes,
@@ -38,7 +38,7 @@ fn asked_of<'a>(
     }
 }
 
-// The kind of a question.
+// The kind of a command or query.
 fn kind_of(asked: &Asked<'_>) -> Endpoint {
     match asked {
         Asked::Does(command) => Commands(command.kind()),

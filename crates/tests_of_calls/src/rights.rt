@@ -1,4 +1,4 @@
-//! Rights of callers, kinds of questions, and sealed bytes.
+//! Rights of callers, kinds of commands and queries, and sealed bytes.
 use office_commands::budget::{BudgetKind, BudgetRow, BudgetRows};
 use office_commands::command::{Caller, CommandKind, QueryKind, may, may_look};
 use office_commands::commands::Command;

@@ -1,7 +1,7 @@
 //! Blocks of a transcript, which are read into the bytes of a request and of its response.
 //!
-//! The first line of a block has the moment, the caller and the question. Lines of the request's body may follow. Then comes the status of
-//! the response, and its body on that line and on the lines after it.
+//! The first line of a block has the moment, the caller, and the method and the path of the request. Lines of its body may follow. Then
+//! comes the status of the response, and its body on that line and on the lines after it.
 //!
 //!     at 2026-01-05T09:00:00Z clerk POST /budget/B1
 //!     | line,kind,amount,title
@@ -9,7 +9,7 @@
 //!     = 200 {"batch":"B1","moment":"2026-01-05T09:00:00Z","rows":1}
 //!
 //! - The caller is `public`, `clerk`, or a tenderer. The clerk's key is `abc`, and a tenderer's is `hello`. `T1:abc` gives another key,
-//!   `T1:` no key, and `:abc` a key without a name. `bytes` in place of caller and question means that only the lines after it are sent.
+//!   `T1:` no key, and `:abc` a key without a name. `bytes` in place of caller, method and path means that only the lines after it are sent.
 //! - A line of a body is `> TEXT`, which is the text alone, or `| TEXT`, which is the text with a line feed. After `|`, `\t`, `\r` and
 //!   `\u{feff}` are a tab, a carriage return and a byte order mark. `500 | TEXT` is that line 500 times, and `32768 > a` that text.
 //! - After a status, `text` means that the response is a plain text and not JSON, and `POST` or `GET` is the method that it allows.
