@@ -1,4 +1,4 @@
--- In an office that accepted commands reach nothing is lacking.
+-- In a reached office, no row is missing that an accepted command needs.
 use Rattle.std.specs.Prelude.{◌≡◌, ℕ, true, cond, List, Option, Some, None, IsSome, is_some}
 use Rattle.std.proofs.Common.{◌∙◌, ap, refl}
 use Rattle.office_base.specs.States.{is_sealed}
