@@ -82,7 +82,7 @@ module _ (xs : List Given) (s : Tables) (kept : AccountsStand xs s) where
   no_contract award active None is = refl
   no_contract award active (Some c) is =
       let of = (kept.contracts award c is).of_award in
-      let no : true ≡ false = ap not (sym of.1.1) ∙ sym (ap (holds_of isnt_active) of.1.0) ∙ active in cc
+      let no : true ≡ false = ap not (sym of.2) ∙ sym (ap (holds_of isnt_active) of.1) ∙ active in cc
 
   pub contract_is_new : (award : ℕ) → holds_of isnt_active (award_at award s) ≡ false → contract_is_taken award s ≡ false
   contract_is_new award active = no_contract award active (contract_at award s) refl
@@ -101,14 +101,14 @@ module _ (xs : List Given) (s : Tables) (whole : IsWhole xs s) where
   none_lost : (es : List EnvelopeRow) → AllByRecursion (λ e. is_sealed_envelope e ≡ true → has_seal_and_lot s e ≡ true) es
       → list_any (λ e. not (has_seal_and_lot s e)) (filter is_sealed_envelope es) ≡ false
   none_lost [] h = refl
-  none_lost (e ∷ es) h = by (is_sealed_envelope e) refl
+  none_lost (e ∷ es) h = by (none_lost es h.1) (is_sealed_envelope e) refl
     where
       rest : Bool → Bool
       rest b = list_any (λ e. not (has_seal_and_lot s e)) (cond b (e ∷ filter is_sealed_envelope es) (filter is_sealed_envelope es))
 
-      by : (b : Bool) → is_sealed_envelope e ≡ b → list_any (λ e. not (has_seal_and_lot s e)) (filter is_sealed_envelope (e ∷ es)) ≡ false
-      by true is = ap rest is ∙ (λ i. not (h.0 is i) || none_lost es h.1 i)
-      by false is = ap rest is ∙ none_lost es h.1
+      by : list_any (λ e. not (has_seal_and_lot s e)) (filter is_sealed_envelope es) ≡ false → (b : Bool) → is_sealed_envelope e ≡ b → list_any (λ e. not (has_seal_and_lot s e)) (filter is_sealed_envelope (e ∷ es)) ≡ false
+      by later true is = ap rest is ∙ (λ i. not (h.0 is i) || later i)
+      by later false is = ap rest is ∙ later
 
   pub no_tender_lost : (notice : List ℕ) → lacks_tender notice s ≡ false
   no_tender_lost notice =
