@@ -21,7 +21,7 @@ use Rattle.office_machine.proofs.Parents.Whole.{IsWhole}
 use Rattle.office_machine.proofs.Passed.{allowed_by}
 use Rattle.office_machine.proofs.Rows.SortedTables.{sorted}
 
--- a tender that is still sealed has its seal
+-- A tender that is still sealed has its seal.
 seal_kept : (st : EnvelopeState) (seal : SealRow) → is_sealed st ≡ true → is_some (let o : Option SealRow = cond (is_kept st) (Some seal) None in o) ≡ true
 seal_kept states.Sealed seal is = refl
 seal_kept states.Withdrawn seal is = cc

@@ -29,6 +29,6 @@ next_read read old new tender e left rest all pushed is taken before =
     ∙ ap (λ (es : List EnvelopeRow). old ++ map read es) (sym taken)
     ∙ before
 
--- where nothing is missing to the first, something is missing to the rest as to all
+-- If the first tender is whole, the rest misses something if and only if all do.
 pub rest_whole : (lost : EnvelopeRow → Bool) (e : EnvelopeRow) (left rest : List EnvelopeRow) (b : Bool) → lost e ≡ false → left ≡ e ∷ rest → list_any lost left ≡ b → list_any lost rest ≡ b
 rest_whole lost e left rest b whole taken before = sym (ap (λ (c : Bool). c || list_any lost rest) whole) ∙ sym (ap (list_any lost) taken) ∙ before

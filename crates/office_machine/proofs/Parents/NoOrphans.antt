@@ -1,4 +1,4 @@
--- In an office that commands reach no row is without its parent, and no row has the next number.
+-- In a reached office, each row has its parent, and no row has the next number.
 use Rattle.std.specs.Prelude.{◌≡◌, ℕ, ◌+◌, Bool, true, false, cond, not, ◌&&◌, ◌||◌, List, [], ◌∷◌, filter, Option, Some, None, IsSome, is_some}
 use Rattle.std.proofs.Common.{refl, sym, ◌∙◌, ap, arith}
 use Rattle.std.specs.List.{AllByRecursion, list_any}
@@ -27,7 +27,7 @@ use Rattle.office_machine.proofs.Parents.ParentsPut.{all-filter, all-table}
 use Rattle.office_machine.proofs.Parents.Whole.{IsWhole}
 use Rattle.office_machine.proofs.Rows.Keyed as keyed
 
--- none pass where each doesn't
+-- If no element passes, none is left.
 none_pass : {X : Type 0} (p : X → Bool) (xs : List X) → AllByRecursion (λ x. p x ≡ false) xs → filter p xs ≡ []
 none_pass p [] h = refl
 none_pass p (x ∷ xs) h = ap (λ b. cond b (x ∷ filter p xs) (filter p xs)) h.0 ∙ none_pass p xs h.1
@@ -36,7 +36,7 @@ none_found : {K X : Type 0} {R : K → K → Ordering} {key : X → K} (t : IsKe
     → ((k : K) (x : X) → row_at R key xs k ≡ Some x → p x ≡ false) → has_rows (filter p xs) ≡ false
 none_found t p xs order h = ap has_rows (none_pass p xs (all-table t (λ x. p x ≡ false) xs order h))
 
--- what has its parent isn't of one that is missing
+-- A row whose parent exists isn't a row of a missing parent.
 apart : {X : Type 0} (find : List ℕ → Option X) (a b : List ℕ) → IsSome (find a) → find b ≡ None → same_id a b ≡ false
 apart find a b there none = by (same_id a b) refl
   where
@@ -64,7 +64,7 @@ module _ (s : Tables) (have : HaveParents s s) (order : IsSorted s) where
   no_lost_lines [] = refl
   no_lost_lines (row ∷ rows) = λ i. no_lots_of row.line (line_at row.line s) refl i || no_lost_lines rows i
 
--- no number is taken
+-- No number is taken.
 never : {X : Type 0} (b : Bool) (o : Option X) → o ≡ None → (b && is_some o) ≡ false
 never true o none = ap is_some none
 never false o none = refl
@@ -77,7 +77,7 @@ module _ (xs : List Given) (s : Tables) (kept : AccountsStand xs s) where
   pub award_is_new : (notice lot : List ℕ) → award_is_taken notice lot s ≡ false
   award_is_new notice lot = never _ (award_at (s.clock.awards + 1) s) (no_award (award_at (s.clock.awards + 1) s) refl)
 
-  -- the award of a contract isn't active
+  -- The award of a contract isn't active.
   no_contract : (award : ℕ) → holds_of isnt_active (award_at award s) ≡ false → (o : Option ContractRow) → contract_at award s ≡ o → is_some o ≡ false
   no_contract award active None is = refl
   no_contract award active (Some c) is =
@@ -90,7 +90,7 @@ module _ (xs : List Given) (s : Tables) (kept : AccountsStand xs s) where
 pub receipt_is_new : (xs : List Given) (s : Tables) → IsWhole xs s → receipt_is_taken s ≡ false
 receipt_is_new xs s whole = ap is_some whole.unused
 
--- each tender that is still sealed has its seal and its lot
+-- Each tender that is still sealed has its seal and its lot.
 module _ (xs : List Given) (s : Tables) (whole : IsWhole xs s) where
   has_both : (k : ℕ) (e : EnvelopeRow) → envelope_at k s ≡ Some e → is_sealed_envelope e ≡ true → has_seal_and_lot s e ≡ true
   has_both k e is sealed =

@@ -24,7 +24,7 @@ pub record IsWhole (xs : List Given) (s : Tables) : Type 0 where
   pub performances : HavePerformances s
   pub accounts : AccountsStand xs s
   pub order : IsSorted s
-  -- no tender has the next receipt, and each that is still sealed has its seal
+  -- No tender has the next receipt, and each that is still sealed has its seal.
   pub unused : envelope_at (s.clock.receipts + 1) s ≡ None
   pub seals : (n : ℕ) (e : EnvelopeRow) → envelope_at n s ≡ Some e → is_sealed e.state ≡ true → IsSome (seal_at n s)
 

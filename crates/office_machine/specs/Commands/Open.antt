@@ -6,7 +6,7 @@ use Rattle.tender_core.specs.Rules.Open.{open_rows, open_lacks, open_tests, open
 use Rattle.office_machine.specs.Replies.{OpenedAll, release_of}
 use Rattle.office_machine.specs.Rule.{Rule, has_seal_and_lot, sealed_of_notice, sealed_tenders, UnderNotice}
 
--- the seal or the lot of a tender that is still sealed is missing
+-- The seal or the lot of a tender that is still sealed is missing.
 abbrev pub lacks_tender : List ℕ → Tables → Bool
 lacks_tender notice s = list_any (λ e. not (has_seal_and_lot s e)) (sealed_of_notice notice s)
 

@@ -20,7 +20,7 @@ rule : (asking : Asking) (notice : List ℕ) (lot : List ℕ) → IsTested askin
     (λ (rows : AwardRows) (t : ℕ). award_tests rows t)
 rule asking notice lot = record { clock = λ s. refl; tested = λ s. refl }
 
--- the next award has a number of its own, as was looked up
+-- No award has the next number, as the look-up says.
 is_new : (notice lot : List ℕ) (s : Tables) (rows : AwardRows) → rows ≡ awarded_rows s notice lot → (best : Option EnvelopeRow) → best ≡ winner rows.notice rows.envelopes → (taken : Bool)
     → taken ≡ (is_some best && is_some (award_at (rows.clock.awards + 1) s)) → taken ≡ false → award_is_taken notice lot s ≡ false
 is_new notice lot s rows are best is taken found no =

@@ -32,7 +32,7 @@ rule kept laws asking batch rows = record {
   tested = λ s. sym (laws.tests (standings_named s (map line_of_row rows)) (standings s) (import_rows s batch rows) (standings_agree kept laws s rows));
 }
 
--- lots of a line that is missing are none by the office's lines, as by those that its rows name
+-- If the loaded lines name no lost line, then neither do the office's.
 none_lost : ImportsAgree → (s : Tables) (m : List Standing) (rows : List BudgetRow) → AgreeOnRows m (standings s) rows → list_any (is_of_lost_line s m) rows ≡ false
     → list_any (names_lost_line s) rows ≡ false
 none_lost laws s m [] agree none = refl
