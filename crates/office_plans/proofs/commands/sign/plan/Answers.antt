@@ -4,7 +4,9 @@ use Rattle.award_core.specs.Rules.Sign.{sign_lacks, sign_puts, sign_rows, sign_t
 use Rattle.award_core.specs.declared.sign.SignRows.{SignRows}
 use Rattle.office_commands.specs.declared.commands.Command.TheVariants.{Sign}
 use Rattle.office_commands.specs.declared.tender.NamedSecurity.{NamedSecurity}
+use Rattle.office_base.specs.Rows.{holds_of}
 use Rattle.office_base.specs.Tables.{Tables}
+use Rattle.office_machine.specs.Orphans.{contract_is_taken, lacks_its_security}
 use Rattle.office_plans.proofs.Publishing.{IsTested, four_looks, not_planned, puts_on, refused_on}
 use Rattle.office_plans.proofs.Telling.{fault_told, none_to_tell, refusal_told}
 use Rattle.office_plans.proofs.commands.sign.plan.Goals as goal
@@ -31,7 +33,7 @@ returns-clause-looks g c =
     (λ s are taken released joined.
     let allowed = refused_on ruled _ _ moment _ c.requires c.refusal.ensures s are ∙ c.in_default.is in
     let there = sym (ap sign_lacks are) ∙ c.in_ok-puts.ensures.whole in
-    let new = sym taken ∙ c.if-taken.false in
+    let new = sym (taken ∙ ap (λ (rows : SignRows). contract_is_taken a.award s || holds_of (lacks_its_security s) rows.envelope) are) ∙ c.if-taken.false in
     let whole = λ i. there i || new i in
     let puts = puts_on ruled _ _ moment (λ (rows : SignRows) (t : ℕ). sign_puts rows t a.security) _ c.in_ok-puts.ensures.puts s are refl in
     let row = sym c.as_ref.ensures.value ∙ ap option_copied c.unwrap-row.ensures in
