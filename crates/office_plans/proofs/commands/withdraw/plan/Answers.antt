@@ -1,9 +1,10 @@
-use Rattle.std.specs.Prelude.{ℕ, ◌||◌}
+use Rattle.std.specs.Prelude.{false, ℕ, ◌≡◌, ◌||◌}
 use Rattle.std.proofs.Common.{◌∙◌, ap, refl, sym}
 use Rattle.office_commands.specs.declared.commands.Command.TheVariants.{Withdraw}
 use Rattle.office_base.specs.Rows.{holds_of}
 use Rattle.office_base.specs.Transitions.{is_late}
 use Rattle.office_base.specs.Tables.{Tables}
+use Rattle.office_machine.specs.Lacking.{is_lacking}
 use Rattle.office_machine.specs.Orphans.{lacks_seal}
 use Rattle.office_machine.specs.Replies.{Withdrew, state_after}
 use Rattle.office_plans.proofs.Publishing.{IsTested, not_planned, on_rows, puts_on, refused_on, two_looks}
@@ -35,7 +36,7 @@ returns-clause-looks g c publisher =
     let allowed = refused_on ruled _ _ moment _ c.requires c.refusal.ensures s are ∙ c.in_default.is in
     let there = sym (ap withdraw_lacks are) ∙ c.in_ok-puts.ensures.whole in
     let found = sym (broken ∙ ap (λ (rows : WithdrawRows). holds_of (lacks_seal s) rows.envelope) are) ∙ c.if-broken.false in
-    let whole = λ i. there i || found i in
+    let whole : is_lacking (given_by a.asking.now s (Withdraw a.receipt)) ≡ false = λ i. there i || found i in
     let puts = puts_on ruled _ _ moment (λ (rows : WithdrawRows) (t : ℕ). withdraw_puts rows t) _ c.in_ok-puts.ensures.puts s are refl in
     let reply = λ (rows : WithdrawRows) (t : ℕ). reply_text (Withdrew a.receipt (state_after (is_late rows.late t rows.notice) rows.envelope) t) in
     let told = c.in_ok-text.ensures ∙ on_rows ruled _ _ moment reply s are in
