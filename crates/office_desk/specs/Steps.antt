@@ -25,6 +25,7 @@ use Rattle.office_publications.specs.Standing.{IsReached}
 use Rattle.office_publications.specs.Told.{HasReleases}
 use Rattle.office_plans.specs.Published.{accepted_reply}
 use Rattle.office_plans.specs.Replies.{reply_text, text_of}
+use Rattle.office_desk.specs.Balances.{LedgerAddsUp, LineAddsUp}
 
 -- a text as the list of its bytes
 abbrev pub read_text : Result (Vec ℕ Global) Refusal → Result (List ℕ) Refusal
@@ -68,9 +69,11 @@ abbrev pub IsNotOverdrawn : Option ContractRow → List EntryRow → Type 0
 IsNotOverdrawn None entries = Unit {0}
 IsNotOverdrawn (Some c) entries = is_overdrawn entries c ≡ false
 
--- what is shown is there, be the office one that no commands lead to: of a package each release that the notice's row counts, and for a record the merge
--- that is kept, an object; of a contract what is outstanding
+-- what is shown exists and adds up, also in an office that no commands lead to. Of a package it is each release that the notice's row counts, and for a record
+-- the stored merge, an object. Of a contract it is the outstanding amount. On a line that is shown, alone or in the ledger, the four balances add up to the appropriation
 abbrev pub HasShown : Query → Tables → Type 0
+HasShown (queries.Line line) s = LineAddsUp line s
+HasShown queries.Ledger s = LedgerAddsUp s
 HasShown (queries.Releases notice) s = HasReleases notice s
 HasShown (queries.Record notice) s = HasReleases notice s × HasMerge notice s
 HasShown (queries.Contract contract) s = IsNotOverdrawn (contract_at contract s) (entries_of_contract contract s)
