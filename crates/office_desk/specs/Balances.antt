@@ -1,5 +1,5 @@
 -- Whether the balances of budget lines add up. The store's sums are those of its rows, whatever these are.
-use Rattle.std.specs.Prelude.{◌≡◌, ℕ, ◌+◌, Bool, List, Option, IfSome, nat_eq}
+use Rattle.std.specs.Prelude.{◌≡◌, ℕ, ◌+◌, Bool, List, IfSome, nat_eq}
 use Rattle.std.specs.List.{AllByRecursion}
 use Rattle.office_base.specs.Joined.{pots_of}
 use Rattle.office_base.specs.Tables.{Tables, line_at}
