@@ -1,4 +1,4 @@
--- Whether the balances of budget lines add up. The store's sums are those of its rows, whatever these are.
+-- Budget lines whose balances add up. The store's sums are those of its rows, whatever these rows are.
 use Rattle.std.specs.Prelude.{◌≡◌, ℕ, ◌+◌, Bool, List, IfSome, nat_eq}
 use Rattle.std.specs.List.{AllByRecursion}
 use Rattle.office_base.specs.Joined.{pots_of}
@@ -7,25 +7,26 @@ use Rattle.office_base.specs.declared.ledger.LedgerRow.{LedgerRow}
 use Rattle.office_base.specs.declared.ledger.Pots.{Pots}
 use Rattle.office_base.specs.declared.records.LineRow.{LineRow}
 
--- appropriation = free + reserved + contracted + paid
+-- The four balances add up to the appropriation.
 abbrev pub PotsAddUp : Pots → Type 0
 PotsAddUp pots = pots.appropriation ≡ pots.free + pots.reserved + pots.contracted + pots.paid
 
--- as a test
+-- The test of that.
 abbrev pub pots_add_up : Pots → Bool
 pots_add_up pots = nat_eq pots.appropriation (pots.free + pots.reserved + pots.contracted + pots.paid)
 
+-- The test of a row of the ledger.
 abbrev pub row_adds_up : LedgerRow → Bool
 row_adds_up row = pots_add_up row.pots
 
--- the balances of the line with this row add up
+-- The balances of the line with this row add up.
 abbrev pub RowAddsUp : Tables → LineRow → Type 0
 RowAddsUp s row = PotsAddUp (pots_of row s)
 
--- so do those of the line, if the office has it
+-- The balances of this line add up, if the office has it.
 abbrev pub LineAddsUp : List ℕ → Tables → Type 0
 LineAddsUp line s = IfSome (line_at line s) (RowAddsUp s)
 
--- and those of every line
+-- The balances of each line add up.
 abbrev pub LedgerAddsUp : Tables → Type 0
 LedgerAddsUp s = AllByRecursion (RowAddsUp s) s.lines

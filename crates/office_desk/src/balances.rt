@@ -1,11 +1,11 @@
-//! Whether the balances of budget lines add up.
+//! Tests of the balances of budget lines.
 ghost use Rattle.std.specs.Prelude.{◌≡◌};
 ghost use Rattle.std.specs.List.{list_all};
 ghost use Rattle.office_desk.specs.Balances.{pots_add_up, row_adds_up};
 
 use office_base::ledger::{LedgerRow, Pots};
 
-/// Whether appropriation = free + reserved + contracted + paid.
+/// Returns whether the four balances add up to the appropriation.
 pub(crate) fn pots_add_up(pots: &Pots) -> bool
     ensures { result ≡ pots_add_up pots.now }
 {
@@ -16,7 +16,7 @@ pub(crate) fn pots_add_up(pots: &Pots) -> bool
     pots.appropriation.units() == sum
 }
 
-/// Whether it is so in each row.
+/// Returns whether the balances in each row add up.
 pub(crate) fn rows_add_up(rows: &[LedgerRow]) -> bool
     ensures { result ≡ list_all row_adds_up rows.now }
 {

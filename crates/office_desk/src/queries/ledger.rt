@@ -14,7 +14,7 @@ use office_values::refusal::Refusal;
 use std::alloc::Global;
 use tender_papers::ledger::ledger_text;
 
-/// The ledger. A sum that is out of its range is a fault of the store. If the balances of one line don't add up, nothing is shown.
+/// Shows the ledger. A sum out of range counts as a fault of the store. If the balances of one line don't add up, the ledger isn't shown.
 #[tactic(auto, using(crate::proofs::Rising::has_risen))]
 pub(crate) fn look<H: Lookups>(
     alloc: Global,

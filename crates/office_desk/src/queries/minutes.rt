@@ -27,14 +27,14 @@ use office_values::refusal::{Refusal, Thing};
 use std::alloc::Global;
 use tender_papers::minutes::{OpenedTender, minutes_text};
 
-// The tenders that were opened, which alone are in minutes. Takes no memory.
+// Keeps the tenders that were opened; the minutes have no others. Takes no memory.
 fn keep_opened(envelopes: &mut Vec<EnvelopeRow>)
     ensures { envelopes.new.items ≡ filter is_read_envelope envelopes.old.items }
 {
     envelopes.retain(|row| row.state == EnvelopeState::Opened);
 }
 
-// Puts the row of a firm that was looked up, if there is one.
+// Puts the row of a firm that was looked up, if it was found.
 fn put_firm(firms: &mut Table<TendererRow>, found: Option<TendererRow>) -> Result<(), ShelfFault>
     ensures { OnOk result (firms.new ≡ with_row id_cmp tenderer_key firms.old found) }
 {
@@ -47,7 +47,7 @@ fn put_firm(firms: &mut Table<TendererRow>, found: Option<TendererRow>) -> Resul
     }
 }
 
-// Looks up the firm with this identifier, unless that was done before.
+// Looks up the firm with this identifier, unless it was looked up before.
 fn load_firm<H: Lookups>(
     shelf: &mut H,
     firms: &mut Table<TendererRow>,
@@ -62,7 +62,8 @@ fn load_firm<H: Lookups>(
     put_firm(firms, found)
 }
 
-// What minutes say of a tender that was opened. Its firm was looked up. In an office that commands lead to, the firm exists, and the tender was read.
+// An opened tender as the minutes show it, with its tenderer, who was looked up. `Unavailable` if the tenderer is missing or the tender wasn't read, which can't
+// happen in a reached office.
 fn tender_of(firms: &Table<TendererRow>, row: &EnvelopeRow) -> Result<OpenedTender, Refusal>
     ensures tender { (tenderers : List TendererRowOf) → IsAsIn id_cmp tenderer_key tenderers firms.now row.now.tenderer
         → IfOk result (λ tender. tender ≡ minuted_tender (minuted tenderers row.now)) }
@@ -82,7 +83,7 @@ fn tender_of(firms: &Table<TendererRow>, row: &EnvelopeRow) -> Result<OpenedTend
     })
 }
 
-// What minutes say of these tenders. Each firm is looked up once.
+// These tenders as the minutes show them. Each firm is looked up once.
 fn load_tenders<H: Lookups>(
     alloc: Global,
     shelf: &mut H,
@@ -119,7 +120,7 @@ fn opened_text(
     Ok(minutes_text(alloc, notice, opened, lots, tenders)?.into_vec())
 }
 
-/// The minutes of an opening.
+/// Shows the minutes of an opening.
 #[tactic(auto, using(crate::proofs::Rising::has_risen))]
 pub(crate) fn look<H: Lookups>(
     alloc: Global,
