@@ -12,12 +12,13 @@ use Rattle.office_plans.proofs.opened.load_each.Goals as goal
 pub loop-envelope-init : goal.loop-envelope-init
 loop-envelope-init g c =
     let made = c.in_ok-tenders.ensures.items in
-    let given = c.into_iter-envelope-iterator.ensures.into_iter_gives in (
+    let given = c.into_iter-envelope-iterator.ensures.into_iter_gives in
+    let all : c.into_iter-envelope-iterator.result.rest.items ≡ c.args.envelopes.items = c.into_iter-envelope-iterator.ensures.into_iter_gives in (
       record { before = λ h. h; same = λ h t held. held; stop = λ h u left. left; sound = λ h was. was },
       λ honest s held. (
         subst (λ (rows : List LotRow). AreFrom lot_cmp lot_key s.lots rows) (sym c.new-lots.ensures) (none_from lot_cmp lot_key s.lots),
         grind (arith, made, given),
-        ap (list_any (λ e. not (has_seal_and_lot s e))) given,
+        ap (list_any (λ e. not (has_seal_and_lot s e))) all,
       ),
     )
 
