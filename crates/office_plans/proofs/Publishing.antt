@@ -1,6 +1,6 @@
 -- A command that is decided on rows that were looked up. The decision is the specification's, and the look-ups leave the store as it was.
-use Rattle.std.specs.Prelude.{◌≡◌, ℕ, Bool, true, false, not, cond, List, Option, Some, Err, max}
-use Rattle.std.proofs.Common.{◌∙◌, ap, inl, sym}
+use Rattle.std.specs.Prelude.{◌≡◌, ℕ, Bool, true, false, not, ◌||◌, cond, List, Option, Some, Err, max}
+use Rattle.std.proofs.Common.{◌∙◌, ap, inl, refl, sym}
 use Rattle.office_values.specs.declared.refusal.Refusal.{Refusal}
 use Rattle.office_values.specs.declared.refusal.Refusal.TheVariants.{Forbidden}
 use Rattle.office_values.specs.declared.settings.Publisher.{Publisher}
@@ -27,6 +27,11 @@ pub record IsTested {R : Type 0} (asking : Asking) (command : Command) (rows_of 
   pub tested : (s : Tables) → command_tests (given_by asking s command) ≡ tests (rows_of s) (time_of (given_by asking s command))
 
 -- Rows that were loaded, and the moment by their clock.
+-- Three tests, in either grouping.
+pub grouped : (a b d : Bool) → ((a || b) || d) ≡ (a || (b || d))
+grouped true b d = refl
+grouped false b d = refl
+
 module _ {R : Type 0} {asking : Asking} {command : Command} {rows_of : Tables → R} {clock_in : R → ClockRow} {tests : R → ℕ → List (Bool × Refusal)}
     (ruled : IsTested asking command rows_of clock_in tests) (rows : R) (t : ℕ) (moment : t ≡ max asking.moment (clock_in rows).moment) where
   abbrev x : Tables → Given

@@ -5,7 +5,7 @@ ghost use Rattle.office_base.specs.Rows.{holds_of};
 ghost use Rattle.office_base.specs.Shelves.{Looks, LooksUp};
 ghost use Rattle.office_base.specs.Standings.{columns_at};
 ghost use Rattle.office_base.specs.Tables.{award_at, envelope_at};
-ghost use Rattle.office_machine.specs.Orphans.{contract_is_taken, has_rows_of_notice, lacks_its_security, lacks_lot, lacks_seal};
+ghost use Rattle.office_machine.specs.Orphans.{contract_is_taken, has_rows_of_notice, is_torn, lacks_its_security, lacks_lot, lacks_seal};
 ghost use Rattle.office_plans.specs.Named.{is_of_lost_line};
 
 use keyed_table::table::Table;
@@ -103,14 +103,14 @@ pub fn cant_be_replaced<H: Lookups>(
     clock: &ClockRow,
     envelope: &Option<EnvelopeRow>,
 ) -> Result<bool, ShelfFault>
-    ensures { LooksUp H.meaning shelf.old shelf.new result (λ s found. found ≡ (is_some (envelope_at (clock.now.receipts + 1) s)
-        || holds_of (lacks_seal s) envelope.now || holds_of (lacks_lot s) envelope.now || holds_of (lacks_its_security s) envelope.now)) }
+    ensures { LooksUp H.meaning shelf.old shelf.new result (λ s found.
+        found ≡ (is_some (envelope_at (clock.now.receipts + 1) s) || is_torn s envelope.now)) }
 {
     let taken = receipt_is_taken(shelf, clock)?;
     let seal = lacks_seal(shelf, envelope)?;
     let lot = lacks_lot(shelf, envelope)?;
     let security = lacks_its_security(shelf, envelope)?;
-    Ok(taken || (seal || (lot || security)))
+    Ok(taken || (seal || lot || security))
 }
 
 /// Whether a contract has the number of this award, or the security of the award's tender is missing.

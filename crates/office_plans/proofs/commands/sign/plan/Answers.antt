@@ -5,10 +5,11 @@ use Rattle.award_core.specs.declared.sign.SignRows.{SignRows}
 use Rattle.office_commands.specs.declared.commands.Command.TheVariants.{Sign}
 use Rattle.office_commands.specs.declared.tender.NamedSecurity.{NamedSecurity}
 use Rattle.office_base.specs.Rows.{holds_of}
-use Rattle.office_base.specs.Tables.{Tables}
+use Rattle.office_base.specs.Parents.{envelope_of_award}
+use Rattle.office_base.specs.Tables.{Tables, award_at}
 use Rattle.office_machine.specs.Lacking.{is_lacking}
 use Rattle.office_machine.specs.Orphans.{contract_is_taken, lacks_its_security}
-use Rattle.office_plans.proofs.Publishing.{IsTested, four_looks, not_planned, puts_on, refused_on}
+use Rattle.office_plans.proofs.Publishing.{IsTested, four_looks, grouped, not_planned, puts_on, refused_on}
 use Rattle.office_plans.proofs.Telling.{fault_told, none_to_tell, refusal_told}
 use Rattle.office_plans.proofs.commands.sign.plan.Goals as goal
 use Rattle.office_plans.specs.Asking.{given_by}
@@ -35,7 +36,9 @@ returns-clause-looks g c =
     let allowed = refused_on ruled _ _ moment _ c.requires c.refusal.ensures s are ∙ c.in_default.is in
     let there = sym (ap sign_lacks are) ∙ c.in_ok-puts.ensures.whole in
     let new = sym (taken ∙ ap (λ (rows : SignRows). contract_is_taken a.award s || holds_of (lacks_its_security s) rows.envelope) are) ∙ c.if-taken.false in
-    let whole : is_lacking (given_by a.asking.now s (Sign a.award a.security)) ≡ false = λ i. there i || new i in
+    let whole : is_lacking (given_by a.asking.now s (Sign a.award a.security)) ≡ false =
+    grouped (sign_lacks (sign_rows s a.award)) (contract_is_taken a.award s) (holds_of (lacks_its_security s) (envelope_of_award (award_at a.award s) s))
+    ∙ (λ i. there i || new i) in
     let puts = puts_on ruled _ _ moment (λ (rows : SignRows) (t : ℕ). sign_puts rows t a.security) _ c.in_ok-puts.ensures.puts s are refl in
     let row = sym c.as_ref.ensures.value ∙ ap option_copied c.unwrap-row.ensures in
     joined a.publisher.now (given_by a.asking.now s (Sign a.award a.security)) refl tt allowed whole puts (c.in_ok-text.ensures s a.security are) (released a.award a.security are row))
