@@ -13,7 +13,7 @@ pub loop-envelope-init : goal.loop-envelope-init
 loop-envelope-init g c =
     let made = c.in_ok-tenders.ensures.items in
     let given = c.into_iter-envelope-iterator.ensures.into_iter_gives in
-    let all : c.into_iter-envelope-iterator.result.rest.items ≡ c.args.envelopes.items = c.into_iter-envelope-iterator.ensures.into_iter_gives in (
+    let all : c.into_iter-envelope-iterator.result.rest.items ≡ c.args.envelopes.items = c.into_iter-envelope-iterator.ensures.into_iter_gives.0 in (
       record { before = λ h. h; same = λ h t held. held; stop = λ h u left. left; sound = λ h was. was },
       λ honest s held. (
         subst (λ (rows : List LotRow). AreFrom lot_cmp lot_key s.lots rows) (sym c.new-lots.ensures) (none_from lot_cmp lot_key s.lots),
