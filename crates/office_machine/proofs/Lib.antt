@@ -10,5 +10,6 @@ pub mod Lacking
 pub mod Parents
 pub mod Releases
 pub mod Rows
+pub mod Terms
 pub mod Worlds
 mod Worked

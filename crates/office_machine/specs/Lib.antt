@@ -12,6 +12,9 @@ pub mod Accounts
 pub mod Fits
 pub mod Parents
 pub mod Late
+pub mod Terms
+pub mod Entries
+pub mod Registered
 pub mod Lacking
 pub mod Releases
 pub mod Order

@@ -1,6 +1,7 @@
 ghost use Rattle.office_machine.specs.Accounts.{AccountsAreKept, TablesAreInOrder};
 ghost use Rattle.office_machine.specs.AwardsShown.{AwardsWereShown, WinnersAreShown};
 ghost use Rattle.office_machine.specs.Clock.{ClockIsSet, ClockNeverRunsBack};
+ghost use Rattle.office_machine.specs.Entries.{EntriesAreKept};
 ghost use Rattle.office_machine.specs.Fits.{SumsInRange};
 ghost use Rattle.office_machine.specs.Lacking.{NothingIsLacking};
 ghost use Rattle.office_machine.specs.Late.{LateRulesAreKept};
@@ -8,8 +9,10 @@ ghost use Rattle.office_machine.specs.MergesApart.{FatesReadNoMerges, LooksReadN
 ghost use Rattle.office_machine.specs.Order.{LeastIsAnswered, NumbersNeverFall};
 ghost use Rattle.office_machine.specs.Outstanding.{LeftIsBooked, LeftIsKnown};
 ghost use Rattle.office_machine.specs.Parents.{ParentsAreThere, PerformancesAreThere};
+ghost use Rattle.office_machine.specs.Registered.{TenderersAreKept};
 ghost use Rattle.office_machine.specs.Releases.{ReleasesAreCounted, ReleasesAreInTime, ReleasesAreNumbered, ReleasesArePublished};
 ghost use Rattle.office_machine.specs.Requests.{RunsReach, StepsReach};
+ghost use Rattle.office_machine.specs.Terms.{TermsAreKept};
 ghost use Rattle.office_machine.specs.Worlds.{StepsStayAlike};
 
 /// Wherever accepted commands lead from the empty office, each pot of each line, summed from joined rows, is what they moved
@@ -80,6 +83,14 @@ pub fn awards()
 /// their security.
 pub fn late_withdrawals()
     ensures { LateRulesAreKept }
+{}
+
+/// Wherever accepted commands lead, a notice has the terms of its publication, with the deadline of its last amendment. A lot has the terms of
+/// its notice's publication, an entry of a contract the amount of its command, and a tenderer the name and address of its registration.
+pub fn terms()
+    ensures notices { TermsAreKept }
+    ensures entries { EntriesAreKept }
+    ensures tenderers { TenderersAreKept }
 {}
 
 /// The row of a notice counts the commands that published a release of it, at most as many as there are numbers for; a release of each
