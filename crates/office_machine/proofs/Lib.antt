@@ -8,6 +8,7 @@ pub mod Commands
 pub mod FateLaws
 pub mod Lacking
 pub mod Parents
+pub mod QueriesOrdered
 pub mod Releases
 pub mod Rows
 pub mod Terms

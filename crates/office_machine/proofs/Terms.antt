@@ -1,3 +1,3 @@
--- The terms of notices and lots, the entries of contracts, and tenderers.
+-- The terms of notices and lots, the entries of contracts, tenderers, and which tenders are in time.
 pub mod Said
 pub mod TermsKept

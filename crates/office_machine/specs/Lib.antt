@@ -24,6 +24,7 @@ pub mod Outstanding
 pub mod Evaluation
 pub mod AwardsShown
 pub mod Sights
+pub mod QueryOrder
 pub mod Requests
 pub mod MergesApart
 pub mod Seals

@@ -9,6 +9,7 @@ ghost use Rattle.office_machine.specs.MergesApart.{FatesReadNoMerges, LooksReadN
 ghost use Rattle.office_machine.specs.Order.{LeastIsAnswered, NumbersNeverFall};
 ghost use Rattle.office_machine.specs.Outstanding.{LeftIsBooked, LeftIsKnown};
 ghost use Rattle.office_machine.specs.Parents.{ParentsAreThere, PerformancesAreThere};
+ghost use Rattle.office_machine.specs.QueryOrder.{FirstAnswersQuery, LeastAnswersQuery};
 ghost use Rattle.office_machine.specs.Registered.{TenderersAreKept};
 ghost use Rattle.office_machine.specs.Releases.{ReleasesAreCounted, ReleasesAreInTime, ReleasesAreNumbered, ReleasesArePublished};
 ghost use Rattle.office_machine.specs.Requests.{RunsReach, StepsReach};
@@ -37,6 +38,12 @@ pub fn clock()
 pub fn refusals()
     ensures order { NumbersNeverFall }
     ensures least { LeastIsAnswered }
+{}
+
+/// A query is refused for the first of its conditions that holds, which has the least number, and is shown if none of them holds.
+pub fn query_refusals()
+    ensures first { FirstAnswersQuery }
+    ensures least { LeastAnswersQuery }
 {}
 
 /// An accepted command leads from the office that accepted commands reached to the office after it, and so what a run of requests accepts

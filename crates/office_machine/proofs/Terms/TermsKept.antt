@@ -1,5 +1,5 @@
 -- The terms of notices and lots, and the entries of contracts, are those that accepted commands gave them.
-use Rattle.std.specs.Prelude.{◌≡◌, ℕ, Bool, true, false, cond, ◌&&◌, IsSome, List, [], ◌∷◌, ◌++◌, map, filter, Option, Some, None, option_map, is_some}
+use Rattle.std.specs.Prelude.{◌≡◌, ℕ, Bool, true, false, cond, ◌&&◌, List, [], ◌∷◌, ◌++◌, map, filter, Option, Some, None, option_map, is_some}
 use Rattle.std.proofs.Common.{refl, sym, ap, ◌∙◌, subst}
 use Rattle.std.specs.Cmp.{nat_cmp_total}
 use Rattle.std.specs.FinMap.{nat_cmp-IsAntisymmetric}
@@ -14,21 +14,19 @@ use Rattle.office_commands.specs.declared.commands.Command.{Command}
 use Rattle.office_commands.specs.declared.commands.Command.TheVariants as commands
 use Rattle.office_commands.specs.declared.contract.ChangeKind.{ChangeKind}
 use Rattle.office_commands.specs.declared.contract.How.{How}
-use Rattle.office_commands.specs.declared.item.Item.{Item}
 use Rattle.office_commands.specs.declared.lot.NewLot.{NewLot}
 use Rattle.office_commands.specs.declared.notice.LateWithdrawal.{LateWithdrawal}
 use Rattle.office_commands.specs.declared.notice.LateWithdrawal.TheVariants.{Refused, Forfeits}
 use Rattle.office_commands.specs.declared.notice.NewNotice.{NewNotice}
 use Rattle.office_commands.specs.declared.tender.NamedSecurity.{NamedSecurity}
 use Rattle.office_values.specs.Ids.{id_cmp, same_id}
-use Rattle.office_base.specs.Parents.{envelope_of_award, line_of_lot, lot_of_award, lot_of_contract, notice_of_award, notice_of_contract, securities_of_award, security_of_envelope}
+use Rattle.office_base.specs.Parents.{line_of_lot, lot_of_award, lot_of_contract, notice_of_award, notice_of_contract}
 use Rattle.office_base.specs.Rows.{holds_of, row_at}
 use Rattle.office_base.specs.Rules.{first_of}
-use Rattle.office_base.specs.Tables.{IsSorted, Tables, award_at, awards_of_notice, contract_at, entries_of_contract, entry_cmp, envelope_at, envelopes_of_lot, envelopes_of_notice, lot_at, lot_cmp, lots_of_notice, no_tables, notice_at, performance_at, same_number, securities_of_lot, securities_of_notice, after_puts}
-use Rattle.office_base.specs.Transitions.{is_held_security, is_in_time, is_late, passed_over, performance_settled, put_if, securities_returned, security_returned, security_settled, with_next_release}
+use Rattle.office_base.specs.Tables.{IsSorted, Tables, award_at, awards_of_notice, contract_at, entry_cmp, envelope_at, envelopes_of_lot, envelopes_of_notice, lot_at, lot_cmp, lots_of_notice, no_tables, notice_at, same_number, securities_of_lot, securities_of_notice, after_puts}
+use Rattle.office_base.specs.Transitions.{is_held_security, is_in_time, is_late, passed_over, performance_settled, put_if, securities_returned, security_returned, security_settled}
 use Rattle.office_base.specs.declared.puts.Put.{Put}
 use Rattle.office_base.specs.declared.puts.Put.TheVariants as puts
-use Rattle.office_base.specs.declared.reading.Reading.{Reading}
 use Rattle.office_base.specs.declared.records.AwardRow.{AwardRow}
 use Rattle.office_base.specs.declared.records.ClockRow.{ClockRow}
 use Rattle.office_base.specs.declared.records.ContractRow.{ContractRow}
@@ -38,7 +36,6 @@ use Rattle.office_base.specs.declared.records.EnvelopeRow.{EnvelopeRow}
 use Rattle.office_base.specs.declared.records.LineRow.{LineRow}
 use Rattle.office_base.specs.declared.records.LotRow.{LotRow}
 use Rattle.office_base.specs.declared.records.NoticeRow.{NoticeRow}
-use Rattle.office_base.specs.declared.records.PerformanceRow.{PerformanceRow}
 use Rattle.office_base.specs.declared.records.ReleaseRow.{ReleaseRow}
 use Rattle.office_base.specs.declared.records.SecurityRow.{SecurityRow}
 use Rattle.office_base.specs.declared.records.SecurityState.TheVariants as security_states
