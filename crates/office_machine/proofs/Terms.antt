@@ -1,3 +1,4 @@
 -- The terms of notices and lots, the entries of contracts, tenderers, and which tenders are in time.
+pub mod InTime
 pub mod Said
 pub mod TermsKept

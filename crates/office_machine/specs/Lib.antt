@@ -20,6 +20,7 @@ pub mod Releases
 pub mod Order
 pub mod Worlds
 pub mod Fates
+pub mod InTime
 pub mod Outstanding
 pub mod Evaluation
 pub mod AwardsShown

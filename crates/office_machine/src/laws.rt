@@ -3,6 +3,7 @@ ghost use Rattle.office_machine.specs.AwardsShown.{AwardsWereShown, WinnersAreSh
 ghost use Rattle.office_machine.specs.Clock.{ClockIsSet, ClockNeverRunsBack};
 ghost use Rattle.office_machine.specs.Entries.{EntriesAreKept};
 ghost use Rattle.office_machine.specs.Fits.{SumsInRange};
+ghost use Rattle.office_machine.specs.InTime.{NoneInTimeAfterLate};
 ghost use Rattle.office_machine.specs.Lacking.{NothingIsLacking};
 ghost use Rattle.office_machine.specs.Late.{LateRulesAreKept};
 ghost use Rattle.office_machine.specs.MergesApart.{FatesReadNoMerges, LooksReadNoMerges, NextReadsNoMerges, PutsReadNoMerges, RefusalsReadNoMerges, RepliesReadNoMerges};
@@ -90,6 +91,11 @@ pub fn awards()
 /// their security.
 pub fn late_withdrawals()
     ensures { LateRulesAreKept }
+{}
+
+/// Once a tender of a notice came late, no accepted command takes in a tender of that notice in time.
+pub fn late_tenders()
+    ensures { NoneInTimeAfterLate }
 {}
 
 /// Wherever accepted commands lead, a notice has the terms of its publication, with the deadline of its last amendment. A lot has the terms of
