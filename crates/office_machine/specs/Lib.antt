@@ -12,6 +12,7 @@ pub mod Accounts
 pub mod Fits
 pub mod Parents
 pub mod Late
+pub mod ContractTerms
 pub mod Terms
 pub mod Entries
 pub mod Registered

@@ -1,6 +1,7 @@
 ghost use Rattle.office_machine.specs.Accounts.{AccountsAreKept, TablesAreInOrder};
 ghost use Rattle.office_machine.specs.AwardsShown.{AwardsWereShown, WinnersAreShown};
 ghost use Rattle.office_machine.specs.Clock.{ClockIsSet, ClockNeverRunsBack};
+ghost use Rattle.office_machine.specs.ContractTerms.{ContractsAreOfAwards};
 ghost use Rattle.office_machine.specs.Entries.{EntriesAreKept};
 ghost use Rattle.office_machine.specs.Fits.{SumsInRange};
 ghost use Rattle.office_machine.specs.InTime.{NoneInTimeAfterLate};
@@ -96,6 +97,11 @@ pub fn late_withdrawals()
 /// Once a tender of a notice came late, no accepted command takes in a tender of that notice in time.
 pub fn late_tenders()
     ensures { NoneInTimeAfterLate }
+{}
+
+/// Wherever accepted commands lead, a contract is on its award's lot, at its award's price, with the tenderer of the awarded tender.
+pub fn contracts()
+    ensures { ContractsAreOfAwards }
 {}
 
 /// Wherever accepted commands lead, a notice has the terms of its publication, with the deadline of its last amendment. A lot has the terms of
