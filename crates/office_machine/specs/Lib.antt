@@ -16,6 +16,7 @@ pub mod ContractTerms
 pub mod Terms
 pub mod Entries
 pub mod Registered
+pub mod PagesAlong
 pub mod Lacking
 pub mod Releases
 pub mod Order

@@ -10,6 +10,7 @@ ghost use Rattle.office_machine.specs.Late.{LateRulesAreKept};
 ghost use Rattle.office_machine.specs.MergesApart.{FatesReadNoMerges, LooksReadNoMerges, NextReadsNoMerges, PutsReadNoMerges, RefusalsReadNoMerges, RepliesReadNoMerges};
 ghost use Rattle.office_machine.specs.Order.{LeastIsAnswered, NumbersNeverFall};
 ghost use Rattle.office_machine.specs.Outstanding.{LeftIsBooked, LeftIsKnown};
+ghost use Rattle.office_machine.specs.PagesAlong.{NothingIsTakenAway, PagesAreWholeAlong};
 ghost use Rattle.office_machine.specs.Parents.{ParentsAreThere, PerformancesAreThere};
 ghost use Rattle.office_machine.specs.QueryOrder.{FirstAnswersQuery, LeastAnswersQuery};
 ghost use Rattle.office_machine.specs.Registered.{TenderersAreKept};
@@ -97,6 +98,13 @@ pub fn late_withdrawals()
 /// Once a tender of a notice came late, no accepted command takes in a tender of that notice in time.
 pub fn late_tenders()
     ensures { NoneInTimeAfterLate }
+{}
+
+/// No accepted command takes away a notice or a tenderer. Whoever reads their lists page by page while commands are accepted sees no row twice,
+/// and at the end has seen each row of the first request.
+pub fn pages_along()
+    ensures stay { NothingIsTakenAway }
+    ensures whole { PagesAreWholeAlong }
 {}
 
 /// Wherever accepted commands lead, a contract is on its award's lot, at its award's price, with the tenderer of the awarded tender.
