@@ -13,6 +13,7 @@ use Rattle.office_base.specs.Tables.{Tables, contract_at, entries_of_contract}
 use Rattle.office_base.specs.declared.records.ContractRow.{ContractRow}
 use Rattle.office_base.specs.declared.records.EntryRow.{EntryRow}
 use Rattle.office_base.specs.Shelves.{Meaning}
+use Rattle.office_machine.specs.Lacking.{is_lacking}
 use Rattle.office_machine.specs.Machine.{Given, refusal_of, Reaches}
 use Rattle.office_machine.specs.Accounts.{AccountsHold}
 use Rattle.office_machine.specs.Fates.{TendersHaveFates, SecuritiesHaveFates, PerformancesHaveFates}
@@ -25,6 +26,7 @@ use Rattle.office_publications.specs.Standing.{IsReached}
 use Rattle.office_publications.specs.Told.{HasReleases}
 use Rattle.office_plans.specs.Published.{accepted_reply}
 use Rattle.office_plans.specs.Replies.{reply_text, text_of}
+use Rattle.office_desk.specs.Balances.{LedgerAddsUp, LineAddsUp}
 
 -- The text as the list of its bytes.
 abbrev pub read_text : Result (Vec ℕ Global) Refusal → Result (List ℕ) Refusal
@@ -40,13 +42,14 @@ IsReplyOrRefusal publisher x (Err why) = (refusal_of x ≡ Some why) ⊎ (why �
 abbrev pub IsOfficeAfter : {S : Type 0} → Meaning S → Publisher → S → (Tables → Given) → Tables → Type 0
 IsOfficeAfter M publisher old x u = (t : Tables) → M.holds old t → KeepsItsReleases (x t) → (refusal_of (x t) ≡ None) × (u ≡ next_with_merges publisher (x t))
 
--- The effect of a command that was asked for. After Ok the command is done, if the notice for which it publishes keeps its releases. After a refusal nothing
--- has changed. A stop leaves the tables without the command or with all of it. After a refusal it leaves only what it could leave before, and after
+-- The effect of a command that was asked for. After Ok the command is done, if the notice for which it publishes keeps its releases, and no row that it needs
+-- was missing. After a refusal nothing has changed. A stop leaves the tables without the command or with all of it. After a refusal it leaves only what it could leave before, and after
 -- `Unavailable` perhaps the tables with the command.
 pub record Does {S T : Type 0} (M : Meaning S) (publisher : Publisher) (old new : S) (result : Result T Refusal) (x : Tables → Given) : Type 0 where
   pub before : M.honest new → M.honest old
   pub all : M.honest new → (t : Tables) → M.holds old t → KeepsItsReleases (x t) → OnOk result (M.holds new (next_with_merges publisher (x t)))
   pub none : M.honest new → (t : Tables) → M.holds old t → OnErr result (M.holds new t)
+  pub whole : M.honest new → (t : Tables) → M.holds old t → OnOk result (is_lacking (x t) ≡ false)
   pub stop_all : M.honest new → (t : Tables) → M.holds old t → KeepsItsReleases (x t)
       → OnOk result ((u : Tables) → M.may_leave new u → u ≡ next_with_merges publisher (x t))
   pub stop_none : M.honest new → IfErr result (λ why. (u : Tables) → M.may_leave new u → M.may_leave old u ⊎ ((why ≡ Unavailable) × IsOfficeAfter M publisher old x u))
@@ -68,9 +71,12 @@ abbrev pub IsNotOverdrawn : Option ContractRow → List EntryRow → Type 0
 IsNotOverdrawn None entries = Unit {0}
 IsNotOverdrawn (Some c) entries = is_overdrawn entries c ≡ false
 
--- The facts that an answer shows hold, even if no commands lead to this office. For the releases, each release that the notice's row counts exists and can be
--- merged. For the record, its merge is also an object. A contract isn't overdrawn.
+-- The facts that an answer shows hold, even if no commands lead to this office. On a line, alone or in the ledger, the four balances add up to the
+-- appropriation. For the releases, each release that the notice's row counts exists and can be merged. For the record, its merge is also an object. A contract
+-- isn't overdrawn.
 abbrev pub HasShown : Query → Tables → Type 0
+HasShown (queries.Line line) s = LineAddsUp line s
+HasShown queries.Ledger s = LedgerAddsUp s
 HasShown (queries.Releases notice) s = HasReleases notice s
 HasShown (queries.Record notice) s = HasReleases notice s × HasMerge notice s
 HasShown (queries.Contract contract) s = IsNotOverdrawn (contract_at contract s) (entries_of_contract contract s)
