@@ -211,11 +211,12 @@ TRIALS: dict[str, list[tuple[str, ...]]] = {
     ],
     "modify": [
         ("its tender", tender_gone("R1"), "NoSuch tender"), ("its notice", notice_gone("R")), ("the tenderer", tenderer_gone("T1"), "BadKey"),
-        ("its lot", lot_gone("R"), MAY), ("its security", security_gone("R1"), MAY), ("its bytes", seal_gone("R1"), MAY),
+        ("its lot", lot_gone("R")), ("its security", security_gone("R1")), ("its bytes", seal_gone("R1")),
+        ("a tender with its receipt is there", "UPDATE office SET receipts = 0;"),
     ],
     "withdraw": [
         ("its tender", tender_gone("R1"), "NoSuch tender"), ("its notice", notice_gone("R")), ("its security", security_gone("R1")),
-        ("the tenderer", tenderer_gone("T1"), "BadKey"), ("its lot", lot_gone("R")), ("its bytes", seal_gone("R1"), MAY),
+        ("the tenderer", tenderer_gone("T1"), "BadKey"), ("its lot", lot_gone("R")), ("its bytes", seal_gone("R1")),
     ],
     "withdraw, late": [
         ("its tender", tender_gone("F1"), "NoSuch tender"), ("its notice", notice_gone("F")), ("its lot", lot_gone("F")), ("its security", security_gone("F1")),
@@ -240,7 +241,7 @@ TRIALS: dict[str, list[tuple[str, ...]]] = {
     ],
     "sign": [
         ("its award", AWARD_GONE, "NoSuch award"), ("its notice", notice_gone("W")), ("its lot", lot_gone("W")), ("its tender", tender_gone("W1")),
-        ("its tender's security", security_gone("W1"), MAY),
+        ("its tender's security", security_gone("W1")),
         ("a contract with its number is there", renamed("contracts", "contract = {contract}", "contract = {award}")), *of_releases("W", False),
     ],
     "raise": [

@@ -1,10 +1,8 @@
 -- In a reached office, no row is missing that an accepted command needs.
 use Rattle.std.specs.Prelude.{◌≡◌, ℕ, true, cond, List, Option, Some, None, IsSome, is_some}
-use Rattle.std.proofs.Common.{◌∙◌, ap, refl}
-use Rattle.office_base.specs.States.{is_sealed}
+use Rattle.std.proofs.Common.{◌∙◌, ap}
 use Rattle.office_base.specs.Tables.{Tables, envelope_at, seal_at}
 use Rattle.office_base.specs.declared.records.EnvelopeRow.{EnvelopeRow}
-use Rattle.office_base.specs.declared.records.EnvelopeState.TheVariants as states
 use Rattle.office_base.specs.declared.records.EnvelopeState.{EnvelopeState}
 use Rattle.office_base.specs.declared.records.SealRow.{SealRow}
 use Rattle.office_machine.specs.Fates.{is_kept}
@@ -21,14 +19,11 @@ use Rattle.office_machine.proofs.Parents.Whole.{IsWhole}
 use Rattle.office_machine.proofs.Passed.{allowed_by}
 use Rattle.office_machine.proofs.Rows.SortedTables.{sorted}
 
--- A tender that is still sealed has its seal.
-seal_kept : (st : EnvelopeState) (seal : SealRow) → is_sealed st ≡ true → is_some (let o : Option SealRow = cond (is_kept st) (Some seal) None in o) ≡ true
-seal_kept states.Sealed seal is = refl
-seal_kept states.Withdrawn seal is = cc
-seal_kept states.Returned seal is = cc
-seal_kept states.Opened seal is = cc
+-- A tender that is sealed or opened has its seal.
+seal_kept : (st : EnvelopeState) (seal : SealRow) → is_kept st ≡ true → is_some (let o : Option SealRow = cond (is_kept st) (Some seal) None in o) ≡ true
+seal_kept st seal is = ap (λ b. let o : Option SealRow = cond b (Some seal) None in is_some o) is
 
-seals_there : (means : Means) (xs : List Given) (s : Tables) → FatesStand means.readings xs s → (n : ℕ) (e : EnvelopeRow) → envelope_at n s ≡ Some e → is_sealed e.state ≡ true
+seals_there : (means : Means) (xs : List Given) (s : Tables) → FatesStand means.readings xs s → (n : ℕ) (e : EnvelopeRow) → envelope_at n s ≡ Some e → is_kept e.state ≡ true
     → IsSome (seal_at n s)
 seals_there means xs s kept n e is sealed =
     let stands = (kept.tenders.received n e is).stands in

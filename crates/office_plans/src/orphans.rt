@@ -1,10 +1,11 @@
-//! Rows whose parent is missing, and numbers that a row has already. An office that its commands made has neither.
-ghost use Rattle.std.specs.Prelude.{◌≡◌, ◌+◌, ◌&&◌, OnOk, false, is_some, option_map};
+//! Rows that are missing, rows whose parent is, and numbers that a row has already. An office that its commands made has none of these.
+ghost use Rattle.std.specs.Prelude.{◌≡◌, ◌+◌, ◌&&◌, ◌||◌, OnOk, false, is_some, option_map};
 ghost use Rattle.std.specs.List.{list_any};
+ghost use Rattle.office_base.specs.Rows.{holds_of};
 ghost use Rattle.office_base.specs.Shelves.{Looks, LooksUp};
 ghost use Rattle.office_base.specs.Standings.{columns_at};
 ghost use Rattle.office_base.specs.Tables.{award_at, envelope_at};
-ghost use Rattle.office_machine.specs.Orphans.{contract_is_taken, has_rows_of_notice};
+ghost use Rattle.office_machine.specs.Orphans.{contract_is_taken, has_rows_of_notice, lacks_its_security, lacks_lot, lacks_seal};
 ghost use Rattle.office_plans.specs.Named.{is_of_lost_line};
 
 use keyed_table::table::Table;
@@ -13,7 +14,7 @@ use office_base::records::{ClockRow, EnvelopeRow};
 use office_base::shelf::{Lookups, ShelfFault};
 use office_base::standing::Standing;
 use office_commands::budget::BudgetRow;
-use office_values::given::AskedNumber;
+use office_values::given::{AskedNumber, asked};
 use office_values::id::Id;
 
 /// Whether a lot, a tender or a release of this notice exists.
@@ -50,11 +51,79 @@ pub fn award_is_taken<H: Lookups>(
     Ok(shelf.get_award(next)?.is_some())
 }
 
-/// Whether a contract has the number of this award.
-pub fn contract_is_taken<H: Lookups>(shelf: &mut H, award: AskedNumber) -> Result<bool, ShelfFault>
+// Whether a contract has the number of this award.
+fn contract_is_taken<H: Lookups>(shelf: &mut H, award: AskedNumber) -> Result<bool, ShelfFault>
     ensures { LooksUp H.meaning shelf.old shelf.new result (λ s found. found ≡ contract_is_taken award s) }
 {
     Ok(shelf.get_contract(award)?.is_some())
+}
+
+/// Whether the seal of this tender is missing, if there is a tender.
+pub fn lacks_seal<H: Lookups>(
+    shelf: &mut H,
+    envelope: &Option<EnvelopeRow>,
+) -> Result<bool, ShelfFault>
+    ensures { LooksUp H.meaning shelf.old shelf.new result (λ s lacks. lacks ≡ holds_of (lacks_seal s) envelope.now) }
+{
+    match envelope {
+        Some(row) => Ok(shelf.get_seal(asked(row.receipt))?.is_none()),
+        None => Ok(false),
+    }
+}
+
+// Whether the lot of this tender is missing, if there is a tender.
+fn lacks_lot<H: Lookups>(shelf: &mut H, envelope: &Option<EnvelopeRow>) -> Result<bool, ShelfFault>
+    ensures { LooksUp H.meaning shelf.old shelf.new result (λ s lacks. lacks ≡ holds_of (lacks_lot s) envelope.now) }
+{
+    match envelope {
+        Some(row) => Ok(shelf.get_lot(&row.notice, &row.lot)?.is_none()),
+        None => Ok(false),
+    }
+}
+
+/// Whether the security that this tender names is missing, if there is a tender.
+pub fn lacks_its_security<H: Lookups>(
+    shelf: &mut H,
+    envelope: &Option<EnvelopeRow>,
+) -> Result<bool, ShelfFault>
+    ensures { LooksUp H.meaning shelf.old shelf.new result (λ s lacks. lacks ≡ holds_of (lacks_its_security s) envelope.now) }
+{
+    let Some(row) = envelope else {
+        return Ok(false);
+    };
+    match row.security {
+        Some(number) => Ok(shelf.get_security(asked(number))?.is_none()),
+        None => Ok(false),
+    }
+}
+
+/// Whether a modification of this tender would use a receipt that is taken, or the tender's seal, lot or security is missing.
+pub fn cant_be_replaced<H: Lookups>(
+    shelf: &mut H,
+    clock: &ClockRow,
+    envelope: &Option<EnvelopeRow>,
+) -> Result<bool, ShelfFault>
+    ensures { LooksUp H.meaning shelf.old shelf.new result (λ s found. found ≡ (is_some (envelope_at (clock.now.receipts + 1) s)
+        || holds_of (lacks_seal s) envelope.now || holds_of (lacks_lot s) envelope.now || holds_of (lacks_its_security s) envelope.now)) }
+{
+    let taken = receipt_is_taken(shelf, clock)?;
+    let seal = lacks_seal(shelf, envelope)?;
+    let lot = lacks_lot(shelf, envelope)?;
+    let security = lacks_its_security(shelf, envelope)?;
+    Ok(taken || (seal || (lot || security)))
+}
+
+/// Whether a contract has the number of this award, or the security of the award's tender is missing.
+pub fn cant_be_signed<H: Lookups>(
+    shelf: &mut H,
+    award: AskedNumber,
+    envelope: &Option<EnvelopeRow>,
+) -> Result<bool, ShelfFault>
+    ensures { LooksUp H.meaning shelf.old shelf.new result (λ s found. found ≡ (contract_is_taken award s || holds_of (lacks_its_security s) envelope.now)) }
+{
+    let taken = contract_is_taken(shelf, award)?;
+    let security = lacks_its_security(shelf, envelope)?;
+    Ok(taken || security)
 }
 
 // Whether these lines have the line of this name.

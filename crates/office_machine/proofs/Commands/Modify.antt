@@ -1,7 +1,7 @@
 -- The replacement of a tender keeps the laws of the office.
 pub mod Fates
 use Rattle.std.specs.Prelude.{max, ℕ, List}
-use Rattle.std.proofs.Common.{[], ◌∷◌, refl, ◌≡◌, Bool, false, Option, Some, None, sym, ◌∙◌, ap, arith, ◌+◌, length, not}
+use Rattle.std.proofs.Common.{[], ◌∷◌, refl, ◌≡◌, Bool, false, Option, Some, None, sym, ◌∙◌, ap, arith, ◌+◌, length, not, ◌||◌}
 use Rattle.office_commands.specs.declared.commands.Command.TheVariants.{Modify}
 use Rattle.office_base.specs.declared.records.EnvelopeRow.{EnvelopeRow}
 use Rattle.office_base.specs.Tables.{envelope_at, Tables}
@@ -15,6 +15,7 @@ use Rattle.office_machine.specs.Worlds.{ChosenTender, Pairs, is_theirs}
 use Rattle.office_machine.specs.Parents.{HaveParents}
 use Rattle.office_machine.proofs.Commands.Footprint.{Envelopes, Seals}
 use Rattle.office_machine.proofs.Worlds.WorldsPut.{TwoEnvelopes, TwoSeals, AlikeOptions, PutPair, Plain, receipt_is, alike-set}
+use Rattle.office_machine.proofs.Parents.NoOrphans.{isnt_torn, receipt_is_new}
 use Rattle.office_machine.proofs.Parents.ParentsPut.{Grows, AllParents, envelope_still}
 use Rattle.office_machine.proofs.Commands.Lawful.{Lawful, Idle}
 use Rattle.office_machine.proofs.Passed.{none_holds, not_false, witness}
@@ -74,6 +75,10 @@ modify receipt bytes = record {
       moved refl (λ i. modify_puts readings.digest (record { envelope = e.1 i; notice = None; clock = s.clock }) now bytes)
       (front (puts.Envelope _ ∷ puts.DropSeal _ ∷ puts.Envelope _ ∷ puts.Seal _ ∷ []) (refl, (refl, (refl, (refl, tt)))) (quiet _ [] tt refl (omega arith)));
   parents = λ readings s moment caller order have registered may allowed u grown later. parents_of s u have grown readings.digest s.clock _ receipt bytes (envelope_at receipt s) refl;
-  lacks = λ xs s moment caller whole allowed. none_lacking s whole.parents receipt (envelope_at receipt s) refl;
+  lacks = λ xs s moment caller whole allowed.
+      let tests = none_holds (modify_tests (modify_rows s receipt) (max moment s.clock.moment) caller) allowed in
+      λ i.
+      none_lacking s whole.parents receipt (envelope_at receipt s) refl i || receipt_is_new xs s whole i
+      || isnt_torn xs s whole receipt (envelope_at receipt s) refl tests.1.1.1.0 i;
   alike = λ th W s es' ss' all seals readings t caller quiet. absurd quiet;
 }

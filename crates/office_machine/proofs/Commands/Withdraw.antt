@@ -20,6 +20,7 @@ use Rattle.office_machine.specs.Worlds.{ChosenTender, Pairs}
 use Rattle.office_machine.specs.Parents.{HaveParents, SecurityHas}
 use Rattle.office_machine.proofs.Commands.Footprint.{Envelopes, Seals, Securities, on-if}
 use Rattle.office_machine.proofs.Worlds.WorldsPut.{TwoEnvelopes, Alike, AlikeOptions, plain-if, PutPair, Plain, receipt_is, blind-option, plain_pairs, alike-set}
+use Rattle.office_machine.proofs.Parents.NoOrphans.{has_seal}
 use Rattle.office_machine.proofs.Parents.ParentsPut.{Grows, AllParents, envelope_still, parents-if}
 use Rattle.office_machine.proofs.Worlds.WorldsRows.{envelope_pair}
 use Rattle.office_machine.proofs.Parents.RowsHave.{security_found}
@@ -104,6 +105,12 @@ withdraw receipt = record {
       let e = witness (envelope_at receipt s) (not_false _ tests.0) in
       moved refl (λ i. withdraw_puts (record { envelope = e.1 i; notice = rows.notice; lot = None; late = rows.late; security = rows.security; clock = s.clock }) t) (tail_of s t e.0 rows.security (is_late rows.late t rows.notice));
   parents = λ readings s moment caller order have registered may allowed u grown later. parents_of s u have grown s.clock _ receipt (envelope_at receipt s) (notice_of_envelope (envelope_at receipt s) s) (late_of_envelope (envelope_at receipt s) s) refl;
-  lacks = λ xs s moment caller whole allowed. none_lacking s whole.parents receipt (envelope_at receipt s) refl;
+  lacks = λ xs s moment caller whole allowed.
+      let rows = withdraw_rows s receipt in
+      let now : ℕ = max moment s.clock.moment in
+      let tests = none_holds (withdraw_tests rows now caller) allowed in
+      λ i.
+      none_lacking s whole.parents receipt (envelope_at receipt s) refl i
+      || has_seal xs s whole (is_late rows.late now rows.notice) receipt (envelope_at receipt s) refl tests.1.1.1.0 i;
   alike = λ th W s es' ss' all seals readings t caller quiet. alike th W s es' all t receipt;
 }

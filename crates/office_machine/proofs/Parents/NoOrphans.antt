@@ -6,25 +6,32 @@ use Rattle.std.specs.declared.cmp.Ordering.{Ordering}
 use Rattle.office_values.specs.Ids.{same_id}
 use Rattle.office_commands.specs.declared.budget.BudgetRow.{BudgetRow}
 use Rattle.office_base.specs.Rows.{row_at, IsInOrder, holds_of}
+use Rattle.office_base.specs.Parents.{envelope_of_award}
+use Rattle.office_base.specs.States.{is_read, is_sealed}
 use Rattle.office_base.specs.Tables.{IsSorted, Tables, award_at, contract_at, envelope_at, line_at, lot_at, notice_at, seal_at, of_line, of_notice, envelopes_of_notice, lots_of_line, lots_of_notice, releases_of_notice}
 use Rattle.office_base.specs.declared.records.AwardRow.{AwardRow}
 use Rattle.office_base.specs.declared.records.ContractRow.{ContractRow}
 use Rattle.office_base.specs.declared.records.EnvelopeRow.{EnvelopeRow}
+use Rattle.office_base.specs.declared.records.EnvelopeState.TheVariants as states
+use Rattle.office_base.specs.declared.records.EnvelopeState.{EnvelopeState}
 use Rattle.office_base.specs.declared.records.LineRow.{LineRow}
 use Rattle.office_base.specs.declared.records.NoticeRow.{NoticeRow}
 use Rattle.office_base.specs.declared.records.ReleaseRow.{ReleaseRow}
 use Rattle.office_base.proofs.ExactKeys.{equal_ids}
 use Rattle.office_base.proofs.RowLaws.Keyed.{IsKeyed, found_key}
+use Rattle.tender_core.specs.Rules.Modify.{isnt_sealed}
 use Rattle.tender_core.specs.Rules.Open.{is_sealed_envelope}
+use Rattle.tender_core.specs.Rules.Withdraw.{cant_be_taken_back}
 use Rattle.award_core.specs.Rules.Fail.{isnt_active}
 use Rattle.office_machine.specs.Commands.Open.{lacks_tender}
+use Rattle.office_machine.specs.Fates.{is_kept}
 use Rattle.office_machine.specs.Machine.{Given}
-use Rattle.office_machine.specs.Orphans.{award_is_taken, contract_is_taken, has_rows, has_rows_of_notice, names_lost_line, receipt_is_taken}
+use Rattle.office_machine.specs.Orphans.{award_is_taken, contract_is_taken, has_rows, has_rows_of_notice, is_torn, lacks_its_security, lacks_seal, names_lost_line, receipt_is_taken}
 use Rattle.office_machine.specs.Parents.{HaveParents}
 use Rattle.office_machine.specs.Rule.{has_seal_and_lot}
 use Rattle.office_machine.proofs.Accounts.Kept.{AccountsStand}
 use Rattle.office_machine.proofs.Parents.ParentsPut.{all-filter, all-table}
-use Rattle.office_machine.proofs.Parents.Whole.{IsWhole}
+use Rattle.office_machine.proofs.Parents.Whole.{IsWhole, security_there}
 use Rattle.office_machine.proofs.Rows.Keyed as keyed
 
 -- If no element passes, none is left.
@@ -90,11 +97,53 @@ module _ (xs : List Given) (s : Tables) (kept : AccountsStand xs s) where
 pub receipt_is_new : (xs : List Given) (s : Tables) → IsWhole xs s → receipt_is_taken s ≡ false
 receipt_is_new xs s whole = ap is_some whole.unused
 
+-- A tender that is sealed, or one that a withdrawal takes back, has its seal.
+sealed_kept : (st : EnvelopeState) → is_sealed st ≡ true → is_kept st ≡ true
+sealed_kept states.Sealed is = refl
+sealed_kept states.Withdrawn is = cc
+sealed_kept states.Returned is = cc
+sealed_kept states.Opened is = cc
+
+taken_kept : (late : Bool) (st : EnvelopeState) → cond late (not (is_sealed st) && not (is_read st)) (not (is_sealed st)) ≡ false → is_kept st ≡ true
+taken_kept true states.Sealed is = refl
+taken_kept true states.Withdrawn is = cc
+taken_kept true states.Returned is = cc
+taken_kept true states.Opened is = refl
+taken_kept false states.Sealed is = refl
+taken_kept false states.Withdrawn is = cc
+taken_kept false states.Returned is = cc
+taken_kept false states.Opened is = cc
+
+-- The rows of a tender, if there is one.
+module _ (xs : List Given) (s : Tables) (whole : IsWhole xs s) where
+  seal_found : (k : ℕ) (e : EnvelopeRow) → envelope_at k s ≡ Some e → is_kept e.state ≡ true → lacks_seal s e ≡ false
+  seal_found k e is kept = ap not (ap (λ n. is_some (seal_at n s)) (found_key keyed.envelopes s.envelopes k e is) ∙ whole.seals k e is kept)
+
+  pub has_seal : (late : Bool) (k : ℕ) (o : Option EnvelopeRow) → envelope_at k s ≡ o → holds_of (cant_be_taken_back late) o ≡ false → holds_of (lacks_seal s) o ≡ false
+  has_seal late k None is can = refl
+  has_seal late k (Some e) is can = seal_found k e is (taken_kept late e.state can)
+
+  pub has_security : (k : ℕ) (o : Option EnvelopeRow) → envelope_at k s ≡ o → holds_of (lacks_its_security s) o ≡ false
+  has_security k None is = refl
+  has_security k (Some e) is = security_there s whole.parents e (whole.parents.envelopes k e is)
+
+  pub isnt_torn : (k : ℕ) (o : Option EnvelopeRow) → envelope_at k s ≡ o → holds_of isnt_sealed o ≡ false → is_torn s o ≡ false
+  isnt_torn k None is sealed = refl
+  isnt_torn k (Some e) is sealed =
+      let h = whole.parents.envelopes k e is in
+      let seal = seal_found k e is (taken_kept false e.state sealed) in
+      let security = security_there s whole.parents e h in
+      λ i. seal i || ap not h.lot i || security i
+
+  pub winner_has_security : (o : Option AwardRow) → holds_of (lacks_its_security s) (envelope_of_award o s) ≡ false
+  winner_has_security None = refl
+  winner_has_security (Some a) = has_security a.receipt (envelope_at a.receipt s) refl
+
 -- Each tender that is still sealed has its seal and its lot.
 module _ (xs : List Given) (s : Tables) (whole : IsWhole xs s) where
   has_both : (k : ℕ) (e : EnvelopeRow) → envelope_at k s ≡ Some e → is_sealed_envelope e ≡ true → has_seal_and_lot s e ≡ true
   has_both k e is sealed =
-      let seal : is_some (seal_at e.receipt s) ≡ true = ap (λ n. is_some (seal_at n s)) (found_key keyed.envelopes s.envelopes k e is) ∙ whole.seals k e is sealed in
+      let seal : is_some (seal_at e.receipt s) ≡ true = ap (λ n. is_some (seal_at n s)) (found_key keyed.envelopes s.envelopes k e is) ∙ whole.seals k e is (sealed_kept e.state sealed) in
       let lot : is_some (lot_at (e.notice, e.lot) s) ≡ true = (whole.parents.envelopes k e is).lot in
       λ i. seal i && lot i
 

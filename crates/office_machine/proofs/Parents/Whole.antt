@@ -6,13 +6,13 @@ use Rattle.office_base.specs.EntryKinds.{is_raise, is_less}
 use Rattle.office_base.specs.Joined.{is_overdrawn, minus, plus}
 use Rattle.office_base.specs.Parents.{line_of_lot, security_of_envelope}
 use Rattle.office_base.specs.Transitions.{lacks_security}
-use Rattle.office_base.specs.States.{is_sealed}
 use Rattle.office_base.specs.Tables.{IsSorted, Tables, contract_at, entries_of_contract, envelope_at, lot_at, same_number, seal_at, security_at}
 use Rattle.office_base.specs.declared.records.ContractRow.{ContractRow}
 use Rattle.office_base.specs.declared.records.EntryRow.{EntryRow}
 use Rattle.office_base.specs.declared.records.EnvelopeRow.{EnvelopeRow}
 use Rattle.office_base.specs.declared.records.LotRow.{LotRow}
 use Rattle.office_base.proofs.RowLaws.Keyed.{found_key}
+use Rattle.office_machine.specs.Fates.{is_kept}
 use Rattle.office_machine.specs.Machine.{Given}
 use Rattle.office_machine.specs.Parents.{EnvelopeHas, HaveParents, HavePerformances}
 use Rattle.office_machine.proofs.Accounts.Joins.{entry_sum-own}
@@ -24,9 +24,9 @@ pub record IsWhole (xs : List Given) (s : Tables) : Type 0 where
   pub performances : HavePerformances s
   pub accounts : AccountsStand xs s
   pub order : IsSorted s
-  -- No tender has the next receipt, and each that is still sealed has its seal.
+  -- No tender has the next receipt, and each that is sealed or opened has its seal.
   pub unused : envelope_at (s.clock.receipts + 1) s ≡ None
-  pub seals : (n : ℕ) (e : EnvelopeRow) → envelope_at n s ≡ Some e → is_sealed e.state ≡ true → IsSome (seal_at n s)
+  pub seals : (n : ℕ) (e : EnvelopeRow) → envelope_at n s ≡ Some e → is_kept e.state ≡ true → IsSome (seal_at n s)
 
 pub not_less : (a b : ℕ) → b ≤ a → nat_lt a b ≡ false
 not_less a b h = grind (arith, nat_tests, h)

@@ -9,10 +9,12 @@ ghost use Rattle.office_plans.specs.Published.{IsPlanned, TellsRefusal};
 ghost use Rattle.office_values.specs.declared.settings.Publisher.{Publisher};
 ghost use Rattle.tender_core.specs.Rules.Modify.{modify_rows};
 
+use crate::orphans::cant_be_replaced;
 use crate::parents::notice_of_envelope;
 use crate::planned::Planned;
 use crate::published::silent;
 use crate::replies::tender_reply;
+use office_base::laws::looks_follow;
 use office_base::shelf::{Lookups, ShelfFault};
 use office_commands::sealed::Sealed;
 use office_values::given::AskedNumber;
@@ -36,6 +38,7 @@ fn load<H: Lookups>(shelf: &mut H, receipt: AskedNumber) -> Result<ModifyRows, S
 }
 
 /// Plans a modification of a tender, which replaces it by another one. A refusal needs no memory except for the rows.
+/// `Unavailable` also if another tender has the next receipt, or the tender's seal, lot or security is missing.
 pub fn plan<H: Lookups>(
     alloc: Global,
     shelf: &mut H,
@@ -48,10 +51,15 @@ pub fn plan<H: Lookups>(
         IsPlanned publisher (given_by asking.now s (Modify receipt sealed.entry)) result) }
     ensures tells { TellsRefusal H.meaning shelf.old shelf.new (λ s. given_by asking.now s (Modify receipt sealed.entry)) result }
 {
+    looks_follow::<H>();
     let rows = load(shelf, receipt)?;
     let t = asking.time(&rows.clock);
     if let Some(why) = refusal(t, asking.caller, &rows) {
         return Err(why);
+    }
+    let broken = cant_be_replaced(shelf, &rows.clock, &rows.envelope)?;
+    if broken {
+        return Err(Refusal::Unavailable);
     }
     let puts = puts(alloc, t, rows, &sealed)?;
     let text = tender_reply(alloc, puts.as_slice(), 2)?;

@@ -18,7 +18,7 @@ ghost use Rattle.office_values.specs.declared.refusal.Refusal.TheVariants.{Unava
 use crate::events::status_with;
 use crate::objects::{Plain, object_text};
 use crate::of_lot::securities_of_award;
-use crate::orphans::contract_is_taken;
+use crate::orphans::cant_be_signed;
 use crate::parents::{envelope_of_award, lot_of_award, notice_of_award};
 use crate::planned::Planned;
 use crate::published::{Released, make_release, published};
@@ -121,7 +121,7 @@ fn release<H: Lookups>(
 }
 
 /// Plans the signing of a contract, with a performance security if one is named. A refusal needs no memory except for the rows.
-/// `Unavailable` also if a contract has the award's number.
+/// `Unavailable` also if a contract has the award's number, or the security of its tender is missing.
 pub fn plan<H: Lookups>(
     alloc: Global,
     shelf: &mut H,
@@ -140,7 +140,7 @@ pub fn plan<H: Lookups>(
     if let Some(why) = refusal(t, &rows, &security) {
         return Err(why);
     }
-    let taken = contract_is_taken(shelf, award)?;
+    let taken = cant_be_signed(shelf, award, &rows.envelope)?;
     if taken {
         return Err(Refusal::Unavailable);
     }

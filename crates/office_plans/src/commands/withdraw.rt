@@ -13,10 +13,12 @@ ghost use Rattle.office_values.specs.declared.settings.Publisher.{Publisher};
 ghost use Rattle.tender_core.specs.Rules.Withdraw.{withdraw_rows};
 
 use crate::objects::{Plain, object_text};
+use crate::orphans::lacks_seal;
 use crate::parents::{late_of_envelope, lot_of_envelope, notice_of_envelope, security_of_envelope};
 use crate::planned::Planned;
 use crate::published::silent;
 use crate::words::state_word;
+use office_base::laws::looks_follow;
 use office_base::records::{EnvelopeRow, EnvelopeState};
 use office_base::shelf::{Lookups, ShelfFault};
 use office_values::given::AskedNumber;
@@ -109,10 +111,15 @@ pub fn plan<H: Lookups>(
     ensures looks { (publisher : Publisher) → Looks H.meaning shelf.old shelf.new (λ s. IsPlanned publisher (given_by asking.now s (Withdraw receipt)) result) }
     ensures tells { TellsRefusal H.meaning shelf.old shelf.new (λ s. given_by asking.now s (Withdraw receipt)) result }
 {
+    looks_follow::<H>();
     let rows = load(shelf, receipt)?;
     let t = asking.time(&rows.clock);
     if let Some(why) = refusal(t, asking.caller, &rows) {
         return Err(why);
+    }
+    let broken = lacks_seal(shelf, &rows.envelope)?;
+    if broken {
+        return Err(Refusal::Unavailable);
     }
     let text = reply(alloc, t, &rows, receipt)?;
     let puts = puts(alloc, t, rows)?;

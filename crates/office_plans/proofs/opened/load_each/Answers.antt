@@ -16,7 +16,8 @@ loop-envelope-init g c =
       record { before = λ h. h; same = λ h t held. held; stop = λ h u left. left; sound = λ h was. was },
       λ honest s held. (
         subst (λ (rows : List LotRow). AreFrom lot_cmp lot_key s.lots rows) (sym c.new-lots.ensures) (none_from lot_cmp lot_key s.lots),
-        (grind (arith, made, given), ap (list_any (λ e. not (has_seal_and_lot s e))) given),
+        grind (arith, made, given),
+        ap (list_any (λ e. not (has_seal_and_lot s e))) given,
       ),
     )
 
@@ -39,11 +40,9 @@ loop-envelope-preserved g c =
           let has : HasLotOf s c.load_lot.new.lots e =
           subst (λ (rows : List LotRow). HasLotOf s rows e) (sym lots) (here laws exact_lots s.lots old (e.notice, e.lot) so_far.0) in (
             subst (λ (rows : List LotRow). AreFrom lot_cmp lot_key s.lots rows) (sym lots) (from_one laws exact_lots s.lots old (e.notice, e.lot) so_far.0),
-            (
-              next_read (tender_read s) c.loop-envelope.tenders.items c.push.new.self.items c.in_ok-tender.tender e c.loop-envelope.envelope-iterator.rest.items
-                  c.next.new.self.rest.items _ c.in_ok-push.ensures.items (step.looks.1 honest s (found.0.same second s at_start) has) c.in-Some.ensures.steps.0 so_far.1.0,
-              rest_whole (λ e. not (has_seal_and_lot s e)) e c.loop-envelope.envelope-iterator.rest.items c.next.new.self.rest.items _
-                  (ap not (step.whole.1 honest s (found.0.same second s at_start) has)) c.in-Some.ensures.steps.0 so_far.1.1,
-            ),
+            next_read (tender_read s) c.loop-envelope.tenders.items c.push.new.self.items c.in_ok-tender.tender e c.loop-envelope.envelope-iterator.rest.items
+                c.next.new.self.rest.items _ c.in_ok-push.ensures.items (step.looks.1 honest s (found.0.same second s at_start) has) c.in-Some.ensures.steps.0 so_far.1,
+            rest_whole (λ e. not (has_seal_and_lot s e)) e c.loop-envelope.envelope-iterator.rest.items c.next.new.self.rest.items _
+                (ap not (step.whole.1 honest s (found.0.same second s at_start) has)) c.in-Some.ensures.steps.0 so_far.2,
           ),
     )

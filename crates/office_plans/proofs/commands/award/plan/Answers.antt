@@ -5,6 +5,7 @@ use Rattle.award_core.specs.declared.award.AwardRows.{AwardRows}
 use Rattle.office_commands.specs.declared.commands.Command.TheVariants.{Award}
 use Rattle.office_base.specs.Tables.{Tables, award_at}
 use Rattle.office_base.specs.declared.records.EnvelopeRow.{EnvelopeRow}
+use Rattle.office_machine.specs.Lacking.{is_lacking}
 use Rattle.office_machine.specs.Machine.{time_of}
 use Rattle.office_machine.specs.Orphans.{award_is_taken}
 use Rattle.office_plans.proofs.AwardedLots.{same_puts}
@@ -24,9 +25,9 @@ rule asking notice lot = record { clock = λ s. refl; tested = λ s. refl }
 -- No award has the next number, as the look-up says.
 is_new : (notice lot : List ℕ) (s : Tables) (rows : AwardRows) → rows ≡ awarded_rows s notice lot → (best : Option EnvelopeRow) → best ≡ winner rows.notice rows.envelopes → (taken : Bool)
     → taken ≡ (is_some best && is_some (award_at (rows.clock.awards + 1) s)) → taken ≡ false → award_is_taken notice lot s ≡ false
-is_new notice lot s rows are best is taken found no =
+is_new notice lot s rows are best is taken found none =
     let by = λ (rows : AwardRows). is_some (winner rows.notice rows.envelopes) && is_some (award_at (rows.clock.awards + 1) s) in
-    sym (found ∙ ap (λ (o : Option EnvelopeRow). is_some o && is_some (award_at (rows.clock.awards + 1) s)) is ∙ ap by are) ∙ no
+    sym (found ∙ ap (λ (o : Option EnvelopeRow). is_some o && is_some (award_at (rows.clock.awards + 1) s)) is ∙ ap by are) ∙ none
 
 pub returns-in-Some-clause-looks : goal.returns-in-Some-clause-looks
 returns-in-Some-clause-looks g c =
@@ -43,7 +44,7 @@ returns-clause-looks g c =
     let allowed = refused_on ruled _ _ moment _ c.requires c.refusal.ensures s are ∙ c.in_default.is in
     let there = sym (ap award_lacks are) ∙ c.in_ok-puts.ensures.whole in
     let new = is_new a.notice a.lot s _ are _ c.best_tender-best.ensures _ taken c.if-taken.false in
-    let whole = λ i. there i || new i in
+    let whole : is_lacking (given_by a.asking.now s (Award a.notice a.lot)) ≡ false = λ i. there i || new i in
     let puts = puts_on ruled _ _ moment (λ (rows : AwardRows) (t : ℕ). award_puts rows t) _ c.in_ok-puts.ensures.puts s are (same_puts a.notice a.lot s (time_of (given_by a.asking.now s (Award a.notice a.lot)))) in
     let made = released are c.best_tender-best.ensures in
     joined a.publisher.now (given_by a.asking.now s (Award a.notice a.lot)) refl tt allowed whole puts (c.in_ok-text.ensures s a.notice are c.best_tender-best.ensures (numbered_notice made a.notice refl)) made)

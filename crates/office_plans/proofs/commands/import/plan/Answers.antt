@@ -11,6 +11,7 @@ use Rattle.office_base.specs.declared.standing.Standing.{Standing}
 use Rattle.office_values.specs.Ids.{id_cmp}
 use Rattle.tender_core.specs.Agreeing.{AgreeOnRows, ImportsAgree}
 use Rattle.tender_core.specs.declared.asking.Asking.{Asking}
+use Rattle.office_machine.specs.Lacking.{is_lacking}
 use Rattle.office_machine.specs.Machine.{time_of}
 use Rattle.office_machine.specs.Orphans.{has_rows, names_lost_line}
 use Rattle.office_machine.specs.Replies.{Imported}
@@ -77,7 +78,7 @@ returns g c publisher =
           let cut = sym (laws.lacks named (standings s) (import_rows s a.batch a.rows) agree) ∙ sym (ap import_lacks are) ∙ wholes _ _ _ _ c.in_ok-puts.ensures in
           let lost = λ (m : List Standing). list_any (is_of_lost_line s m) a.rows in
           let found = ap lost (ap (λ (loaded : ImportRows). loaded.file.lines) (sym are)) ∙ c.in_ok-loaded.ensures.whole.1 honest s held in
-          let whole = λ i. cut i || none_lost laws s named a.rows agree found i in
+          let whole : is_lacking (given_by a.asking.now s (Import a.batch a.rows)) ≡ false = λ i. cut i || none_lost laws s named a.rows agree found i in
           let own =
           sym (laws.puts (standings_named s (map line_of_row a.rows)) (standings s) (import_rows s a.batch a.rows) time a.batch
           (standings_agree c.rows_are_kept.ensures laws s a.rows)) in

@@ -1,15 +1,17 @@
-use Rattle.std.specs.Prelude.{◌≡◌, List, Option, Some, None, ℕ, slice_get}
+use Rattle.std.specs.Prelude.{◌≡◌, ◌+◌, ◌||◌, List, Option, Some, None, false, is_some, ℕ, slice_get}
 use Rattle.std.proofs.Common.{◌∙◌, ap, refl, sym}
 use Rattle.office_commands.specs.declared.command.Caller.{Caller}
 use Rattle.office_commands.specs.declared.commands.Command.TheVariants.{Modify}
 use Rattle.office_base.specs.Rules.{first_of}
-use Rattle.office_base.specs.Tables.{Tables}
+use Rattle.office_base.specs.Tables.{Tables, envelope_at}
 use Rattle.office_base.specs.declared.puts.Put.{Put}
 use Rattle.office_base.specs.declared.puts.Put.TheVariants.{Envelope}
 use Rattle.office_base.specs.declared.records.EnvelopeRow.{EnvelopeRow}
+use Rattle.office_machine.specs.Lacking.{is_lacking}
 use Rattle.office_machine.specs.OfficeMeans.{office_readings}
+use Rattle.office_machine.specs.Orphans.{is_torn}
 use Rattle.office_machine.specs.Replies.{modify_reply, received_reply}
-use Rattle.office_plans.proofs.Publishing.{IsTested, not_planned, on_rows, puts_on, refused_on, whole_on}
+use Rattle.office_plans.proofs.Publishing.{IsTested, not_planned, on_rows, puts_on, refused_on, two_looks}
 use Rattle.office_plans.proofs.Telling.{fault_told, none_to_tell, refusal_told}
 use Rattle.office_plans.proofs.commands.modify.plan.Goals as goal
 use Rattle.office_plans.specs.Asking.{given_by}
@@ -45,19 +47,19 @@ pub returns-clause-looks : goal.returns-clause-looks
 returns-clause-looks g c publisher =
     let a = c.args in
     let ruled = rule a.asking.now a.receipt a.sealed in
-    let moment = c.time-t.ensures in (
-      c.in_ok-rows.ensures.0.0,
-      λ honest s held.
-          let are = c.in_ok-rows.ensures.0.1 honest s held in
-          let allowed = refused_on ruled _ _ moment _ c.requires c.refusal.ensures s are ∙ c.in_default.is in
-          let whole = whole_on ruled _ _ moment (λ (rows : ModifyRows). modify_lacks rows) c.in_ok-puts.ensures.whole s are refl in
-          let puts = puts_on ruled _ _ moment (λ (rows : ModifyRows) (t : ℕ). modify_puts sha256 rows t a.sealed) _ c.in_ok-puts.ensures.puts s are refl in
-          let third = λ tender at. c.in_ok-text.ensures.told tender (ap (λ (ps : List Put). slice_get ps 2) (c.as_slice.ensures.value ∙ c.in_ok-puts.ensures.puts) ∙ at) in
-          let told =
-          told_of _ _ a.asking.now.caller.now a.sealed _ (sym c.refusal.ensures ∙ c.in_default.is) third
-          ∙ on_rows ruled _ _ moment (λ (rows : ModifyRows) (t : ℕ). reply_text (modify_reply office_readings rows.clock t a.sealed rows.envelope)) s are in
-          c.silent.ensures publisher (given_by a.asking.now s (Modify a.receipt a.sealed)) tt allowed whole refl refl puts told,
-    )
+    let moment = c.time-t.ensures in
+    two_looks _ c.looks_follow.ensures _ _ _ _ _ _ c.in_ok-rows.ensures.0 c.in_ok-broken.ensures.0
+    (λ s are broken.
+    let allowed = refused_on ruled _ _ moment _ c.requires c.refusal.ensures s are ∙ c.in_default.is in
+    let there = sym (ap modify_lacks are) ∙ c.in_ok-puts.ensures.whole in
+    let found = sym (broken ∙ ap (λ (rows : ModifyRows). is_some (envelope_at (rows.clock.receipts + 1) s) || is_torn s rows.envelope) are) ∙ c.if-broken.false in
+    let whole : is_lacking (given_by a.asking.now s (Modify a.receipt a.sealed)) ≡ false = λ i. there i || found i in
+    let puts = puts_on ruled _ _ moment (λ (rows : ModifyRows) (t : ℕ). modify_puts sha256 rows t a.sealed) _ c.in_ok-puts.ensures.puts s are refl in
+    let third = λ tender at. c.in_ok-text.ensures.told tender (ap (λ (ps : List Put). slice_get ps 2) (c.as_slice.ensures.value ∙ c.in_ok-puts.ensures.puts) ∙ at) in
+    let told =
+    told_of _ _ a.asking.now.caller.now a.sealed _ (sym c.refusal.ensures ∙ c.in_default.is) third
+    ∙ on_rows ruled _ _ moment (λ (rows : ModifyRows) (t : ℕ). reply_text (modify_reply office_readings rows.clock t a.sealed rows.envelope)) s are in
+    c.silent.ensures publisher (given_by a.asking.now s (Modify a.receipt a.sealed)) tt allowed whole refl refl puts told)
 
 pub returns-in_err-rows-clause-tells : goal.returns-in_err-rows-clause-tells
 returns-in_err-rows-clause-tells g c =
@@ -69,20 +71,32 @@ returns-in-Some-clause-tells g c =
     let a = c.args in
     refusal_told (rule a.asking.now a.receipt a.sealed) _ _ c.time-t.ensures _ _ _ c.in_ok-rows.ensures.0 c.requires _ c.refusal.ensures _ c.in-Some.is
 
+pub returns-in_err-broken-clause-tells : goal.returns-in_err-broken-clause-tells
+returns-in_err-broken-clause-tells g c =
+    let a = c.args in
+    none_to_tell (rule a.asking.now a.receipt a.sealed) _ _ c.time-t.ensures _ _ _ c.in_ok-rows.ensures.0 c.requires _ c.refusal.ensures _ _
+    c.in_err-broken.ensures.0.0.before c.in_default.is
+
+pub returns-then-broken-clause-tells : goal.returns-then-broken-clause-tells
+returns-then-broken-clause-tells g c =
+    let a = c.args in
+    none_to_tell (rule a.asking.now a.receipt a.sealed) _ _ c.time-t.ensures _ _ _ c.in_ok-rows.ensures.0 c.requires _ c.refusal.ensures _ _
+    c.in_ok-broken.ensures.0.0.before c.in_default.is
+
 pub returns-in_err-puts-clause-tells : goal.returns-in_err-puts-clause-tells
 returns-in_err-puts-clause-tells g c =
     let a = c.args in
     none_to_tell (rule a.asking.now a.receipt a.sealed) _ _ c.time-t.ensures _ _ _ c.in_ok-rows.ensures.0 c.requires _ c.refusal.ensures _ _
-    (λ honest. honest) c.in_default.is
+    c.in_ok-broken.ensures.0.0.before c.in_default.is
 
 pub returns-in_err-text-clause-tells : goal.returns-in_err-text-clause-tells
 returns-in_err-text-clause-tells g c =
     let a = c.args in
     none_to_tell (rule a.asking.now a.receipt a.sealed) _ _ c.time-t.ensures _ _ _ c.in_ok-rows.ensures.0 c.requires _ c.refusal.ensures _ _
-    (λ honest. honest) c.in_default.is
+    c.in_ok-broken.ensures.0.0.before c.in_default.is
 
 pub returns-clause-tells : goal.returns-clause-tells
 returns-clause-tells g c =
     let a = c.args in
     none_to_tell (rule a.asking.now a.receipt a.sealed) _ _ c.time-t.ensures _ _ _ c.in_ok-rows.ensures.0 c.requires _ c.refusal.ensures _ _
-    (λ honest. honest) c.in_default.is
+    c.in_ok-broken.ensures.0.0.before c.in_default.is

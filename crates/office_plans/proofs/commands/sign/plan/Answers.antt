@@ -1,10 +1,13 @@
-use Rattle.std.specs.Prelude.{Option, ℕ, ◌||◌}
+use Rattle.std.specs.Prelude.{Option, false, ℕ, ◌≡◌, ◌||◌}
 use Rattle.std.proofs.Common.{◌∙◌, ap, refl, sym}
 use Rattle.award_core.specs.Rules.Sign.{sign_lacks, sign_puts, sign_rows, sign_tests}
 use Rattle.award_core.specs.declared.sign.SignRows.{SignRows}
 use Rattle.office_commands.specs.declared.commands.Command.TheVariants.{Sign}
 use Rattle.office_commands.specs.declared.tender.NamedSecurity.{NamedSecurity}
+use Rattle.office_base.specs.Rows.{holds_of}
 use Rattle.office_base.specs.Tables.{Tables, award_at}
+use Rattle.office_machine.specs.Lacking.{is_lacking}
+use Rattle.office_machine.specs.Orphans.{contract_is_taken, lacks_its_security}
 use Rattle.office_plans.proofs.Numbered.{numbered_award}
 use Rattle.office_plans.proofs.Publishing.{IsTested, four_looks, not_planned, puts_on, refused_on}
 use Rattle.office_plans.proofs.Telling.{fault_told, none_to_tell, refusal_told}
@@ -32,8 +35,8 @@ returns-clause-looks g c =
     (λ s are taken released joined.
     let allowed = refused_on ruled _ _ moment _ c.requires c.refusal.ensures s are ∙ c.in_default.is in
     let there = sym (ap sign_lacks are) ∙ c.in_ok-puts.ensures.whole in
-    let new = sym taken ∙ c.if-taken.false in
-    let whole = λ i. there i || new i in
+    let new = sym (taken ∙ ap (λ (rows : SignRows). contract_is_taken a.award s || holds_of (lacks_its_security s) rows.envelope) are) ∙ c.if-taken.false in
+    let whole : is_lacking (given_by a.asking.now s (Sign a.award a.security)) ≡ false = λ i. there i || new i in
     let puts = puts_on ruled _ _ moment (λ (rows : SignRows) (t : ℕ). sign_puts rows t a.security) _ c.in_ok-puts.ensures.puts s are refl in
     let row = sym c.as_ref.ensures.value ∙ ap option_copied c.unwrap-row.ensures in
     let made = released a.award a.security are row in

@@ -1,10 +1,13 @@
-use Rattle.std.specs.Prelude.{ℕ}
-use Rattle.std.proofs.Common.{◌∙◌, refl}
+use Rattle.std.specs.Prelude.{false, ℕ, ◌≡◌, ◌||◌}
+use Rattle.std.proofs.Common.{◌∙◌, ap, refl, sym}
 use Rattle.office_commands.specs.declared.commands.Command.TheVariants.{Withdraw}
+use Rattle.office_base.specs.Rows.{holds_of}
 use Rattle.office_base.specs.Transitions.{is_late}
 use Rattle.office_base.specs.Tables.{Tables}
+use Rattle.office_machine.specs.Lacking.{is_lacking}
+use Rattle.office_machine.specs.Orphans.{lacks_seal}
 use Rattle.office_machine.specs.Replies.{Withdrew, state_after}
-use Rattle.office_plans.proofs.Publishing.{IsTested, not_planned, on_rows, puts_on, refused_on, whole_on}
+use Rattle.office_plans.proofs.Publishing.{IsTested, not_planned, on_rows, puts_on, refused_on, two_looks}
 use Rattle.office_plans.proofs.Telling.{fault_told, none_to_tell, refusal_told}
 use Rattle.office_plans.proofs.commands.withdraw.plan.Goals as goal
 use Rattle.office_plans.specs.Asking.{given_by}
@@ -27,17 +30,17 @@ pub returns-clause-looks : goal.returns-clause-looks
 returns-clause-looks g c publisher =
     let a = c.args in
     let ruled = rule a.asking.now a.receipt in
-    let moment = c.time-t.ensures in (
-      c.in_ok-rows.ensures.0.0,
-      λ honest s held.
-          let are = c.in_ok-rows.ensures.0.1 honest s held in
-          let allowed = refused_on ruled _ _ moment _ c.requires c.refusal.ensures s are ∙ c.in_default.is in
-          let whole = whole_on ruled _ _ moment (λ (rows : WithdrawRows). withdraw_lacks rows) c.in_ok-puts.ensures.whole s are refl in
-          let puts = puts_on ruled _ _ moment (λ (rows : WithdrawRows) (t : ℕ). withdraw_puts rows t) _ c.in_ok-puts.ensures.puts s are refl in
-          let reply = λ (rows : WithdrawRows) (t : ℕ). reply_text (Withdrew a.receipt (state_after (is_late rows.late t rows.notice) rows.envelope) t) in
-          let told = c.in_ok-text.ensures ∙ on_rows ruled _ _ moment reply s are in
-          c.silent.ensures publisher (given_by a.asking.now s (Withdraw a.receipt)) tt allowed whole refl refl puts told,
-    )
+    let moment = c.time-t.ensures in
+    two_looks _ c.looks_follow.ensures _ _ _ _ _ _ c.in_ok-rows.ensures.0 c.in_ok-broken.ensures.0
+    (λ s are broken.
+    let allowed = refused_on ruled _ _ moment _ c.requires c.refusal.ensures s are ∙ c.in_default.is in
+    let there = sym (ap withdraw_lacks are) ∙ c.in_ok-puts.ensures.whole in
+    let found = sym (broken ∙ ap (λ (rows : WithdrawRows). holds_of (lacks_seal s) rows.envelope) are) ∙ c.if-broken.false in
+    let whole : is_lacking (given_by a.asking.now s (Withdraw a.receipt)) ≡ false = λ i. there i || found i in
+    let puts = puts_on ruled _ _ moment (λ (rows : WithdrawRows) (t : ℕ). withdraw_puts rows t) _ c.in_ok-puts.ensures.puts s are refl in
+    let reply = λ (rows : WithdrawRows) (t : ℕ). reply_text (Withdrew a.receipt (state_after (is_late rows.late t rows.notice) rows.envelope) t) in
+    let told = c.in_ok-text.ensures ∙ on_rows ruled _ _ moment reply s are in
+    c.silent.ensures publisher (given_by a.asking.now s (Withdraw a.receipt)) tt allowed whole refl refl puts told)
 
 pub returns-in_err-rows-clause-tells : goal.returns-in_err-rows-clause-tells
 returns-in_err-rows-clause-tells g c =
@@ -49,20 +52,32 @@ returns-in-Some-clause-tells g c =
     let a = c.args in
     refusal_told (rule a.asking.now a.receipt) _ _ c.time-t.ensures _ _ _ c.in_ok-rows.ensures.0 c.requires _ c.refusal.ensures _ c.in-Some.is
 
+pub returns-in_err-broken-clause-tells : goal.returns-in_err-broken-clause-tells
+returns-in_err-broken-clause-tells g c =
+    let a = c.args in
+    none_to_tell (rule a.asking.now a.receipt) _ _ c.time-t.ensures _ _ _ c.in_ok-rows.ensures.0 c.requires _ c.refusal.ensures _ _
+    c.in_err-broken.ensures.0.0.before c.in_default.is
+
+pub returns-then-broken-clause-tells : goal.returns-then-broken-clause-tells
+returns-then-broken-clause-tells g c =
+    let a = c.args in
+    none_to_tell (rule a.asking.now a.receipt) _ _ c.time-t.ensures _ _ _ c.in_ok-rows.ensures.0 c.requires _ c.refusal.ensures _ _
+    c.in_ok-broken.ensures.0.0.before c.in_default.is
+
 pub returns-in_err-text-clause-tells : goal.returns-in_err-text-clause-tells
 returns-in_err-text-clause-tells g c =
     let a = c.args in
     none_to_tell (rule a.asking.now a.receipt) _ _ c.time-t.ensures _ _ _ c.in_ok-rows.ensures.0 c.requires _ c.refusal.ensures _ _
-    (λ honest. honest) c.in_default.is
+    c.in_ok-broken.ensures.0.0.before c.in_default.is
 
 pub returns-in_err-puts-clause-tells : goal.returns-in_err-puts-clause-tells
 returns-in_err-puts-clause-tells g c =
     let a = c.args in
     none_to_tell (rule a.asking.now a.receipt) _ _ c.time-t.ensures _ _ _ c.in_ok-rows.ensures.0 c.requires _ c.refusal.ensures _ _
-    (λ honest. honest) c.in_default.is
+    c.in_ok-broken.ensures.0.0.before c.in_default.is
 
 pub returns-clause-tells : goal.returns-clause-tells
 returns-clause-tells g c =
     let a = c.args in
     none_to_tell (rule a.asking.now a.receipt) _ _ c.time-t.ensures _ _ _ c.in_ok-rows.ensures.0 c.requires _ c.refusal.ensures _ _
-    (λ honest. honest) c.in_default.is
+    c.in_ok-broken.ensures.0.0.before c.in_default.is
