@@ -23,7 +23,7 @@ use tender_core::asking::Asking;
 fn notice_text(
     alloc: Global,
     notice: Id,
-    release: u64,
+    release: Sequence,
     moment: Moment,
 ) -> Result<Vec<u8>, AllocError>
     ensures { IfOk result (λ text. text.items ≡ reply_text (OfNotice notice release moment)) }
@@ -33,7 +33,7 @@ fn notice_text(
         &[
             ("moment", Plain::Moment(moment)),
             ("notice", Plain::Id(notice)),
-            ("release", Plain::Number(release)),
+            ("release", Plain::Number(release.get())),
         ],
     )
 }
@@ -50,7 +50,7 @@ pub(crate) fn notice_reply(
         → text.items ≡ reply_text (OfNotice notice (release_of s.notices notice) (max asking.now.moment s.clock.moment))) }
 {
     let t = asking.time(clock);
-    notice_text(alloc, notice, release.get(), t)
+    notice_text(alloc, notice, release, t)
 }
 
 /// The text that says how much of a contract is outstanding now.
@@ -58,7 +58,7 @@ pub(crate) fn contract_text(
     alloc: Global,
     contract: AskedNumber,
     left: u64,
-    release: u64,
+    release: Sequence,
     moment: Moment,
 ) -> Result<Vec<u8>, AllocError>
     ensures { IfOk result (λ text. text.items ≡ reply_text (OfContract contract left release moment)) }
@@ -69,7 +69,7 @@ pub(crate) fn contract_text(
             ("contract", Plain::Number(contract.get())),
             ("moment", Plain::Moment(moment)),
             ("outstanding", Plain::Number(left)),
-            ("release", Plain::Number(release)),
+            ("release", Plain::Number(release.get())),
         ],
     )
 }
@@ -78,14 +78,16 @@ pub(crate) fn contract_text(
 fn received_text(alloc: Global, tender: &EnvelopeRow) -> Result<Vec<u8>, AllocError>
     ensures { IfOk result (λ text. text.items ≡ reply_text (received_reply tender.now)) }
 {
+    let receipt = tender.receipt.get();
+    let security = number_of(tender.security);
     let word = state_word(tender.state);
     object_text(
         alloc,
         &[
             ("digest", Plain::Digest(tender.digest)),
             ("moment", Plain::Moment(tender.moment)),
-            ("receipt", Plain::Number(tender.receipt.get())),
-            ("security", Plain::Count(number_of(tender.security))),
+            ("receipt", Plain::Number(receipt)),
+            ("security", Plain::Count(security)),
             ("state", Plain::Text(word)),
         ],
     )

@@ -76,7 +76,7 @@ fn reply(
     laws::outstanding();
     let left = left_by_change(rows, kind, amount)?;
     let t = asking.time(&rows.clock);
-    let text = contract_text(alloc, contract, left, release.get(), t)?;
+    let text = contract_text(alloc, contract, left, release, t)?;
     Ok(text)
 }
 

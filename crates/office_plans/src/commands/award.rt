@@ -106,7 +106,7 @@ fn awarded_text(
     clock: &ClockRow,
     lot: Id,
     best: Option<&EnvelopeRow>,
-    release: u64,
+    release: Sequence,
     moment: Moment,
 ) -> Result<Vec<u8>, AllocError>
     ensures { IfOk result (λ text. text.items
@@ -120,7 +120,7 @@ fn awarded_text(
             ("lot", Plain::Id(lot)),
             ("moment", Plain::Moment(moment)),
             ("price", Plain::Count(price)),
-            ("release", Plain::Number(release)),
+            ("release", Plain::Number(release.get())),
             ("tender", Plain::Count(tender)),
         ],
     )
@@ -140,7 +140,7 @@ fn reply(
         → text.items ≡ reply_text (accepted_reply (given_by asking.now s (Award notice lot)))) }
 {
     let t = asking.time(&rows.clock);
-    awarded_text(alloc, &rows.clock, lot, best, release.get(), t)
+    awarded_text(alloc, &rows.clock, lot, best, release, t)
 }
 
 // The release of an award to this tender. `Unavailable` also if all 10^9 numbers of awards are used or the tenderer's row is missing, which can't happen in a

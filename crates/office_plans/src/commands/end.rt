@@ -72,7 +72,7 @@ fn reply(
     laws::outstanding();
     let left = left_by_end(rows)?;
     let t = asking.time(&rows.clock);
-    let text = contract_text(alloc, contract, left, release.get(), t)?;
+    let text = contract_text(alloc, contract, left, release, t)?;
     Ok(text)
 }
 

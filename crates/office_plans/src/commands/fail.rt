@@ -54,7 +54,7 @@ fn load<H: Lookups>(shelf: &mut H, award: AskedNumber) -> Result<FailRows, Shelf
 fn failed_text(
     alloc: Global,
     award: AskedNumber,
-    release: u64,
+    release: Sequence,
     moment: Moment,
 ) -> Result<Vec<u8>, AllocError>
     ensures { IfOk result (λ text. text.items ≡ reply_text (Failed award release moment)) }
@@ -64,7 +64,7 @@ fn failed_text(
         &[
             ("award", Plain::Number(award.get())),
             ("moment", Plain::Moment(moment)),
-            ("release", Plain::Number(release)),
+            ("release", Plain::Number(release.get())),
         ],
     )
 }
@@ -81,7 +81,7 @@ fn reply(
         → text.items ≡ reply_text (accepted_reply (given_by asking.now s (Fail award)))) }
 {
     let t = asking.time(&rows.clock);
-    failed_text(alloc, award, release.get(), t)
+    failed_text(alloc, award, release, t)
 }
 
 // The release of an accepted `fail` of this award.

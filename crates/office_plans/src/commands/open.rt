@@ -48,7 +48,7 @@ fn opened_text(
     alloc: Global,
     notice: Id,
     count: u64,
-    release: u64,
+    release: Sequence,
     moment: Moment,
 ) -> Result<Vec<u8>, AllocError>
     ensures { IfOk result (λ text. text.items ≡ reply_text (OpenedAll notice count release moment)) }
@@ -59,7 +59,7 @@ fn opened_text(
             ("moment", Plain::Moment(moment)),
             ("notice", Plain::Id(notice)),
             ("opened", Plain::Number(count)),
-            ("release", Plain::Number(release)),
+            ("release", Plain::Number(release.get())),
         ],
     )
 }
@@ -78,7 +78,7 @@ fn reply(
 {
     let count = tenders.len() as u64;
     let t = asking.time(&rows.clock);
-    opened_text(alloc, notice, count, release.get(), t)
+    opened_text(alloc, notice, count, release, t)
 }
 
 // The release of an accepted opening of these tenders.

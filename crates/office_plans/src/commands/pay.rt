@@ -69,7 +69,7 @@ fn reply(
     laws::outstanding();
     let left = left_by_payment(rows, amount)?;
     let t = asking.time(&rows.clock);
-    let text = contract_text(alloc, contract, left, release.get(), t)?;
+    let text = contract_text(alloc, contract, left, release, t)?;
     Ok(text)
 }
 

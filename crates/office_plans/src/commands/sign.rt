@@ -64,7 +64,7 @@ fn load<H: Lookups>(
 fn signed_text(
     alloc: Global,
     contract: AskedNumber,
-    release: u64,
+    release: Sequence,
     moment: Moment,
 ) -> Result<Vec<u8>, AllocError>
     ensures { IfOk result (λ text. text.items ≡ reply_text (replies.Signed contract release moment)) }
@@ -74,7 +74,7 @@ fn signed_text(
         &[
             ("contract", Plain::Number(contract.get())),
             ("moment", Plain::Moment(moment)),
-            ("release", Plain::Number(release)),
+            ("release", Plain::Number(release.get())),
         ],
     )
 }
@@ -91,7 +91,7 @@ fn reply(
         → release ≡ release_of_award (award_at award s) s.notices → text.items ≡ reply_text (accepted_reply (given_by asking.now s (Sign award named)))) }
 {
     let t = asking.time(&rows.clock);
-    signed_text(alloc, award, release.get(), t)
+    signed_text(alloc, award, release, t)
 }
 
 // The release of an accepted signing of this award. It doesn't depend on the performance security that is named.
