@@ -55,9 +55,9 @@ returns-clause-looks g c publisher =
     let found = sym (broken ∙ ap (λ (rows : ModifyRows). is_some (envelope_at (rows.clock.receipts + 1) s) || is_torn s rows.envelope) are) ∙ c.if-broken.false in
     let whole : is_lacking (given_by a.asking.now s (Modify a.receipt a.sealed)) ≡ false = λ i. there i || found i in
     let puts = puts_on ruled _ _ moment (λ (rows : ModifyRows) (t : ℕ). modify_puts sha256 rows t a.sealed) _ c.in_ok-puts.ensures.puts s are refl in
-    let third = λ tender at. c.in_ok-text.ensures.told tender (ap (λ (ps : List Put). slice_get ps 2) (c.as_slice.ensures.value ∙ c.in_ok-puts.ensures.puts) ∙ at) in
+    let third = ap (λ (ps : List Put). slice_get ps 2) (c.as_slice.ensures.value ∙ c.in_ok-puts.ensures.puts) in
     let told =
-    told_of _ _ a.asking.now.caller.now a.sealed _ (sym c.refusal.ensures ∙ c.in_default.is) third
+    told_of _ _ a.asking.now.caller.now a.sealed _ (sym c.refusal.ensures ∙ c.in_default.is) (λ tender at. c.in_ok-text.ensures.told tender (third ∙ at))
     ∙ on_rows ruled _ _ moment (λ (rows : ModifyRows) (t : ℕ). reply_text (modify_reply office_readings rows.clock t a.sealed rows.envelope)) s are in
     c.silent.ensures publisher (given_by a.asking.now s (Modify a.receipt a.sealed)) tt allowed whole refl refl puts told)
 
