@@ -26,6 +26,7 @@ use Rattle.office_publications.specs.Standing.{IsReached}
 use Rattle.office_publications.specs.Told.{HasReleases}
 use Rattle.office_plans.specs.Published.{accepted_reply}
 use Rattle.office_plans.specs.Replies.{reply_text, text_of}
+use Rattle.office_desk.specs.Balances.{LedgerAddsUp, LineAddsUp}
 
 -- The text as the list of its bytes.
 abbrev pub read_text : Result (Vec ℕ Global) Refusal → Result (List ℕ) Refusal
@@ -70,9 +71,12 @@ abbrev pub IsNotOverdrawn : Option ContractRow → List EntryRow → Type 0
 IsNotOverdrawn None entries = Unit {0}
 IsNotOverdrawn (Some c) entries = is_overdrawn entries c ≡ false
 
--- The facts that an answer shows hold, even if no commands lead to this office. For the releases, each release that the notice's row counts exists and can be
--- merged. For the record, its merge is also an object. A contract isn't overdrawn.
+-- The facts that an answer shows hold, even if no commands lead to this office. On a line, alone or in the ledger, the four balances add up to the
+-- appropriation. For the releases, each release that the notice's row counts exists and can be merged. For the record, its merge is also an object. A contract
+-- isn't overdrawn.
 abbrev pub HasShown : Query → Tables → Type 0
+HasShown (queries.Line line) s = LineAddsUp line s
+HasShown queries.Ledger s = LedgerAddsUp s
 HasShown (queries.Releases notice) s = HasReleases notice s
 HasShown (queries.Record notice) s = HasReleases notice s × HasMerge notice s
 HasShown (queries.Contract contract) s = IsNotOverdrawn (contract_at contract s) (entries_of_contract contract s)

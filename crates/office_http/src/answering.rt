@@ -176,8 +176,8 @@ fn answer_read<H: Shelf + Drop>(
 /// still leave an accepted command as a whole. A reached office is a reached one afterwards. The tables change only if a command is given and the answer is a
 /// 200.
 ///
-/// A package is shown only if each release that its notice's row counts exists. A refusal at sight doesn't depend on the memory. If the path alone says what is
-/// asked and the refusal needs no memory, the response is this refusal, or the store has counted another fault.
+/// A package is shown only if each release that its notice's row counts exists, and a budget line only if its balances add up. A refusal at sight doesn't depend
+/// on the memory. If the path alone says what is asked and the refusal needs no memory, the response is this refusal, or the store has counted another fault.
 pub fn answer_request<H: Shelf + Drop>(
     alloc: Global,
     routes: &Routes,

@@ -4,13 +4,11 @@ use Rattle.std.specs.Prelude.{⊤, IfErr, OnErr, OnOk}
 use Rattle.std.specs.Io.Buffered.{reader_buffer, reader_capacity, reader_inner, reader_remaining}
 use Rattle.std.specs.Io.KnownBytes.{Appends, prepend_known}
 use Rattle.std.specs.declared.io.buffered.BufReader.{BufReader}
-use Rattle.office_commands.specs.declared.command.Caller.TheVariants.{Public}
 use Rattle.office_commands.specs.declared.queries.Query.{Query}
 use Rattle.office_values.specs.declared.settings.Settings.{Settings as OfficeSettings}
 use Rattle.office_base.specs.Shelves.{Meaning}
 use Rattle.office_base.specs.Tables.{Tables}
 use Rattle.office_desk.specs.Desks.{DeskOf}
-use Rattle.office_desk.specs.Steps.{IsSeen}
 use Rattle.office_wire.specs.Sending.{AppendsPart, WriterView}
 use Rattle.office_wire.specs.Runs.{Served}
 use Rattle.office_wire.specs.declared.fault.ReadFault.TheVariants as fault
@@ -19,7 +17,7 @@ use Rattle.office_wire.specs.declared.fault.RunFault.TheVariants as ends
 use Rattle.office_http.specs.Answering.{fault_text, held_by, office_answers}
 use Rattle.procure_config.specs.declared.fault.ProgramFault.{ProgramFault}
 use Rattle.procure_config.specs.declared.fault.ProgramFault.TheVariants.{Arguments, Settings, Store, Input, Output, Refused}
-use Rattle.procure_programs.specs.Showing.{IsOfPrinting, IsPrinted, IsOfOffice, IsShown}
+use Rattle.procure_programs.specs.Showing.{IsOfPrinting, IsPrinted, IsOfOffice, IsSeenWhole, IsShown}
 use Rattle.procure_programs.specs.Turns.{AnswersConnection, EndsConnection}
 
 -- ---- a buffer over a reader
@@ -89,7 +87,7 @@ of_refusal failed Input is = absurd is
 of_refusal failed Output is = absurd is
 
 module _ (settings : OfficeSettings) (query : Query) (s : Tables) (before after : Option (List ℕ)) where
-  pub printed : (text : List ℕ) (result : Result (Unit {0}) ProgramFault) → IsSeen settings.publisher Public query s (Ok text) → OnOk result (Appends before after text)
+  pub printed : (text : List ℕ) (result : Result (Unit {0}) ProgramFault) → IsSeenWhole settings query s text → OnOk result (Appends before after text)
       → OnErr result (AppendsPart before after text) → IfErr result (λ (why : ProgramFault). why ≡ Output) → IsPrinted settings query s before after result
   printed text (Ok done) seen whole part why = (text, seen, whole)
   printed text (Err why) seen whole part is =

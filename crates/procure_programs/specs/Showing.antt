@@ -9,7 +9,7 @@ use Rattle.office_values.specs.Ids.{IsId}
 use Rattle.office_values.specs.declared.refusal.Refusal.TheVariants.{Unavailable}
 use Rattle.office_values.specs.declared.settings.Settings.{Settings}
 use Rattle.office_base.specs.Tables.{Tables}
-use Rattle.office_desk.specs.Steps.{IsSeen}
+use Rattle.office_desk.specs.Steps.{HasShown, IsSeen}
 use Rattle.office_wire.specs.Sending.{AppendsPart}
 use Rattle.procure_config.specs.Faults.{no_route}
 use Rattle.procure_config.specs.Jobs.{Asked, Desk, Evaluation, Ledger, Minutes, Notices, Record, Serve}
@@ -20,9 +20,13 @@ use Rattle.procure_programs.specs.declared.showing.Printout.{Printout}
 use Rattle.procure_programs.specs.declared.showing.Printout.TheVariants as printouts
 use Rattle.procure_programs.specs.declared.showing.Printout.TheVariants.{Seen}
 
+-- The text is the one that the public sees by a query, and the facts that it shows hold.
+abbrev pub IsSeenWhole : Settings → Query → Tables → List ℕ → Type 0
+IsSeenWhole settings query s text = IsSeen settings.publisher Public query s (Ok text) × HasShown query s
+
 -- The result is the text that the public sees by a query, or the query's refusal. There is no other fault.
 abbrev pub IsShown : Settings → Query → Tables → Result (Vec ℕ Global) ProgramFault → Type 0
-IsShown settings query s (Ok text) = IsSeen settings.publisher Public query s (Ok text.items)
+IsShown settings query s (Ok text) = IsSeenWhole settings query s text.items
 IsShown settings query s (Err (Refused why)) = IsSeen settings.publisher Public query s (Err why)
 IsShown settings query s (Err _) = ⊥
 
@@ -40,9 +44,9 @@ IsOfPrinting has_failed _ = ⊥
 -- The text that the public sees by a query was added to the output as a whole. If the output failed, a beginning of it was added. If the query was refused,
 -- nothing was. There is no other fault.
 abbrev pub IsPrinted : Settings → Query → Tables → Option (List ℕ) → Option (List ℕ) → Result (Unit {0}) ProgramFault → Type 0
-IsPrinted settings query s before after (Ok done) = (text : List ℕ) × IsSeen settings.publisher Public query s (Ok text) × Appends before after text
+IsPrinted settings query s before after (Ok done) = (text : List ℕ) × IsSeenWhole settings query s text × Appends before after text
 IsPrinted settings query s before after (Err fault.Output) =
-    (text : List ℕ) × IsSeen settings.publisher Public query s (Ok text) × AppendsPart before after text
+    (text : List ℕ) × IsSeenWhole settings query s text × AppendsPart before after text
 IsPrinted settings query s before after (Err (Refused why)) = IsSeen settings.publisher Public query s (Err why) × (after ≡ before)
 IsPrinted settings query s before after (Err _) = ⊥
 

@@ -1,13 +1,15 @@
 //! The query for a budget line.
-ghost use Rattle.std.specs.Prelude.{◌≡◌, true, IfOk};
+ghost use Rattle.std.specs.Prelude.{◌≡◌, true, IfOk, OnOk};
 ghost use Rattle.office_commands.specs.Rights.{may_look};
 ghost use Rattle.office_commands.specs.declared.command.QueryKind.TheVariants as kinds;
 ghost use Rattle.office_commands.specs.declared.queries.Query.TheVariants.{Line};
 ghost use Rattle.office_base.specs.Shelves.{Looks};
+ghost use Rattle.office_base.specs.Tables.{Tables};
 ghost use Rattle.office_machine.specs.Replies.{LineSeen};
 ghost use Rattle.office_plans.specs.Replies.{reply_text};
-ghost use Rattle.office_desk.specs.Steps.{IsShown, TellsQuery, read_text};
+ghost use Rattle.office_desk.specs.Steps.{HasShown, IsShown, TellsQuery, read_text};
 
+use crate::balances::pots_add_up;
 use office_base::laws;
 use office_base::ledger::Pots;
 use office_base::pots::pots_of_line;
@@ -38,7 +40,7 @@ fn line_text(alloc: Global, row: &LineRow, pots: &Pots) -> Result<Vec<u8>, Alloc
     )
 }
 
-/// Shows a budget line with its balances. A sum out of range is answered like a fault of the store.
+/// Shows a budget line with its balances. A sum out of range is answered like a fault of the store, and so is a line whose balances don't add up.
 #[tactic(auto, using(crate::proofs::Rising::has_risen))]
 pub(crate) fn look<H: Lookups>(
     alloc: Global,
@@ -49,11 +51,15 @@ pub(crate) fn look<H: Lookups>(
     requires { may_look caller.now kinds.Line ≡ true }
     ensures looks { Looks H.meaning shelf.old shelf.new (λ s. IsShown caller.now (Line line) s (read_text result)) }
     ensures tells { TellsQuery H.meaning shelf.old shelf.new caller.now (Line line) result }
+    ensures shown { H.meaning.honest shelf.new → (s : Tables) → H.meaning.holds shelf.old s → OnOk result (HasShown (Line line) s) }
 {
     laws::looks_follow::<H>();
     let Some(row) = shelf.get_line(&line)? else {
         return Err(Refusal::NoSuch(Thing::Line));
     };
     let pots = pots_of_line(shelf, &row)?;
+    if !pots_add_up(&pots) {
+        return Err(Refusal::Unavailable);
+    }
     Ok(line_text(alloc, &row, &pots)?)
 }

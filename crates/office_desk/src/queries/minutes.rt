@@ -1,18 +1,26 @@
 //! The minutes of an opening.
-ghost use Rattle.std.specs.Prelude.{◌≡◌, true, IfOk, IfErr, filter, map, unwrap_or};
+ghost use Rattle.std.specs.Prelude.{◌≡◌, true, IfOk, IfErr, List, OnOk, filter, map, unwrap_or};
 ghost use Rattle.office_commands.specs.Rights.{may_look};
 ghost use Rattle.office_commands.specs.declared.command.QueryKind.TheVariants as kinds;
 ghost use Rattle.office_commands.specs.declared.queries.Query.TheVariants.{Minutes};
 ghost use Rattle.office_values.specs.declared.refusal.Refusal.TheVariants.{Unavailable};
+ghost use Rattle.office_values.specs.Ids.{id_cmp};
 ghost use Rattle.office_base.specs.Shelves.{Looks};
+ghost use Rattle.office_base.specs.Tables.{tenderer_key};
+ghost use Rattle.office_base.specs.declared.records.TendererRow.{TendererRow as TendererRowOf};
 ghost use Rattle.office_machine.specs.Sights.{is_read_envelope, minuted};
+ghost use Rattle.office_plans.specs.LookedUp.{IsAsIn, with_row};
 ghost use Rattle.office_plans.specs.Replies.{minuted_tender};
+ghost use Rattle.office_plans.specs.Tenderers.{with_tenderer};
 ghost use Rattle.office_desk.specs.Steps.{IsShown, TellsQuery, read_text};
 ghost use Rattle.tender_papers.specs.Minutes.{minutes_text};
 
+use keyed_table::table::Table;
 use office_base::laws;
-use office_base::records::{EnvelopeRow, EnvelopeState, LotRow, NoticeRow, NoticeState};
-use office_base::shelf::Lookups;
+use office_base::records::{
+    EnvelopeRow, EnvelopeState, LotRow, NoticeRow, NoticeState, TendererRow,
+};
+use office_base::shelf::{Lookups, ShelfFault};
 use office_commands::command::Caller;
 use office_values::id::Id;
 use office_values::refusal::{Refusal, Thing};
@@ -26,16 +34,45 @@ fn keep_opened(envelopes: &mut Vec<EnvelopeRow>)
     envelopes.retain(|row| row.state == EnvelopeState::Opened);
 }
 
-// An opened tender as the minutes show it, with its tenderer, who is looked up. `Unavailable` if the tenderer is missing or the tender wasn't read, which can't
+// Puts the row of a firm that was looked up, if it was found.
+fn put_firm(firms: &mut Table<TendererRow>, found: Option<TendererRow>) -> Result<(), ShelfFault>
+    ensures { OnOk result (firms.new ≡ with_row id_cmp tenderer_key firms.old found) }
+{
+    match found {
+        Some(row) => match firms.put(row) {
+            Ok(_) => Ok(()),
+            Err(_) => Err(ShelfFault::NoMemory),
+        },
+        None => Ok(()),
+    }
+}
+
+// Looks up the firm with this identifier, unless it was looked up before.
+fn load_firm<H: Lookups>(
+    shelf: &mut H,
+    firms: &mut Table<TendererRow>,
+    tenderer: &Id,
+) -> Result<(), ShelfFault>
+    ensures { Looks H.meaning shelf.old shelf.new (λ s. OnOk result (firms.new ≡ with_tenderer s firms.old tenderer.now)) }
+{
+    if firms.get(tenderer).is_some() {
+        return Ok(());
+    }
+    let found = shelf.get_tenderer(tenderer)?;
+    put_firm(firms, found)
+}
+
+// An opened tender as the minutes show it, with its tenderer, who was looked up. `Unavailable` if the tenderer is missing or the tender wasn't read, which can't
 // happen in a reached office.
-fn load_tender<H: Lookups>(shelf: &mut H, row: &EnvelopeRow) -> Result<OpenedTender, Refusal>
-    ensures looks { Looks H.meaning shelf.old shelf.new (λ s. IfOk result (λ tender. tender ≡ minuted_tender (minuted s.tenderers row.now))) }
+fn tender_of(firms: &Table<TendererRow>, row: &EnvelopeRow) -> Result<OpenedTender, Refusal>
+    ensures tender { (tenderers : List TendererRowOf) → IsAsIn id_cmp tenderer_key tenderers firms.now row.now.tenderer
+        → IfOk result (λ tender. tender ≡ minuted_tender (minuted tenderers row.now)) }
     ensures fault { IfErr result (λ e. e ≡ Unavailable) }
 {
     let Some(reading) = row.reading else {
         return Err(Refusal::Unavailable);
     };
-    let Some(tenderer) = shelf.get_tenderer(&row.tenderer)? else {
+    let Some(tenderer) = firms.copy_at(&row.tenderer)? else {
         return Err(Refusal::Unavailable);
     };
     Ok(OpenedTender {
@@ -46,7 +83,7 @@ fn load_tender<H: Lookups>(shelf: &mut H, row: &EnvelopeRow) -> Result<OpenedTen
     })
 }
 
-// These tenders as the minutes show them.
+// These tenders as the minutes show them. Each firm is looked up once.
 fn load_tenders<H: Lookups>(
     alloc: Global,
     shelf: &mut H,
@@ -57,9 +94,12 @@ fn load_tenders<H: Lookups>(
     ensures fault { IfErr result (λ e. e ≡ Unavailable) }
 {
     laws::looks_follow::<H>();
+    laws::rows_are_kept::<TendererRow>();
     let mut tenders = Vec::with_capacity(alloc, rows.len())?;
+    let mut firms = Table::new(alloc);
     for row in rows {
-        tenders.push(load_tender(shelf, row)?)?;
+        load_firm(shelf, &mut firms, &row.tenderer)?;
+        tenders.push(tender_of(&firms, row)?)?;
     }
     Ok(tenders)
 }
