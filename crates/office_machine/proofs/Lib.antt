@@ -8,7 +8,9 @@ pub mod Commands
 pub mod FateLaws
 pub mod Lacking
 pub mod Parents
+pub mod QueriesOrdered
 pub mod Releases
 pub mod Rows
+pub mod Terms
 pub mod Worlds
 mod Worked

@@ -1,15 +1,22 @@
 ghost use Rattle.office_machine.specs.Accounts.{AccountsAreKept, TablesAreInOrder};
 ghost use Rattle.office_machine.specs.AwardsShown.{AwardsWereShown, WinnersAreShown};
 ghost use Rattle.office_machine.specs.Clock.{ClockIsSet, ClockNeverRunsBack};
+ghost use Rattle.office_machine.specs.ContractTerms.{ContractsAreOfAwards};
+ghost use Rattle.office_machine.specs.Entries.{EntriesAreKept};
 ghost use Rattle.office_machine.specs.Fits.{SumsInRange};
+ghost use Rattle.office_machine.specs.InTime.{NoneInTimeAfterLate};
 ghost use Rattle.office_machine.specs.Lacking.{NothingIsLacking};
 ghost use Rattle.office_machine.specs.Late.{LateRulesAreKept};
 ghost use Rattle.office_machine.specs.MergesApart.{FatesReadNoMerges, LooksReadNoMerges, NextReadsNoMerges, PutsReadNoMerges, RefusalsReadNoMerges, RepliesReadNoMerges};
 ghost use Rattle.office_machine.specs.Order.{LeastIsAnswered, NumbersNeverFall};
 ghost use Rattle.office_machine.specs.Outstanding.{LeftIsBooked, LeftIsKnown};
+ghost use Rattle.office_machine.specs.PagesAlong.{NothingIsTakenAway, PagesAreWholeAlong};
 ghost use Rattle.office_machine.specs.Parents.{ParentsAreThere, PerformancesAreThere};
+ghost use Rattle.office_machine.specs.QueryOrder.{FirstAnswersQuery, LeastAnswersQuery};
+ghost use Rattle.office_machine.specs.Registered.{TenderersAreKept};
 ghost use Rattle.office_machine.specs.Releases.{ReleasesAreCounted, ReleasesAreInTime, ReleasesAreNumbered, ReleasesArePublished};
 ghost use Rattle.office_machine.specs.Requests.{RunsReach, StepsReach};
+ghost use Rattle.office_machine.specs.Terms.{TermsAreKept};
 ghost use Rattle.office_machine.specs.Worlds.{StepsStayAlike};
 
 /// In every reached office, each balance of each budget line, summed from rows, is the money that accepted commands moved into it, less what they moved out.
@@ -34,6 +41,12 @@ pub fn clock()
 pub fn refusals()
     ensures order { NumbersNeverFall }
     ensures least { LeastIsAnswered }
+{}
+
+/// A query is refused for the first of its conditions that holds, which has the least number, and is shown if none of them holds.
+pub fn query_refusals()
+    ensures first { FirstAnswersQuery }
+    ensures least { LeastAnswersQuery }
 {}
 
 /// An accepted command leads from a reached office to a reached office. So the commands that a run of requests accepts lead to its last office.
@@ -76,6 +89,31 @@ pub fn awards()
 /// In every reached office, tenders of a notice may be withdrawn late exactly if its accepted publication said that this forfeits the security.
 pub fn late_withdrawals()
     ensures { LateRulesAreKept }
+{}
+
+/// Once a tender of a notice came late, no accepted command takes in a tender of that notice in time.
+pub fn late_tenders()
+    ensures { NoneInTimeAfterLate }
+{}
+
+/// No accepted command takes away a notice or a tenderer. Whoever reads their lists page by page while commands are accepted sees no row twice,
+/// and at the end has seen each row of the first request.
+pub fn pages_along()
+    ensures stay { NothingIsTakenAway }
+    ensures whole { PagesAreWholeAlong }
+{}
+
+/// In every reached office, a contract is on its award's lot, at its award's price, with the tenderer of the awarded tender.
+pub fn contracts()
+    ensures { ContractsAreOfAwards }
+{}
+
+/// In every reached office, a notice has the terms of its publication, with the deadline of its last amendment. A lot has the terms of
+/// its notice's publication, an entry of a contract the amount of its command, and a tenderer the name and address of its registration.
+pub fn terms()
+    ensures notices { TermsAreKept }
+    ensures entries { EntriesAreKept }
+    ensures tenderers { TenderersAreKept }
 {}
 
 /// The row of a notice counts the releases that commands published for it, at most `release_limit`. The notice has a release of each number from 1 to this

@@ -13,7 +13,7 @@ use Rattle.office_base.specs.Rules.{first_of}
 use Rattle.office_machine.specs.Machine.{tests, tests_for, command_tests}
 
 -- no refusal has a lower number than n, or than the one before it
-abbrev rises : ℕ → List (Bool × Refusal) → Bool
+abbrev pub rises : ℕ → List (Bool × Refusal) → Bool
 rises n [] = true
 rises n (test ∷ tests) = nat_le n (number_of_refusal test.1) && rises (number_of_refusal test.1) tests
 
@@ -21,7 +21,7 @@ both : (a b : Bool) → (a && b) ≡ true → (a ≡ true) × (b ≡ true)
 both true b e = (refl, e)
 both false b e = cc
 
-risen : (n : ℕ) (tests : List (Bool × Refusal)) → rises n tests ≡ true → NeverFall n tests
+pub risen : (n : ℕ) (tests : List (Bool × Refusal)) → rises n tests ≡ true → NeverFall n tests
 risen n [] e = tt
 risen n (test ∷ tests) e =
     let rise = both (nat_le n (number_of_refusal test.1)) (rises (number_of_refusal test.1) tests) e in
@@ -48,7 +48,7 @@ least_by n test tests why h rest true is found =
     (λ e. omega (arith, number), above (number_of_refusal why) (number_of_refusal test.1) tests (omega (arith, number)) h.1)
 least_by n test tests why h rest false is found = (λ e. let f = is in absurd cc, rest found)
 
-least : (n : ℕ) (tests : List (Bool × Refusal)) (why : Refusal) → NeverFall n tests → first_of tests ≡ Some why → IsLeast tests why
+pub least : (n : ℕ) (tests : List (Bool × Refusal)) (why : Refusal) → NeverFall n tests → first_of tests ≡ Some why → IsLeast tests why
 least n [] why h e = cc
 least n (test ∷ tests) why h e = least_by n test tests why h (λ found. least (number_of_refusal test.1) tests why h.1 found) test.0 refl e
 
