@@ -1,4 +1,4 @@
--- The refusals of queries stand in order.
+-- The refusals of queries are tested in the order of their numbers.
 use Rattle.std.specs.Prelude.{◌≡◌, ℕ, Bool, true, false, not, cond, ◌||◌, List, [], ◌∷◌, Option, Some, None}
 use Rattle.std.proofs.Common.{refl, sym, ◌∙◌}
 use Rattle.office_commands.specs.Callers.{is_by}

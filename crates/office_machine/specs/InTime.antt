@@ -5,15 +5,16 @@ use Rattle.office_base.specs.Tables.{Tables}
 use Rattle.office_machine.specs.Fates.{Reception, received_at, received_by}
 use Rattle.office_machine.specs.Machine.{Means, Given, Reaches}
 
--- What an accepted command takes in after these, if it takes in a tender: it is presented, or replaces another one.
+-- The tender that an accepted command takes in after these commands, if any: it is presented, or replaces another one.
 abbrev pub taken_in : List Given → Given → Option Reception
 taken_in xs x = received_by x.command x (λ r. received_at xs r)
 
--- It is a tender of this notice, and late; and it is one in time.
+-- It is a late tender of this notice.
 abbrev pub is_late_for : List ℕ → Option Reception → Bool
 is_late_for notice None = false
 is_late_for notice (Some c) = same_id c.notice notice && not c.in_time
 
+-- It is a tender of this notice, in time.
 abbrev pub is_in_time_for : List ℕ → Option Reception → Bool
 is_in_time_for notice None = false
 is_in_time_for notice (Some c) = same_id c.notice notice && c.in_time

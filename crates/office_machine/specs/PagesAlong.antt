@@ -18,7 +18,7 @@ pub record NothingIsMissing (t u : Tables) : Type 0 where
 abbrev pub NothingIsTakenAway : Type 0
 NothingIsTakenAway = (means : Means) (xs ys : List Given) (t u : Tables) → Reaches means xs t → Reaches means (ys ++ xs) u → NothingIsMissing t u
 
--- What a reader sees who asks for one page after another, each after the last row of the page before. The list has these rows at the first
+-- The rows that a reader sees. The reader asks for one page after another, each after the last row of the page before. The list has the first rows at the first
 -- request, the next ones at the second, and so on.
 abbrev pub read_along : {K X : Type 0} → (K → K → Ordering) → (X → K) → ℕ → Option K → List (List X) → List X
 read_along R key most after [] = []
@@ -50,7 +50,7 @@ notices_in t = t.notices
 abbrev pub tenderers_in : Tables → List TendererRow
 tenderers_in t = t.tenderers
 
--- So it is of the notices and of the tenderers, whatever commands are accepted between the requests.
+-- A reader sees each notice and each tenderer once, whatever commands are accepted between the requests.
 pub record ListsAreSeen (most : ℕ) (t : Tables) (us : List Tables) : Type 0 where
   pub notices : SeesEachOnce id_cmp notice_key most (notices_in t) (map notices_in us)
   pub tenderers : SeesEachOnce id_cmp tenderer_key most (tenderers_in t) (map tenderers_in us)

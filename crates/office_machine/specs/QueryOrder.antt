@@ -1,4 +1,4 @@
--- Which refusal answers a query: as of a command, the one of the least number whose condition holds.
+-- Of the refusals of a query whose condition holds, the one with the least number answers it, as it does for a command.
 use Rattle.std.specs.Prelude.{◌≡◌, ℕ, Bool, not, ◌||◌, List, [], ◌∷◌, Option, Some, None, is_some}
 use Rattle.office_commands.specs.Callers.{is_by}
 use Rattle.office_commands.specs.Queries.{query_kind_of}
@@ -26,10 +26,11 @@ use Rattle.office_machine.specs.Sights.{Packages, told}
 abbrev pub named_test : {X : Type 0} → Thing → Option X → Bool × Refusal
 named_test thing row = (not (is_some row), NoSuch thing)
 
--- The notice wasn't opened; and the caller is neither the clerk nor this tenderer.
+-- The notice wasn't opened.
 abbrev pub isnt_opened_yet : NoticeRow → Bool
 isnt_opened_yet n = not (is_opened n.state)
 
+-- The caller is neither the clerk nor this tenderer.
 abbrev pub is_neither : Caller → List ℕ → Bool
 is_neither caller tenderer = not (is_clerk caller || is_by caller tenderer)
 

@@ -59,7 +59,7 @@ abbrev pub notice_terms_after : List Given → List ℕ → Option NoticeTerms
 notice_terms_after [] notice = None
 notice_terms_after (x ∷ xs) notice = notice_terms_by x.command (time_of x) notice (notice_terms_after xs notice)
 
--- The terms of a lot: its row without its state and what it has reserved.
+-- The terms of a lot: its row without its state and its reserved money.
 pub record LotTerms : Type 0 where
   pub title : List ℕ
   pub line : List ℕ

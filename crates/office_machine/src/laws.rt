@@ -96,8 +96,8 @@ pub fn late_tenders()
     ensures { NoneInTimeAfterLate }
 {}
 
-/// No accepted command takes away a notice or a tenderer. Whoever reads their lists page by page while commands are accepted sees no row twice,
-/// and at the end has seen each row of the first request.
+/// No accepted command takes away a notice or a tenderer. A reader of their lists, page by page while commands are accepted, sees no row twice. At the end
+/// the reader has seen each row that the list had at the first request.
 pub fn pages_along()
     ensures stay { NothingIsTakenAway }
     ensures whole { PagesAreWholeAlong }

@@ -145,7 +145,7 @@ module _ (means : Means) (xs : List Given) (s : Tables) (moment : ℕ) (caller :
   order : IsSorted s
   order = sorted means xs s reached
 
-  -- an award and a tender that are there, in another state
+  -- an award and a tender that exist, in another state
   award_made : (k : ℕ) (a r : AwardRow) → award_at k s ≡ Some a → r.award ≡ a.award → stateless r ≡ stateless a → KeepsMade s (puts.Award r)
   award_made k a r is own same b found_b =
       let there : award_at r.award s ≡ Some a = ap (λ n. award_at n s) (own ∙ found_key keyed.awards s.awards k a is) ∙ is in
@@ -247,7 +247,7 @@ module _ (means : Means) (xs : List Given) (s : Tables) (moment : ℕ) (caller :
     ),
   )
 
-  -- the contract of an award that is there
+  -- the contract of an award that exists
   signed_made : (t award : ℕ) (a : AwardRow) → award_at award s ≡ Some a → (e : Option EnvelopeRow) → envelope_at a.receipt s ≡ e → IsOfAward s (contract_row t a (tenderer_in e))
   signed_made t award a is None of =
       absurd (let no : false ≡ true = sym (ap is_some of) ∙ ((parents_there means xs s reached).awards award a is).envelope in cc)

@@ -134,7 +134,7 @@ module _ (means : Means) (xs : List Given) (s : Tables) (moment : ℕ) (caller :
   deadline_of : (k : List ℕ) (n r : NoticeRow) → uncounted r ≡ n → r.deadline ≡ n.deadline
   deadline_of k n r e = ap (λ (n : NoticeRow). n.deadline) e
 
-  -- a command that would change a notice past its deadline, or a notice that is there, is refused
+  -- a command that would change a notice past its deadline, or a publication of a notice that exists, is refused
   no_amendment : {A : Type 0} (name k : List ℕ) (deadline : ℕ) (rationale : List ℕ) → Allows (commands.AmendNotice name deadline rationale) → name ≡ k
       → (n : NoticeRow) → notice_after xs k ≡ Some n → n.deadline ≤ m → A
   no_amendment name k deadline rationale allowed same n is past =

@@ -142,7 +142,7 @@ module _ {K X : Type 0} {R : K → K → Ordering} {key : X → K} (k : IsKeyed 
           ap (λ c. among q (cond c (x ∷ rows_after R key after xs) (rows_after R key after xs))) f
           ∙ more (sym (ap (λ b. b || among q xs) e) ∙ is)
 
-  -- all of them are behind that key, and were among the rows
+  -- all of them come after that key, and were among the rows
   all_after : (after : Option K) (xs : List X) → AllByRecursion (λ x. is_after R after (key x) ≡ true) (rows_after R key after xs)
   all_after after [] = tt
   all_after after (x ∷ xs) =
@@ -194,7 +194,7 @@ module _ {K X : Type 0} {R : K → K → Ordering} {key : X → K} (k : IsKeyed 
   all_less q [] all = tt
   all_less q (y ∷ ys) all = (is_less (R q (key y)) all.0, all_less q ys all.1)
 
-  -- what follows a row of a list stands above it
+  -- the rows after a row of a list are above it
   follows : (ys : List X) (n : ℕ) (x : X) → IsInOrder R key ys → slice_get ys n ≡ Some x → AllByRecursion (λ y. R (key x) (key y) ≡ Less) (drop (suc n) ys)
   follows [] n x order at = absurd (cc)
   follows (z ∷ zs) zero x order at =
@@ -205,7 +205,7 @@ module _ {K X : Type 0} {R : K → K → Ordering} {key : X → K} (k : IsKeyed 
   less_all q [] all = tt
   less_all q (y ∷ ys) all = (ap is_lt all.0, less_all q ys all.1)
 
-  -- what stands above a key that stands behind another stands behind it too
+  -- a row above a key that comes after another key comes after that one too
   after_too : (after : Option K) (q r : K) → is_after R after q ≡ true → R q r ≡ Less → is_after R after r ≡ true
   after_too None q r e l = refl
   after_too (Some a) q r e l = ap is_lt (k.total.trans a q r (is_less (R a q) e) l)
@@ -286,7 +286,7 @@ module _ {K X : Type 0} {R : K → K → Ordering} {key : X → K} (k : IsKeyed 
       in_order : IsInOrder R key (rest after rows)
       in_order = in_order-filter k.total key (λ r. is_after R after (key r)) rows order
 
-      -- what is left stands behind the page's last row
+      -- the remaining rows come after the page's last row
       left : AllByRecursion (λ y. is_after R (Some q) (key y) ≡ true) (drop most (rest after rows))
       left =
           less_all q (drop most (rest after rows))
@@ -331,7 +331,7 @@ module _ {K X : Type 0} {R : K → K → Ordering} {key : X → K} (k : IsKeyed 
                 ];
           }
 
-    -- what is seen behind a page's last row
+    -- the rows that are seen after a page's last row
     abbrev SeesBehind : List X → K → List (List X) → Type 0
     SeesBehind rows q later =
         IsInOrder R key (read_along R key most (Some q) later) × AllByRecursion (λ y. is_after R (Some q) (key y) ≡ true) (read_along R key most (Some q) later)

@@ -1,4 +1,4 @@
--- What puts leave of terms and entries that accepted commands said.
+-- Puts keep the terms and entries that accepted commands gave.
 use Rattle.std.specs.Prelude.{◌≡◌, ℕ, Bool, true, false, cond, ◌||◌, List, [], ◌∷◌, ◌++◌, Option, Some, None, option_map}
 use Rattle.std.proofs.Common.{refl, sym, ap, ◌∙◌, subst}
 use Rattle.std.specs.List.{list_any, AllByRecursion}
@@ -63,7 +63,7 @@ abbrev pub puts_tenderer : List ℕ → Put → Bool
 puts_tenderer q (puts.Tenderer r) = eq_by_cmp id_cmp q r.tenderer
 puts_tenderer q _ = false
 
--- puts say what is said once they are done, and it differs from what was said before of rows alone that they put
+-- after puts the rows are as the commands gave them; they differ from those before only at keys of the puts
 pub record Tells (w v : Said) (ps : List Put) : Type 0 where
   pub says : AllByRecursion (Says v) ps
   pub notices : (q : List ℕ) → list_any (puts_notice q) ps ≡ false → w.notice q ≡ v.notice q
@@ -71,7 +71,7 @@ pub record Tells (w v : Said) (ps : List Put) : Type 0 where
   pub entries : (q : ℕ × List ℕ) → list_any (puts_entry q) ps ≡ false → w.entry q ≡ v.entry q
   pub tenderers : (q : List ℕ) → list_any (puts_tenderer q) ps ≡ false → w.tenderer q ≡ v.tenderer q
 
--- what holds of a row that is put at a key, or of what was there where neither it nor a later one is at that key
+-- a property of the row that a put leaves at a key, or of the earlier row if no put has that key
 module _ {K X : Type 0} {R : K → K → Ordering} {key : X → K} (k : IsKeyed R key) where
   by_key : (P : Option X → Type 0) (r : X) (found : Option X) (b more : Bool) → (b ≡ true → P (Some r)) → ((b || more) ≡ false → P found) → more ≡ false
       → P (cond b (Some r) found)
@@ -146,7 +146,7 @@ pub none_of : {X : Type 0} (p : X → Bool) (xs ys : List X) → list_any p (xs 
 none_of p [] ys none = (refl, none)
 none_of p (x ∷ xs) ys none = let each = neither (p x) (list_any p (xs ++ ys)) none in let more = none_of p xs ys each.1 in (ap (λ b. b || list_any p xs) each.0 ∙ more.0, more.1)
 
--- of a put for a row that is there
+-- a put for a row that exists
 pub all_if : {X : Type 0} (P : Put → Type 0) (make : X → Put) (o : Option X) → ((x : X) → P (make x)) → AllByRecursion P (put_if make o)
 all_if P make None h = tt
 all_if P make (Some x) h = (h x, tt)

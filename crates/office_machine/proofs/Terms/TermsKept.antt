@@ -163,7 +163,7 @@ module _ (means : Means) (xs : List Given) (s : Tables) (moment : ℕ) (caller :
   quiet after ps same says =
       subst (λ after. Tells w after ps) (sym same) (record { says = says; notices = λ q none. refl; lots = λ q none. refl; entries = λ q none. refl; tenderers = λ q none. refl })
 
-  -- a notice and a lot that were there are as they were said
+  -- a notice and a lot that existed are as commands gave them
   notice_said : (k : List ℕ) (n : NoticeRow) → notice_at k s ≡ Some n → Some (uncounted n) ≡ w.notice n.notice
   notice_said k n is =
       sym (ap (λ q. option_map uncounted (notice_at q s)) (found_key keyed.notices s.notices k n is) ∙ ap (option_map uncounted) is) ∙ has.notices n.notice
@@ -283,7 +283,7 @@ module _ (means : Means) (xs : List Given) (s : Tables) (moment : ℕ) (caller :
       lots_said lots named.1,
     )
 
-    -- a lot that there is no notice of isn't there
+    -- a lot without a notice doesn't exist
     no_lot : is_some (notice_at notice s) ≡ false → (q : List ℕ × List ℕ) → notice ≡ q.0 → (o : Option LotRow) → lot_at q s ≡ o → w.lot q ≡ None
     no_lot fresh q of None is = sym (has.lots q) ∙ ap (option_map lot_terms) is
     no_lot fresh q of (Some l) is =
@@ -324,7 +324,7 @@ module _ (means : Means) (xs : List Given) (s : Tables) (moment : ℕ) (caller :
           tenderers = λ q none. refl;
         }
 
-  -- rows that are as they are said, and puts behind them
+  -- rows that are as commands gave them, and puts after them
   front_told : (after : Said) (fs ps : List Put) → AllByRecursion (Says after) fs → Tells w after ps → Tells w after (fs ++ ps)
   front_told after fs ps front tells = record {
     says = all_append (Says after) fs ps front tells.says;
@@ -334,7 +334,7 @@ module _ (means : Means) (xs : List Given) (s : Tables) (moment : ℕ) (caller :
     tenderers = λ q none. tells.tenderers q (none_of (puts_tenderer q) fs ps none).1;
   }
 
-  -- a change of a notice that is there
+  -- a change of a notice that exists
   module _ (command : Command) (name : List ℕ) (change : NoticeRow → NoticeRow) (n : NoticeRow) (is : notice_at name s ≡ Some n)
       (keeps : (change n).notice ≡ n.notice) (blind : uncounted (change (uncounted n)) ≡ uncounted (change n))
       (by : v command ≡ record w { notice = λ q. with_change (same_id name q) change (w.notice q) }) where
@@ -521,7 +521,7 @@ all_has means = along means (λ xs t. Has (said xs) t) none_has
     (published_has (said (x ∷ xs)) (after_puts (effect means.readings x) x.before) (publication means x)
     (told_after (said xs) (said (x ∷ xs)) (effect means.readings x) x.before has (one_told means xs x.before x.moment x.caller has accepted.reached x.command accepted.given.0 (allowed_by x accepted.allowed)))))
 
--- the terms in what is said of a notice
+-- the terms that commands gave a notice
 terms_changed : (b : Bool) (change : NoticeRow → NoticeRow) (terms : NoticeTerms → NoticeTerms) → ((n : NoticeRow) → notice_terms (uncounted (change n)) ≡ terms (notice_terms n))
     → (o : Option NoticeRow) → option_map notice_terms (with_change b change o) ≡ cond b (option_map terms (option_map notice_terms o)) (option_map notice_terms o)
 terms_changed true change terms same None = refl
