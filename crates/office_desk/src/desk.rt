@@ -148,7 +148,10 @@ impl<H: Shelf + Drop> Desk<H> {
         ensures risen { IfErr result (λ _. HasRisen (H.meaning.fault_count self.old.shelf) (H.meaning.fault_count self.new.shelf)) }
         ensures cause { PutsFail H.meaning self.old.shelf self.new.shelf result puts.items }
     {
-        self.shelf.apply(puts)
+        match self.shelf.apply(puts) {
+            Ok(()) => Ok(()),
+            Err(fault) => Err(fault),
+        }
     }
 
     /// Carries out a plan, all of it or nothing, and returns the reply. An error says whether memory was too small or the store failed. Nothing is allocated
