@@ -1,4 +1,4 @@
-"""What `tests/page` asks of the page, in a browser: what each view says and how, for eyes, keyboards and screen readers, and what can't break it."""
+"""The questions that `tests/page` asks the page in a browser: what each view says to eyes, keyboards and screen readers, and that no input breaks it."""
 import contextlib
 import difflib
 import json
@@ -20,7 +20,7 @@ VIEWS = {"list": "", "open": "#notice/N3", "awarded": "#notice/N2", "paid": "#no
          "running": "#notice/N6", "budget": "#ledger", "line": "#line/1100", "firms": "#firms", "firm": "#firm/T1", "figures": "#figures", "about": "#about",
          "missing": "#notice/N99"}
 WIDTHS, NARROWEST = {"narrow": 375, "wide": 1280}, 320
-# What must have a name.
+# The roles of elements that must have a name.
 NAMED = ("link", "button", "textbox", "image", "table", "region", "article", "navigation", "search")
 # How many looks are more than the front takes from one address at a time, whatever the machine.
 MANY = 2000
@@ -52,7 +52,7 @@ PALE = """(() => {
   return found;
 })()"""
 
-# Texts with a mark that turns the direction of what follows, and nothing that ends it.
+# The texts with a mark that turns the direction of the letters after it, if no mark ends it.
 TURNING = """(() => {
   const texts = document.createTreeWalker(document.body, NodeFilter.SHOW_TEXT), found = [];
   while (texts.nextNode()) {
@@ -61,7 +61,7 @@ TURNING = """(() => {
   return found;
 })()"""
 
-# How the parts of bars are told apart without their colours: kind, picture and whether the part is filled, each once.
+# The patterns that distinguish the parts of bars without their colours: kind, picture and whether the part is filled, each once.
 PATTERNS = """[...new Set([...document.querySelectorAll(".part, .swatch")].map((at) => {
   const style = getComputedStyle(at), empty = getComputedStyle(document.documentElement).backgroundColor;
   return `${at.classList[1]} ${style.backgroundImage.split("(")[0]} ${style.backgroundColor === empty}`;
@@ -137,14 +137,13 @@ def has_contrast(name: str, page: Page) -> None:
 
 
 def is_within(name: str, width: object, page: Page) -> None:
-    """Nothing is wider than the window. (A phone's `innerWidth` grows with what it shows.)"""
+    """Nothing is wider than the window. (A phone's `innerWidth` grows with its content.)"""
     wide = page.run("document.documentElement.scrollWidth")
     check(f"{name} is {wide} wide in a window of {width}", wide <= width)
 
 
 def is_read_out(name: str, page: Page) -> None:
-    """What a screen reader is told: landmarks, one heading of the first level and none left out, a name for each thing, a text for each bar, headers of
-    tables."""
+    """A screen reader finds landmarks, one heading of the first level and no level left out. Each thing has a name, each bar a text, each table headers."""
     tree = page.tree()
     roles = [role for role, _, _ in tree]
     for role in ("banner", "navigation", "main", "contentinfo", "status"):
@@ -165,8 +164,8 @@ def is_read_out(name: str, page: Page) -> None:
 
 
 def keeps_nothing(scene: Scene, page: Page) -> None:
-    """No cookie, nothing stored, nothing asked of another server; no error in the console but what the browser says of a refusal, and no breach of the
-    policy."""
+    """The page sets no cookie, stores nothing and asks no other server. The console has no errors, except the browser's own lines about refusals. The policy is
+    not broken."""
     check("there is a cookie", page.ask("Network.getAllCookies")["cookies"] == [])
     check("something is stored", page.run("localStorage.length + sessionStorage.length === 0 && indexedDB.databases().then((all) => all.length === 0)"))
     # (What the browser draws its own fields with is asked of no server.)
@@ -177,14 +176,14 @@ def keeps_nothing(scene: Scene, page: Page) -> None:
 
 def is_quiet(page: Page) -> None:
     faults = page.events("Runtime.exceptionThrown", "Runtime.consoleAPICalled", "Audits.issueAdded")
-    # (That a script went to another place is the test's own doing: newer browsers tell it.)
+    # (The test itself moves a script to another place, and newer browsers report that.)
     faults = [event for event in faults if "NavigationEntryMarkedSkippable" not in str(event)]
     faults += [event for event in page.events("Log.entryAdded") if event["entry"]["source"] != "network"]
     check(f"the console says {faults}", not faults)
 
 
 def focused(page: Page) -> Any:
-    """What has the focus: its name, and whether it is seen there with an outline around it."""
+    """The element that has the focus: its name, and whether it is seen there with an outline around it."""
     return page.run("""(() => {
       const at = document.activeElement, box = at.getBoundingClientRect(), style = getComputedStyle(at);
       const seen = box.left >= 0 && box.top >= 0 && box.right <= innerWidth && box.bottom <= innerHeight;
@@ -193,7 +192,7 @@ def focused(page: Page) -> Any:
 
 
 def tab(page: Page, count: int) -> list[Any]:
-    """What has the focus behind each of so many tabs."""
+    """The elements that have the focus after each of so many tabs."""
     seen = []
     for _ in range(count):
         page.press("Tab")
@@ -207,7 +206,7 @@ ORDER = ["skip", "Procurements", "Budget", "Firms", "Figures", "About", "For ten
 
 
 def keyboard(scene: Scene) -> None:
-    """Everything can be reached and used by the keyboard, in the order in which it stands there, and it is seen where one is."""
+    """The keyboard reaches and uses everything, in the order of the page, and the element with the focus is seen."""
     page = page_of(scene, "")
     order = tab(page, len(ORDER))
     page.picture(os.path.join(scene.pictures, "focus-wide-light.png"))
@@ -311,7 +310,8 @@ def sentence(page: Page, notice: str, answer: tuple[int, bytes] | None) -> str:
 
 
 def each_refusal(scene: Scene) -> None:
-    """Each refusal of the office is shown as a sentence of its own, what the front or the net says as one too; so is what is no number of a notice."""
+    """The page shows each refusal of the office as a sentence of its own. It also does so for errors of the front and the net, and for a wrong notice
+    number."""
     page = page_of(scene, "")
     told = {answer: sentence(page, f"R{at}", answer) for at, answer in enumerate(refusals())}
     check(f"two refusals have one sentence: {told}", len(set(told.values())) == len(told))
@@ -366,7 +366,7 @@ def without_scripts(scene: Scene) -> None:
 
 
 def injected(scene: Scene) -> None:
-    """What would be done to the page by a fault of it: no markup is made of texts, no script within the page runs, and nothing is asked of another server."""
+    """If the page had a fault, an attacker could still do little: no markup is made of texts, no script in the page runs, no other server is asked."""
     page = page_of(scene, "")
     elsewhere = f"https://{OUTSIDE}:{scene.front.port}/ledger"
     styled = "Object.assign(document.createElement('style'), {onload: yes, onerror: no, textContent: '*{}'})"
@@ -381,7 +381,7 @@ def injected(scene: Scene) -> None:
 
 
 def breaches(page: Page) -> list[Any]:
-    """What of the policy was broken, as the browser tells it."""
+    """The directives of the policy that were broken, as the browser reports them."""
     told = [event["issue"]["details"].get("contentSecurityPolicyIssueDetails", {}) for event in page.events("Audits.issueAdded")]
     return [details.get("violatedDirective") for details in told]
 
@@ -402,7 +402,7 @@ def office_away(scene: Scene) -> None:
 
 
 def too_often(scene: Scene) -> None:
-    """Who asks too often is told so by the front; the page waits as long as it says, and then draws."""
+    """If a client asks too often, the front says so. The page waits as long as the front says, and then draws."""
     with contextlib.closing(scene.front.connection()) as connection:
         # (A busy machine asks more slowly, and each second ten looks more are free)
         for _ in range(MANY):
