@@ -1,4 +1,4 @@
-"""What `tests/clerk` asks of the clerk's desk in a browser: a procurement from the budget to the last payment by its screens, and what can't break it."""
+"""The questions of `tests/clerk` to the clerk's desk in a browser: a procurement from the budget to the last payment on its screens, and faults around it."""
 import base64
 import contextlib
 import hashlib
@@ -32,7 +32,7 @@ def firms(scene: Scene) -> Client[Answer]:
 
 
 def budget_part(desk: Desk) -> None:
-    """A file with semicolons is told, one that is right shows what it changes, and is taken in; the same under another name is warned of."""
+    """A file with semicolons is reported. A right file shows its changes, and is taken in. The desk warns of the same file under another name."""
     desk.go("budget")
     desk.drop(BUDGET.replace(",", ";"), "budget.csv")
     desk.says("The fields are separated by semicolons")
@@ -91,7 +91,7 @@ def write_notice(desk: Desk, name: str, deadline: float, title: str) -> None:
 
 
 def notice_part(desk: Desk) -> None:
-    """A draft that is short of money and of a title is told; one that is right is shown as the public will see it."""
+    """The desk reports a draft that is short of money and has no title. It shows a right one as the public will see it."""
     desk.go("new")
     desk.press("Publish the notice \u2026")
     desk.says("things are missing or wrong")
@@ -226,7 +226,7 @@ def short_of_money(desk: Desk) -> None:
 
 
 def examined_elsewhere(other: Desk) -> None:
-    """A tab whose screen is older than the examinations is told of them by the office, and shows what was found then."""
+    """A tab whose screen is older than the examinations learns of them from the office, and then shows their findings."""
     other.press("Requirements met \u2026", place="Examination of Alpha & S\u00f6hne, receipt 1")
     other.page.wait("document.querySelector('dialog[open] .steps button')")
     other.page.run("hands.sure()")
@@ -312,7 +312,7 @@ def life(scene: Scene) -> None:
 
 
 def moved_and_cancelled(scene: Scene) -> None:
-    """A deadline is moved, and what is cancelled is cancelled only once the word is typed."""
+    """A deadline is moved. A cancellation needs the word that the clerk types."""
     desk = Desk(scene)
     desk.give_key()
     desk.settle("today")
@@ -336,7 +336,7 @@ def moved_and_cancelled(scene: Scene) -> None:
 
 
 def stops(scene: Scene) -> None:
-    """Where no answer comes, what became of the command is asked: done, not done, or not to be told, and then it is sent again."""
+    """If no answer comes, the desk asks about the command: it was done, it wasn't, or it can't be known. In the last case the command is sent again."""
     desk = Desk(scene)
     desk.give_key()
     desk.settle("today")
@@ -382,7 +382,7 @@ def stops(scene: Scene) -> None:
 
 
 def refused_as(desk: Desk, at: int, status: int, body: bytes) -> str:
-    """The sentence that stands where a command is answered so."""
+    """The sentence that the desk shows if a command is answered in this way."""
     path = f"/tenderers/R{at}"
     desk.page.answer_for({path: (status, body)})
     order = {"kind": "tenderer", "values": {"tenderer": "R", "name": "x"}, "path": path, "body": None, "again": None, "says": []}
@@ -397,7 +397,7 @@ def refused_as(desk: Desk, at: int, status: int, body: bytes) -> str:
 
 
 def each_refusal(scene: Scene) -> None:
-    """Each refusal of the office is a sentence of its own where a command is answered by it, in English and in German; so is what the front says."""
+    """Each refusal of the office, and each answer of the front, is a sentence of its own on the desk, in English and in German."""
     for language in ("en", "de"):
         desk = Desk(scene, place=f"?language={language}", language=language)
         desk.give_key_by(language)
@@ -452,7 +452,7 @@ ENGLISH = """Promise.all([import('/clerk/en.js'), import('/clerk/de.js')]).then(
 
 
 def german(scene: Scene) -> None:
-    """In German each screen is whole: no English word of the desk's books is left, and no text lacks."""
+    """In German each screen is whole: no English word of the desk's texts is left, and no text is missing."""
     desk = Desk(scene, place="?language=de", language="de")
     for screen in ("today", "budget", "tenderers", "new", "journal", "key", "notice/N1", "minutes/N1", "letter/N1/L1"):
         desk.go(screen)
@@ -484,7 +484,7 @@ def from_clerks_alone(scene: Scene) -> None:
 
 
 def printed(scene: Scene) -> None:
-    """On paper the minutes and the letters stand alone: neither the bar with the name nor a button is printed; each letter begins a page."""
+    """On paper the minutes and the letters are alone: neither the bar with the name nor a button is printed. Each letter begins a page."""
     desk = Desk(scene)
     for screen in ("minutes/N1", "letter/N1/L1"):
         desk.go(screen)

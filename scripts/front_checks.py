@@ -1,4 +1,4 @@
-"""What `tests/page` asks of the front by itself: what it says beside the office, what it lets through, and whom it makes wait."""
+"""The questions of `tests/page` to the front alone: its own answers, the requests that it lets through, and the clients that it makes wait."""
 import contextlib
 import hashlib
 import http.client
@@ -17,7 +17,7 @@ HEADERS = {"Strict-Transport-Security": "max-age=15768000", "X-Content-Type-Opti
            "Cross-Origin-Opener-Policy": "same-origin", "Server": "nginx"}
 POLICY = ["default-src 'none'", "script-src 'self'", "style-src 'self'", "connect-src 'self'", "img-src 'self'", "base-uri 'none'", "form-action 'none'",
           "frame-ancestors 'none'", "require-trusted-types-for 'script'", "trusted-types 'none'"]
-# What is asked for, its type, and whether it may be kept.
+# The paths asked for, with the type of each, and whether it may be kept.
 KINDS = {"/": ("text/html", "no-cache"), "/page.css": ("text/css", "no-cache"), "/page.js": ("application/javascript", "no-cache"),
          "/icon.svg": ("image/svg+xml", "no-cache"), "/ledger": ("text/plain; charset=utf-8", "no-store"),
          "/notices/N9/record": ("application/json", "no-store"), "/notices": ("application/json", "no-store"),
@@ -36,7 +36,7 @@ MOST = 65_536
 
 
 def is_own(answer: Answer, status: int) -> bool:
-    """Whether the front answers so by itself, in JSON."""
+    """Whether this is an answer of the front itself, in JSON."""
     return answer.status == status and answer.head["Content-Type"] == "application/json" and list(json.loads(answer.body)) == ["front"]
 
 
@@ -46,7 +46,7 @@ def refusal(answer: Answer) -> object:
 
 
 def routes() -> list[tuple[str, str, str]]:
-    """The rows of the table of docs/API.md: a method, a path, and who may ask it."""
+    """The rows of the table of docs/API.md: a method, a path, and the callers that may ask it."""
     with open(os.path.join(ROOT, "docs", "API.md")) as file:
         rows = re.findall(r"^\| \[`(GET|POST) (/[^`]*)`\]\([^)]*\) \| ([^|]*) \|", file.read(), re.M)
     check(f"docs/API.md has {len(rows)} routes, and not 32", len(rows) == 32)
@@ -54,7 +54,7 @@ def routes() -> list[tuple[str, str, str]]:
 
 
 def headers(scene: Scene) -> None:
-    """Each answer has the front's headers, no version and no cookie, and its own type; what may be kept is told."""
+    """Each answer has the front's headers, no version and no cookie, and its own type. It says whether it may be kept."""
     for path, (media, keeping) in KINDS.items():
         head = scene.front.ask("GET", path).head
         policy = "cross-origin" if path in FOR_ALL_SITES else "same-origin"
@@ -113,7 +113,7 @@ def exchange_with_office(scene: Scene, method: str, path: str, caller: Caller) -
 
 
 def many_tenderers(scene: Scene) -> None:
-    """Sixty tenderers behind one address present at once, each for two lots, and all are taken by the office."""
+    """Sixty tenderers of one address present tenders at once, each for two lots, and the office takes all."""
     names = [f"M{number}" for number in range(60)]
     for name in names:
         body = json.dumps({"name": name, "address": "1 Park", "key": hashlib.sha256(key_of(name).encode()).hexdigest()}).encode()
@@ -127,7 +127,7 @@ def many_tenderers(scene: Scene) -> None:
 
 
 def slow_clients(scene: Scene) -> None:
-    """Whoever sends half a head or half a body, and then nothing, waits alone."""
+    """If a client sends half a head or half a body, and then nothing, it waits alone."""
     half_body = b"POST /tenderers/T7 HTTP/1.1\r\nHost: office\r\nContent-Length: 1000\r\n\r\n" + b" " * 500
     with contextlib.ExitStack() as clients:
         for sent in [half_body] * 4 + [b"GET /ledger HTTP/1.1\r\nHost: of"] * 2:
@@ -136,14 +136,14 @@ def slow_clients(scene: Scene) -> None:
             client.sock.sendall(sent)
         time.sleep(0.3)
         begun = time.monotonic()
-        # What wasn't asked before, so that the office must answer it.
+        # A path that wasn't asked before, so the office must answer it.
         answer = scene.front.ask("GET", "/lines/unknown")
         took = time.monotonic() - begun
         check(f"beside slow clients a look is answered after {took:.1f} seconds: {answer}", refusal(answer) == "NoSuch" and took < 3)
 
 
 def names_and_keys(scene: Scene) -> None:
-    """Public routes are told nothing of who asks, so a wrong key is no matter there; and no log has a key or a security."""
+    """On public routes the office doesn't learn the caller's name, so a wrong key doesn't matter there. No log has a key or a security."""
     # (The last one wasn't asked before, so the front has no answer of it.)
     statuses = {"/ledger": 200, "/lines/1100": 200, "/notices/N1/record": 200, "/notices/N1/releases": 200, "/notices/N1/minutes": 409, "/notices": 200,
                 "/notices/N1/terms": 200, "/notices/N1/evaluation": 409, "/lines/unseen": 404}
