@@ -137,8 +137,8 @@ class Watch(threading.Thread):
             max(tries, key=lambda it: it.start).kind = "last"
 
     def table(self):
-        """Minutes by crate and kind: a number of each kind, the list of the minutes of each mutant, and for the proof with its builds the wall minutes and the
-        jobs."""
+        """Minutes by crate and kind: a number of each kind, and the list of the minutes of each mutant. The proof, with its builds, has the wall minutes and
+        the jobs."""
         crates = {}
         self.name_last()
         for it in self.seen.values():

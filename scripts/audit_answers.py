@@ -1,7 +1,7 @@
 """Reads an office's answers for `tools/audit`: the files of a folder, or the answers of an address.
 
-If a front answers that it is asked too often (429), or an office that it can't answer now (502, 503, 504), the same is asked again after as long as
-`Retry-After` says (RFC 9110, section 10.2.3), or after 1, 2, 4 .. seconds without it.
+It asks again if a front answers that it is asked too often (429), or an office that it can't answer now (502, 503, 504). It waits as long as `Retry-After` says
+(RFC 9110, section 10.2.3), or 1, 2, 4 .. seconds without it.
 """
 import email.utils
 import glob
@@ -14,8 +14,8 @@ from collections.abc import Callable
 
 from audit_office import Json, Unreadable, json_object
 
-# The files of a folder, by the routes whose answers they are. Of a notice anybody may ask for all but the register, which is the clerk's; a receipt is what
-# presenting, changing or `GET /tenders/R` answers its tenderer; securities and contracts are shown to the clerk and to their tenderer.
+# The files of a folder, by the routes of their answers. Anybody may ask for all files of a notice, except for the register, which is the clerk's. A receipt is
+# the answer to a tenderer that presents or changes a tender, or asks `GET /tenders/R`. Securities and contracts are shown to the clerk and to their tenderer.
 OF_NOTICES = {"releases": ".json", "record": ".json", "minutes": ".txt", "terms": ".json", "evaluation": ".txt", "register": ".txt"}
 HELD = ("receipt", "security", "performance", "contract")
 # The folders of a mirror.
@@ -74,7 +74,7 @@ class Answers:
         return os.path.join(self.folder, *([MIRRORED[kind], rest] if self.is_mirror and kind in MIRRORED else [name]))
 
     def names(self, kind: str, end: str) -> list[str]:
-        """What stands behind `kind-` in the names of the folder's files."""
+        """The words after `kind-` in the names of the folder's files."""
         if self.is_mirror and kind in MIRRORED:
             return sorted(os.path.basename(path)[:-len(end)] for path in glob.glob(os.path.join(glob.escape(self.folder), MIRRORED[kind], f"*{end}")))
         paths = glob.glob(os.path.join(glob.escape(self.folder), f"{kind}-*{end}")) if self.folder else []
@@ -132,7 +132,7 @@ class Answers:
         return [(number, json_object(self.perhaps(f"/contracts/{number}", "") or "")) for number in numbers] if self.fields else []
 
     def held(self, kind: str) -> list[tuple[str, Json]]:
-        """What was handed out under a number and that the folder has: the number, and the JSON object."""
+        """The objects that the office gave a number and that the folder has: the number, and the JSON object."""
         return [(number, self.object(f"{kind}-{number}.json")) for number in self.names(kind, ".json")]
 
     def perhaps(self, path: str, name: str) -> str | None:

@@ -137,8 +137,8 @@ def pay(clerk: clerk_desk.Desk) -> None:
 
 
 def life(scene: Scene) -> None:
-    """A procurement from the budget to the last payment, by the desks alone: a budget, three firms and their keys, a notice, tenders in time and a late one,
-    the opening, awards, contracts and payments. The firms and the public see each of them."""
+    """A procurement from the budget to the last payment, by the desks alone. There is a budget, three firms and their keys, and a notice. Tenders come in time
+    and late. The opening, awards, contracts and payments follow, and the firms and the public see each of them."""
     clerk = clerk_desk.Desk(scene)
     clerk.give_key()
     clerk.settle("today")

@@ -1,7 +1,7 @@
 """The faults that `tests/audit` plants in an office that `audit_life.py` made, and where `tools/audit` must find each.
 
 A plain fault is one change of the file, or of an answer. A forgery changes all related rows, releases and merges, so that the file alone shows nothing. The
-test tries that too, and which witnesses expose it and which don't. These forgeries show that what docs/AUDITOR.md calls unseen is unseen.
+test tries that too, and tries which witnesses expose it. These forgeries show that what docs/AUDITOR.md calls unseen is unseen.
 """
 import hashlib
 import json
@@ -40,21 +40,21 @@ def other_bytes(receipt: str, body: str) -> str:
 
 
 def names_of(life: AuditedLife) -> dict[str, object]:
-    """What an office gave the names that the faults below have in braces: numbers of tenders, awards and contracts, and moments."""
+    """The values that an office gave for the names in braces below: numbers of tenders, awards and contracts, and moments."""
     numbers = {name: getattr(life, name) for name in ("contract", "failed", "running", "broken", "active")}
     return {**life.receipt, **numbers, "in_time": life.deadline - 1, "moved": text_of(life.deadline + 90_000), "further": text_of(life.deadline + 180_000)}
 
 
 def filled(texts: Iterable[str], life: AuditedLife) -> tuple[str, ...]:
-    """Texts with what an office gave in the place of each name in braces."""
+    """Texts with the office's values in the place of each name in braces."""
     names = names_of(life)
     return tuple(re.sub(r"\{(\w+)\}", lambda found: str(names[str(found[1])]), text) for text in texts)
 
 
 UNCHECKED = "PRAGMA ignore_check_constraints = ON; "
-# Faults of the file: the rule, the row that it must name, and what is written into the file.
+# Faults of the file: the rule, the row that it must name, and the script that writes it into the file.
 FAULTS_OF_FILES = [
-    # The pots, a release, a security, a compiled release, a late tender and a payment.
+    # The balances, a release, a security, a compiled release, a late tender and a payment.
     ("pots_add_up", "lines 1000", "UPDATE lines SET free = free + 1 WHERE line = '1000'"),
     ("pots_add_up", "lines 2000", "UPDATE lots SET reserved = reserved - 1 WHERE notice = 'N6' AND lot = 'L2'"),
     ("releases_are_numbered", "releases N1/5", "DELETE FROM releases WHERE notice = 'N1' AND seq = 5"),
@@ -148,13 +148,13 @@ def take_over(record: Json, other: Json) -> None:
 
 
 def pay_twice(package: Json) -> None:
-    """Puts a payment a second time behind the releases, as a release of the next number."""
+    """Adds a copy of a payment after the releases, as a release of the next number."""
     releases = package.get("releases") or package["records"][0]["releases"]
     again = json.loads(json.dumps(next(release for release in releases if release["tag"] == ["implementation"])))
     releases.append({**again, "id": again["id"][:-4] + f"{len(releases) + 1:04}", "date": releases[-1]["date"]})
 
 
-# Faults of answers beside the file: the rule, the row, the files, and what is done to their JSON (with that of N2) or text.
+# Faults of answers beside the file: the rule, the row, the files, and the change of their JSON (with that of N2) or text.
 FAULTS_OF_ANSWERS = [
     ("answered_releases_are_kept", "notices N1", ["releases-N1.json"], lambda package, _: lose(package, -1)),
     ("records_have_the_releases", "notices N1", ["record-N1.json"], lambda package, _: lose(package["records"][0], 4)),
@@ -325,7 +325,7 @@ FORGERIES: list[tuple[Any, ...]] = [
      (COPY, DECIDED, "office 2")),
     ("the last event never was", UNENDED, (PUBLIC, "saved_releases_stay", "notices N8"), (HELD, "securities_are_as_shown", "performance {broken}"),
      (COPY, STAY, "releases N8/5")),
-    # What a command could have done, since the last witness or within what a witness leaves open, none of them shows.
+    # No witness shows a change that a command could have made since the last witness, or within the facts that a witness leaves open.
     ("a sealed tender was withdrawn before the deadline", "UPDATE envelopes SET state = 'withdrawn' WHERE receipt = {sealed}; "
      "DELETE FROM seals WHERE receipt = {sealed}; UPDATE securities SET state = 'returned' WHERE security = {sealed}"),
     ("a line has another title and more money, as by a budget file that came since",
