@@ -1,12 +1,12 @@
 """The client of everything that asks an office: a method for each of its sixteen commands and sixteen queries, over a choice of transports.
 
     Client(Port(port))              a connection for each request, over the loopback
-    Client(Front(base, context))    an HTTP server in front of the office, with or without TLS; after a 429 it waits as long as it is told and asks again
+    Client(Front(base, context))    an HTTP server in front of the office, with or without TLS; after a 429 it waits as long as that says and asks again
     Client(Blocks(moment))          blocks of `procure desk`: each method returns the block, `sent` keeps all, and `answers` runs them as one input
     Client(Requests())              asks nothing: each method returns the bytes of its request
 
 Over a connection a method returns the office's `Answer`, whose members are read as `answer["receipt"]`. An answer with another status than 200 ends the script,
-unless the transport was told not to be strict. `lot`, `notice`, `tender` and `text_of` make the parts of requests.
+unless the transport was made with `strict=False`. `lot`, `notice`, `tender` and `text_of` make the parts of requests.
 """
 import hashlib
 import http.client
@@ -23,7 +23,7 @@ from typing import Any, Generic, Protocol, TypeVar
 import common
 from common import CLERK, CONFIG, HOST, Caller, fail, parts_of
 
-# What a method gives: what its transport does.
+# The type of a method's result, which depends on the transport.
 Told = TypeVar("Told")
 Given = TypeVar("Given", covariant=True)
 Body = str | bytes | Mapping[str, Any]
@@ -166,7 +166,7 @@ class Port(Asking):
 
 
 class Front(Asking):
-    """An office behind a front, at an address without a path; a context for TLS if its certificate is self-signed."""
+    """An office with a front, at an address without a path; a context for TLS if its certificate is self-signed."""
 
     def __init__(self, base: str, context: ssl.SSLContext | None = None, source: str | None = None, strict: bool = True) -> None:
         super().__init__(strict)
@@ -210,7 +210,7 @@ def hello(_: str) -> str:
 
 
 class Client(Generic[Told]):
-    """Asks an office. A tenderer's key is made of the name; what stands for a number is a number or the name that it has in the requests."""
+    """Asks an office. A tenderer's key is made of the name. Each number may be given as a number, or as the name that it has in the requests."""
 
     def __init__(self, transport: Transport[Told], key_of: Callable[[str], str] = hello) -> None:
         self.transport, self.key_of = transport, key_of

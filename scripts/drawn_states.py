@@ -1,10 +1,10 @@
 """Compares the arrows of docs/pictures/states.dot with the specification. Read by tools/pictures.
 
-- Tenders and both kinds of security: what `tender_decided`, `security_decided` and `performance_decided` of Fates.antt say of each command, and in which
-  states they begin. Everything is compared: from where, to where, by which command.
-- Notices, lots and awards: which states the puts of each command write (crates/*/specs/Rules/, `NAME_puts` and what it uses). From which state an arrow
-  leads is compared by the tests in BEFORE, which the rule of the command must use; for a lot whose award is signed or fails it is taken from FOLLOWS.
-- Contracts: whether `ended` is empty or filled in what a command puts, and that the command refuses a contract that has ended.
+- Tenders and both kinds of security: the decisions of `tender_decided`, `security_decided` and `performance_decided` of Fates.antt for each command, and the
+  states in which they begin. Everything is compared: from where, to where, by which command.
+- Notices, lots and awards: the states that the puts of each command write (crates/*/specs/Rules/, `NAME_puts` and the definitions that it uses). The tests in
+  BEFORE give the state from which an arrow leads: the rule of the command must use them. A lot whose award is signed or fails takes it from FOLLOWS.
+- Contracts: whether `ended` is empty or filled in the puts of a command, and that the command refuses a contract that has ended.
 """
 import re
 from collections.abc import Iterable, Iterator
@@ -125,7 +125,7 @@ def begun(source: Source) -> Iterator[Arrow]:
 
 
 def decided(source: Source) -> Iterator[Arrow]:
-    """What each command decides of tenders and securities that are undecided."""
+    """The decisions of each command about tenders and securities that are undecided."""
     for kind, name, undecided in (("tender", "tender_decided", "Sealed"), ("security", "security_decided", "Held"),
                                   ("performance", "performance_decided", "Held")):
         for command, words in lines_of(source, name):
@@ -160,7 +160,7 @@ def states_before(command: str, kind: str, words: set[str]) -> list[str]:
 
 
 def contract_arrows(command: str, put: str, tests: str) -> Iterator[Arrow]:
-    """What a command makes of a contract, by the texts of its puts and of its tests."""
+    """The arrows of a contract by a command, by the texts of its puts and of its tests."""
     is_running = "has_ended" in tests
     if "ended = None" in put:
         yield "contract", "", "Running", command_name(command)
