@@ -83,12 +83,12 @@ class Life(Client[Answer]):
 
 
 class AuditedLife(Life):
-    """What `tests/audit` looks at."""
+    """The office that `tests/audit` audits."""
 
     running = cancelled = active = broken = failed = contract = 0
 
     def before_the_deadline(self) -> None:
-        """The budget, the tenderers, eight notices and their tenders; N3 is cancelled, N5 goes on receiving, and tenders for N8 may be withdrawn late."""
+        """The budget, the tenderers, eight notices and their tenders. N3 is cancelled, N5 continues to receive, and tenders for N8 may be withdrawn late."""
         self.import_budget("B1", budget("1000,add,100000,Roads", "2000,add,100000,Schools", "2000,cut,5000,Schools", "3000,add,0007,Parks"))
         self.enrol_in_time(*TENDERERS)
         self.announce_all()
@@ -127,7 +127,7 @@ class AuditedLife(Life):
         self.announce("N8", self.deadline, part("L1", "1000", 100, 10), late_withdrawal="forfeits", performance=5)
 
     def after_the_deadline(self) -> None:
-        """Late tenders, the openings, and how each notice goes on."""
+        """Late tenders, the openings, and the further steps of each notice."""
         self.wait()
         self.submit("late", "T5", "N1", "L1", offer(1, 1), 50)
         for name in ("N1", "N2", "N4", "N6", "N7", "N8"):

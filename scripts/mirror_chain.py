@@ -2,8 +2,7 @@
 
 A line is `CHAIN\tMOMENT\tNOTICE\tNUMBER\tDIGEST`: when the release was first seen, which one it is, and the SHA-256 of its text. The text is as the office
 writes it: compact JSON, members sorted by name, in UTF-8. CHAIN is the SHA-256 of the previous line's CHAIN, a tab, and the rest of this line; before the first
-line it
-is 64 zeros. If a release is gone or has changed, and that was accepted, it has another line, with the word `gone` or its new digest.
+line it is 64 zeros. If a release is gone or has changed, and that was accepted, it has another line, with the word `gone` or its new digest.
 """
 import hashlib
 from typing import Any, NamedTuple

@@ -9,6 +9,7 @@ requires these members:
 - of a contract `id` and `awardID`;
 - of a package `uri`, `publishedDate`, `publisher` with its `name`, `version`, and `releases` or `records`;
 - of a record `ocid` and `releases`.
+
 Other members are required here if the office writes them whenever it writes the object at all. No table has members of OCDS that the office never writes, such
 as `milestones` and `documents`, or codes that it never uses.
 

@@ -23,7 +23,7 @@ BESIDES: dict[str, list[str]] = {
 }
 
 class Reached:
-    """What was reached so far, and what is still to be followed."""
+    """The definitions reached so far, and those to follow."""
 
     def __init__(self) -> None:
         self.crates = crates_of_the_program()
@@ -54,7 +54,7 @@ class Reached:
             self.add(*definition_at(crate, module, name))
 
     def need(self, imports: Mapping[str, Imported], where: Path | str) -> None:
-        """That each definition of the program's crates is there which a file imports."""
+        """Checks that each definition of the program's crates that a file imports exists."""
         for place, name in imports.values():
             crate, _, module = place.partition(".specs.")
             if name and crate in self.crates and not module.startswith("declared."):

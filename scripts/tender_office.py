@@ -32,8 +32,8 @@ def serving(program: str, file: str, port: int) -> "subprocess.Popen[bytes]":
 
 @dataclass
 class Scene(scene.Scene):
-    """What the tests of the desk share besides: the program and its file, which a test may stop and start again; who asks the office beside the desk; a folder
-    for files."""
+    """The further parts that the tests of the desk share: the program and its file, which a test may stop and start again; the client that asks the office
+    beside the desk; a folder for files."""
 
     file: str
     client: Client[Answer]
@@ -62,7 +62,7 @@ def asking(front: Front) -> Client[Answer]:
 
 
 def prepare(desk: Scene) -> None:
-    """The budget, the tenderers, the notices, and what they have before the tests."""
+    """The budget, the tenderers and the notices, with their state before the tests."""
     client = desk.client
     client.import_budget("B1", budget("1000,add,1000000000,Roads"))
     for name, firm in (("T1", "Alpha & Söhne"), ("T2", "Beta")):
