@@ -4,6 +4,7 @@ import sys
 import textwrap
 from collections.abc import Callable, Sequence
 
+from common import options_of
 from definitions import ROOT, Fault, text_of
 
 WIDTH = 100
@@ -51,13 +52,14 @@ def work(name: str, make: Make, check: bool) -> int:
     return 0
 
 
-def main(name: str, make: Make, manual: str | None, words: Sequence[Sequence[str]] = ([], ["--check"])) -> int:
+def main(name: str, make: Make, manual: str | None, may_check: bool = True) -> int:
     """Reads the words of the command line, none or --check; the exit status."""
-    if sys.argv[1:] not in words:
-        print(manual, file=sys.stderr)
-        return 2
+    options = options_of(manual)
+    if may_check:
+        options.add_argument("--check", action="store_true", help="write nothing, and say whether the document is current")
+    choice = options.parse_args()
     try:
-        return work(name, make, sys.argv[1:] == ["--check"])
+        return work(name, make, may_check and choice.check)
     except (Fault, OSError) as fault:
         print(f"{sys.argv[0]}: {fault}", file=sys.stderr)
         return 2
@@ -68,4 +70,4 @@ def write_below(folder: str, name: str, make: Make, manual: str | None) -> int:
     def made() -> tuple[list[str], str]:
         lines, said = make()
         return [re.sub(r"\]\((PROMISES|READING)\.md\)", r"](../../docs/\1.md)", line) for line in lines], said
-    return main(f"{folder}/{name}", made, manual, ([],))
+    return main(f"{folder}/{name}", made, manual, may_check=False)
