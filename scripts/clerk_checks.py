@@ -155,6 +155,28 @@ def opening_part(desk: Desk, deadline: float) -> None:
 
 def award_part(desk: Desk) -> None:
     """Both tenders are examined; the best doesn't sign, and is passed over; the next one signs with the performance security."""
+    examination_part(desk)
+    desk.press("Award the lot \u2026", place="Lot L1")
+    desk.says("Award lot L1 of notice N1 to Beta Ltd")
+    desk.confirm("Award the lot", "Lot L1 is decided. Price: 540; receipt: 2.")
+    desk.press("Award the lot \u2026", place="Lot L2")
+    desk.says("Award lot L2 of notice N1 to nobody")
+    desk.confirm("Award the lot", "Lot L2 is decided.")
+    desk.says("Lot L1: sign the contract")
+    check(f"a standstill is told that never was: {desk.told()}", "The standstill" not in desk.told())
+    letters_part(desk)
+    desk.press("The winner doesn't sign")
+    desk.picture("awarded")
+    desk.press("Pass over the winner \u2026")
+    desk.says("Pass over Beta Ltd: lot L1 of notice N1 (award 1)")
+    desk.confirm("Pass over the winner", "The winner of award 1 was passed over.")
+    desk.says("It won, but the winner didn't sign.")
+    short_of_money(desk)
+    signing_part(desk)
+
+
+def examination_part(desk: Desk) -> None:
+    """The clerk examines two tenders. A second tab has the same task, and is older then."""
     desk.says("2 tenders to examine")
     desk.picture("evaluation")
     check("before the examination the award is off", desk.page.run("hands.button('Award the lot \u2026', hands.part('Lot L1')).disabled"))
@@ -170,14 +192,10 @@ def award_part(desk: Desk) -> None:
         desk.confirm("Record the result", f"The tender of {name} is examined.")
     desk.says("Lot L1 goes to Beta Ltd for 540 EUR.")
     examined_elsewhere(other)
-    desk.press("Award the lot \u2026", place="Lot L1")
-    desk.says("Award lot L1 of notice N1 to Beta Ltd")
-    desk.confirm("Award the lot", "Lot L1 is decided. Price: 540; receipt: 2.")
-    desk.press("Award the lot \u2026", place="Lot L2")
-    desk.says("Award lot L2 of notice N1 to nobody")
-    desk.confirm("Award the lot", "Lot L2 is decided.")
-    desk.says("Lot L1: sign the contract")
-    check(f"a standstill is told that never was: {desk.told()}", "The standstill" not in desk.told())
+
+
+def letters_part(desk: Desk) -> None:
+    """The letters after the award have the winner's price, the loser's reason, and the state of both securities."""
     desk.press("Letters to the tenderers")
     desk.settle("letter/N1/L1")
     tells(desk, "We accept your tender at 540 EUR.", "We hold your security G2, of 60 EUR, until the contract for the lot is signed. Then we return it.",
@@ -185,13 +203,10 @@ def award_part(desk: Desk) -> None:
           "From: City Office, Anna", "Signature: City Office, Anna")
     desk.picture("letters")
     desk.go("notice/N1")
-    desk.press("The winner doesn't sign")
-    desk.picture("awarded")
-    desk.press("Pass over the winner \u2026")
-    desk.says("Pass over Beta Ltd: lot L1 of notice N1 (award 1)")
-    desk.confirm("Pass over the winner", "The winner of award 1 was passed over.")
-    desk.says("It won, but the winner didn't sign.")
-    short_of_money(desk)
+
+
+def signing_part(desk: Desk) -> None:
+    """The next winner signs. The performance security must have the required amount."""
     desk.press("Award the lot \u2026", place="Lot L1")
     desk.confirm("Award the lot", "Lot L1 is decided. Price: 570; receipt: 1.")
     desk.field("Reference of the performance security", "P1")
@@ -358,6 +373,14 @@ def stops(scene: Scene) -> None:
     desk.page.answer_for({})
     desk.press("Close")
     desk.settle("notice/N3")
+    registers_unanswered(desk)
+    found = desk.page.run("import('/clerk/session.js').then(({ journal }) => journal().entries.map(({ status, found }) => [status, found]))")
+    check(f"the journal says what was found: {found}", found == [[None, "not done"], [None, "done"], [504, "done"], [409, "done"]])
+    desk.leave()
+
+
+def registers_unanswered(desk: Desk) -> None:
+    """A registration gets no answer. Queries get none at first, then show another firm's name, and at last the firm."""
     desk.go("tenderers")
     for label, value in (("Identifier", "T9"), ("Name", "Gamma"), ("Address", "Mill Lane 3"), ("SHA-256 of the key", "ab " * 32)):
         desk.field(label, value)
@@ -376,9 +399,6 @@ def stops(scene: Scene) -> None:
     desk.page.answer_for({"/tenderers/T9": exists, "/tenderers": lists["Gamma"]})
     desk.press("Send the same request again")
     desk.says("This is done.")
-    found = desk.page.run("import('/clerk/session.js').then(({ journal }) => journal().entries.map(({ status, found }) => [status, found]))")
-    check(f"the journal says what was found: {found}", found == [[None, "not done"], [None, "done"], [504, "done"], [409, "done"]])
-    desk.leave()
 
 
 def refused_as(desk: Desk, at: int, status: int, body: bytes) -> str:

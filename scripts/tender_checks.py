@@ -51,6 +51,27 @@ def offer(scene: Scene) -> None:
     """A tenderer finds a notice by its number and types a price for each item. Sums appear at once, and so do errors of range. The test compares the file sent,
     its digest, the receipt and the saved file, and whether both belong together."""
     desk = Desk(scene, "T1")
+    finds_notice(desk)
+    desk.prices("N1", "L1", 150, 12)
+    check(f"the sums are {desk.page.text()}", all(text in desk.page.text() for text in ("450", "120", "570 EUR")))
+    names_security(desk)
+    shown = desk.page.run("document.querySelector('pre').textContent"), desk.page.run("document.getElementById('digest').textContent").replace(" ", "")
+    check(f"what will be sent is {shown}", shown == (RIGHT.decode(), digest_of(RIGHT)))
+    desk.press("Submit the tender")
+    receipt = desk.receipt()
+    check(f"the receipt is {desk.page.text()}", desk.has("good", "The office received exactly what you submitted.") and not desk.has("bad", ""))
+    found = scene.client.tender("T1", receipt)
+    check(f"the office has {found.body!r}", (found["digest"], found["security"], found["lot"]) == (digest_of(RIGHT), receipt, "L1"))
+    desk.press("Save the receipt")
+    desk.press("Save what you submitted")
+    kept, sent = json.loads(desk.saved(f"receipt-{receipt}.json")), desk.saved(f"N1-L1-receipt-{receipt}.csv")
+    check(f"the receipt's file has {kept}", sent == RIGHT and all(kept[name] == found[name] for name in ("digest", "receipt", "moment", "state", "notice")))
+    belongs(scene, desk, receipt)
+    is_quiet(desk.page)
+
+
+def finds_notice(desk: Desk) -> None:
+    """The desk lists open notices, finds one by its number, and reports unit prices that are out of range."""
     desk.at("offer", "Prepare a tender")
     desk.says("are open for tenders")
     check(f"open notices are listed: {desk.page.text()}", all(text in desk.page.text() for text in ("Road repair", "Things of all kinds", "closes in")))
@@ -65,8 +86,10 @@ def offer(scene: Scene) -> None:
     for unit, text in (("12.5", "no point"), ("1000000001", "too much"), ("x", "digits only")):
         desk.fill("unit-1", unit)
         check(f"{unit}: {desk.page.text()}", text in desk.page.text() and not desk.can_press("Check before submitting"))
-    desk.prices("N1", "L1", 150, 12)
-    check(f"the sums are {desk.page.text()}", all(text in desk.page.text() for text in ("450", "120", "570 EUR")))
+
+
+def names_security(desk: Desk) -> None:
+    """A security with a wrong reference can't be sent; with a right one the tender can be checked."""
     desk.fill("security-reference", "G 1")
     desk.fill("security-amount", "50")
     desk.press("Check before submitting")
@@ -77,19 +100,6 @@ def offer(scene: Scene) -> None:
     desk.fill("security-reference", "G1")
     desk.press("Check before submitting")
     desk.shows("Check before submitting")
-    shown = desk.page.run("document.querySelector('pre').textContent"), desk.page.run("document.getElementById('digest').textContent").replace(" ", "")
-    check(f"what will be sent is {shown}", shown == (RIGHT.decode(), digest_of(RIGHT)))
-    desk.press("Submit the tender")
-    receipt = desk.receipt()
-    check(f"the receipt is {desk.page.text()}", desk.has("good", "The office received exactly what you submitted.") and not desk.has("bad", ""))
-    found = scene.client.tender("T1", receipt)
-    check(f"the office has {found.body!r}", (found["digest"], found["security"], found["lot"]) == (digest_of(RIGHT), receipt, "L1"))
-    desk.press("Save the receipt")
-    desk.press("Save what you submitted")
-    kept, sent = json.loads(desk.saved(f"receipt-{receipt}.json")), desk.saved(f"N1-L1-receipt-{receipt}.csv")
-    check(f"the receipt's file has {kept}", sent == RIGHT and all(kept[name] == found[name] for name in ("digest", "receipt", "moment", "state", "notice")))
-    belongs(scene, desk, receipt)
-    is_quiet(desk.page)
 
 
 def belongs(scene: Scene, desk: Desk, receipt: int) -> None:
@@ -165,6 +175,16 @@ def changes(scene: Scene) -> None:
     desk.says("The prices that you submitted from this tab are filled in.")
     prices = [desk.page.run(f"document.getElementById('unit-{at}').value") for at in (0, 1)]
     check(f"the prices that are filled in are {prices}", prices == ["140", "12"])
+    withdraws(scene, desk, old, new)
+    desk.at("tenders", "My tenders")
+    desk.says(f"replaced by {new}")
+    check("own tenders aren't found", desk.page.run("document.querySelectorAll('tbody tr').length") >= 4)
+    check("a notice wasn't looked into", not desk.can_press("Search all notices"))
+    is_quiet(desk.page)
+
+
+def withdraws(scene: Scene, desk: Desk, old: int, new: int) -> None:
+    """A withdrawal needs a tick. If its cost changed meanwhile, the desk asks again. The security is returned."""
     desk.at(f"tender/{new}", f"Tender with receipt {new}")
     check(f"the price of a withdrawal is told so: {desk.page.text()}", desk.has("look", "Nothing: the security of 55 EUR (G5) is returned."))
     check("what it costs late isn't told", desk.has("look", "After the deadline this notice allows no withdrawal."))
@@ -181,11 +201,6 @@ def changes(scene: Scene) -> None:
     desk.says("The tender is withdrawn.")
     told = scene.client.tender("T2", new)["state"], scene.client.security("T2", old)["state"]
     check(f"the office has {told}", told == ("withdrawn", "returned"))
-    desk.at("tenders", "My tenders")
-    desk.says(f"replaced by {new}")
-    check("own tenders aren't found", desk.page.run("document.querySelectorAll('tbody tr').length") >= 4)
-    check("a notice wasn't looked into", not desk.can_press("Search all notices"))
-    is_quiet(desk.page)
 
 
 def is_close(scene: Scene, desk: Desk, receipt: int) -> None:
