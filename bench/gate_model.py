@@ -28,8 +28,8 @@ SLOWER = {1: 1.0, 2: 1.12, 3: 1.19, 4: 1.25}
 # The part of a check that only one of its jobs can do, if the table doesn't say.
 ALONE = 0.35
 PROOFS, FILLS = ("proof", "tests"), ("seed", "edits")
-# The memory that rt expects a check to need, in bytes. For itself; for each line of the crate, of its specs and proofs, and of the crates below; and for each
-# library of the kit, as a factor and with a bound. `JOB` is the part for each further job, `OVER` the part for a mutant over the first check.
+# The memory that rt expects a check to need, in bytes. For itself; for each line of the crate; for each line of its specs and proofs, and of the crates below.
+# For each library of the kit there is a factor and a bound. `JOB` is the part for each further job, `OVER` the part for a mutant over the first check.
 ITSELF, LINE, PROOF_LINE, LINE_BELOW, LIBRARY, LIBRARIES = 1e9, 1e6, 2e5, 8e4, 5, 2.5e9
 JOB, OVER = 0.6, 0.7
 # The memory that it shares out, in bytes, if the table doesn't say.

@@ -37,8 +37,8 @@ export function bodyBytes(draft) {
   return bytesOf(JSON.stringify(bodyOf(draft)));
 }
 
-/** What the office would refuse, in its order. A fault has the field, a code and values. `lines` are the
- * existing budget lines; `now` is the office's time. */
+/** The reasons for which the office would refuse, in its order. A fault has the field, a code and values.
+ * `lines` are the existing budget lines; `now` is the office's time. */
 export function faultsOf(draft, lines, now) {
   const found = [...headFaults(draft), ...draft.lots.flatMap((lot, at) => lotFaults(draft, lot, `lots.${at}`))];
   if (draft.lots.length === 0) {
