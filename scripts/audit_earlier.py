@@ -54,7 +54,7 @@ def rows_of_an_earlier_copy_stay(later: Office, earlier: Office) -> Found:
 
 @rule("copies")
 def what_is_decided_stays(later: Office, earlier: Office) -> Found:
-    """The decisions of an earlier copy are unchanged: final states, readings, examinations, openings and ends. Deadlines, counts and the clock only grow."""
+    """The decisions of an earlier copy stay (final states, readings, examinations, openings and ends), and deadlines, counts and the clock only grow."""
     for table in TABLES:
         for row, before, here in both(table, later, earlier):
             for column in went_back(table, before, here) if here else []:

@@ -1,4 +1,5 @@
-"""The rules of `tools/audit` that compare the rows of an office's file with one another. Each is named for what must hold, and says it in a sentence."""
+"""The rules of `tools/audit` that compare the rows of an office's file with one another. The name of each is the rule, and its docstring says it in a
+sentence."""
 import hashlib
 import re
 from typing import Any
@@ -351,7 +352,7 @@ def number_of(field: bytes) -> int | None:
 
 
 def reading_of(data: bytes, items: str) -> tuple[Any, ...]:
-    """What a tender's file says for a lot of these items: a word, the price as stated, as corrected, and how many figures were corrected (RFC 4180)."""
+    """A tender's file for a lot of these items: a word, the price as stated, as corrected, and how many figures were corrected (RFC 4180)."""
     records = [line.split(b",") for line in re.split(rb"[\r\n]+", data.removeprefix(b"\xef\xbb\xbf")) if line]
     if len(records) < 2 or records[0] != [b"item", b"quantity", b"unit", b"total"] or any(len(record) != 4 for record in records):
         return "unreadable", None, None, None

@@ -1,4 +1,4 @@
-"""Reads what the releases of a notice say, in order, for `tools/audit`: how each lot, award and contract develops, and what doesn't follow from before.
+"""Reads the releases of a notice in order, for `tools/audit`: how each lot, award and contract develops, and which facts contradict earlier ones.
 
 It needs only the releases, so it serves for those in a file and for those that anybody is answered.
 """
@@ -209,6 +209,6 @@ TELLERS: dict[str, Callable[[Story, int, Json], None]] = {
 
 @rule("releases")
 def releases_follow_each_other(notice: str, releases: list[Json]) -> Found:
-    """What a release says can follow the releases before it: deadlines, lots, awards, contracts and payments."""
+    """Each release can follow the releases before it: deadlines, lots, awards, contracts and payments."""
     for seq, what in Story(notice, releases).misfits:
         yield f"releases {notice}/{seq}", what

@@ -8,7 +8,7 @@ from common import options_of
 from definitions import ROOT, Fault, text_of
 
 WIDTH = 100
-# What makes a document: its lines, and what is reported of it.
+# A function that makes a document: its lines, and the summary to print.
 Make = Callable[[], tuple[list[str], str]]
 
 

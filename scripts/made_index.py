@@ -44,7 +44,7 @@ def lines_of(source: Source) -> list[str]:
 
 
 def index() -> tuple[list[str], str]:
-    """The lines of the document, and what is told of it."""
+    """The lines of the document, and the summary to print."""
     made, sources = opening(HEAD), list[Source]()
     for crate in crates():
         of_crate = sources_of(crate.name)

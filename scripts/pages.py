@@ -22,7 +22,7 @@ def begin(path: str, size: int) -> None:
 
 
 def size_of(path: str) -> int:
-    """The size of its pages that a database file names: in two bytes, where 1 stands for 65,536."""
+    """The size of its pages that a database file names: in two bytes, where 1 means 65,536."""
     with open(path, "rb") as file:
         head = file.read(18)
     check(f"{path} is no database", head.startswith(b"SQLite format 3\0"))

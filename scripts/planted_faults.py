@@ -1,7 +1,7 @@
 """The faults that `tests/audit` plants in an office that `audit_life.py` made, and where `tools/audit` must find each.
 
 A plain fault is one change of the file, or of an answer. A forgery changes all related rows, releases and merges, so that the file alone shows nothing. The
-test tries that too, and tries which witnesses expose it. These forgeries show that what docs/AUDITOR.md calls unseen is unseen.
+test tries that too, and tries which witnesses expose it. These forgeries show that the facts which docs/AUDITOR.md calls unseen are unseen.
 """
 import hashlib
 import json

@@ -1,4 +1,4 @@
-"""What the tests of `tests/page` share."""
+"""The parts that the tests of `tests/page` share."""
 import subprocess
 from dataclasses import dataclass
 

@@ -32,8 +32,8 @@ def serving(program: str, file: str, port: int) -> "subprocess.Popen[bytes]":
 
 @dataclass
 class Scene(scene.Scene):
-    """The further parts that the tests of the desk share: the program and its file, which a test may stop and start again; the client that asks the office
-    beside the desk; a folder for files."""
+    """The further parts that the tests of the desk share. They are the program and its file, which a test may stop and start again; the client that asks the
+    office beside the desk; and a folder for files."""
 
     file: str
     client: Client[Answer]
