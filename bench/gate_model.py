@@ -192,8 +192,8 @@ def tell(root, table, numbers):
 
 def main():
     options = options_of(__doc__)
-    options.add_argument("table", metavar="TABLE", help="what `bench/gate --save TABLE` left")
-    options.add_argument("numbers", nargs="*", type=int, metavar="NUMBER", help="how many processors (4, and 2)")
+    options.add_argument("table", metavar="TABLE", help="the table that `bench/gate --save TABLE` wrote")
+    options.add_argument("numbers", nargs="*", type=int, metavar="NUMBER", help="the number of processors (4, and 2)")
     choice = options.parse_args()
     try:
         with open(choice.table) as file:

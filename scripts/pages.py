@@ -47,4 +47,4 @@ def sizes_of(words: str) -> list[int]:
 def add_sizes(options: argparse.ArgumentParser, sizes: Sequence[int] = SIZES) -> None:
     """The option that names the sizes."""
     default = ",".join(map(str, sizes))
-    options.add_argument("--page-sizes", type=sizes_of, default=list(sizes), metavar="BYTES,..", help=f"the sizes of the pages of the files ({default})")
+    options.add_argument("--page-sizes", type=sizes_of, default=list(sizes), metavar="BYTES,..", help=f"the page sizes of the files ({default})")
