@@ -67,7 +67,7 @@ def needs_of(root):
 
 
 def alone_in(row):
-    """The part of a crate's proof that was one job's alone, where several jobs proved it: from its wall and its processor minutes."""
+    """The part of a crate's proof that only one job did, if several jobs proved it: from its wall and its processor minutes."""
     if row["jobs"] < 2 or not row["proof"]:
         return ALONE
     wall = row["wall"] - row["builds"]
@@ -134,7 +134,7 @@ def jobs_for(key, ready, idle, room, needs):
 
 
 def begin(tasks, left, running, ended, lanes, memory):
-    """The tasks that begin now, each with its jobs: those that are ready, in order, where a lane and memory are free; no memory told: a job a lane."""
+    """The tasks that begin now, each with its jobs: those that are ready, in order, while a lane and memory are free. Without a memory each lane gets a job."""
     ready, begun, lacks = [key for key in left if ended.issuperset(tasks[key].waits)], {}, False
     for key in ready:
         if lacks and key[1] in FILLS:

@@ -89,7 +89,7 @@ def totals_of(table):
 
 
 def run_of(table):
-    """Of which code a run was."""
+    """The code that a run was of."""
     return table.get("run") or (f"commit {table['commit']}" if "commit" in table else "a checkout whose run was watched")
 
 

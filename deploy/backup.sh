@@ -60,7 +60,7 @@ is_stopped='' is_whole='' is_started=yes
 
 milliseconds() { echo $(($(date +%s%N) / 1000000)); }
 
-# Runs however this ends: it starts the service if it was stopped, and deletes what is no whole copy.
+# Runs however this ends: it starts the service if it was stopped, and deletes any copy that isn't whole.
 settle() {
     if [ -n "$is_stopped" ]; then
         is_stopped=''

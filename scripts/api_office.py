@@ -92,7 +92,7 @@ class Document:
         return node
 
     def flaw(self, schema: Any, value: Any) -> str | None:
-        """Where a value doesn't meet a schema, or None."""
+        """The place at which a value doesn't meet a schema, or None."""
         if id(schema) not in self.validators:
             whole = {**schema, "components": self.tree["components"]} if isinstance(schema, dict) else schema
             self.validators[id(schema)] = jsonschema.Draft202012Validator(whole)
@@ -203,7 +203,7 @@ class Asker:
         return answer
 
     def judge(self, where: str, response: dict[str, Any] | None, answer: Answer) -> None:
-        """Notes where an answer isn't what the document says of its status."""
+        """Notes an answer that isn't as the document says for its status."""
         response = response or {}
         content = response.get("content", {}).get(answer.media)
         if content is None:

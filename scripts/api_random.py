@@ -45,7 +45,7 @@ def requests(asker: Asker, chance: random.Random) -> Iterator[tuple[Operation, s
 
 
 def check_at_random(asker: Asker, seed: int) -> str:
-    """Each is answered as its operation says, and by `Forbidden` just where the caller isn't one of those whom it names."""
+    """Each is answered as its operation says, and by `Forbidden` exactly if the operation doesn't name the caller."""
     before, chance = asker.count, random.Random(seed)
     for operation, who, place, body, query in requests(asker, chance):
         told = asker.put(operation, who, place, body, query).told()

@@ -29,7 +29,7 @@ KEPT, BETWEEN = 300, 2.0
 
 
 def seconds_of(retry_after: str | None, tried: int, now: Callable[[], float] = time.time) -> float:
-    """How long to wait, by the field `Retry-After` of an answer, a count of seconds or a date; where that says nothing, twice as long each time."""
+    """How long to wait, by the field `Retry-After` of an answer, a count of seconds or a date. Without it, twice as long each time."""
     text = (retry_after or "").strip()
     if re.fullmatch(r"[0-9]{1,9}", text):
         return int(text)
@@ -40,7 +40,7 @@ def seconds_of(retry_after: str | None, tried: int, now: Callable[[], float] = t
 
 
 def moment_in(field: str | None) -> float | None:
-    """The moment of a field as `Date`, in seconds, or None where it says none."""
+    """The moment of a field such as `Date`, in seconds, or None if it has none."""
     try:
         return email.utils.parsedate_to_datetime(field or "").timestamp()
     except (TypeError, ValueError, OverflowError):
@@ -69,7 +69,7 @@ class Answers:
         self.is_mirror = os.path.exists(os.path.join(self.folder, "mirror.json")) if self.folder else False
 
     def path_of(self, name: str) -> str:
-        """Where a file of the folder is, also of one that `tools/mirror` keeps."""
+        """The path of a file of the folder, also of a folder that `tools/mirror` keeps."""
         kind, _, rest = name.partition("-")
         return os.path.join(self.folder, *([MIRRORED[kind], rest] if self.is_mirror and kind in MIRRORED else [name]))
 
@@ -85,7 +85,7 @@ class Answers:
         return sorted({*(notice for kind, end in OF_NOTICES.items() for notice in self.names(kind, end)), *self.listed_names()})
 
     def page(self, path: str, name: str) -> Json | None:
-        """A page of the list of notices, or None where there is none."""
+        """A page of the list of notices, or None if there is none."""
         text = self.perhaps(path, name)
         page = json_object(text) if text is not None else None
         if text is not None and not (page and isinstance(page.get("notices"), list) and all(isinstance(it, dict) for it in page["notices"])):
@@ -114,7 +114,7 @@ class Answers:
         return self.list if self.base else self.listed()
 
     def listed_names(self) -> list[str]:
-        """The notices of the list, where there is one."""
+        """The notices of the list, if there is one."""
         return [str(it.get("notice")) for it in self.listed() or []]
 
     def has_looks(self) -> bool:
@@ -136,7 +136,7 @@ class Answers:
         return [(number, self.object(f"{kind}-{number}.json")) for number in self.names(kind, ".json")]
 
     def perhaps(self, path: str, name: str) -> str | None:
-        """The text that is answered, or None where there is none."""
+        """The text of the answer, or None if there is none."""
         if not self.base:
             return self.saved(name)
         if path not in self.asked:
@@ -169,7 +169,7 @@ class Answers:
         return self.perhaps(f"/notices/{notice}/{kind}", f"{kind}-{notice}{OF_NOTICES[kind]}")
 
     def package(self, notice: str, kind: str) -> Json | None:
-        """A package of a notice, which must be a JSON object, or None where there is none."""
+        """A package of a notice, which must be a JSON object, or None if there is none."""
         text = self.of_notice(notice, kind)
         package = json_object(text) if text is not None else None
         if text is not None and package is None:
@@ -184,7 +184,7 @@ class Answers:
         return value
 
     def packages(self, notice: str) -> tuple[Json | None, Json | None]:
-        """The releases and the record of a notice. Those of an address are asked for again where a command came in between."""
+        """The releases and the record of a notice. Those of an address are asked for again if a command came in between."""
         for _ in range(3):
             package, record = self.package(notice, "releases"), self.package(notice, "record")
             records = (record or {}).get("records")
@@ -199,7 +199,7 @@ class Answers:
             self.asked.pop(path, None)
 
     def ask(self, path: str) -> str | None:
-        """The body of the office's answer, or None where the office refuses it as not there or not yet there, or its front knows no such route."""
+        """The body of the office's answer. None if it doesn't exist, or not yet, or the front knows no such route."""
         status, body = self.patient(path)
         told = json_object(body) or {}
         refused = status in (404, 409) and "refusal" in told or status == 404 and "front" in told

@@ -27,7 +27,7 @@ WITH = {"lots": ("notices", "notice"), "late_rules": ("notices", "notice"), "sea
 
 
 def both(table: str, later: Office, earlier: Office) -> Iterator[tuple[str, Row, Row | None]]:
-    """Of each row that an earlier copy has: its key as text, the row there, and the row here, or None."""
+    """For each row of an earlier copy: its key as text, the row there, and the row here, or None."""
     here = later.table(table)
     for key, row in earlier.table(table).items():
         yield f"{table} {'/'.join(map(str, key))}", row, here.get(key)

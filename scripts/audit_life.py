@@ -52,7 +52,7 @@ class Life(Client[Answer]):
         self.publish(name, notice(text_of(deadline), *lots, title=f"Notice {name} <b>Straße</b>", **terms))
 
     def submit(self, named: str, who: str, name: str, lot_name: str, body: str, amount: int = 0) -> None:
-        """Presents a tender, with a security of its name where an amount is given."""
+        """Presents a tender, with a security of its name if an amount is given."""
         self.keep(named, self.present(who, name, lot_name, body, named if amount else None, amount))
 
     def resubmit(self, named: str, who: str, old: str, body: str) -> None:
@@ -72,7 +72,7 @@ class Life(Client[Answer]):
         return int(self.award(name, lot_name)["award"])
 
     def contract_of(self, award: int, security: int = 0) -> int:
-        """Signs an award, with a security of its own name where an amount is given."""
+        """Signs an award, with a security of its own name if an amount is given."""
         return int(self.sign(award, f"P{award}" if security else None, security)["contract"])
 
     def wait(self) -> None:

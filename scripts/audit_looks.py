@@ -213,7 +213,7 @@ class Evaluation:
 
 
 def read_evaluation(text: str) -> Evaluation | None:
-    """The evaluation, or None where the text is of another form."""
+    """The evaluation, or None if the text has another form."""
     try:
         found = Evaluation(text)
     except (ValueError, KeyError, IndexError, UnboundLocalError):

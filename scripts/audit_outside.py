@@ -50,7 +50,7 @@ class Tender:
 
 
 def read_minutes(text: str) -> Minutes | None:
-    """The minutes, or None where the text is of another form."""
+    """The minutes, or None if the text has another form."""
     try:
         found = Minutes(text)
     except (ValueError, TypeError, UnboundLocalError):

@@ -380,7 +380,7 @@ def ledger_of(office: Office) -> str:
 
 
 def unlike(row: str, text: str, due: str) -> Found:
-    """A finding where a text isn't the one that is due."""
+    """A finding if a text isn't the expected one."""
     lines, wanted = text.split("\n"), due.split("\n")
     if lines != wanted:
         place = next((place for place, (here, there) in enumerate(zip(lines, wanted)) if here != there), min(len(lines), len(wanted)))

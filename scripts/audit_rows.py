@@ -118,7 +118,7 @@ def numbers_follow_time(office: Office) -> Found:
             (SELECT {key}, moment, lag(moment) OVER (PARTITION BY {group} ORDER BY {key}) AS earlier FROM {table}) WHERE moment < earlier""")
 
 
-# Tables whose rows are never taken out, and have no number that is the row's place; the moment where there is one.
+# Tables whose rows are never taken out, and have no number that is the row's place; the moment if there is one.
 PLACED = {"lines": None, "batches": "moment", "tenderers": None, "notices": None, "lots": None, "entries": "moment", "releases": "moment", "compiled": None,
           "late_rules": None}
 
@@ -259,7 +259,7 @@ def awards_go_to_the_best(office: Office) -> Found:
 
 
 def best_of(offers: list[Any], weight: int) -> Any:
-    """The best of offers (price, receipt, quality): where the weight isn't 0 that of most thousandths of points, then the lower price and receipt."""
+    """The best of offers (price, receipt, quality): if the weight isn't 0, that with most thousandths of points; then the lower price and receipt."""
     lowest = min((price for price, _, _ in offers), default=0)
 
     def standing(offer: Any) -> tuple[int, int, int]:

@@ -19,7 +19,7 @@ Answers = Mapping[str, tuple[int, bytes] | None]
 PATIENCE = max(60, 15 * AHEAD)
 KEYS = {"Tab": (9, ""), "Enter": (13, "\r")}
 DOMAINS = ("Page", "Runtime", "Log", "Network", "Audits")
-# Without a sandbox, since that isn't to be had by root in a container; the one page that it shows is that of this repository.
+# Without a sandbox, since root can't have one in a container. It shows only the pages of this repository.
 WORDS = ["--headless=new", "--no-sandbox", "--disable-gpu", "--disable-dev-shm-usage", "--hide-scrollbars", "--no-first-run", "--disable-extensions",
          "--disable-background-networking", "--disable-component-update", "--ignore-certificate-errors", "--remote-debugging-pipe"]
 
@@ -67,7 +67,7 @@ class Browser:
         self.stream.sendall(json.dumps({"id": self.count, "method": method, "params": parameters, **where}).encode() + b"\0")
         number = self.count
         while (message := self.receive()).get("id") != number:
-            # (An answer that came too late for its command is none.)
+            # (An answer that came too late for its command is dropped.)
             if "method" in message:
                 (self.paused if message["method"] == "Fetch.requestPaused" else self.events).append(message)
         if "error" in message:
@@ -140,7 +140,7 @@ class Page:
             self.run("0")
 
     def answer(self) -> None:
-        """Answers what the page has asked, where `answers` has it."""
+        """Answers a request of the page, if `answers` has its path."""
         paused, self.browser.paused = self.browser.paused, []
         for event in paused:
             request = event["params"]["requestId"]

@@ -72,7 +72,7 @@ def tenderers_part(desk: Desk) -> None:
 
 
 def local(desk: Desk, second: float) -> str:
-    """A second as a field for date and time holds it, where the browser is."""
+    """A second in the form of a field for date and time, in the browser's time zone."""
     return str(desk.page.run(f"import('/clerk/values.js').then(({{ localText }}) => localText({int(second) * 1000}))"))
 
 
@@ -434,7 +434,7 @@ def each_refusal(scene: Scene) -> None:
 
 
 def keyboard(scene: Scene) -> None:
-    """The key is given, and a command is sent, by the keyboard alone, and it is seen where one is."""
+    """The keyboard alone is enough to give the key and to send a command, and the focus is seen."""
     desk = Desk(scene, place="#key")
     page = desk.page
     page.run("document.querySelector('main h1').focus()")

@@ -31,7 +31,7 @@ Body = str | bytes | Mapping[str, Any]
 PATIENCE = 60
 # How often a front is asked again.
 TRIES = 60
-# Seconds to the deadlines for which tests wait: more by AHEAD, where the machine or the program is slow.
+# Seconds to the deadlines for which tests wait: AHEAD adds to them if the machine or the program is slow.
 AHEAD = int(os.environ.get("AHEAD", "4"))
 HEAD = "line,kind,amount,title\n"
 
@@ -205,7 +205,7 @@ def behind(after: str | None) -> str:
 
 
 def hello(_: str) -> str:
-    """The key that each tenderer has where no other is said."""
+    """The key that each tenderer has if no other is given."""
     return "hello"
 
 

@@ -18,7 +18,7 @@ import time
 from collections.abc import Iterable, Iterator, Sequence
 from typing import Any, NoReturn
 
-# A name and a key, of which what is empty isn't sent.
+# A name and a key. An empty one isn't sent.
 Caller = tuple[bytes, bytes]
 
 ROOT = os.path.dirname(os.path.dirname(os.path.abspath(__file__)))
@@ -42,7 +42,7 @@ def fail(what: object) -> NoReturn:
 
 
 def check(said: str, holds: object) -> None:
-    """That something holds; else what was said of it is raised."""
+    """Checks that something holds; otherwise raises the message."""
     if not holds:
         raise AssertionError(said)
 
@@ -209,7 +209,7 @@ def serve_words(program: str, file: str, port: int | str, count: int | str, sett
 
 @contextlib.contextmanager
 def running(words: Sequence[str], **how: Any) -> Iterator["subprocess.Popen[bytes]"]:
-    """A process that is killed where it still runs at the end."""
+    """A process that is killed if it still runs at the end."""
     process = subprocess.Popen(words, **how)
     try:
         yield process

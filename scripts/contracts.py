@@ -46,7 +46,7 @@ def folded(text: str) -> str:
 
 
 def behind_brace(text: str, at: int) -> int:
-    """Where the block ends whose brace opens in front of this place."""
+    """The end of the block whose brace opens before this place."""
     depth = 1
     while depth and at < len(text):
         depth += {"{": 1, "}": -1}.get(text[at], 0)
@@ -75,7 +75,7 @@ def without_generics(text: str) -> str:
 
 
 def owner_of(line: str) -> Block | None:
-    """(owner, whether it is a trait, whether it is an `impl` of a trait) of a line that begins a block; None where it begins none."""
+    """(owner, whether it is a trait, whether it is an `impl` of a trait) of a line that begins a block; None if it begins none."""
     found = BLOCK.match(line)
     if not found:
         return None

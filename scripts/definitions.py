@@ -137,7 +137,7 @@ class Source:
         self.by_name = {case: each for each in self.definitions for case in each.cases()} | {each.name: each for each in self.definitions}
 
     def defines(self, name: str) -> Definition | None:
-        """The definition of this name, or the one with this case; None where there is none."""
+        """The definition of this name, or the one with this case; None if there is none."""
         return self.by_name.get(name)
 
 
@@ -155,7 +155,7 @@ def source_at(crate: str, module: str) -> Source | None:
 
 
 def definition_at(crate: str, module: str, name: str) -> tuple[Source | None, Definition | None]:
-    """(file, definition) of a name of a module; a module may be that of a definition's cases. (None, None) where there is none."""
+    """(file, definition) of a name of a module; a module may be that of a definition's cases. (None, None) if there is none."""
     source = source_at(crate, module)
     if source:
         return source, source.defines(name)

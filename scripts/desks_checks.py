@@ -19,7 +19,7 @@ SHEET = "Pos;Menge;EP;GP\r\nI1;3;140,00;420,00\r\nI2;10;12,00;120,00\r\nSumme;;;
 
 
 def make_key(scene: Scene, name: str, firm: str, address: str) -> tender_page.Desk:
-    """A firm makes its key, saves it, drops it in again, and saves what is for the clerk."""
+    """A firm makes its key, saves it, drops it in again, and saves the file for the clerk."""
     desk = tender_page.Desk(scene)
     desk.at("key", "Key")
     for field, text in (("tenderer", name), ("name", firm), ("address", address)):

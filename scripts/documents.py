@@ -79,7 +79,7 @@ def fences_of(path: str) -> tuple[list[Fence], list[tuple[int, str]]]:
 
 
 class Step:
-    """A block that is run, and the text that it must print, or None where no text follows."""
+    """A block that is run, and the text that it must print, or None if no text follows."""
 
     def __init__(self, fence: Fence, shown: Fence | None) -> None:
         self.line, self.text, self.shown = fence.line, fence.text, shown.text if shown else None
@@ -162,7 +162,7 @@ def indented(lines: Iterable[str]) -> str:
 
 
 def compare(path: str, step: Step, told: str) -> None:
-    """That a block printed what the document shows."""
+    """Checks that a block printed the output in the document."""
     printed, shown = (text.rstrip("\n").split("\n") for text in (told, step.shown or ""))
     if printed != shown:
         lines = list(difflib.unified_diff(shown, printed, "shown", "printed", lineterm="", n=1))
@@ -170,7 +170,7 @@ def compare(path: str, step: Step, told: str) -> None:
 
 
 def run_steps(path: str, steps: Sequence[Step], program: str, keep: str | None = None) -> int:
-    """Runs the blocks of a document, and says how many outputs were compared. Its files stay in the folder `keep`, where that is given."""
+    """Runs the blocks of a document, and says how many outputs were compared. Its files stay in the folder `keep`, if that is given."""
     with tempfile.TemporaryDirectory(prefix="office-docs-") as folder:
         shell = Shell(folder, program)
         try:

@@ -12,7 +12,7 @@ from functools import lru_cache
 
 from definitions import ROOT, Definition, Fault, Source, WORD, definition_at, places_in, source_at, sources_of, text_of
 
-# A kind of thing, the state before (empty where it begins), the state after, and the command.
+# A kind of thing, the state before (empty if it begins), the state after, and the command.
 Arrow = tuple[str, str, str, str]
 
 DRAWING = "docs/pictures/states.dot"
@@ -147,7 +147,7 @@ def tests_of_states() -> dict[str, set[tuple[str, str]]]:
 
 
 def states_before(command: str, kind: str, words: set[str]) -> list[str]:
-    """The states from which a command leads, an empty one where it makes a new row."""
+    """The states from which a command leads; an empty one if it makes a new row."""
     if (command, kind) in NEW:
         return [""]
     if (command, kind) in FOLLOWS:

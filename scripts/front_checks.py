@@ -85,7 +85,7 @@ def sizes(scene: Scene) -> None:
 
 
 def odd_paths(scene: Scene) -> None:
-    """A path that is written in another way than the office's has no answer but the front's own, and neither has what is no route."""
+    """A path that is written in another way than the office's gets only the front's own answer, and so does a path that is no route."""
     for path in ODD_PATHS + NOWHERE:
         answer = scene.front.ask("GET", path, caller=CLERK)
         check(f"GET {path}: {answer}", is_own(answer, 404))

@@ -29,7 +29,7 @@ def text_made(make: Make) -> str:
 
 
 def difference(name: str, had: Sequence[str], wanted: Sequence[str]) -> str:
-    """Where a document isn't what its script makes: the line, its text, and the text that is made."""
+    """The first difference between a document and its script: the line, its text, and the text that is made."""
     at = next((i for i, (a, b) in enumerate(zip(had, wanted)) if a != b), min(len(had), len(wanted)))
     there, made = (lines[at] if at < len(lines) else "(nothing)" for lines in (had, wanted))
     return f"{name}:{at + 1}: not what is made of the sources; `make docs` makes it again\n  there: {there}\n  made:  {made}"

@@ -166,7 +166,7 @@ def is_kind(value: Any, kind: str) -> bool:
 
 
 def check_members(path: str, value: Any, members: str) -> None:
-    """That this is an object with these members."""
+    """Checks that this is an object with these members."""
     if not isinstance(value, dict):
         raise Flaw(path)
     table = {name: kind for name, kind in (member.split(" ") for member in members.split(", "))}
@@ -207,14 +207,14 @@ def check_releases(package: Any, place: str) -> None:
 
 
 def check_last(value: Any, place: str, others: str) -> None:
-    """That the texts at one place are the last one at another."""
+    """Checks that the texts at one place are the last one at another."""
     last = (texts_at(value, others) or [""])[-1]
     if any(text != last for text in texts_at(value, place)):
         raise Flaw(place)
 
 
 def check_release_package(package: Any) -> None:
-    """That this is a release package whose releases are such, none earlier than the one before it, published when the last one was."""
+    """Checks that this is a release package whose releases are such, none earlier than the one before it, published when the last one was."""
     check("", package, RELEASE_PACKAGE)
     check_releases(package, "releases")
 

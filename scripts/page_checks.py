@@ -26,7 +26,7 @@ NAMED = ("link", "button", "textbox", "image", "table", "region", "article", "na
 MANY = 2000
 # How often a check asks again while the front answers 429. One address may ask 10 a second, and at most 100 are counted.
 TRIES = 20
-# Moments, days, clocks and years: what is another at each run.
+# Moments, days, clocks and years, which differ in each run.
 MOVING = [(re.compile(r"\d{1,2} [A-Z][a-z]+ \d{4},? (at )?\d\d:\d\d:\d\d UTC \(here: [^)]*\)"), "MOMENT"), (re.compile(r"\d{1,2} [A-Z][a-z]+ \d{4}"), "DAY"),
           (re.compile(r"closes in [^\n]*"), "closes in CLOCK"), (re.compile(r"^20\d\d(?=$|:)", re.M), "YEAR")]
 ZONE = "Europe/Berlin"
@@ -98,10 +98,10 @@ def views(scene: Scene) -> None:
 
 
 def difference(scene: Scene, name: str, page: Page) -> str:
-    """Where a view says something else than `page_texts/`; what it says is left with the pictures. Its title is its own, and markup in a text is text."""
+    """Checks a view against `page_texts/`; its text is left with the pictures. Its title is its own, and markup in a text is text."""
     text = without_moments(page.text())
     if name == "list":
-        # (Which of those that were published within a few seconds come first isn't told beforehand.)
+        # (The order of those that were published within a few seconds isn't known before.)
         text = "".join(sorted(text.splitlines(True)))
     with open(os.path.join(scene.pictures, f"{name}.txt"), "w") as file:
         file.write(text)
@@ -123,7 +123,7 @@ def has_its_own(name: str, page: Page) -> None:
 
 
 def otherwise(name: str, text: str) -> str:
-    """Where a text is another than that of `page_texts/`, moments apart."""
+    """The difference of a text from that of `page_texts/`, except for moments."""
     path, wanted = os.path.join(ROOT, "tests", "page_texts", f"{name}.txt"), ""
     if os.path.exists(path):
         with open(path) as file:
@@ -200,7 +200,7 @@ def tab(page: Page, count: int) -> list[Any]:
     return seen
 
 
-# Where tabs lead from the top of the list: links by their texts, fields and buttons by their names.
+# The elements to which tabs lead from the top of the list: links by their texts, fields and buttons by their names.
 ORDER = ["skip", "Procurements", "Budget", "Firms", "Figures", "About", "For tenderers", "English", "Deutsch", "by-words", "Filters",
          "by-state", "by-year", "by-line", "by-firm", "by-from", "by-to", "Search", "A footbridge over the river"]
 
@@ -235,7 +235,7 @@ def keyboard(scene: Scene) -> None:
     is_quiet(page)
 
 
-# Faults that are planted in a view: what is done to the page, and which of the checks above must find it.
+# Faults that are planted in a view: the change of the page, and the check above that must find it.
 PLANTS: list[tuple[str, Callable[[Scene, Page], None]]] = [
     ("document.querySelector('main h2').append(' x')", lambda _, page: says_what_it_should(page)),
     ("document.querySelector('main dd, main td').remove()", lambda _, page: says_what_it_should(page)),
@@ -263,13 +263,13 @@ def says_what_it_should(page: Page) -> None:
 
 
 def is_seen(page: Page) -> None:
-    """Where the first tabs lead is seen."""
+    """The elements to which the first tabs lead are seen."""
     order = tab(page, 3)
     check(f"tabs lead to {order}", all(seen for _, seen in order))
 
 
 def plants(scene: Scene) -> None:
-    """A fault in a page is found by the check that is for it, and nothing where none is planted."""
+    """The check for it finds a fault in a page, and finds nothing if none is planted."""
     passed_over = []
     page = page_of(scene, VIEWS["paid"])
     for _, judge in PLANTS:
@@ -357,7 +357,7 @@ def long_texts(scene: Scene) -> None:
 
 
 def without_scripts(scene: Scene) -> None:
-    """Where scripts are turned off, the page says where the answers are."""
+    """If scripts are turned off, the page says where the answers are."""
     page = Page(scene.browser, WIDTHS["narrow"])
     page.ask("Emulation.setScriptExecutionDisabled", value=True)
     page.ask("Page.navigate", url=scene.front.address())
@@ -387,7 +387,7 @@ def breaches(page: Page) -> list[Any]:
 
 
 def office_away(scene: Scene) -> None:
-    """Where the office is gone, the front says so, and so does the page."""
+    """If the office is gone, the front says so, and so does the page."""
     scene.office.kill()
     scene.office.wait()
     # The checks before used up what one address may ask at once. So the front may answer 429 first, until its count has run down.

@@ -31,7 +31,7 @@ def size_of(path: str) -> int:
 
 
 def check_size(path: str, size: int) -> None:
-    """That a file has pages of this size."""
+    """Checks that a file has pages of this size."""
     found = size_of(path)
     check(f"{path} has pages of {found} bytes, and not of {size}", found == size)
 

@@ -1,4 +1,4 @@
-"""The faults that `tests/audit` plants in an office that `audit_life.py` made, and where `tools/audit` must find each.
+"""The faults that `tests/audit` plants in an office that `audit_life.py` made, and the rule and row by which `tools/audit` must find each.
 
 A plain fault is one change of the file, or of an answer. A forgery changes all related rows, releases and merges, so that the file alone shows nothing. The
 test tries that too, and tries which witnesses expose it. These forgeries show that the facts which docs/AUDITOR.md calls unseen are unseen.
@@ -33,7 +33,7 @@ def in_places(*tables: str) -> str:
 
 
 def other_bytes(receipt: str, body: str) -> str:
-    """Puts other bytes in the place of a tender's, with all that is said of them."""
+    """Replaces a tender's bytes, with all that other rows say of them."""
     data = body.encode()
     return (f"UPDATE seals SET bytes = X'{data.hex()}' WHERE receipt = {receipt}; UPDATE envelopes SET digest = X'{hashlib.sha256(data).hexdigest()}', "
             f"length = {len(data)} WHERE receipt = {receipt}; ")
@@ -213,7 +213,7 @@ def lose_notice(folder: str, notice: str) -> None:
 
 
 def faults_outside(life: AuditedLife) -> list[tuple[Any, ...]]:
-    """Faults of answers without a file: the rule, the row, what is done to their folder, and further arguments."""
+    """Faults of answers without a file: the rule, the row, the change of their folder, and further arguments."""
     r, running = life.receipt, life.running
     start = text_of(life.deadline + 20_000_000)
     return [
@@ -272,7 +272,7 @@ ENDED = ("UPDATE contracts SET ended = (SELECT moment FROM office), how = 'defau
          "UPDATE performance SET state = 'forfeited' WHERE contract = {running}; UPDATE lines SET free = free + 150 WHERE line = '2000'; "
          "UPDATE notices_2 SET releases = 6 WHERE notice = 'N2'; INSERT INTO releases SELECT 'N2', 6, moment, '" + RELEASE_OF_END + "' FROM office; "
          """UPDATE compiled SET text = replace(text, ']},"status":"active","value"', ']},"status":"terminated","value"') WHERE notice = 'N2'""")
-# Forgeries of the file that the file alone doesn't show: what is forged, how, and where it is found: by which witness, rule and row.
+# Forgeries that the file alone doesn't show: their name, the script, and the witness, the rule and the row by which each is found.
 FORGERIES: list[tuple[Any, ...]] = [
     ("a procurement is deleted whole, and its places are filled", without("N7") + in_places("releases", "compiled", "lots", "notices_2"),
      (PUBLIC, "saved_notices_are_there", "notices N7"), (HELD, "saved_notices_are_there", "notices N7"), (COPY, STAY, "notices N7")),

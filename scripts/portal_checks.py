@@ -236,7 +236,7 @@ def without_mirror(scene: Scene) -> None:
     is_quiet(page)
 
 
-# Of each page the module that begins, and one that it imports.
+# For each page the module that begins, and one that it imports.
 MODULES = {"": ("/page.js", "/common/draw.js"), "tender/": ("/tender/main.js", "/tender/key.js"), "clerk/": ("/clerk/desk.js", "/clerk/today.js")}
 
 

@@ -73,7 +73,7 @@ def prepare(desk: Scene) -> None:
     client.publish("N1", notice(far, secured, lot("L2", "1000", 9000, 0, ("Paving", 1), title="South"), title="Road repair"))
     more = [lot(name, "1000", 900, 0, *ITEMS) for name in ("L2", "L3", "L4")]
     client.publish("N4", notice(far, lot("L1", "1000", 90_000, 0, *LONG, title="A long list"), *more, title="Things of all kinds"))
-    # (two publications and two tenders come before it, also where the machine is busy)
+    # (two publications and two tenders come before it, even if the machine is busy)
     desk.deadline = int(time.time()) + AHEAD + 8
     client.publish("N2", notice(text_of(desk.deadline), secured, title="Late tenders", late_withdrawal="forfeits"))
     client.publish("N3", notice(text_of(desk.deadline), secured, title="A bridge", performance=70))

@@ -180,7 +180,7 @@ def on_paper(scene: Scene, desk: Desk, name: str, is_sheet: bool = True) -> str:
 
 
 def without_scripts(scene: Scene) -> None:
-    """Where scripts are turned off, the page says what there is."""
+    """If scripts are turned off, the page names the alternatives."""
     page = Page(scene.browser, 375)
     page.ask("Emulation.setScriptExecutionDisabled", value=True)
     page.ask("Page.navigate", url=scene.front.address("tender/"))

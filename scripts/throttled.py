@@ -1,4 +1,4 @@
-"""A front for tests. It answers what is saved in a folder, and now and then that it is asked too often, or that no answer can be had."""
+"""A front for tests. It answers with the files of a folder. Sometimes it answers that it is asked too often, or that it can't answer."""
 import contextlib
 import http.server
 import os

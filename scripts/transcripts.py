@@ -69,7 +69,7 @@ def request_of(block: str) -> bytes:
 
 
 def answer_of(block: str) -> tuple[str, str, str] | None:
-    """The status, the kind and the body of a block's answer; None where any will do."""
+    """The status, the kind and the body of a block's answer; None if any is right."""
     told = block.split("\n= ", 1)[1]
     if told == "any":
         return None

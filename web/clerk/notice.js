@@ -115,7 +115,7 @@ function limitFaults(draft) {
     ...(many >= 0 ? [{ field: `lots.${many}.items`, code: "items.many", value: draft.lots[many].items.length }] : [])];
 }
 
-/** Warnings: what is allowed but unusual, as codes with values. */
+/** Warnings about allowed but unusual values, as codes with values. */
 export function warningsOf(draft, now) {
   const validity = wholeNumber(draft.validity, 1, MOST.validity);
   const standstill = wholeNumber(draft.standstill, 0, MOST.standstill);

@@ -59,7 +59,7 @@ function stateOfContracts(contracts) {
   return isPaid ? [allRun ? "done" : "ended", "paid"] : ["running", contracts.some((contract) => paidOf(contract) > 0) ? "part" : "unpaid"];
 }
 
-/** The state of one lot, likewise. */
+/** The state of one lot, in the same form. */
 export function stateOfLot(compiled, lot) {
   if (lot.status === "complete") {
     const contract = awardsOf(compiled, lot).map((award) => contractOf(compiled, award)).find(Boolean);
