@@ -1,6 +1,6 @@
-"""Walks through all commands of an office that is served, by the clock, with every request on the way that the office refuses. tools/check_api sends these
-requests besides those that it makes from schemas. `want` is the expected refusal; without it the command must be accepted. The examples are those of
-docs/openapi.yaml. In a notice the deadline is different, and so is the standstill if a contract will be signed.
+"""Walks through all commands of an office that is served, by the clock, with all requests that the office refuses. `tools/check_api` sends these requests
+besides those that it makes from schemas. `want` is the expected refusal; without it the command must be accepted. The examples are those of docs/openapi.yaml.
+In a notice the deadline is different, and so is the standstill if a contract will be signed.
 
 There are eight notices. N1 is that of the examples, from its publication to the end of its contract. N2 has ten days of standstill. N3 requires no security. N4
 is cancelled unopened. N5 has a winner who is passed over and a contract with a performance security. N6 has points. N7 has too little money. N8 has a tender
