@@ -20,7 +20,7 @@ def word_behind(words, name):
 
 
 def task_of(words, folder):
-    """The crate and the kind of work of a process with this command line and folder, or None where it is none of these."""
+    """The crate and the kind of work of a process with this command line and folder, or None if it is none of these."""
     ran = re.search(r"/rt-run-[^ ]*/bin/(\w+)", " ".join(words))
     if ran:
         return ran[1].removesuffix("_tests"), "runs"
@@ -39,7 +39,7 @@ def task_of(words, folder):
 
 
 def stat_of(pid):
-    """A process's parent, its start in ticks, its own ticks and those of its children that ended, or None where it is gone."""
+    """A process's parent, its start in ticks, its own ticks and those of its children that ended, or None if it is gone."""
     try:
         with open(f"/proc/{pid}/stat") as file:
             told = file.read().rpartition(")")[2].split()
@@ -82,7 +82,7 @@ class Watch(threading.Thread):
         self.join()
 
     def look(self):
-        """One look; whether the process that is watched is still there."""
+        """One reading; whether the watched process still runs."""
         stats = {int(name): stat_of(name) for name in os.listdir("/proc") if name.isdigit()}
         stats = {pid: it for pid, it in stats.items() if it}
         if self.pid not in stats:

@@ -21,12 +21,12 @@ MOMENT = re.compile(r"\d{4}-\d\d-\d\dT\d\d:\d\d:\d\dZ")
 
 
 def plain(value: Any) -> str:
-    """A text as it is, and any other value as the office writes it in JSON."""
+    """A text unchanged, and any other value as the office writes it in JSON."""
     return value if isinstance(value, str) else json.dumps(value, sort_keys=True, separators=(",", ":"), ensure_ascii=False)
 
 
 def masked(value: Any) -> str:
-    """The same without its moments."""
+    """A text without its moments."""
     return MOMENT.sub("MOMENT", plain(value))
 
 
@@ -138,7 +138,7 @@ class Answer:
         return json.loads(self.body) if self.media == JSON else self.body.decode()
 
     def told(self) -> str:
-        """`200`, or the refusal's name and what it is about."""
+        """`200`, or the refusal's name and its `what`."""
         if self.status == "200":
             return "200"
         refusal = json.loads(self.body)

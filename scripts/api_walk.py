@@ -173,7 +173,7 @@ def decide_first(asker: Asker) -> None:
 
 
 def decide(asker: Asker, receipts: Receipts) -> int:
-    """The other awards; answers the contract of N5."""
+    """The other awards; returns the contract of N5."""
     office, sent = asker.office(), asker.sent
     refused(asker, "award", "clerk", ("NotAllExamined", ["N5", "L1"]), ("AlreadyDecided", ["N1", "L1"]))
     for key in (("T1", "N2"), ("T1", "N5"), ("T2", "N5"), ("T1", "N7")):
@@ -224,7 +224,7 @@ def pay(asker: Asker, contract: int) -> None:
 
 
 def look(asker: Asker, receipts: Receipts) -> None:
-    """All that can be looked at, of each notice, by each who may."""
+    """Asks all queries about each notice, by each caller that may."""
     office = asker.office()
     for number in range(1, 9):
         office.releases(f"N{number}")

@@ -21,10 +21,10 @@ HELD = ("receipt", "security", "performance", "contract")
 # The folders of a mirror.
 MIRRORED = {"record": "records", "minutes": "minutes", "terms": "terms", "evaluation": "evaluations"}
 
-# Seconds that one answer is waited for in all, seconds of the longest wait that isn't asked for, and how often an office that can't answer is asked again.
+# The seconds to wait for one answer in all, the longest wait without `Retry-After`, and how often an office that can't answer is asked again.
 PATIENCE, LONGEST, AGAIN = 600, 30, 5
 TOO_MANY, NOT_NOW = 429, (502, 503, 504)
-# A front may keep an answer for a while, and says by `Last-Modified` when the office gave it: for how long one of now is asked for, and how often.
+# A front may keep an answer for a while, and says by `Last-Modified` when the office gave it: for how long a fresh one is asked for, and how often.
 KEPT, BETWEEN = 300, 2.0
 
 
@@ -118,7 +118,7 @@ class Answers:
         return [str(it.get("notice")) for it in self.listed() or []]
 
     def has_looks(self) -> bool:
-        """Whether the address has the list of notices, and so the other looks that came with it."""
+        """Whether the address has the list of notices, and so the other queries that came with it."""
         return bool(self.base) and self.list is not None
 
     def terms(self, notice: str) -> Json | None:
@@ -126,7 +126,7 @@ class Answers:
         return self.package(notice, "terms")
 
     def contracts(self, numbers: list[int]) -> list[tuple[int, Json | None]]:
-        """The contracts of a folder, or, with the clerk's fields, what the address answers of these."""
+        """The contracts of a folder, or, with the clerk's fields, those of the address."""
         if not self.base:
             return [(int(shown.get("contract", 0)), shown) for _, shown in self.held("contract")]
         return [(number, json_object(self.perhaps(f"/contracts/{number}", "") or "")) for number in numbers] if self.fields else []
@@ -144,7 +144,7 @@ class Answers:
         return self.asked[path]
 
     def renewed(self, path: str, name: str) -> str | None:
-        """The same, asked for now, and given by the office since: not an answer that a front kept from before."""
+        """A fresh text, which the office gives now: not an answer that a front kept from before."""
         if not self.base:
             return self.saved(name)
         begun, end = None, time.monotonic() + KEPT
@@ -194,7 +194,7 @@ class Answers:
         return package, record
 
     def forget(self, *paths: str) -> None:
-        """Asks for these again when they are needed again."""
+        """Forgets these, so that they are asked for again when needed."""
         for path in paths:
             self.asked.pop(path, None)
 

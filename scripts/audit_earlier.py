@@ -19,9 +19,9 @@ FIXED = {
 ONCE = {"notices": "opened", "envelopes": "reading stated corrected corrections responsive quality", "contracts": "ended how"}
 # The columns that only grow.
 GROWS = {"notices": "deadline amendments releases", "envelopes": "failed", "contracts": "released", "office": "moment receipts awards"}
-# The states after which another can follow. From an awarded lot's every other may be reached, since its award may fail.
+# The states after which another can follow. An awarded lot can reach every other state, since its award may fail.
 GOES_ON = {"notices": "receiving", "lots": "undecided awarded", "envelopes": "sealed", "securities": "held", "awards": "active", "performance": "held"}
-# Rows that are put in with another row, and never into it later: the table of that, and its key as the columns of this one.
+# Rows that are added together with another row, and never later: the table of that row, and its key as the columns of this one.
 WITH = {"lots": ("notices", "notice"), "late_rules": ("notices", "notice"), "seals": ("envelopes", "receipt"), "securities": ("envelopes", "security"),
         "performance": ("contracts", "contract")}
 

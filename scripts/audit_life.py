@@ -21,7 +21,7 @@ def part(name: str, line: str, estimate: int, security: int) -> dict[str, Any]:
 
 
 def offer(*units: int, wrong: int = 0) -> str:
-    """A tender of these unit prices, with so much too little in its sum."""
+    """A tender of these unit prices, with a sum that is too small by so much."""
     return tender(*zip(QUANTITIES, units), wrong=wrong)
 
 
@@ -76,7 +76,7 @@ class Life(Client[Answer]):
         return int(self.sign(award, f"P{award}" if security else None, security)["contract"])
 
     def wait(self) -> None:
-        """Until the deadline is over."""
+        """Waits until the deadline is over."""
         if time.time() >= self.deadline:
             fail("the deadline came before all tenders were in: the machine is too busy")
         wait_until(self.deadline + 1.05)

@@ -92,7 +92,7 @@ RULES: dict[str, list[Check]] = {it: [] for it in (
 
 
 class Unreadable(Exception):
-    """Something can't be read, and why."""
+    """A file, answer or argument that can't be read, and the reason."""
 
 
 def rule(of: str) -> Callable[[Check], Check]:
@@ -118,7 +118,7 @@ def once(pairs: list[tuple[str, Any]]) -> Json:
 
 
 def json_object(text: str) -> Json | None:
-    """The JSON object that a text is, or None."""
+    """The JSON object in a text, or None."""
     try:
         value = json.loads(text, object_pairs_hook=once)
     except (ValueError, RecursionError):
@@ -178,7 +178,7 @@ class Office:
             raise Unreadable(f"{self.path}: it isn't an office: the table {name} or one of its columns is missing")
 
     def migrate(self) -> None:
-        """Makes of the copy what the program makes of an office of version 1 when it opens it."""
+        """Migrates the copy, as the program migrates an office of version 1 when it opens it."""
         for table, made in LATER.items():
             if not self.columns(table):
                 self.base.execute(made)

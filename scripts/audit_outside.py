@@ -45,7 +45,7 @@ class Tender:
         self.stated, self.corrected, self.corrections = map(int, figures) if reading == "priced" else (-1, -1, -1)
 
     def is_read(self) -> bool:
-        """Whether its figures are such as a reading gives."""
+        """Whether its figures can come from a reading."""
         return self.reading in ("unreadable", "nonconforming") or self.reading == "priced" and (self.corrections > 0 or self.stated == self.corrected)
 
 

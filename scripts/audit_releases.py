@@ -334,7 +334,7 @@ def text_with(lines: Iterable[Iterable[object]]) -> str:
 
 
 def minutes_of(office: Office, notice: str) -> str | None:
-    """The minutes of a notice, by the rows; None where it isn't opened."""
+    """The minutes of a notice, by the rows; None if it isn't opened."""
     title, deadline, opened = office.rows("SELECT title, text_of(deadline), text_of(opened) FROM notices WHERE notice = ?", notice)[0]
     due = [("MINUTES", notice, title), ("deadline", deadline), ("opened", opened)]
     for lot in office.rows("SELECT 'lot', lot, title FROM lots WHERE notice = ? ORDER BY lot", notice):

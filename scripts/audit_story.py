@@ -106,7 +106,7 @@ class Story:
             lot["status"] = status
 
     def is_amended(self, seq: int, release: Json, told: list[Json], description: str) -> None:
-        """Checks that the one amendment of a release is of its number and date."""
+        """Checks that the one amendment of a release has its number and date."""
         want([(it["id"], it["date"], it["description"]) for it in told] == [(f"{seq:04}", release["date"], description)],
              f"its amendment should be {seq:04}, {release['date']}, {description}")
 

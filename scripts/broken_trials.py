@@ -103,7 +103,7 @@ class Trial:
         return f"{self.command}, {self.what}"
 
 
-# Rows, by the names that they have here: what deletes them.
+# Rows, by the names that they have here: the script that deletes them.
 def notice_gone(name: str) -> str:
     return f"DELETE FROM notices_2 WHERE notice = '{name}';"
 

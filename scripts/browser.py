@@ -109,7 +109,7 @@ class Page:
         return self.browser.ask(method, self.session, **parameters)
 
     def shape(self, width: int, height: int = 800, dark: bool = False, zoom: float = 1) -> None:
-        """A window of this size, that of a phone where it is narrow, light or dark."""
+        """A window of this size, light or dark; a narrow one is a phone's."""
         self.ask("Emulation.setDeviceMetricsOverride", width=width, height=height, deviceScaleFactor=zoom, mobile=width < 600)
         self.ask("Emulation.setEmulatedMedia", features=[{"name": "prefers-color-scheme", "value": "dark" if dark else "light"}])
 
@@ -118,7 +118,7 @@ class Page:
         return [event["params"] for event in self.browser.events if event.get("sessionId") == self.session and event["method"] in names]
 
     def run(self, script: str) -> Any:
-        """The value of an expression of the page, waited for where it is a promise."""
+        """The value of an expression of the page, awaited if it is a promise."""
         answer = self.ask("Runtime.evaluate", expression=script, returnByValue=True, awaitPromise=True)
         if "exceptionDetails" in answer:
             fail(f"the page: {script}: {answer['exceptionDetails']}")
@@ -129,7 +129,7 @@ class Page:
         self.expect(script, lambda: self.run(f"Boolean({script})"))
 
     def expect(self, what: str, holds: Callable[[], Any]) -> None:
-        """Waits until something holds, and lets the page be answered meanwhile."""
+        """Waits until something holds, and answers the page's requests meanwhile."""
         end = time.monotonic() + PATIENCE
         while not holds():
             self.answer()

@@ -229,7 +229,7 @@ def tells(desk: Desk, *texts: str) -> None:
 
 
 def short_of_money(desk: Desk) -> None:
-    """Where the line has less free than a price is above what the lot has reserved, the award can't be asked for."""
+    """If the price exceeds the lot's reserved and the line's free money, the desk doesn't offer the award."""
     desk.page.answer_for({"/lines/1000": (200, b'{"free":29,"line":"1000","title":"Roads"}')})
     desk.go("today")
     desk.go("notice/N1")
@@ -534,7 +534,7 @@ def speaks_german(desk: Desk) -> None:
 
 
 def plants(scene: Scene) -> None:
-    """A fault in a screen is found by the check that is for it."""
+    """The check for it finds a fault in a screen."""
     passed_over = []
     for fault, judge in PLANTS:
         desk = Desk(scene, place="?language=de#today", language="de")

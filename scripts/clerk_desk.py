@@ -112,7 +112,7 @@ class Desk:
         self.press("Use this key")
 
     def give_key_by(self, language: str) -> None:
-        """The key, in a language that the hand doesn't read."""
+        """Gives the key, in a language other than English."""
         self.go("key")
         self.page.run("[...document.querySelectorAll('main form input')].forEach((at, number) => { at.value = ['Anna', 'abc'][number]; })")
         self.page.run("document.querySelector('main form button').click()")

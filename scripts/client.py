@@ -27,7 +27,7 @@ from common import CLERK, CONFIG, HOST, Caller, fail, parts_of
 Told = TypeVar("Told")
 Given = TypeVar("Given", covariant=True)
 Body = str | bytes | Mapping[str, Any]
-# Seconds, for the first answer of a server that just begins, and for all that a front makes wait.
+# Seconds, for the first answer of a server that just begins, and for requests that a front makes wait.
 PATIENCE = 60
 # How often a front is asked again.
 TRIES = 60
@@ -59,7 +59,7 @@ def notice(deadline: str, *lots: Mapping[str, Any], title: str = "Road repair", 
 
 
 def tender(*rows: tuple[int, int], wrong: int = 0) -> str:
-    """A tender of these quantities and unit prices, for the items I1 and so on, with so much too little in its sum."""
+    """A tender of these quantities and unit prices, for the items I1 and so on, with a sum that is too small by so much."""
     lines = [f"I{number},{quantity},{unit},{quantity * unit}\n" for number, (quantity, unit) in enumerate(rows, 1)]
     total = sum(quantity * unit for quantity, unit in rows) - wrong
     return "item,quantity,unit,total\n" + "".join(lines) + f"TOTAL,,,{total}\n"
@@ -111,7 +111,7 @@ class Transport(Protocol[Given]):
 
 
 class Requests:
-    """Carries nothing: gives the bytes of each request."""
+    """Sends nothing: returns the bytes of each request."""
 
     def send(self, method: str, target: str, body: bytes, caller: Caller | None) -> bytes:
         return common.request(method.encode(), target.encode(), body, caller) if method == "POST" or caller else common.look(target.encode())

@@ -80,7 +80,7 @@ def runnable(path: str) -> str:
 
 
 def need_program() -> str:
-    """The program that is meant, for a script without an option for it."""
+    """The program to use, for a script without an option for it."""
     return shutil.which(PROGRAM) or fail(NO_PROGRAM.format(PROGRAM))
 
 
@@ -138,7 +138,7 @@ def own_ports() -> tuple[Iterator[int], socket.socket]:
 
 
 def free_port() -> int:
-    """A port where nothing listens."""
+    """A port at which nothing listens."""
     with TURN:
         for port in itertools.islice(own_ports()[0], 100):
             with socket.socket() as listener:

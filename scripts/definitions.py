@@ -31,7 +31,7 @@ class Fault(Exception):
 
 @lru_cache(maxsize=None)
 def text_of(path: Path) -> str:
-    """A file's text, as it was when it was first asked for."""
+    """A file's text, as it was at the first call."""
     try:
         return path.read_text(encoding="utf-8")
     except (OSError, UnicodeDecodeError) as fault:

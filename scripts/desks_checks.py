@@ -44,7 +44,7 @@ def register(clerk: clerk_desk.Desk, scene: Scene, name: str) -> None:
 
 
 def hand_in(desk: tender_page.Desk) -> int:
-    """Looks at an offer, and sends it: its receipt, which must be green."""
+    """Checks an offer, and sends it. Returns its receipt, which must be green."""
     desk.press("Check before submitting")
     desk.shows("Check before submitting")
     desk.press("Submit the tender")

@@ -22,7 +22,7 @@ STATE = re.compile(r"office_base\.specs\.declared\.records\.(\w+)State\.TheVaria
 # The crates that have the rules, a file for each command.
 CORES = ("tender_core", "award_core")
 KINDS = {"Notice": "notice", "Lot": "lot", "Award": "award"}
-# From which states a command leads: by a test of States.antt that its rule uses, or `not` such a test. A command that isn't here makes a new row.
+# The states from which a command leads: by a test of States.antt that its rule uses, or `not` such a test. A command that isn't here makes a new row.
 BEFORE = {
     ("Open", "Notice"): ["not is_cancelled", "not is_opened"], ("Cancel", "Notice"): ["is_receiving"], ("Award", "Lot"): ["is_undecided"],
     ("Cancel", "Lot"): ["is_open"], ("Cancel", "Award"): ["is_active"], ("Fail", "Award"): ["is_active"], ("Sign", "Award"): ["is_active"]}
@@ -32,7 +32,7 @@ FOLLOWS = {("Fail", "Lot"): ["Awarded"], ("Sign", "Lot"): ["Awarded"]}
 
 
 def command_name(name: str) -> str:
-    """As an arrow has it: `AmendContract` is amend_contract."""
+    """The name of a command in an arrow: `AmendContract` is amend_contract."""
     return re.sub(r"(?<!^)([A-Z])", r"_\1", name).lower()
 
 

@@ -6,7 +6,7 @@ from common import STRIDE, import_of
 
 
 class Step(NamedTuple):
-    """A command: what it is called, the second of its moment, and its request."""
+    """A command: its name, the second of its moment, and its request."""
 
     name: str
     second: int

@@ -15,7 +15,7 @@ OUTSIDE = "127.0.0.2"
 # Addresses from which a clerk may ask, each as 127.0.1.N.
 CLERKS = "127.0.1.0/24"
 PATIENCE = 60
-# For tests that look at the ledger right after a command: it is kept for a second, and isn't shown while it is asked again.
+# For tests that ask for the ledger right after a command: nginx keeps it for a second, and doesn't show it while it asks again.
 LEDGER_OF_NOW = [("proxy_cache_valid 200 1m;", 1, "proxy_cache_valid 200 1s;"), ("        proxy_cache_background_update on;\n", 1, "")]
 MAIN = """
 daemon off;
@@ -89,7 +89,7 @@ class Front:
         return self
 
     def __exit__(self, *_: object) -> None:
-        # Told to end, it ends its workers; killed, it would leave them.
+        # On a signal to end, nginx ends its workers; after a kill they would remain.
         self.process.terminate()
         self.process.wait()
 

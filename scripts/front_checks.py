@@ -97,7 +97,7 @@ def networks(scene: Scene) -> None:
         answer = scene.front.ask(method, path, source=OUTSIDE, caller=CLERK if who == "clerk" else None)
         check(f"{method} {path} from {OUTSIDE}: {answer}", is_own(answer, 403) if who == "clerk" else b'"front"' not in answer.body)
         if who == "clerk":
-            # (from another address each time: a wrong key makes its own wait)
+            # (from another address each time: after a wrong key its address must wait)
             answer = scene.front.ask(method, path, caller=(b"clerk", b"wrong"), source=f"127.0.1.{number}")
             told = exchange_with_office(scene, method, path, (b"clerk", b"wrong"))
             check(f"{method} {path} with a wrong key: {answer}, and from the office {told!r}", answer.status == 401 and answer.body == told)
@@ -156,7 +156,7 @@ def names_and_keys(scene: Scene) -> None:
 
 
 def without_tls(scene: Scene) -> None:
-    """In the clear there is a way to the page alone; a key that comes so is refused."""
+    """Without TLS the front only redirects to the page, and refuses a request with a key."""
     with contextlib.closing(http.client.HTTPConnection(HOST, scene.front.plain_port, timeout=PATIENCE)) as connection:
         answer = exchange(connection, "GET", "/")
         check(f"GET / in the clear: {answer}", answer.status == 301 and answer.head["Location"] == f"https://{HOST}/")

@@ -23,7 +23,7 @@ def number_in(path: str, behind: str = "") -> int | None:
 
 
 def processors() -> int:
-    """How many there are to use: those that a process may run on, or fewer by the quota of its control group (cpu.max of cgroups(7))."""
+    """The number of usable processors: those that a process may run on, or fewer by the quota of its control group (cpu.max of cgroups(7))."""
     found = len(os.sched_getaffinity(0))
     quota = number_in("/sys/fs/cgroup/cpu.max")
     return found if quota is None else max(1, min(found, quota // 100_000))

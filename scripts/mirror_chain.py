@@ -66,7 +66,7 @@ class Chain:
                 if now.get(number) != digest]
 
     def take(self, notice: Notice) -> int:
-        """Adds the releases of a notice that aren't in the chain as they are; how many these were."""
+        """Adds the releases of a notice that are new or changed; returns how many these were."""
         added = 0
         for number, release in enumerate(notice.releases, 1):
             digest = digest_of_release(release)

@@ -11,7 +11,7 @@ from audit_office import Unreadable
 
 Json = dict[str, Any]
 IDENTIFIER = re.compile(r"[A-Za-z0-9_.-]{1,32}")
-# How often a notice is asked for again whose record isn't the list's, since a command came in between.
+# How often a notice is asked for again if its record isn't that of the list, because a command came in between.
 TRIES = 5
 # The folders of a mirror with the texts of each notice as the office wrote them, and the endings of their files.
 KEPT = {"records": ".json", "terms": ".json", "minutes": ".txt", "evaluations": ".txt"}

@@ -22,7 +22,7 @@ VIEWS = {"list": "", "open": "#notice/N3", "awarded": "#notice/N2", "paid": "#no
 WIDTHS, NARROWEST = {"narrow": 375, "wide": 1280}, 320
 # The roles of elements that must have a name.
 NAMED = ("link", "button", "textbox", "image", "table", "region", "article", "navigation", "search")
-# How many looks are more than the front takes from one address at a time, whatever the machine.
+# The number of queries that are more than the front takes from one address at a time, on any machine.
 MANY = 2000
 # How often a check asks again while the front answers 429. One address may ask 10 a second, and at most 100 are counted.
 TRIES = 20
@@ -84,7 +84,7 @@ def views(scene: Scene) -> None:
         page.go(scene.front.address(place))
         page.wait("[...document.querySelectorAll('.lines h3')].every((heading) => heading.textContent.includes(':'))")
         differences += difference(scene, name, page)
-        # (Colours go by light and dark, and not by the width: each is looked at once, and wherever pictures are asked for.)
+        # (Colours depend on light and dark, and not on the width: each is checked once, and also for each picture.)
         for shape, dark in (("narrow", False), ("wide", True), *((("narrow", True), ("wide", False)) if page.browser.pictures else ())):
             page.shape(WIDTHS[shape], dark=dark)
             page.picture(os.path.join(scene.pictures, f"{name}-{shape}-{'dark' if dark else 'light'}.png"))
@@ -168,7 +168,7 @@ def keeps_nothing(scene: Scene, page: Page) -> None:
     not broken."""
     check("there is a cookie", page.ask("Network.getAllCookies")["cookies"] == [])
     check("something is stored", page.run("localStorage.length + sessionStorage.length === 0 && indexedDB.databases().then((all) => all.length === 0)"))
-    # (What the browser draws its own fields with is asked of no server.)
+    # (The browser asks no server for the parts of its own fields.)
     asked = {url for event in page.events("Network.requestWillBeSent") if not (url := event["request"]["url"]).startswith(("about:", "data:"))}
     check(f"foreign things were asked for: {asked}", asked and all(url.startswith(scene.front.address()) for url in asked))
     is_quiet(page)
@@ -286,7 +286,7 @@ def plants(scene: Scene) -> None:
 
 
 def refusals() -> Iterator[tuple[int, bytes]]:
-    """The rows of the table of docs/API.md: what each refusal answers, as a status and a body."""
+    """The rows of the table of docs/API.md: the answer of each refusal, as a status and a body."""
     with open(os.path.join(ROOT, "docs", "API.md")) as file:
         rows = re.findall(r"^\| (\d+) \| `(\w+)` \| (\d+) \|([^|]*)\|", file.read(), re.M)
     check(f"docs/API.md has {len(rows)} refusals, and not 32", len(rows) == 32)
@@ -299,7 +299,7 @@ KINDS_OF_LOOKS = ("record", "releases", "terms", "minutes", "evaluation")
 
 
 def sentence(page: Page, notice: str, answer: tuple[int, bytes] | None) -> str:
-    """The sentence that the page shows where its requests for a notice are answered so."""
+    """The sentence that the page shows if its requests for a notice get this answer."""
     page.answer_for({**{f"/notices/{notice}/{name}": answer for name in KINDS_OF_LOOKS}, "/notices": (200, b'{"next":null,"notices":[]}')})
     page.run(f"document.querySelector('main').replaceChildren(); location.hash = '#notice/{notice}'")
     page.wait("document.querySelector('main h1') && document.querySelector('main').getAttribute('aria-busy') === 'false'")
@@ -404,7 +404,7 @@ def office_away(scene: Scene) -> None:
 def too_often(scene: Scene) -> None:
     """If a client asks too often, the front says so. The page waits as long as the front says, and then draws."""
     with contextlib.closing(scene.front.connection()) as connection:
-        # (A busy machine asks more slowly, and each second ten looks more are free)
+        # (A busy machine asks more slowly, and each second ten more queries are free)
         for _ in range(MANY):
             answer = exchange(connection, "GET", "/lines/77")
             if answer.status == 429:

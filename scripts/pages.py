@@ -8,7 +8,7 @@ from collections.abc import Sequence
 
 from common import check
 
-# The bytes of a page: of files that were made before, and of a new one.
+# The bytes of a page: of earlier files, and of a new one.
 FORMER, NEW = 4096, 1024
 SIZES = (FORMER, NEW)
 

@@ -10,7 +10,7 @@ from pathlib import Path
 from typing import NamedTuple
 
 LONGEST = 30
-# The words of the table, each with what it is looked for by. (A name in a code span isn't found.)
+# The words of the table, each with its pattern. (A name in a code span isn't found.)
 WORDS = {
     "behind": r"behind", "stand": r"stands?|stood|standing(?! still)", "want": r"wants?|wanted|wanting",
     "told": r"(?:is|are|was|were|be|been|being|as|not) told|tells?", "lacks": r"lack(?:s|ed|ing)?", "anew": r"anew|once more",

@@ -17,7 +17,7 @@ from client import text_of
 
 
 def without(notice: str) -> str:
-    """Deletes a procurement whole, with all that it left in a file, where nobody took part."""
+    """Deletes a procurement whole, with all its rows in a file, in which nobody took part."""
     return "".join(f"DELETE FROM {table} WHERE notice = '{notice}'; " for table in ("releases", "compiled", "lots", "notices_2"))
 
 
@@ -73,7 +73,7 @@ FAULTS_OF_FILES = [
      "INSERT INTO entries SELECT * FROM e WHERE entry = 'P1' AND contract = {contract}; DROP TABLE e"),
     ("events_come_once", "notices N1", "INSERT INTO releases SELECT notice, (SELECT releases + 1 FROM notices_2 WHERE notice = 'N1'), moment, text "
      "FROM releases WHERE notice = 'N1' AND seq IN (SELECT seq FROM releases WHERE notice = 'N1' AND text LIKE '%\"P1\"%')"),
-    # One for each other rule.
+    # One fault for each other rule.
     ("file_is_sound", "file", UNCHECKED + "UPDATE notices_2 SET validity = 999 WHERE notice = 'N5'"),
     ("tables_are_as_made", "trigger taken", "CREATE TRIGGER taken AFTER INSERT ON entries BEGIN UPDATE lines SET free = free - 1; END"),
     ("tables_are_as_made", "table lines", "ALTER TABLE lines ADD COLUMN note TEXT"),
@@ -252,7 +252,7 @@ def faults_outside(life: AuditedLife) -> list[tuple[Any, ...]]:
     ]
 
 
-# The witnesses: what anybody was answered, what the clerk and tenderers were, and an earlier copy of the file.
+# The witnesses: the public answers, those to the clerk and tenderers, and an earlier copy of the file.
 PUBLIC, HELD, COPY = "earlier answers", "what was handed out", "an earlier copy"
 
 

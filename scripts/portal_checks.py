@@ -181,7 +181,7 @@ CITY = {"name": {"en": "Example City", "de": "Beispielstadt"}, "imprint": {"en":
 
 
 def city(scene: Scene) -> None:
-    """The city's own words are its file's: the name above, its paragraphs as texts with links, in the language that there is."""
+    """The city's own words are its file's: the name above, its paragraphs as texts with links, in the language in which they exist."""
     os.makedirs(os.path.join(scene.front.folder, "city"), exist_ok=True)
     path = os.path.join(scene.front.folder, "city", "city.json")
     with open(path, "w") as file:

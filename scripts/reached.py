@@ -34,7 +34,7 @@ class Reached:
         self.seen: set[Path] = set()
 
     def add_all(self, words: Iterable[str], imports: Mapping[str, Imported], source: Source | None = None) -> None:
-        """Adds what words mean in a file with these imports; where it is a file of definitions, its own are meant first."""
+        """Adds the meanings of words in a file with these imports. In a file of definitions, its own come first."""
         for word in sorted(words):
             own = source.defines(word.split(".")[0]) if source else None
             if own:
@@ -88,7 +88,7 @@ class Reached:
 
 
 def begin(made: Reached, start: Mapping[str, Sequence[str]]) -> None:
-    """Follows what the clauses of these calls use."""
+    """Follows the names that the clauses of these calls use."""
     for name, wanted in start.items():
         path = ROOT / "crates" / name
         calls = [call for call in calls_of(path) if call.name in wanted]

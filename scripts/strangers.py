@@ -31,7 +31,7 @@ Counts = collections.Counter[str]
 
 
 class Strangers:
-    """All of them, until an end."""
+    """All strangers, until an end."""
 
     def __init__(self, port: int, begin: float, end: float, lines: int) -> None:
         self.port, self.begin, self.end, self.lines, self.counts, self.random = port, begin, end, lines, Counts(), random.Random(1)

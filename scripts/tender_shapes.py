@@ -12,7 +12,7 @@ from tender_page import MADE, RIGHT, SHEET, Desk
 
 WIDTHS = (320, 375, 768, 1280, 1920)
 PICTURED = {"phone": 375, "desktop": 1280}
-# Whether what has the focus is seen, to a pixel, with an outline around it.
+# Whether the element with the focus is seen, to a pixel, with an outline around it.
 SEEN = """(() => {
   const at = document.activeElement, box = at.getBoundingClientRect(), style = getComputedStyle(at);
   const isWithin = box.left >= -1 && box.top >= -1 && box.right <= innerWidth + 1 && box.bottom <= innerHeight + 1;
@@ -26,7 +26,7 @@ def tab_to(page: Page, name: str) -> None:
     """Moves the focus by the keyboard to the element with this name. It must be seen there."""
     for _ in range(80):
         page.press("Tab")
-        # (The window may still be on its way there.)
+        # (The window may still scroll to it.)
         page.expect("what has the focus is seen", lambda: page.run(SEEN))
         found = focused(page)[0]
         if found.startswith(name):
@@ -119,7 +119,7 @@ def is_sent(scene: Scene, desk: Desk, language: str) -> None:
 
 
 def with_file(scene: Scene, desk: Desk, language: str) -> None:
-    """The views of a file that is refused, and of one that is made to another."""
+    """The views of a file that is refused, and of one that is converted."""
     desk.page.run("location.hash = '#offer/N1/L2'")
     desk.page.run("new Promise((done) => { setTimeout(done, 0); })")
     desk.page.wait("document.getElementById('source-file') && document.querySelector('main').getAttribute('aria-busy') === 'false'")
