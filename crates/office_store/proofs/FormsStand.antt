@@ -1,4 +1,4 @@
--- A table that stands in its form is one of the office's.
+-- A table that has its form is a table of the office.
 use Rattle.std.proofs.Common.{◌≡◌, ◌⊎◌, inl, inr, ℕ, zero, suc, ◌+◌, ◌<◌, ◌==◌, ◌^◌, true, false, List, [], ◌∷◌, Option, Some, None, length, filter, slice_get, nat_le, refl, sym, ap, subst, ◌∙◌, IsTrue, arith}
 use Rattle.std.proofs.lemmas.Bool.Decides.{nat_tests}
 use Rattle.std.proofs.lemmas.Bool.{eq-eqb}
@@ -45,7 +45,7 @@ HasKey table = ((table.key ≡ None) × (table.uniques ≡ table.primary ∷ [])
 keyed : (k : OfficeTable) → HasKey (table_of k)
 keyed k = elim (each k).bare.key [ inl index ↦ inl (index.key, index.uniques) | inr rowid ↦ inr rowid.key ]
 
--- ---- what was found is the table
+-- ---- the table that was found has the form
 
 low : (n : ℕ) → n < 65536 → nat_le (2 ^ 31) n ≡ false
 low n h = grind (arith, nat_tests)
@@ -63,7 +63,7 @@ module _ (db : Database) (sound : IsDatabase db) (form : Table) (key : HasKey fo
       (has_kept (λ (t : Table). t.tree == it.tree) db.schema.tables table there (eq-eqb it.tree it.tree refl))
       (has_kept (λ (t : Table). t.tree == it.tree) db.schema.tables other h (eq-eqb other.tree it.tree same))
 
-  -- the index of its key, which each such table has
+  -- the index of the key, which each such table has
   own : form.key ≡ None → form.uniques ≡ form.primary ∷ [] → (index : ℕ) × (filter (λ i. guards i table) db.schema.indexes ≡ automatic table 0 table.primary index ∷ [])
   own plainly uniques =
       let guarded : IsGuarded db.schema.indexes table = all_has (IsGuarded db.schema.indexes) db.schema.tables table sound.lists.guarded there in
@@ -92,7 +92,7 @@ module _ (db : Database) (sound : IsDatabase db) (form : Table) (key : HasKey fo
 
 -- ---- all of them
 
--- where it stands doesn't hang on the tree of its form
+-- whether the table is in a schema doesn't depend on the tree of its form
 as_table : (schema : Schema) (it : Table) (m n : ℕ) → IsIn schema (at_tree it m) n → IsIn schema it n
 as_table schema _ m n it = record { place = it.place; named = it.named; found = it.found; alone = it.alone; stored = it.stored; index = it.index; guarded = it.guarded }
 
@@ -104,6 +104,6 @@ forms_stand edition db forms sound lists each k =
       | inr lacks ↦ inr (lacks.0, ap is_some lacks.1)
     ]
 
--- a database in which the tables of an office stand lists them
+-- a database that has the tables of an office lists their forms
 pub lists_forms : (schema : Schema) → ((k : OfficeTable) → (n : ℕ) × IsIn schema (table_of k) n) → ListsForms schema
 lists_forms schema stands k = let it = stands k in (it.0, place_has schema.tables it.1.place (at_tree (table_of k) it.0) it.1.found)

@@ -1,4 +1,4 @@
-//! Whether the tables of an office stand in a database in their form.
+//! Checks whether the tables of an office in a database have their form.
 ghost use Rattle.std.specs.Prelude.{◌≡◌, ◌&&◌, ◌==◌, IsTrue, IfOk, IfErr, OnOk, length, filter};
 ghost use Rattle.sqlite_schema.specs.declared.schema.Table.{Table as Form};
 ghost use Rattle.sqlite_rules.specs.Lists.{Has};
@@ -13,7 +13,7 @@ use sqlite::{Alter, Connection, MemStore};
 use sqlite_schema::schema::{Schema, Table};
 use std::alloc::Global;
 
-// An empty office in memory, whose tables show the form of an office's.
+// An empty office in memory, whose tables show the form of all offices.
 fn blank(alloc: Global) -> Result<Connection<MemStore>, OpenFault>
     ensures forms { IfOk result (λ conn. ListsForms conn.schema) }
     ensures cause { IfErr result (λ e. e ≡ OpenFault.NotAnOffice → ⊥) }
@@ -32,7 +32,7 @@ fn blank(alloc: Global) -> Result<Connection<MemStore>, OpenFault>
     }
 }
 
-// How many tables have this tree.
+// The number of tables that have this tree.
 fn tables_at(schema: &Schema, tree: u32) -> usize
     ensures { result ≡ length (filter (λ t. t.tree == tree) schema.now.tables) }
 {
@@ -40,7 +40,7 @@ fn tables_at(schema: &Schema, tree: u32) -> usize
     tables.iter().filter(|table| table.tree == tree).count()
 }
 
-// How many unique indexes stand on it.
+// The number of unique indexes on the table of this tree.
 fn guards_at(schema: &Schema, tree: u32) -> usize
     ensures { result ≡ length (filter (λ i. i.is_unique && (i.table == tree)) schema.now.indexes) }
 {
@@ -60,7 +60,7 @@ fn index_count(key: Option<usize>) -> usize
     }
 }
 
-// Whether a table of this form stands in the schema, with the index of its key alone.
+// Whether the schema has a table of this form, guarded by the index of its key alone.
 fn stands(schema: &Schema, form: &Table) -> bool
     ensures { IsTrue result → StandsAlike schema.now form.now }
 {
@@ -88,7 +88,7 @@ fn stands_or_lacks(schema: &Schema, form: &Table, edition: u64) -> bool
     stands(schema, form) || (came_later(edition, name) && schema.table_named(name).is_none())
 }
 
-// Whether each of these tables stands in the schema in the same form; in an office of an earlier edition those may be missing that came later.
+// Whether the schema has each of these tables in its form. In an office of an earlier edition, tables that came later may be missing.
 fn all_stand(schema: &Schema, forms: &Schema, edition: u64) -> bool
     ensures { IsTrue result → (form : Form) → Has forms.now.tables form → StandsOrLacks edition schema.now form }
 {
@@ -101,7 +101,7 @@ fn all_stand(schema: &Schema, forms: &Schema, edition: u64) -> bool
     true
 }
 
-/// Looks whether each table of the office stands in its form: `Store` where one doesn't. Nothing is read but the schema.
+/// Checks that each table of the office has its form, and returns `Store` if one hasn't. It reads only the schema.
 pub(crate) fn check_forms<S: Alter>(
     alloc: Global,
     conn: &Connection<S>,

@@ -1,4 +1,4 @@
-//! Whether two tables of schemas are one but for their trees.
+//! Whether two tables of schemas are equal except for their trees.
 ghost use Rattle.std.specs.Prelude.{◌≡◌, IsTrue, []};
 
 use sqlite_items::Items;
@@ -7,7 +7,7 @@ use sqlite_schema::schema::{Column, Stamps, Table};
 use sqlite_value::keys::Order;
 use sqlite_value::value::Value;
 
-// Numbers with a point are told apart from all, since 0.0 equals -0.0: no table of an office has one in its text.
+// Floating-point numbers count as different from everything, since 0.0 equals -0.0. No table of an office has such a number in its text.
 fn same_value(a: &Value, b: &Value) -> bool
     ensures { IsTrue result → a.now ≡ b.now }
 {
@@ -118,7 +118,7 @@ fn same_keys(a: &[Items<usize>], b: &[Items<usize>]) -> bool
     true
 }
 
-// It has no rules but types, NOT NULL, CHECK and keys.
+// Whether a table has no rules except types, NOT NULL, CHECK and keys.
 fn is_plain(table: &Table) -> bool
     ensures { IsTrue result → (table.now.references ≡ []) × (table.now.computed ≡ []) × (table.now.stamps ≡ record { places = []; terms = []; formats = [] }) }
 {
@@ -134,7 +134,7 @@ fn same_keyed(a: &Table, b: &Table) -> bool
         && same_orders(a.orders.as_slice(), b.orders.as_slice())
 }
 
-/// Whether two tables are one but for their trees: the same columns, keys and conditions, and no rules of another kind.
+/// Whether two tables are equal except for their trees: the same columns, keys and conditions, and no rules of other kinds.
 pub(crate) fn same_form(a: &Table, b: &Table) -> bool
     ensures { IsTrue result → a.now ≡ record b.now { tree = a.now.tree } }
 {
