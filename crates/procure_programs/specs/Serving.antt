@@ -6,7 +6,8 @@ use Rattle.sqlite_wal.specs.Files.{outcomes}
 use Rattle.sqlite_wal.specs.Reads.{AreClean}
 use Rattle.sqlite_wal.specs.Recovery.{Image}
 use Rattle.sqlite_store.specs.declared.store.FileStore.{FileStore}
-use Rattle.sqlite_store.specs.FileStore.{state, view}
+use Rattle.sqlite_store.specs.FileStore.{recovers, state, view}
+use Rattle.sqlite_trees.specs.Tree.{Trees}
 use Rattle.sqlite_trees.specs.View.{IsClean}
 use Rattle.sqlite.specs.Files.{file_state, image_of, over_files}
 use Rattle.sqlite.specs.Held.{Held as Connected}
@@ -19,7 +20,7 @@ use Rattle.office_publications.specs.Publishing.{publishing}
 use Rattle.office_publications.specs.Standing.{IsReached}
 use Rattle.office_desk.specs.Desks.{DeskOf}
 use Rattle.office_desk.specs.Steps.{OfficeIsKept}
-use Rattle.office_store.specs.Reopening.{FilesHoldOffice, OpensHeld}
+use Rattle.office_store.specs.Reopening.{FilesHoldOffice, OpensHeld, StandForOffice}
 use Rattle.office_store.specs.SqlMeaning.{LeavesNoOther, LeavesShown, sql_meaning}
 use Rattle.office_wire.specs.Runs.{Step, office_left}
 use Rattle.office_http.specs.Answering.{Held, StandsAs, office_answers}
@@ -95,6 +96,18 @@ ServesFiles g image settings most files =
 -- office continues in every state that the stop may leave of the log and the database file together.
 abbrev pub StopsFiles : {D : Type 0} {g : Ghosts D} → Image → Settings → ℕ → FileStore D g → Type 0
 StopsFiles image settings most store = IsClean (view store) → (now : Image) → (state store).may_leave now → StopsIn image settings most now
+
+-- these trees are the rows of an office, as its commands left it
+abbrev pub StandsAt : Trees → Held → Type 0
+StandsAt trees h = IsSorted h.tables × StandForOffice h.tables trees × IsReached h.settings.publisher h.tables
+
+-- The office in two files was served by at most so many steps. Then its closing failed, or a stop ended the closing. If the disk returned what was written, the
+-- trees that SQLite may recover of this store are those of the office after so many whole steps.
+abbrev pub HalfClosesFiles : {D : Type 0} {g : Ghosts D} → Image → Settings → ℕ → FileStore D g → Type 0
+HalfClosesFiles image settings most store =
+    IsClean (view store) → (trees : Trees) → recovers store trees
+    → (h : Held) → h.settings ≡ settings → StandsIn image h
+    → (steps : List Step) × (length steps ≤ most) × StandsAt trees (office_left office_answers h steps)
 
 -- If a day finds the files as another day left them, both together are one day. This is also true of days that end by a stop.
 pub record DaysFollow : Type 0 where

@@ -1,16 +1,16 @@
 //! The programs over an office in a file. Each of them closes the file in the end, so that the file alone is the office.
-ghost use Rattle.std.specs.Prelude.{IfErr, IfOk};
+ghost use Rattle.std.specs.Prelude.{IfErr, IfOk, IfSome};
 ghost use Rattle.sqlite_wal.specs.Files.{image_at};
 ghost use Rattle.sqlite_wal.specs.Reads.{AreClean};
 ghost use Rattle.sqlite.specs.Closing.{IsCopied};
 ghost use Rattle.sqlite.specs.Files.{file_state};
 ghost use Rattle.sqlite.specs.State.{HasCleanDisk};
 ghost use Rattle.office_base.specs.Shelves.{Keeps};
-ghost use Rattle.office_store.specs.Reopening.{OpensHeld};
+ghost use Rattle.office_store.specs.Reopening.{IsHalfClosed, OpensHeld};
 ghost use Rattle.office_store.specs.SqlMeaning.{LeavesNoOther, LeavesShown, sql_meaning};
 ghost use Rattle.procure_programs.specs.FaultsTold.{IsOfStore};
 ghost use Rattle.procure_programs.specs.Placed.{OpensEmpty};
-ghost use Rattle.procure_programs.specs.Serving.{ServesFiles, ServesOpened, StopsFiles, WasServed};
+ghost use Rattle.procure_programs.specs.Serving.{HalfClosesFiles, ServesFiles, ServesOpened, StopsFiles, WasServed};
 
 use crate::faults::{of_opening, of_shelf};
 use crate::kept::{print_office, serve_office};
@@ -46,20 +46,27 @@ fn open_office<S: Start>(
     }
 }
 
-// Closes the store, and returns its files with the result of the work. If it can't be closed, a fault of the work is reported first.
+// Closes the store, and returns its files with the result of the work. If it can't be closed, it returns the store, and a fault of the work is reported first.
 fn close_office<D: Disk + Drop>(
     shelf: SqlShelf<FileStore<D>>,
     worked: Result<(), ProgramFault>,
-) -> Result<(Files<D>, Result<(), ProgramFault>), ProgramFault>
-    ensures { IfOk result (λ left. AreClean D.Disk left.0.log left.0.db → IsCopied shelf.0 left.0) }
+) -> Result<(Files<D>, Result<(), ProgramFault>), (ProgramFault, FileStore<D>)>
+    ensures closed { IfOk result (λ left. AreClean D.Disk left.0.log left.0.db → IsCopied shelf.0 left.0) }
+    ensures half { IfErr result (λ left. IsHalfClosed shelf.0 left.1) }
 {
     match shelf.close_files() {
         Ok(files) => Ok((files, worked)),
-        Err((fault, store)) => {
-            drop(store.close());
-            worked?;
-            Err(of_shelf(fault))
-        }
+        Err((fault, store)) => match worked {
+            Ok(()) => Err((of_shelf(fault), store)),
+            Err(earlier) => Err((earlier, store)),
+        },
+    }
+}
+
+// Drops the store of an office that couldn't be closed.
+fn let_go<D: Disk + Drop>(store: Option<FileStore<D>>) {
+    if let Some(store) = store {
+        drop(store.close());
     }
 }
 
@@ -123,7 +130,8 @@ pub fn stop_from<S: Start>(
 }
 
 /// Serves this many connections from the office in a file. The type `S` says what its two files held, which may be anything. Returns the files, which are
-/// closed, and the result of serving, or the reason why there are no files. `stop_from` says what a stop leaves before they are closed.
+/// closed, and the result of serving. If the office couldn't be closed, as when the program is stopped there, the fault comes with its store; if it wasn't
+/// opened, the fault comes alone. `stop_from` says what a stop leaves before the closing.
 pub fn serve_from<S: Start>(
     rt: &HostRuntime,
     settings: Settings,
@@ -131,11 +139,22 @@ pub fn serve_from<S: Start>(
     start: S,
     port: u16,
     count: u32,
-) -> Result<(Files<FileFrom<S>>, Result<(), ProgramFault>), ProgramFault>
+) -> Result<
+    (Files<FileFrom<S>>, Result<(), ProgramFault>),
+    (ProgramFault, Option<FileStore<FileFrom<S>>>),
+>
     ensures serves { IfOk result (λ left. ServesFiles ⟦<FileFrom<S> as Disk>⟧ (image_at S.Start) settings count left.0) }
+    ensures half { IfErr result (λ left. IfSome left.1 (HalfClosesFiles (image_at S.Start) settings count)) }
 {
-    let (shelf, served) = serve_open(rt, settings, path, start, port, count)?;
-    close_office(shelf, served)
+    order();
+    let (shelf, served) = match serve_open(rt, settings, path, start, port, count) {
+        Ok(left) => left,
+        Err(fault) => return Err((fault, None)),
+    };
+    match close_office(shelf, served) {
+        Ok(left) => Ok(left),
+        Err((fault, store)) => Err((fault, Some(store))),
+    }
 }
 
 // Reports on the standard error if an office was made or migrated as the file was opened. If this can't be written, nothing is lost.
@@ -157,13 +176,24 @@ pub fn print_from<S: Start>(
     path: &str,
     start: S,
     printout: Printout,
-) -> Result<(Files<FileFrom<S>>, Result<(), ProgramFault>), ProgramFault>
+) -> Result<
+    (Files<FileFrom<S>>, Result<(), ProgramFault>),
+    (ProgramFault, Option<FileStore<FileFrom<S>>>),
+>
     ensures keeps { IfOk result (λ left. ServesFiles ⟦<FileFrom<S> as Disk>⟧ (image_at S.Start) settings 0 left.0) }
+    ensures half { IfErr result (λ left. IfSome left.1 (HalfClosesFiles (image_at S.Start) settings 0)) }
 {
-    let opened = open_office(rt, path, start)?;
+    order();
+    let opened = match open_office(rt, path, start) {
+        Ok(opened) => opened,
+        Err(fault) => return Err((fault, None)),
+    };
     tell_origin(rt, path, opened.origin);
     let (shelf, printed) = print_shelf(rt, settings, opened.shelf, printout);
-    close_office(shelf, printed)
+    match close_office(shelf, printed) {
+        Ok(left) => Ok(left),
+        Err((fault, store)) => Err((fault, Some(store))),
+    }
 }
 
 /// `serve_from` for `main`, with `Unknown`, of which no contract says anything unless the file is empty. The proof is that of `serve_from`, whose code is the
@@ -175,8 +205,13 @@ pub fn serve_file(
     port: u16,
     count: u32,
 ) -> Result<(), ProgramFault> {
-    let (_files, served) = serve_from(rt, settings, path, Unknown, port, count)?;
-    served
+    match serve_from(rt, settings, path, Unknown, port, count) {
+        Ok((_files, served)) => served,
+        Err((fault, store)) => {
+            let_go(store);
+            Err(fault)
+        }
+    }
 }
 
 /// `print_from` for `main`.
@@ -186,6 +221,11 @@ pub fn print_file(
     path: &str,
     printout: Printout,
 ) -> Result<(), ProgramFault> {
-    let (_files, printed) = print_from(rt, settings, path, Unknown, printout)?;
-    printed
+    match print_from(rt, settings, path, Unknown, printout) {
+        Ok((_files, printed)) => printed,
+        Err((fault, store)) => {
+            let_go(store);
+            Err(fault)
+        }
+    }
 }
