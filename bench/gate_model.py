@@ -9,8 +9,8 @@ and then the mutants, fill the free lanes. An rt without such a check tries the 
 as proofs do (`in_turn` in the table). If rt knows the number of lanes, as with `make test` (scripts/lanes.py), each check takes one lane. Otherwise a proof
 gets the lanes for which no other proof waits, at most four, fixed for its life. A check also waits if rt expects it to need more memory than others leave, and
 a proof if the mutants before it leave too little. The model leaves out other work on the machine. It prints the wall minutes for each number, and the longest
-chain of crates. `bench/gate` prints them too, beside the minutes of the run. Exit status: 0 they are printed, 1 the table can't be read or lacks something that
-the model needs, 2 wrong arguments.
+chain of crates. `bench/gate` prints them too, beside the minutes of the run. Exit status: 0 they are printed, 1 the table can't be read or is incomplete, 2
+wrong arguments.
 """
 import json
 import os
@@ -28,8 +28,8 @@ SLOWER = {1: 1.0, 2: 1.12, 3: 1.19, 4: 1.25}
 # The part of a check that only one of its jobs can do, if the table doesn't say.
 ALONE = 0.35
 PROOFS, FILLS = ("proof", "tests"), ("seed", "edits")
-# What rt reckons that a check takes of memory, in bytes: of itself, for each line of the crate, of its specs and proofs, and of the crates below; and for the
-# kit's libraries that it names so many times what these are, with a bound. Each further job takes a part of it more, a wrong body over the first check less.
+# The memory that rt expects a check to need, in bytes. For itself; for each line of the crate; for each line of its specs and proofs, and of the crates below.
+# For each library of the kit there is a factor and a bound. `JOB` is the part for each further job, `OVER` the part for a mutant over the first check.
 ITSELF, LINE, PROOF_LINE, LINE_BELOW, LIBRARY, LIBRARIES = 1e9, 1e6, 2e5, 8e4, 5, 2.5e9
 JOB, OVER = 0.6, 0.7
 # The memory that it shares out, in bytes, if the table doesn't say.
@@ -67,7 +67,7 @@ def needs_of(root):
 
 
 def alone_in(row):
-    """The part of a crate's proof that was one job's alone, where several jobs proved it: from its wall and its processor minutes."""
+    """The part of a crate's proof that only one job did, if several jobs proved it: from its wall and its processor minutes."""
     if row["jobs"] < 2 or not row["proof"]:
         return ALONE
     wall = row["wall"] - row["builds"]
@@ -75,7 +75,8 @@ def alone_in(row):
 
 
 class Task:
-    """What it waits for, its processor minutes, its memory, its lines, the minutes behind it that take one lane, and which part of it is one job's alone."""
+    """A task: the tasks that it waits for, its processor minutes, its memory and its lines. `then` has the minutes after it that take one lane, and `alone` the
+    part of it that only one job can do."""
 
     def __init__(self, waits, minutes, needs, lines=0, alone=1.0, then=0.0):
         self.waits, self.minutes, self.needs, self.lines, self.alone, self.then = waits, minutes, needs, lines, alone, then
@@ -133,7 +134,7 @@ def jobs_for(key, ready, idle, room, needs):
 
 
 def begin(tasks, left, running, ended, lanes, memory):
-    """The tasks that begin now, each with its jobs: those that are ready, in order, where a lane and memory are free; no memory told: a job a lane."""
+    """The tasks that begin now, each with its jobs: those that are ready, in order, while a lane and memory are free. Without a memory each lane gets a job."""
     ready, begun, lacks = [key for key in left if ended.issuperset(tasks[key].waits)], {}, False
     for key in ready:
         if lacks and key[1] in FILLS:
@@ -191,8 +192,8 @@ def tell(root, table, numbers):
 
 def main():
     options = options_of(__doc__)
-    options.add_argument("table", metavar="TABLE", help="what `bench/gate --save TABLE` left")
-    options.add_argument("numbers", nargs="*", type=int, metavar="NUMBER", help="how many processors (4, and 2)")
+    options.add_argument("table", metavar="TABLE", help="the table that `bench/gate --save TABLE` wrote")
+    options.add_argument("numbers", nargs="*", type=int, metavar="NUMBER", help="the number of processors (4, and 2)")
     choice = options.parse_args()
     try:
         with open(choice.table) as file:

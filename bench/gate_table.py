@@ -1,7 +1,7 @@
 """Makes the table of a run of the gate: its figures by crate, the budgets beside them, and docs/GATE.md. Used by bench/gate.
 
-A row is what gate_watch reports for a crate, with the minutes of each mutant. Or it is a row of sums written down by hand from a printed table: then `edits` is
-their sum, `tries` their number, `around` the checks around them, and `all` the printed sum.
+A row is the report of gate_watch for a crate, with the minutes of each mutant. Or it is a row of sums written down by hand from a printed table. Then `edits`
+is their sum, `tries` their number, `around` the checks around them, and `all` the printed sum.
 """
 import os
 import re
@@ -57,9 +57,10 @@ def budgets(root):
 
 
 def above_budget(crates, allowed):
-    """How much slower the machine is than where budgets were set, at least 1; and what each crate took that took a tenth more than its budget times that.
+    """How much slower this machine is than the one for which budgets were set, at least 1. Also the minutes of each crate that took a tenth more than its
+    budget times that factor.
 
-    A budget is a tenth more than its crate took when it was set, so what was taken then is a tenth less; the median is that of single crates.
+    A budget is a tenth more than its crate took when it was set, so the time taken then is a tenth less; the median is that of single crates.
     """
     named = sorted({*allowed} & {*crates})
     used = {name: cells_of(crates[name])[-1] for name in named}
@@ -88,7 +89,7 @@ def totals_of(table):
 
 
 def run_of(table):
-    """Of which code a run was."""
+    """The code that a run was of."""
     return table.get("run") or (f"commit {table['commit']}" if "commit" in table else "a checkout whose run was watched")
 
 

@@ -1,4 +1,4 @@
-"""Reads from /proc, twice a second, what the processes of a running `rt ci` have used, and for which crate and what. Used by bench/gate.
+"""Reads from /proc, twice a second, the processor time of the processes of a running `rt ci`, and the crate and the work of each. Used by bench/gate.
 
 Processor seconds are those at the last reading. So a process may have used half a second more than is reported, and one that lives only between two readings
 isn't seen.
@@ -10,8 +10,8 @@ import time
 
 TICKS = os.sysconf("SC_CLK_TCK")
 EVERY = 0.5
-# What a process of rt works on: a crate's proof, its tests' proof and build, the check that its wrong bodies begin with (the seed), each of these, the last
-# check over the seed, the builds of a proved program, and the runs of programs and tests.
+# The kinds of work of rt's processes, in this order. A crate's proof. The proof and the build of its tests. The check that its mutants begin with (the seed).
+# Each mutant. The last check over the seed. The builds of a proved program. The runs of programs and tests.
 KINDS = ("proof", "tests", "seed", "edits", "last", "builds", "runs")
 
 
@@ -20,7 +20,7 @@ def word_behind(words, name):
 
 
 def task_of(words, folder):
-    """The crate and the kind of work of a process with this command line and folder, or None where it is none of these."""
+    """The crate and the kind of work of a process with this command line and folder, or None if it is none of these."""
     ran = re.search(r"/rt-run-[^ ]*/bin/(\w+)", " ".join(words))
     if ran:
         return ran[1].removesuffix("_tests"), "runs"
@@ -39,7 +39,7 @@ def task_of(words, folder):
 
 
 def stat_of(pid):
-    """A process's parent, its start in ticks, its own ticks and those of its children that ended, or None where it is gone."""
+    """A process's parent, its start in ticks, its own ticks and those of its children that ended, or None if it is gone."""
     try:
         with open(f"/proc/{pid}/stat") as file:
             told = file.read().rpartition(")")[2].split()
@@ -82,7 +82,7 @@ class Watch(threading.Thread):
         self.join()
 
     def look(self):
-        """One look; whether the process that is watched is still there."""
+        """One reading; whether the watched process still runs."""
         stats = {int(name): stat_of(name) for name in os.listdir("/proc") if name.isdigit()}
         stats = {pid: it for pid, it in stats.items() if it}
         if self.pid not in stats:
@@ -109,7 +109,7 @@ class Watch(threading.Thread):
         return (stats[pid][2] + stats[pid][3]) / TICKS + sum(self.sum_below(it, stats, children) for it in children.get(pid, ()))
 
     def process_of(self, pid, stat):
-        """What is known of a process; a new one is known once its command line tells its work."""
+        """The entry of a process. A new process gets one once its command line shows its work."""
         key = pid, stat[1]
         if key not in self.seen:
             words, folder = words_of(pid)
@@ -124,7 +124,7 @@ class Watch(threading.Thread):
         return self.seen[key]
 
     def in_turn(self):
-        """By crate, the tries of an rt that has no seed: it tries a crate's wrong bodies one after another in one folder, and then the crate itself."""
+        """By crate, the tries of an rt that has no seed: it tries a crate's mutants one after another in one folder, and then the crate itself."""
         found, seeded = {}, {it.crate for it in self.seen.values() if it.kind == "seed"}
         for it in self.seen.values():
             if it.kind in ("edits", "last") and "/rt-edits-" in it.over and it.crate not in seeded:
@@ -132,12 +132,13 @@ class Watch(threading.Thread):
         return found
 
     def name_last(self):
-        """Tells the check of the crate itself, behind its wrong bodies, from these: it is the last one in their folder."""
+        """Gives the check of the crate itself, after its mutants, its own kind: it is the last try in their folder."""
         for tries in self.in_turn().values():
             max(tries, key=lambda it: it.start).kind = "last"
 
     def table(self):
-        """Minutes by crate and kind: a number of each kind, the list of each wrong body's, and of the proof with its builds the wall minutes and the jobs."""
+        """Minutes by crate and kind: a number of each kind, and the list of the minutes of each mutant. The proof, with its builds, has the wall minutes and
+        the jobs."""
         crates = {}
         self.name_last()
         for it in self.seen.values():

@@ -6,8 +6,8 @@
 #     deploy/backup.sh /etc/procure/office.toml /var/lib/procure/office.db /var/backups/procure
 #
 # 1. It reads the first 32 bytes of the log FILE-wal, copies FILE, copies the log, and reads those bytes again. If they are unchanged and begin with 0x37, the
-#    two copies are what a stop at that time could have left. Otherwise it waits and tries again, $TRIES times (5), a second longer each time. Then it stops
-#    the service, copies both files and starts it. If it can't write the copy, it stops nothing for that.
+#    two copies are files that a stop at that time could have left. Otherwise it waits and tries again, $TRIES times (5), a second longer each time. Then it
+#    stops the service, copies both files and starts it. If it can't write the copy, it stops nothing for that.
 # 2. It checks the copy: `procure ledger` must open a copy of it as an office, and sqlite3, which moves the log into it, must find no fault
 #    (`PRAGMA integrity_check`).
 # 3. It leaves FOLDER/office-MOMENT.db, one file with the log in it, which `procure` hasn't opened, and its ledger, office-MOMENT.ledger. A bad copy stays as
@@ -18,14 +18,17 @@
 # nothing is stopped.
 # Exit status: 0 with a good copy and the service running, 1 without one of them, 2 for wrong arguments or a missing tool.
 #
-# Why equal heads are enough. The program writes to FILE only while it moves the log into it: pages that the log has, whole and synced. It keeps them in the
-# log until all of them are in FILE and synced there too. Only then does it restart the log: the first byte becomes 0, then a head with other salts is written,
-# which count up, and last the first byte, 0x37. As long as the head is the same, the log only grows: each command is written after the last one, and one byte
-# of its first page, the gate, is written last, so that nobody reads the command before it is complete. So everything that changed in FILE while it was copied
-# is in the log's copy, which was begun later. That copy was made from front to back: it has each command that was answered before, and the first few of the
-# later ones, whole. (If a command's first page is being written at the moment when it is read, its checksum fails, and the command isn't in the copy.) If the
-# log were copied first, FILE could have newer pages than that log. Without the second look, the log's copy could lack what was moved into FILE after FILE was
-# copied.
+# Why equal heads are enough. The program writes to FILE only while it moves the log into it: pages that the log has, whole and synced. It keeps them in the log
+# until all of them are in FILE and synced there too. Only then does it restart the log: the first byte becomes 0. Then a head with other salts is written,
+# which count up, and last the first byte, 0x37.
+#
+# As long as the head is the same, the log only grows. Each command is written after the last one. One byte of its first page, the gate, is written last, so
+# that nobody reads the command before it is complete. So everything that changed in FILE while it was copied is in the log's copy, which was begun later. That
+# copy was made from front to back: it has each command that was answered before, and the first few of the later ones, whole. (If a command's first page is
+# being written at the moment when it is read, its checksum fails, and the command isn't in the copy.)
+#
+# If the log were copied first, FILE could have newer pages than that log. Without the second look, pages that were moved into FILE after its copy could be
+# missing in the log's copy.
 set -eu
 umask 077
 # cron's PATH is shorter than a shell's.
@@ -57,7 +60,7 @@ is_stopped='' is_whole='' is_started=yes
 
 milliseconds() { echo $(($(date +%s%N) / 1000000)); }
 
-# Runs however this ends: it starts the service if it was stopped, and deletes what is no whole copy.
+# Runs however this ends: it starts the service if it was stopped, and deletes any copy that isn't whole.
 settle() {
     if [ -n "$is_stopped" ]; then
         is_stopped=''

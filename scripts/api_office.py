@@ -21,17 +21,17 @@ MOMENT = re.compile(r"\d{4}-\d\d-\d\dT\d\d:\d\d:\d\dZ")
 
 
 def plain(value: Any) -> str:
-    """A text as it is, and any other value as the office writes it in JSON."""
+    """A text unchanged, and any other value as the office writes it in JSON."""
     return value if isinstance(value, str) else json.dumps(value, sort_keys=True, separators=(",", ":"), ensure_ascii=False)
 
 
 def masked(value: Any) -> str:
-    """The same without its moments."""
+    """A text without its moments."""
     return MOMENT.sub("MOMENT", plain(value))
 
 
 class Operation:
-    """What is asked at a path by its method."""
+    """The operation of a path and a method."""
 
     def __init__(self, document: "Document", template: str, method: str, item: dict[str, Any]) -> None:
         node = item[method]
@@ -81,7 +81,7 @@ class Document:
                     self.operations[operation.name] = operation
 
     def resolved(self, node: Any) -> Any:
-        """A node, or what it refers to."""
+        """A node, or the node that it refers to."""
         while "$ref" in node:
             words = node["$ref"].split("/")[1:]
             node = self.tree
@@ -92,7 +92,7 @@ class Document:
         return node
 
     def flaw(self, schema: Any, value: Any) -> str | None:
-        """Where a value doesn't meet a schema, or None."""
+        """The place at which a value doesn't meet a schema, or None."""
         if id(schema) not in self.validators:
             whole = {**schema, "components": self.tree["components"]} if isinstance(schema, dict) else schema
             self.validators[id(schema)] = jsonschema.Draft202012Validator(whole)
@@ -100,7 +100,7 @@ class Document:
         return None if error is None else f"{error.json_path}: {error.message[:200]}"
 
     def operation_at(self, method: str, path: str) -> tuple[Operation, Sequence[str]]:
-        """The operation at a path, and what the path names."""
+        """The operation at a path, and the names in the path."""
         for operation in self.operations.values():
             if operation.method == method and (found := operation.form.fullmatch(path)):
                 return operation, found.groups()
@@ -138,14 +138,14 @@ class Answer:
         return json.loads(self.body) if self.media == JSON else self.body.decode()
 
     def told(self) -> str:
-        """`200`, or the refusal's name and what it is about."""
+        """`200`, or the refusal's name and its `what`."""
         if self.status == "200":
             return "200"
         refusal = json.loads(self.body)
         return f"{refusal['name']} {refusal['what']}" if "what" in refusal else str(refusal["name"])
 
     def flaw(self) -> str | None:
-        """What of the head or of the body's form isn't as docs/API.md says, or None."""
+        """The part of the head or of the body's form that isn't as docs/API.md says, or None."""
         asked = [f"{name}: {self.fields[name]}" for name in ("Allow", "WWW-Authenticate") if name in self.fields]
         fields = [f"Content-Type: {self.media}", f"Content-Length: {len(self.body)}", *asked, "Connection: close"]
         if self.lines != [f"HTTP/1.1 {self.status} {PHRASES.get(self.status)}", *fields]:
@@ -190,12 +190,12 @@ class Asker:
         return self.document.operations[name]
 
     def send(self, method: str, target: str, who: str = "public", body: bytes = b"", fields: Sequence[str] | None = None) -> Answer:
-        """The answer to a request; what of its form is wrong is noted. Fields stand in place of those that a request of this caller has."""
+        """The answer to a request. Faults of its form are noted. Given fields replace those of this caller's requests."""
         if fields is None:
             named = [] if who == "public" else [f"Office-Caller: {who}", f"Office-Key: {self.KEYS[who]}"]
             fields = [*named, f"Content-Length: {len(body)}"]
         self.count += 1
-        # Of a longer head no more is read, and what isn't read resets the connection, perhaps before the answer comes.
+        # The server reads no more of a longer head. Bytes that it doesn't read reset the connection, perhaps before the answer comes.
         head = "\r\n".join([f"{method} {target} HTTP/1.1", *fields, "", ""]).encode()[:8192]
         answer = Answer(exchange(self.port, head + body, ends=True)[0])
         if flaw := answer.flaw():
@@ -203,7 +203,7 @@ class Asker:
         return answer
 
     def judge(self, where: str, response: dict[str, Any] | None, answer: Answer) -> None:
-        """Notes where an answer isn't what the document says of its status."""
+        """Notes an answer that isn't as the document says for its status."""
         response = response or {}
         content = response.get("content", {}).get(answer.media)
         if content is None:
@@ -229,7 +229,7 @@ class Asker:
         return {**value, **members} if isinstance(value, dict) else value
 
     def ask(self, name: str, who: str, *place: object, want: str = "200", body: Any = b"", query: str = "", like: str | None = None) -> Any:
-        """What is answered. `want` says what that is to be, and `like` of which example it differs in moments alone."""
+        """The answer. `want` is the expected one; with `like`, it must equal this example except for moments."""
         operation = self.operation(name)
         answer = self.put(operation, who, place, data_of(body), query)
         if answer.told() != want:

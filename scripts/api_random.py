@@ -6,7 +6,7 @@ from typing import Any
 from api_office import JSON, Asker, Operation, plain
 
 CALLERS = ("public", "clerk", "T1", "T2", "T3")
-# What may stand in a path: names and numbers that the office has, and others. Each is such as a path may have, so that there is a route.
+# The names and numbers that a path may have: those of the office, and others. Each fits a path's form, so that there is a route.
 NAMES = ("N1", "N2", "N3", "N4", "N5", "L1", "L2", "1000", "2000", "B1", "T1", "T2", "A.z_-9", "nowhere")
 NUMBERS = (*range(1, 13), 9999, 9999999999)
 QUERIES = ("", "?", "?after=N1", "?after=N9", "?after=", "?after", "?after=%4e1", "?after=N1&after=N2", "?x=1&after=A", "?AFTER=!", "?security=G1&amount=50",
@@ -17,7 +17,7 @@ ROUNDS = 20
 
 
 def changed(chance: random.Random, value: Any) -> Any:
-    """An example with a member that is another thing, or lacks, or a text that is cut."""
+    """An example with a member that is changed or missing, or a text that is cut."""
     if isinstance(value, dict):
         name = chance.choice([*value, "another"])
         return {**{other: it for other, it in value.items() if other != name}, **({name: chance.choice(OTHERS)} if chance.random() < 0.8 else {})}
@@ -45,7 +45,7 @@ def requests(asker: Asker, chance: random.Random) -> Iterator[tuple[Operation, s
 
 
 def check_at_random(asker: Asker, seed: int) -> str:
-    """Each is answered as its operation says, and by `Forbidden` just where the caller isn't one of those whom it names."""
+    """Each is answered as its operation says, and by `Forbidden` exactly if the operation doesn't name the caller."""
     before, chance = asker.count, random.Random(seed)
     for operation, who, place, body, query in requests(asker, chance):
         told = asker.put(operation, who, place, body, query).told()

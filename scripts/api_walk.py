@@ -1,10 +1,10 @@
-"""Walks through all commands of an office that is served, by the clock, with everything that is refused on the way. tools/check_api sends these requests
-besides those that it makes from schemas. `want` is the expected refusal; without it the command must be accepted. The examples are those of
-docs/openapi.yaml; in a notice the deadline is different, and the standstill if a contract will be signed.
+"""Walks through all commands of an office that is served, by the clock, with all requests that the office refuses. `tools/check_api` sends these requests
+besides those that it makes from schemas. `want` is the expected refusal; without it the command must be accepted. The examples are those of docs/openapi.yaml.
+In a notice the deadline is different, and so is the standstill if a contract will be signed.
 
-There are eight notices. N1 is that of the examples, from its publication to the end of its contract. N2 has ten days of standstill, N3 requires no
-security, N4 is cancelled unopened, N5 has a winner who is passed over and a contract with a performance security, N6 has points, N7 too little money, N8 a
-tender that is withdrawn late. Their deadline is SECONDS ahead; everything before it must be sent by then.
+There are eight notices. N1 is that of the examples, from its publication to the end of its contract. N2 has ten days of standstill. N3 requires no security. N4
+is cancelled unopened. N5 has a winner who is passed over and a contract with a performance security. N6 has points. N7 has too little money. N8 has a tender
+that is withdrawn late. Their deadline is SECONDS ahead; everything before it must be sent by then.
 """
 import time
 from typing import Any
@@ -14,7 +14,7 @@ from client import AHEAD, budget, lot, notice, tender, text_of, wait_until
 
 SECONDS = AHEAD + 2
 PAVING = lot("L1", "2000", 600, 50)
-# Who presented for which notice, with the receipt.
+# The receipts by the tenderer and the notice of each tender.
 Receipts = dict[tuple[str, str], int]
 
 
@@ -29,7 +29,7 @@ def plain_notice(deadline: str, standstill: int = 0, **other: Any) -> dict[str, 
 
 
 def refused(asker: Asker, name: str, who: str, *rows: tuple[Any, ...]) -> None:
-    """Each row: what is wanted, and the place, the body and the query that are refused so."""
+    """Each row: the expected refusal, and the place, the body and the query that are refused."""
     for want, place, *rest in rows:
         asker.ask(name, who, *place, want=want, **dict(zip(("body", "query"), rest)))
 
@@ -59,7 +59,7 @@ def begin(asker: Asker) -> str:
 
 
 def publish(asker: Asker, now: int, deadline: str) -> None:
-    """The notices, and what of their publication is refused."""
+    """Publishes the notices, and tries the requests to publish that are refused."""
     office, like, sent = asker.office(), asker.office, asker.sent
     body = sent("publish", "twoLots", deadline=text_of(now + SECONDS // 2), standstill_days=0)
     like("twoLots").publish("N1", body)
@@ -111,7 +111,7 @@ def present(asker: Asker) -> Receipts:
 
 
 def before_the_deadline(asker: Asker, deadline: str, receipts: Receipts) -> None:
-    """What comes too early, and a notice that is cancelled."""
+    """Tries the requests that come too early, and cancels a notice."""
     office, sent = asker.office(), asker.sent
     refused(asker, "open", "clerk", ("TooEarlyToOpen", ["N2"]), ("NoSuch notice", ["N9"]))
     refused(asker, "award", "clerk", ("NotOpened", ["N2", "L1"]), ("NoSuch notice", ["N9", "L1"]), ("NoSuch lot", ["N2", "L9"]))
@@ -137,7 +137,7 @@ def before_the_deadline(asker: Asker, deadline: str, receipts: Receipts) -> None
 
 
 def at_the_deadline(asker: Asker, receipts: Receipts) -> None:
-    """What comes too late, and the openings."""
+    """Tries the requests that come too late, and opens the tenders."""
     office, sent = asker.office(), asker.sent
     refused(asker, "amendNotice", "clerk", ("DeadlinePassed", ["N2"], sent("amendNotice", "later", deadline="2099-01-01T00:00:00Z")))
     refused(asker, "modify", "T1", ("DeadlinePassed", [receipts["T1", "N2"]], b"abc"))
@@ -173,7 +173,7 @@ def decide_first(asker: Asker) -> None:
 
 
 def decide(asker: Asker, receipts: Receipts) -> int:
-    """The other awards; answers the contract of N5."""
+    """The other awards; returns the contract of N5."""
     office, sent = asker.office(), asker.sent
     refused(asker, "award", "clerk", ("NotAllExamined", ["N5", "L1"]), ("AlreadyDecided", ["N1", "L1"]))
     for key in (("T1", "N2"), ("T1", "N5"), ("T2", "N5"), ("T1", "N7")):
@@ -200,7 +200,7 @@ def decide(asker: Asker, receipts: Receipts) -> int:
 
 
 def pay(asker: Asker, contract: int) -> None:
-    """What of a contract is refused, and two hundred entries of it."""
+    """Tries the requests about a contract that are refused, and makes two hundred entries of it."""
     office, sent = asker.office(), asker.sent
     raising, cutting = sent("amendContract", "raise"), sent("amendContract", "cut")
     office.clerk(f"/contracts/{contract}/amend", raising)
@@ -224,7 +224,7 @@ def pay(asker: Asker, contract: int) -> None:
 
 
 def look(asker: Asker, receipts: Receipts) -> None:
-    """All that can be looked at, of each notice, by each who may."""
+    """Asks all queries about each notice, by each caller that may."""
     office = asker.office()
     for number in range(1, 9):
         office.releases(f"N{number}")

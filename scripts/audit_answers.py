@@ -1,7 +1,7 @@
 """Reads an office's answers for `tools/audit`: the files of a folder, or the answers of an address.
 
-If a front answers that it is asked too often (429), or an office that it can't answer now (502, 503, 504), the same is asked again after as long as
-`Retry-After` says (RFC 9110, section 10.2.3), or after 1, 2, 4 .. seconds without it.
+It asks again if a front answers that it is asked too often (429), or an office that it can't answer now (502, 503, 504). It waits as long as `Retry-After` says
+(RFC 9110, section 10.2.3), or 1, 2, 4 .. seconds without it.
 """
 import email.utils
 import glob
@@ -14,22 +14,22 @@ from collections.abc import Callable
 
 from audit_office import Json, Unreadable, json_object
 
-# The files of a folder, by the routes whose answers they are. Of a notice anybody may ask for all but the register, which is the clerk's; a receipt is what
-# presenting, changing or `GET /tenders/R` answers its tenderer; securities and contracts are shown to the clerk and to their tenderer.
+# The files of a folder, by the routes of their answers. Anybody may ask for all files of a notice, except for the register, which is the clerk's. A receipt is
+# the answer to a tenderer that presents or changes a tender, or asks `GET /tenders/R`. Securities and contracts are shown to the clerk and to their tenderer.
 OF_NOTICES = {"releases": ".json", "record": ".json", "minutes": ".txt", "terms": ".json", "evaluation": ".txt", "register": ".txt"}
 HELD = ("receipt", "security", "performance", "contract")
 # The folders of a mirror.
 MIRRORED = {"record": "records", "minutes": "minutes", "terms": "terms", "evaluation": "evaluations"}
 
-# Seconds that one answer is waited for in all, seconds of the longest wait that isn't asked for, and how often an office that can't answer is asked again.
+# The seconds to wait for one answer in all, the longest wait without `Retry-After`, and how often an office that can't answer is asked again.
 PATIENCE, LONGEST, AGAIN = 600, 30, 5
 TOO_MANY, NOT_NOW = 429, (502, 503, 504)
-# A front may keep an answer for a while, and says by `Last-Modified` when the office gave it: for how long one of now is asked for, and how often.
+# A front may keep an answer for a while, and says by `Last-Modified` when the office gave it: for how long a fresh one is asked for, and how often.
 KEPT, BETWEEN = 300, 2.0
 
 
 def seconds_of(retry_after: str | None, tried: int, now: Callable[[], float] = time.time) -> float:
-    """How long to wait, by the field `Retry-After` of an answer, a count of seconds or a date; where that says nothing, twice as long each time."""
+    """How long to wait, by the field `Retry-After` of an answer, a count of seconds or a date. Without it, twice as long each time."""
     text = (retry_after or "").strip()
     if re.fullmatch(r"[0-9]{1,9}", text):
         return int(text)
@@ -40,7 +40,7 @@ def seconds_of(retry_after: str | None, tried: int, now: Callable[[], float] = t
 
 
 def moment_in(field: str | None) -> float | None:
-    """The moment of a field as `Date`, in seconds, or None where it says none."""
+    """The moment of a field such as `Date`, in seconds, or None if it has none."""
     try:
         return email.utils.parsedate_to_datetime(field or "").timestamp()
     except (TypeError, ValueError, OverflowError):
@@ -69,12 +69,12 @@ class Answers:
         self.is_mirror = os.path.exists(os.path.join(self.folder, "mirror.json")) if self.folder else False
 
     def path_of(self, name: str) -> str:
-        """Where a file of the folder is, also of one that `tools/mirror` keeps."""
+        """The path of a file of the folder, also of a folder that `tools/mirror` keeps."""
         kind, _, rest = name.partition("-")
         return os.path.join(self.folder, *([MIRRORED[kind], rest] if self.is_mirror and kind in MIRRORED else [name]))
 
     def names(self, kind: str, end: str) -> list[str]:
-        """What stands behind `kind-` in the names of the folder's files."""
+        """The words after `kind-` in the names of the folder's files."""
         if self.is_mirror and kind in MIRRORED:
             return sorted(os.path.basename(path)[:-len(end)] for path in glob.glob(os.path.join(glob.escape(self.folder), MIRRORED[kind], f"*{end}")))
         paths = glob.glob(os.path.join(glob.escape(self.folder), f"{kind}-*{end}")) if self.folder else []
@@ -85,7 +85,7 @@ class Answers:
         return sorted({*(notice for kind, end in OF_NOTICES.items() for notice in self.names(kind, end)), *self.listed_names()})
 
     def page(self, path: str, name: str) -> Json | None:
-        """A page of the list of notices, or None where there is none."""
+        """A page of the list of notices, or None if there is none."""
         text = self.perhaps(path, name)
         page = json_object(text) if text is not None else None
         if text is not None and not (page and isinstance(page.get("notices"), list) and all(isinstance(it, dict) for it in page["notices"])):
@@ -114,11 +114,11 @@ class Answers:
         return self.list if self.base else self.listed()
 
     def listed_names(self) -> list[str]:
-        """The notices of the list, where there is one."""
+        """The notices of the list, if there is one."""
         return [str(it.get("notice")) for it in self.listed() or []]
 
     def has_looks(self) -> bool:
-        """Whether the address has the list of notices, and so the other looks that came with it."""
+        """Whether the address has the list of notices, and so the other queries that came with it."""
         return bool(self.base) and self.list is not None
 
     def terms(self, notice: str) -> Json | None:
@@ -126,17 +126,17 @@ class Answers:
         return self.package(notice, "terms")
 
     def contracts(self, numbers: list[int]) -> list[tuple[int, Json | None]]:
-        """The contracts of a folder, or, with the clerk's fields, what the address answers of these."""
+        """The contracts of a folder, or, with the clerk's fields, those of the address."""
         if not self.base:
             return [(int(shown.get("contract", 0)), shown) for _, shown in self.held("contract")]
         return [(number, json_object(self.perhaps(f"/contracts/{number}", "") or "")) for number in numbers] if self.fields else []
 
     def held(self, kind: str) -> list[tuple[str, Json]]:
-        """What was handed out under a number and that the folder has: the number, and the JSON object."""
+        """The objects that the office gave a number and that the folder has: the number, and the JSON object."""
         return [(number, self.object(f"{kind}-{number}.json")) for number in self.names(kind, ".json")]
 
     def perhaps(self, path: str, name: str) -> str | None:
-        """The text that is answered, or None where there is none."""
+        """The text of the answer, or None if there is none."""
         if not self.base:
             return self.saved(name)
         if path not in self.asked:
@@ -144,7 +144,7 @@ class Answers:
         return self.asked[path]
 
     def renewed(self, path: str, name: str) -> str | None:
-        """The same, asked for now, and given by the office since: not an answer that a front kept from before."""
+        """A fresh text, which the office gives now: not an answer that a front kept from before."""
         if not self.base:
             return self.saved(name)
         begun, end = None, time.monotonic() + KEPT
@@ -169,7 +169,7 @@ class Answers:
         return self.perhaps(f"/notices/{notice}/{kind}", f"{kind}-{notice}{OF_NOTICES[kind]}")
 
     def package(self, notice: str, kind: str) -> Json | None:
-        """A package of a notice, which must be a JSON object, or None where there is none."""
+        """A package of a notice, which must be a JSON object, or None if there is none."""
         text = self.of_notice(notice, kind)
         package = json_object(text) if text is not None else None
         if text is not None and package is None:
@@ -184,7 +184,7 @@ class Answers:
         return value
 
     def packages(self, notice: str) -> tuple[Json | None, Json | None]:
-        """The releases and the record of a notice. Those of an address are asked for again where a command came in between."""
+        """The releases and the record of a notice. Those of an address are asked for again if a command came in between."""
         for _ in range(3):
             package, record = self.package(notice, "releases"), self.package(notice, "record")
             records = (record or {}).get("records")
@@ -194,12 +194,12 @@ class Answers:
         return package, record
 
     def forget(self, *paths: str) -> None:
-        """Asks for these again when they are needed again."""
+        """Forgets these, so that they are asked for again when needed."""
         for path in paths:
             self.asked.pop(path, None)
 
     def ask(self, path: str) -> str | None:
-        """The body of the office's answer, or None where the office refuses it as not there or not yet there, or its front knows no such route."""
+        """The body of the office's answer. None if it doesn't exist, or not yet, or the front knows no such route."""
         status, body = self.patient(path)
         told = json_object(body) or {}
         refused = status in (404, 409) and "refusal" in told or status == 404 and "front" in told

@@ -1,6 +1,6 @@
 """The rules of `tools/audit` for witnesses: answers that were saved, and copies of the file that were made, before the audited file or answers.
 
-No command takes back what an office has said, or most of what its rows say. So a witness exposes changes even if everything related was changed too.
+No command takes back an answer of the office, or most facts of its rows. So a witness exposes changes even if everything related was changed too.
 """
 from collections.abc import Callable, Collection, Iterator
 
@@ -19,15 +19,15 @@ FIXED = {
 ONCE = {"notices": "opened", "envelopes": "reading stated corrected corrections responsive quality", "contracts": "ended how"}
 # The columns that only grow.
 GROWS = {"notices": "deadline amendments releases", "envelopes": "failed", "contracts": "released", "office": "moment receipts awards"}
-# The states after which another can follow. From an awarded lot's every other may be reached, since its award may fail.
+# The states after which another can follow. An awarded lot can reach every other state, since its award may fail.
 GOES_ON = {"notices": "receiving", "lots": "undecided awarded", "envelopes": "sealed", "securities": "held", "awards": "active", "performance": "held"}
-# Rows that are put in with another row, and never into it later: the table of that, and its key as the columns of this one.
+# Rows that are added together with another row, and never later: the table of that row, and its key as the columns of this one.
 WITH = {"lots": ("notices", "notice"), "late_rules": ("notices", "notice"), "seals": ("envelopes", "receipt"), "securities": ("envelopes", "security"),
         "performance": ("contracts", "contract")}
 
 
 def both(table: str, later: Office, earlier: Office) -> Iterator[tuple[str, Row, Row | None]]:
-    """Of each row that an earlier copy has: its key as text, the row there, and the row here, or None."""
+    """For each row of an earlier copy: its key as text, the row there, and the row here, or None."""
     here = later.table(table)
     for key, row in earlier.table(table).items():
         yield f"{table} {'/'.join(map(str, key))}", row, here.get(key)
@@ -54,7 +54,7 @@ def rows_of_an_earlier_copy_stay(later: Office, earlier: Office) -> Found:
 
 @rule("copies")
 def what_is_decided_stays(later: Office, earlier: Office) -> Found:
-    """What an earlier copy had decided is unchanged: final states, readings, examinations, openings and ends; deadlines, counts and the clock only grow."""
+    """The decisions of an earlier copy stay (final states, readings, examinations, openings and ends), and deadlines, counts and the clock only grow."""
     for table in TABLES:
         for row, before, here in both(table, later, earlier):
             for column in went_back(table, before, here) if here else []:
@@ -115,7 +115,7 @@ def appropriations_come_from_batches(later: Office, earlier: Office) -> Found:
 # ---- Answers that were saved.
 
 class Later:
-    """What is audited, by a notice: the releases, minutes, terms and evaluation that the file has, or that were answered."""
+    """The audited office, by a notice: the releases, minutes, terms and evaluation that the file has, or that were answered."""
 
     def __init__(self, notices: Collection[str], releases: Callable[[str], list[Json]], minutes: Callable[[str], str | None],
                  terms: Callable[[str], Json | None], evaluation: Callable[[str], str | None]) -> None:

@@ -21,7 +21,7 @@ def part(name: str, line: str, estimate: int, security: int) -> dict[str, Any]:
 
 
 def offer(*units: int, wrong: int = 0) -> str:
-    """A tender of these unit prices, with so much too little in its sum."""
+    """A tender of these unit prices, with a sum that is too small by so much."""
     return tender(*zip(QUANTITIES, units), wrong=wrong)
 
 
@@ -52,7 +52,7 @@ class Life(Client[Answer]):
         self.publish(name, notice(text_of(deadline), *lots, title=f"Notice {name} <b>Straße</b>", **terms))
 
     def submit(self, named: str, who: str, name: str, lot_name: str, body: str, amount: int = 0) -> None:
-        """Presents a tender, with a security of its name where an amount is given."""
+        """Presents a tender, with a security of its name if an amount is given."""
         self.keep(named, self.present(who, name, lot_name, body, named if amount else None, amount))
 
     def resubmit(self, named: str, who: str, old: str, body: str) -> None:
@@ -72,23 +72,23 @@ class Life(Client[Answer]):
         return int(self.award(name, lot_name)["award"])
 
     def contract_of(self, award: int, security: int = 0) -> int:
-        """Signs an award, with a security of its own name where an amount is given."""
+        """Signs an award, with a security of its own name if an amount is given."""
         return int(self.sign(award, f"P{award}" if security else None, security)["contract"])
 
     def wait(self) -> None:
-        """Until the deadline is over."""
+        """Waits until the deadline is over."""
         if time.time() >= self.deadline:
             fail("the deadline came before all tenders were in: the machine is too busy")
         wait_until(self.deadline + 1.05)
 
 
 class AuditedLife(Life):
-    """What `tests/audit` looks at."""
+    """The office that `tests/audit` audits."""
 
     running = cancelled = active = broken = failed = contract = 0
 
     def before_the_deadline(self) -> None:
-        """The budget, the tenderers, eight notices and their tenders; N3 is cancelled, N5 goes on receiving, and tenders for N8 may be withdrawn late."""
+        """The budget, the tenderers, eight notices and their tenders. N3 is cancelled, N5 continues to receive, and tenders for N8 may be withdrawn late."""
         self.import_budget("B1", budget("1000,add,100000,Roads", "2000,add,100000,Schools", "2000,cut,5000,Schools", "3000,add,0007,Parks"))
         self.enrol_in_time(*TENDERERS)
         self.announce_all()
@@ -127,7 +127,7 @@ class AuditedLife(Life):
         self.announce("N8", self.deadline, part("L1", "1000", 100, 10), late_withdrawal="forfeits", performance=5)
 
     def after_the_deadline(self) -> None:
-        """Late tenders, the openings, and how each notice goes on."""
+        """Late tenders, the openings, and the further steps of each notice."""
         self.wait()
         self.submit("late", "T5", "N1", "L1", offer(1, 1), 50)
         for name in ("N1", "N2", "N4", "N6", "N7", "N8"):

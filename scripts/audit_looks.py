@@ -1,5 +1,6 @@
-"""The rules of `tools/audit` for public answers besides the releases: the list of notices, their terms, and the evaluation of their tenders; and for contracts,
-as the clerk or their tenderers see them. With a file each is compared with its rows, otherwise with the releases; what was saved must stay the same.
+"""The rules of `tools/audit` for public answers besides the releases: the list of notices, their terms, and the evaluation of their tenders. There are also
+rules for contracts, as the clerk or their tenderers see them. With a file each answer is compared with its rows, otherwise with the releases. Saved answers
+must stay the same.
 """
 from collections.abc import Iterator
 from typing import Any
@@ -11,7 +12,7 @@ from audit_outside import Seen, Tender, read_minutes
 from audit_releases import difference, text_with, unlike
 from audit_story import Story
 
-# What an amended deadline, the opening, an award and a cancellation change of the terms.
+# The parts of the terms that an amended deadline, the opening, an award and a cancellation change.
 CHANGES = ("deadline", "opened", "state")
 # The states of a lot that has an outcome, and those that are final.
 OUTCOMES = ("awarded", "contracted", "unsuccessful", "cancelled")
@@ -63,7 +64,7 @@ def line_of(finding: Any, weight: int, lowest: int) -> list[object]:
 
 
 def evaluation_of(office: Office, notice: str, is_whole: bool = False) -> str | None:
-    """What the public is shown of a notice's evaluation, by the rows, or, where it is whole, what the clerk is; None where the notice isn't opened."""
+    """The evaluation of a notice by the rows: the public's part, or the clerk's if it is whole; None if the notice isn't opened."""
     about = office.table("notices")[(notice,)]
     due: list[Any] = [["EVALUATION", notice]]
     for lot, state in office.rows("SELECT lot, state FROM lots WHERE notice = ? ORDER BY lot", notice):
@@ -95,7 +96,7 @@ def contract_of(office: Office, contract: int) -> Json | None:
 
 @rule("list")
 def listed_notices_are_of_the_rows(office: Office, listed: list[Json]) -> Found:
-    """The list of notices has each notice of the file once, sorted, with what the file says of it."""
+    """The list of notices has each notice of the file once, sorted, with the data of the file."""
     due, names = listed_of(office), [str(it.get("notice")) for it in listed]
     there = dict(zip(names, listed))
     for name in sorted({*due, *names}):
@@ -173,7 +174,7 @@ def due_in_terms(releases: list[Json]) -> dict[str, object]:
 
 
 def went_back(terms: Json, due: Json, complete: bool) -> Iterator[str]:
-    """The terms that commands change and that differ from the releases. (They were asked for behind these, so it may have gone on where not all was told.)"""
+    """The terms that commands change and that differ from the releases. (They were asked for after the releases, so they may be newer if not all was saved.)"""
     goes_on = {"deadline": str(terms.get("deadline")) > str(due["deadline"]), "opened": due["opened"] is None, "state": due["state"] == "receiving"}
     for name in CHANGES:
         if terms.get(name) != due[name] and (complete or not goes_on[name]):
@@ -195,7 +196,7 @@ def terms_are_of_the_releases(seen: Seen) -> Found:
 
 
 class Evaluation:
-    """What an evaluation says: of each lot its state, its tenders by receipt and its awards by number, each as the fields behind."""
+    """The content of an evaluation: for each lot its state, its tenders by receipt and its awards by number, each as its remaining fields."""
 
     def __init__(self, text: str) -> None:
         lines = [line.split("\t") for line in text.split("\n")]
@@ -212,7 +213,7 @@ class Evaluation:
 
 
 def read_evaluation(text: str) -> Evaluation | None:
-    """The evaluation, or None where the text is of another form."""
+    """The evaluation, or None if the text has another form."""
     try:
         found = Evaluation(text)
     except (ValueError, KeyError, IndexError, UnboundLocalError):
@@ -221,7 +222,7 @@ def read_evaluation(text: str) -> Evaluation | None:
 
 
 def evaluation_found(evaluation: Evaluation, story: Story, tenders: list[Tender] | None, complete: bool) -> Iterator[str]:
-    """Contradictions between the evaluation, the releases and the minutes of a notice. (It was asked for behind these, so it may have an award more.)"""
+    """Contradictions between the evaluation, the releases and the minutes of a notice. (It was asked for after these, so it may have one more award.)"""
     if evaluation.notice != story.notice or list(evaluation.states) != sorted(story.lots):
         yield f"the evaluation is of {evaluation.notice} and the lots {list(evaluation.states)}"
     for lot, awards in evaluation.awards.items():
@@ -279,7 +280,7 @@ def went_otherwise(before: Evaluation, here: Evaluation) -> Iterator[str]:
             yield f"lot {lot} is {state}, and was {before.states[lot]}"
         for receipt, was in tenders.items() if there or state != "undecided" else ():
             now = there.get(receipt, [])
-            # Who presented it, how it reads and its price stay; so do an answer and a quality, once they are there, and that it failed. Points go on.
+            # Its tenderer, how it reads and its price stay. An answer and a quality stay once they exist, and so does a failure. Points may change.
             if now[:3] != was[:3] or any(new != old for old, new in zip(was[3:5], now[3:5]) if old != "-") or was[6:] == ["failed"] != now[6:]:
                 yield f"tender {receipt} is {now}, and was {was}"
         for award, was in before.awards[lot].items():
@@ -290,7 +291,7 @@ def went_otherwise(before: Evaluation, here: Evaluation) -> Iterator[str]:
 
 @rule("saved")
 def saved_evaluations_stay(later: Later, office: Office | None, saved: Answers, notice: str) -> Found:
-    """What a saved evaluation shows is unchanged: who submitted what, what was found, and the awards."""
+    """A saved evaluation is unchanged: who submitted which tender, what was found, and the awards."""
     before, here = saved.of_notice(notice, "evaluation"), later.evaluation(notice) if notice in later.notices else None
     if before is not None and here is not None:
         was, now = read_evaluation(before), read_evaluation(here)

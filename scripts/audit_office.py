@@ -64,7 +64,7 @@ MADE = dict(it.split(":") for it in (
     "awards_of_notice:daec4a3a20b9 contracts_of_notice:e57713968ea5 late_rules:224904b111b7 "
     "notices_2:24e2ae802807 performance:0e99717dfa8c").split())
 
-# What each contract gained and lost; the four pots of each line, summed from joined rows; the tenders that may win.
+# The gains and losses of each contract; the four balances of each line, summed from joined rows; the tenders that may win.
 SUMS = """
 CREATE TEMP TABLE sums AS
     SELECT c.contract, c.notice, c.lot, c.signed, c.released, c.ended,
@@ -82,20 +82,21 @@ CREATE TEMP TABLE pots AS
 CREATE TEMP VIEW offers AS SELECT * FROM envelopes WHERE state = 'opened' AND reading = 'priced' AND responsive = 1;
 """
 
-# The rules, by what they are put to: the file; the releases of a notice; those that the file keeps; an office's answers on a notice; its minutes, its terms and
-# its evaluation, the list of notices, contracts, and the ledger, with the file; a notice of the file that isn't answered; all answers together, without the
-# file; an earlier copy of the file; answers on a notice that may be from earlier, and those that are; what was handed out under a number; an earlier ledger.
+# The rules, by the things to which they apply. The file. The releases of a notice, and those that the file keeps. An office's answers on a notice. With the
+# file: its minutes, its terms and its evaluation, the list of notices, contracts, and the ledger. A notice of the file that isn't answered. All answers
+# together, without the file. An earlier copy of the file. Answers on a notice that may be earlier, and those that are. Answers with a number (receipts,
+# securities, contracts). An earlier ledger.
 RULES: dict[str, list[Check]] = {it: [] for it in (
     "file", "releases", "kept", "answers", "minutes", "looks", "list", "contracts", "ledger", "lacking", "outside", "copies", "witness", "saved", "held",
     "ledgers")}
 
 
 class Unreadable(Exception):
-    """Something can't be read, and why."""
+    """A file, answer or argument that can't be read, and the reason."""
 
 
 def rule(of: str) -> Callable[[Check], Check]:
-    """Makes a function a rule. It gives a row, as its table and key, and what is wrong with it, for each finding."""
+    """Makes a function a rule. For each finding it gives a row, as its table and key, and the error."""
     def add(check: Check) -> Check:
         RULES[of].append(check)
         return check
@@ -117,7 +118,7 @@ def once(pairs: list[tuple[str, Any]]) -> Json:
 
 
 def json_object(text: str) -> Json | None:
-    """The JSON object that a text is, or None."""
+    """The JSON object in a text, or None."""
     try:
         value = json.loads(text, object_pairs_hook=once)
     except (ValueError, RecursionError):
@@ -177,7 +178,7 @@ class Office:
             raise Unreadable(f"{self.path}: it isn't an office: the table {name} or one of its columns is missing")
 
     def migrate(self) -> None:
-        """Makes of the copy what the program makes of an office of version 1 when it opens it."""
+        """Migrates the copy, as the program migrates an office of version 1 when it opens it."""
         for table, made in LATER.items():
             if not self.columns(table):
                 self.base.execute(made)

@@ -10,8 +10,8 @@ POTS = ("reserved", "contracted", "paid")
 
 
 class Seen:
-    """What was answered of some notices: of each its releases, their story, its minutes, or None, and its terms and evaluation where there are any; the list of
-    notices, or None; the ledgers from before and from behind these looks, or None; whether these are all notices of the office."""
+    """The answers about some notices. For each notice: its releases, their story, its minutes or None, and its terms and evaluation if there are any. For all:
+    the list of notices or None; the ledgers from before and after these answers, or None; and whether these are all notices of the office."""
 
     def __init__(self, releases: dict[str, list[Json]], answers: Answers, ledgers: tuple[str | None, str | None], complete: bool) -> None:
         self.releases, self.ledgers, self.complete, self.listed = releases, ledgers, complete, answers.listed_before()
@@ -45,12 +45,12 @@ class Tender:
         self.stated, self.corrected, self.corrections = map(int, figures) if reading == "priced" else (-1, -1, -1)
 
     def is_read(self) -> bool:
-        """Whether its figures are such as a reading gives."""
+        """Whether its figures can come from a reading."""
         return self.reading in ("unreadable", "nonconforming") or self.reading == "priced" and (self.corrections > 0 or self.stated == self.corrected)
 
 
 def read_minutes(text: str) -> Minutes | None:
-    """The minutes, or None where the text is of another form."""
+    """The minutes, or None if the text has another form."""
     try:
         found = Minutes(text)
     except (ValueError, TypeError, UnboundLocalError):
@@ -60,7 +60,7 @@ def read_minutes(text: str) -> Minutes | None:
 
 
 def pots_of(ledger: str) -> dict[str, int] | None:
-    """What a ledger says is reserved, contracted and paid, of all lines together; None where it has another form."""
+    """The sums of a ledger that are reserved, contracted and paid, of all lines together; None if it has another form."""
     lines = [line.split("\t") for line in ledger.split("\n")[2:-1]]
     if not ledger.startswith("LEDGER\n") or not all(len(line) == 6 and all(re.fullmatch("[0-9]{1,16}", number) for number in line[1:]) for line in lines):
         return None
@@ -117,7 +117,7 @@ def ledger_covers_the_releases(seen: Seen) -> Found:
         return
     sums = dict(zip(POTS, map(sum, zip(*(story.sums() for story in seen.stories.values())))))
     for pot, told in sums.items():
-        # What is paid only grows; what is reserved and contracted comes and goes, so it's compared where nothing moved meanwhile.
+        # The paid sum only grows. The reserved and contracted sums rise and fall, so they are compared only if nothing moved meanwhile.
         if (pot == "paid" or before == after) and not (before[pot] if seen.complete else 0) <= told <= after[pot]:
             yield "office 1", f"{pot}: the releases of {'all' if seen.complete else 'these'} notices say {told}, and the ledger {after[pot]}"
 

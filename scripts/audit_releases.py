@@ -11,7 +11,7 @@ from audit_office import Found, Json, Office, json_object, rule, text_of
 TAGS = [["tenderAmendment"], ["tenderUpdate"], ["award"], ["awardCancellation"], ["tenderCancellation"], ["tenderCancellation", "awardCancellation"],
         ["contract"], ["contractAmendment"], ["implementation"], ["contractTermination"]]
 
-# What the rows of a notice say that happened, as `events_told` tells it of releases.
+# The events of a notice by its rows, in the form in which `events_told` has them by releases.
 EVENTS = """
     SELECT printf('publication: at %s, of %d', text_of(published), (SELECT sum(estimate) FROM lots WHERE notice = ?1)) FROM notices WHERE notice = ?1
     UNION ALL SELECT printf('opening: at %s, of %d tenderers', text_of(opened), (SELECT count(DISTINCT tenderer) FROM envelopes
@@ -26,7 +26,7 @@ EVENTS = """
         FROM entries AS e JOIN contracts AS c ON c.contract = e.contract WHERE c.notice = ?1
     UNION ALL SELECT printf('end of contract %d: at %s', contract, text_of(ended)) FROM contracts WHERE notice = ?1 AND ended IS NOT NULL"""
 
-# What they say of its terms, lots, tenderers, awards and contracts, as `facts_told` tells it of a merge.
+# Its terms, lots, tenderers, awards and contracts by the rows, in the form in which `facts_told` has them by a merge.
 FACTS = """
     SELECT 'terms', printf('%s to %s, %s, %s', text_of(published), text_of(deadline), iif(weight = 0, 'priceOnly', 'ratedCriteria'), title)
         FROM notices WHERE notice = ?1
@@ -63,8 +63,8 @@ def last_run(column: list[Any], fits: Callable[[Any], bool]) -> list[Any]:
 
 
 def merged(column: list[Any]) -> Any:
-    """What the values that releases give for one place, in order, leave there. The last decides: null leaves nothing; of objects each name is merged, of
-    id lists each id, over the run of such at the end; anything else is taken whole."""
+    """The merge of the values that releases give for one place, in their order. The last value decides. If it is null, nothing remains. If it is an object,
+    each name is merged; if it is a list with ids, each id is; both over the run of such values at the end. Any other value is taken whole."""
     if not column or column[-1] is None:
         return ABSENT
     if isinstance(column[-1], dict):
@@ -151,7 +151,7 @@ def told_by(tag: str, release: Json) -> list[str]:
 
 
 def facts_told(merge: Json) -> dict[str, Any]:
-    """What a merge says of a notice: its terms, tenderers and items, and of its lots, awards and contracts how much and how far."""
+    """The facts of a notice by a merge: its terms, tenderers and items; and the amounts and states of its lots, awards and contracts."""
     tender, period = merge["tender"], merge["tender"]["tenderPeriod"]
     told = {"terms": f"{period['startDate']} to {period['endDate']}, {tender['awardCriteria']}, {tender['title']}", "status": tender["status"]}
     for lot in tender["lots"]:
@@ -334,7 +334,7 @@ def text_with(lines: Iterable[Iterable[object]]) -> str:
 
 
 def minutes_of(office: Office, notice: str) -> str | None:
-    """The minutes of a notice, by the rows; None where it isn't opened."""
+    """The minutes of a notice, by the rows; None if it isn't opened."""
     title, deadline, opened = office.rows("SELECT title, text_of(deadline), text_of(opened) FROM notices WHERE notice = ?", notice)[0]
     due = [("MINUTES", notice, title), ("deadline", deadline), ("opened", opened)]
     for lot in office.rows("SELECT 'lot', lot, title FROM lots WHERE notice = ? ORDER BY lot", notice):
@@ -380,7 +380,7 @@ def ledger_of(office: Office) -> str:
 
 
 def unlike(row: str, text: str, due: str) -> Found:
-    """A finding where a text isn't the one that is due."""
+    """A finding if a text isn't the expected one."""
     lines, wanted = text.split("\n"), due.split("\n")
     if lines != wanted:
         place = next((place for place, (here, there) in enumerate(zip(lines, wanted)) if here != there), min(len(lines), len(wanted)))

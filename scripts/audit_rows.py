@@ -1,4 +1,5 @@
-"""The rules of `tools/audit` that compare the rows of an office's file with one another. Each is named for what must hold, and says it in a sentence."""
+"""The rules of `tools/audit` that compare the rows of an office's file with one another. The name of each is the rule, and its docstring says it in a
+sentence."""
 import hashlib
 import re
 from typing import Any
@@ -117,7 +118,7 @@ def numbers_follow_time(office: Office) -> Found:
             (SELECT {key}, moment, lag(moment) OVER (PARTITION BY {group} ORDER BY {key}) AS earlier FROM {table}) WHERE moment < earlier""")
 
 
-# Tables whose rows are never taken out, and have no number that is the row's place; the moment where there is one.
+# Tables whose rows are never taken out, and have no number that is the row's place; the moment if there is one.
 PLACED = {"lines": None, "batches": "moment", "tenderers": None, "notices": None, "lots": None, "entries": "moment", "releases": "moment", "compiled": None,
           "late_rules": None}
 
@@ -258,7 +259,7 @@ def awards_go_to_the_best(office: Office) -> Found:
 
 
 def best_of(offers: list[Any], weight: int) -> Any:
-    """The best of offers (price, receipt, quality): where the weight isn't 0 that of most thousandths of points, then the lower price and receipt."""
+    """The best of offers (price, receipt, quality): if the weight isn't 0, that with most thousandths of points; then the lower price and receipt."""
     lowest = min((price for price, _, _ in offers), default=0)
 
     def standing(offer: Any) -> tuple[int, int, int]:
@@ -351,7 +352,7 @@ def number_of(field: bytes) -> int | None:
 
 
 def reading_of(data: bytes, items: str) -> tuple[Any, ...]:
-    """What a tender's file says for a lot of these items: a word, the price as stated, as corrected, and how many figures were corrected (RFC 4180)."""
+    """A tender's file for a lot of these items: a word, the price as stated, as corrected, and how many figures were corrected (RFC 4180)."""
     records = [line.split(b",") for line in re.split(rb"[\r\n]+", data.removeprefix(b"\xef\xbb\xbf")) if line]
     if len(records) < 2 or records[0] != [b"item", b"quantity", b"unit", b"total"] or any(len(record) != 4 for record in records):
         return "unreadable", None, None, None

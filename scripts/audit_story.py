@@ -1,4 +1,4 @@
-"""Reads what the releases of a notice say, in order, for `tools/audit`: how each lot, award and contract develops, and what doesn't follow from before.
+"""Reads the releases of a notice in order, for `tools/audit`: how each lot, award and contract develops, and which facts contradict earlier ones.
 
 It needs only the releases, so it serves for those in a file and for those that anybody is answered.
 """
@@ -16,7 +16,7 @@ class Misfit(Exception):
 
 
 def want(holds: bool, what: str) -> None:
-    """That something holds of a release."""
+    """Checks that something holds for a release."""
     if not holds:
         raise Misfit(what)
 
@@ -106,7 +106,7 @@ class Story:
             lot["status"] = status
 
     def is_amended(self, seq: int, release: Json, told: list[Json], description: str) -> None:
-        """That the one amendment of a release is of its number and date."""
+        """Checks that the one amendment of a release has its number and date."""
         want([(it["id"], it["date"], it["description"]) for it in told] == [(f"{seq:04}", release["date"], description)],
              f"its amendment should be {seq:04}, {release['date']}, {description}")
 
@@ -209,6 +209,6 @@ TELLERS: dict[str, Callable[[Story, int, Json], None]] = {
 
 @rule("releases")
 def releases_follow_each_other(notice: str, releases: list[Json]) -> Found:
-    """What a release says can follow the releases before it: deadlines, lots, awards, contracts and payments."""
+    """Each release can follow the releases before it: deadlines, lots, awards, contracts and payments."""
     for seq, what in Story(notice, releases).misfits:
         yield f"releases {notice}/{seq}", what

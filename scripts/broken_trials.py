@@ -9,8 +9,8 @@ from typing import Any
 from audit_life import Life, offer, part
 from client import budget, text_of
 
-# A trial in which the command may be accepted: it doesn't go on from what is gone, a list that it reads is shorter by a row, of which no row of it tells, or a
-# sum is above what is there, and `tools/audit` finds that; or nothing is lost, since a merge that isn't kept is made anew of all releases.
+# A trial in which the command may be accepted. It doesn't use the missing rows. Or a list that it reads is shorter by a row that no other row refers to. Or a
+# sum is too large, which `tools/audit` finds. In a trial of `ANEW` nothing is lost: the program makes a merge that isn't kept from all releases.
 MAY, ANEW = "may be accepted", "is made anew"
 DAY = 86_400
 
@@ -51,7 +51,7 @@ class BrokenLife(Life):
         self.announce("C", self.deadline, first, performance=15)
 
     def filled(self, script: str) -> str:
-        """A script with what the office gave in the place of each name in braces."""
+        """A script with the office's values in the place of each name in braces."""
         return script.format(**self.receipt, award=self.award_given, contract=self.contract)
 
 
@@ -91,8 +91,8 @@ def publication(life: BrokenLife) -> dict[str, Any]:
 
 @dataclass
 class Trial:
-    """A command over an office that is broken: what is gone or out of range, the script of sqlite3 that does it, and, beside `Unavailable`, how the command may
-    be refused."""
+    """A command over a broken office: the missing or wrong rows, the script of sqlite3 that breaks it, and the refusals that the command may have besides
+    `Unavailable`."""
 
     command: str
     what: str
@@ -104,7 +104,7 @@ class Trial:
         return f"{self.command}, {self.what}"
 
 
-# Rows, by the names that they have here: what deletes them.
+# Rows, by the names that they have here: the script that deletes them.
 def notice_gone(name: str) -> str:
     return f"DELETE FROM notices_2 WHERE notice = '{name}';"
 
@@ -159,8 +159,8 @@ def merge_gone(name: str) -> str:
 
 
 def of_releases(name: str, is_long: bool) -> list[tuple[str, ...]]:
-    """Of a notice's releases: with more than two of them, also of some. What is published goes on from the last one and from their merge, and from all of them
-    where that isn't kept."""
+    """Trials with missing releases of a notice; with more than two of them, also with some. A publication continues from the last release and their merge, or
+    from all releases if the merge isn't kept."""
     second, last = " AND seq = 2", f" AND seq = (SELECT max(seq) FROM releases WHERE notice = '{name}')"
     found = [("all releases", releases_gone(name)), ("all releases and the merge", releases_gone(name) + merge_gone(name)),
              ("the merge", merge_gone(name), ANEW), ("the merge that isn't JSON", f"UPDATE compiled SET text = '{{{{' WHERE notice = '{name}';"),
@@ -174,12 +174,12 @@ def of_releases(name: str, is_long: bool) -> list[tuple[str, ...]]:
     return found
 
 
-# Rows whose parent is missing, or whose number comes next: what makes them of other rows.
+# The SQL that gives rows another key, so that their parent is missing, or that gives one the next number.
 def renamed(table: str, key: str, change: str) -> str:
     return f"UPDATE {table} SET {change} WHERE {key};"
 
 
-# Of each command: what is gone or out of range, the change, and the refusal that says so, MAY or ANEW.
+# For each command: the missing or wrong rows, the change, and the refusal that reports it, or `MAY` or `ANEW`.
 TRIALS: dict[str, list[tuple[str, ...]]] = {
     "import": [
         ("its line", line_gone("1000"), "NoSuch line"),

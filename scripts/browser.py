@@ -12,20 +12,21 @@ from client import AHEAD
 from common import fail
 
 Event = dict[str, Any]
-# What a page is answered in the server's place: a status and a body, or nothing.
+# The answers that a page gets in place of the server's: a status and a body, or nothing.
 Answers = Mapping[str, tuple[int, bytes] | None]
 
-# Seconds until an answer, or what is waited for, must be there: more by AHEAD, as for deadlines.
+# Seconds until an answer must come, or a condition be true; AHEAD adds to them, as to deadlines.
 PATIENCE = max(60, 15 * AHEAD)
 KEYS = {"Tab": (9, ""), "Enter": (13, "\r")}
 DOMAINS = ("Page", "Runtime", "Log", "Network", "Audits")
-# Without a sandbox, since that isn't to be had by root in a container; the one page that it shows is that of this repository.
+# Without a sandbox, since root can't have one in a container. It shows only the pages of this repository.
 WORDS = ["--headless=new", "--no-sandbox", "--disable-gpu", "--disable-dev-shm-usage", "--hide-scrollbars", "--no-first-run", "--disable-extensions",
          "--disable-background-networking", "--disable-component-update", "--ignore-certificate-errors", "--remote-debugging-pipe"]
 
 
 class Browser:
-    """Chromium with a profile of its own in a folder; ended behind a `with`. Pictures are taken where they are asked for: each costs as much as a view."""
+    """Chromium with a profile of its own in a folder. It ends after its `with`. It takes a picture only if one is asked for, since each costs as much as a
+    view."""
 
     def __init__(self, program: str, folder: str, pictures: bool = False) -> None:
         self.pictures = pictures
@@ -66,7 +67,7 @@ class Browser:
         self.stream.sendall(json.dumps({"id": self.count, "method": method, "params": parameters, **where}).encode() + b"\0")
         number = self.count
         while (message := self.receive()).get("id") != number:
-            # (An answer that came too late for its command is none.)
+            # (An answer that came too late for its command is dropped.)
             if "method" in message:
                 (self.paused if message["method"] == "Fetch.requestPaused" else self.events).append(message)
         if "error" in message:
@@ -90,8 +91,8 @@ class Browser:
 
 
 class Page:
-    """A page in a context of its own: nothing is kept from another one. For the paths that `answers` has, it stands in the server's place: a status and a body,
-    or None for no answer."""
+    """A page in a context of its own: nothing is kept from another one. For the paths of `answers` it answers in place of the server: a status and a body, or
+    None for no answer."""
 
     def __init__(self, browser: Browser, width: int, height: int = 800, dark: bool = False) -> None:
         self.browser = browser
@@ -108,16 +109,16 @@ class Page:
         return self.browser.ask(method, self.session, **parameters)
 
     def shape(self, width: int, height: int = 800, dark: bool = False, zoom: float = 1) -> None:
-        """A window of this size, that of a phone where it is narrow, light or dark."""
+        """A window of this size, light or dark; a narrow one is a phone's."""
         self.ask("Emulation.setDeviceMetricsOverride", width=width, height=height, deviceScaleFactor=zoom, mobile=width < 600)
         self.ask("Emulation.setEmulatedMedia", features=[{"name": "prefers-color-scheme", "value": "dark" if dark else "light"}])
 
     def events(self, *names: str) -> list[Event]:
-        """What has happened so far of these kinds."""
+        """The events of these kinds so far."""
         return [event["params"] for event in self.browser.events if event.get("sessionId") == self.session and event["method"] in names]
 
     def run(self, script: str) -> Any:
-        """The value of an expression of the page, waited for where it is a promise."""
+        """The value of an expression of the page, awaited if it is a promise."""
         answer = self.ask("Runtime.evaluate", expression=script, returnByValue=True, awaitPromise=True)
         if "exceptionDetails" in answer:
             fail(f"the page: {script}: {answer['exceptionDetails']}")
@@ -128,7 +129,7 @@ class Page:
         self.expect(script, lambda: self.run(f"Boolean({script})"))
 
     def expect(self, what: str, holds: Callable[[], Any]) -> None:
-        """Waits until something holds, and lets the page be answered meanwhile."""
+        """Waits until something holds, and answers the page's requests meanwhile."""
         end = time.monotonic() + PATIENCE
         while not holds():
             self.answer()
@@ -139,7 +140,7 @@ class Page:
             self.run("0")
 
     def answer(self) -> None:
-        """Answers what the page has asked, where `answers` has it."""
+        """Answers a request of the page, if `answers` has its path."""
         paused, self.browser.paused = self.browser.paused, []
         for event in paused:
             request = event["params"]["requestId"]
@@ -154,13 +155,13 @@ class Page:
                 self.ask("Fetch.fulfillRequest", requestId=request, responseCode=status, responseHeaders=media, body=base64.b64encode(body).decode())
 
     def answer_for(self, answers: Answers, kind: str = "Fetch") -> None:
-        """From now on these are the answers to what scripts fetch; or to another kind of requests, of which no others wait to be let through."""
+        """Sets the answers to requests of scripts from now on. For another kind of request, only the paths of `answers` are held, and no others wait."""
         self.answers = answers
         places = ["*"] if kind == "Fetch" else [f"*{path}" for path in answers]
         self.ask("Fetch.enable", patterns=[{"urlPattern": place, "resourceType": kind} for place in places])
 
     def go(self, address: str) -> None:
-        """Loads a page anew, until it has drawn what its address asks for."""
+        """Loads a page from the beginning, until it has drawn the view of its address."""
         self.ask("Page.navigate", url="about:blank")
         self.ask("Page.navigate", url=address)
         self.wait("document.querySelector('main')?.getAttribute('aria-busy') === 'false'")
@@ -171,7 +172,7 @@ class Page:
         return "".join(f"{' '.join(line.split())}\n" for line in lines if line.strip())
 
     def keep_in(self, folder: str) -> None:
-        """From now on what the page saves goes into a folder."""
+        """From now on files that the page saves go into a folder."""
         self.browser.ask("Browser.setDownloadBehavior", behavior="allow", browserContextId=self.context, downloadPath=folder)
 
     def choose(self, name: str, path: str) -> None:
@@ -190,7 +191,7 @@ class Page:
         self.ask("Input.insertText", text=text)
 
     def tree(self) -> list[tuple[str, str, dict[str, Any]]]:
-        """What a screen reader is told, in its order: each thing's role, its name, and its other properties."""
+        """The things that a screen reader reads, in its order: each one's role, name and other properties."""
         nodes = {node["nodeId"]: node for node in self.ask("Accessibility.getFullAXTree")["nodes"]}
         told, left = [], [name for name, node in nodes.items() if "parentId" not in node]
         while left:
@@ -202,7 +203,7 @@ class Page:
         return told
 
     def picture(self, path: str) -> None:
-        """A picture of the whole page, also of what one would have to scroll to; none where none are asked for."""
+        """A picture of the whole page, also of parts that need scrolling. It makes none unless pictures are asked for."""
         if not self.browser.pictures:
             return
         size = self.ask("Page.getLayoutMetrics")["cssContentSize"]

@@ -1,4 +1,4 @@
-"""What `tests/clerk` asks of the clerk's desk in a browser: a procurement from the budget to the last payment by its screens, and what can't break it."""
+"""The questions of `tests/clerk` to the clerk's desk in a browser: a procurement from the budget to the last payment on its screens, and faults around it."""
 import base64
 import contextlib
 import hashlib
@@ -32,7 +32,7 @@ def firms(scene: Scene) -> Client[Answer]:
 
 
 def budget_part(desk: Desk) -> None:
-    """A file with semicolons is told, one that is right shows what it changes, and is taken in; the same under another name is warned of."""
+    """A file with semicolons is reported. A right file shows its changes, and is taken in. The desk warns of the same file under another name."""
     desk.go("budget")
     desk.drop(BUDGET.replace(",", ";"), "budget.csv")
     desk.says("The fields are separated by semicolons")
@@ -72,7 +72,7 @@ def tenderers_part(desk: Desk) -> None:
 
 
 def local(desk: Desk, second: float) -> str:
-    """A second as a field for date and time holds it, where the browser is."""
+    """A second in the form of a field for date and time, in the browser's time zone."""
     return str(desk.page.run(f"import('/clerk/values.js').then(({{ localText }}) => localText({int(second) * 1000}))"))
 
 
@@ -91,7 +91,7 @@ def write_notice(desk: Desk, name: str, deadline: float, title: str) -> None:
 
 
 def notice_part(desk: Desk) -> None:
-    """A draft that is short of money and of a title is told; one that is right is shown as the public will see it."""
+    """The desk reports a draft that is short of money and has no title. It shows a right one as the public will see it."""
     desk.go("new")
     desk.press("Publish the notice \u2026")
     desk.says("things are missing or wrong")
@@ -155,6 +155,28 @@ def opening_part(desk: Desk, deadline: float) -> None:
 
 def award_part(desk: Desk) -> None:
     """Both tenders are examined; the best doesn't sign, and is passed over; the next one signs with the performance security."""
+    examination_part(desk)
+    desk.press("Award the lot \u2026", place="Lot L1")
+    desk.says("Award lot L1 of notice N1 to Beta Ltd")
+    desk.confirm("Award the lot", "Lot L1 is decided. Price: 540; receipt: 2.")
+    desk.press("Award the lot \u2026", place="Lot L2")
+    desk.says("Award lot L2 of notice N1 to nobody")
+    desk.confirm("Award the lot", "Lot L2 is decided.")
+    desk.says("Lot L1: sign the contract")
+    check(f"a standstill is told that never was: {desk.told()}", "The standstill" not in desk.told())
+    letters_part(desk)
+    desk.press("The winner doesn't sign")
+    desk.picture("awarded")
+    desk.press("Pass over the winner \u2026")
+    desk.says("Pass over Beta Ltd: lot L1 of notice N1 (award 1)")
+    desk.confirm("Pass over the winner", "The winner of award 1 was passed over.")
+    desk.says("It won, but the winner didn't sign.")
+    short_of_money(desk)
+    signing_part(desk)
+
+
+def examination_part(desk: Desk) -> None:
+    """The clerk examines two tenders. A second tab has the same task, and is older then."""
     desk.says("2 tenders to examine")
     desk.picture("evaluation")
     check("before the examination the award is off", desk.page.run("hands.button('Award the lot \u2026', hands.part('Lot L1')).disabled"))
@@ -170,14 +192,10 @@ def award_part(desk: Desk) -> None:
         desk.confirm("Record the result", f"The tender of {name} is examined.")
     desk.says("Lot L1 goes to Beta Ltd for 540 EUR.")
     examined_elsewhere(other)
-    desk.press("Award the lot \u2026", place="Lot L1")
-    desk.says("Award lot L1 of notice N1 to Beta Ltd")
-    desk.confirm("Award the lot", "Lot L1 is decided. Price: 540; receipt: 2.")
-    desk.press("Award the lot \u2026", place="Lot L2")
-    desk.says("Award lot L2 of notice N1 to nobody")
-    desk.confirm("Award the lot", "Lot L2 is decided.")
-    desk.says("Lot L1: sign the contract")
-    check(f"a standstill is told that never was: {desk.told()}", "The standstill" not in desk.told())
+
+
+def letters_part(desk: Desk) -> None:
+    """The letters after the award have the winner's price, the loser's reason, and the state of both securities."""
     desk.press("Letters to the tenderers")
     desk.settle("letter/N1/L1")
     tells(desk, "We accept your tender at 540 EUR.", "We hold your security G2, of 60 EUR, until the contract for the lot is signed. Then we return it.",
@@ -185,13 +203,10 @@ def award_part(desk: Desk) -> None:
           "From: City Office, Anna", "Signature: City Office, Anna")
     desk.picture("letters")
     desk.go("notice/N1")
-    desk.press("The winner doesn't sign")
-    desk.picture("awarded")
-    desk.press("Pass over the winner \u2026")
-    desk.says("Pass over Beta Ltd: lot L1 of notice N1 (award 1)")
-    desk.confirm("Pass over the winner", "The winner of award 1 was passed over.")
-    desk.says("It won, but the winner didn't sign.")
-    short_of_money(desk)
+
+
+def signing_part(desk: Desk) -> None:
+    """The next winner signs. The performance security must have the required amount."""
     desk.press("Award the lot \u2026", place="Lot L1")
     desk.confirm("Award the lot", "Lot L1 is decided. Price: 570; receipt: 1.")
     desk.field("Reference of the performance security", "P1")
@@ -214,7 +229,7 @@ def tells(desk: Desk, *texts: str) -> None:
 
 
 def short_of_money(desk: Desk) -> None:
-    """Where the line has less free than a price is above what the lot has reserved, the award can't be asked for."""
+    """If the price exceeds the lot's reserved and the line's free money, the desk doesn't offer the award."""
     desk.page.answer_for({"/lines/1000": (200, b'{"free":29,"line":"1000","title":"Roads"}')})
     desk.go("today")
     desk.go("notice/N1")
@@ -226,7 +241,7 @@ def short_of_money(desk: Desk) -> None:
 
 
 def examined_elsewhere(other: Desk) -> None:
-    """A tab whose screen is older than the examinations is told of them by the office, and shows what was found then."""
+    """A tab whose screen is older than the examinations learns of them from the office, and then shows their findings."""
     other.press("Requirements met \u2026", place="Examination of Alpha & S\u00f6hne, receipt 1")
     other.page.wait("document.querySelector('dialog[open] .steps button')")
     other.page.run("hands.sure()")
@@ -312,7 +327,7 @@ def life(scene: Scene) -> None:
 
 
 def moved_and_cancelled(scene: Scene) -> None:
-    """A deadline is moved, and what is cancelled is cancelled only once the word is typed."""
+    """A deadline is moved. A cancellation needs the word that the clerk types."""
     desk = Desk(scene)
     desk.give_key()
     desk.settle("today")
@@ -336,7 +351,7 @@ def moved_and_cancelled(scene: Scene) -> None:
 
 
 def stops(scene: Scene) -> None:
-    """Where no answer comes, what became of the command is asked: done, not done, or not to be told, and then it is sent again."""
+    """If no answer comes, the desk asks about the command: it was done, it wasn't, or it can't be known. In the last case the command is sent again."""
     desk = Desk(scene)
     desk.give_key()
     desk.settle("today")
@@ -358,6 +373,14 @@ def stops(scene: Scene) -> None:
     desk.page.answer_for({})
     desk.press("Close")
     desk.settle("notice/N3")
+    registers_unanswered(desk)
+    found = desk.page.run("import('/clerk/session.js').then(({ journal }) => journal().entries.map(({ status, found }) => [status, found]))")
+    check(f"the journal says what was found: {found}", found == [[None, "not done"], [None, "done"], [504, "done"], [409, "done"]])
+    desk.leave()
+
+
+def registers_unanswered(desk: Desk) -> None:
+    """A registration gets no answer. Queries get none at first, then show another firm's name, and at last the firm."""
     desk.go("tenderers")
     for label, value in (("Identifier", "T9"), ("Name", "Gamma"), ("Address", "Mill Lane 3"), ("SHA-256 of the key", "ab " * 32)):
         desk.field(label, value)
@@ -376,13 +399,10 @@ def stops(scene: Scene) -> None:
     desk.page.answer_for({"/tenderers/T9": exists, "/tenderers": lists["Gamma"]})
     desk.press("Send the same request again")
     desk.says("This is done.")
-    found = desk.page.run("import('/clerk/session.js').then(({ journal }) => journal().entries.map(({ status, found }) => [status, found]))")
-    check(f"the journal says what was found: {found}", found == [[None, "not done"], [None, "done"], [504, "done"], [409, "done"]])
-    desk.leave()
 
 
 def refused_as(desk: Desk, at: int, status: int, body: bytes) -> str:
-    """The sentence that stands where a command is answered so."""
+    """The sentence that the desk shows if a command is answered in this way."""
     path = f"/tenderers/R{at}"
     desk.page.answer_for({path: (status, body)})
     order = {"kind": "tenderer", "values": {"tenderer": "R", "name": "x"}, "path": path, "body": None, "again": None, "says": []}
@@ -397,7 +417,7 @@ def refused_as(desk: Desk, at: int, status: int, body: bytes) -> str:
 
 
 def each_refusal(scene: Scene) -> None:
-    """Each refusal of the office is a sentence of its own where a command is answered by it, in English and in German; so is what the front says."""
+    """Each refusal of the office, and each answer of the front, is a sentence of its own on the desk, in English and in German."""
     for language in ("en", "de"):
         desk = Desk(scene, place=f"?language={language}", language=language)
         desk.give_key_by(language)
@@ -414,7 +434,7 @@ def each_refusal(scene: Scene) -> None:
 
 
 def keyboard(scene: Scene) -> None:
-    """The key is given, and a command is sent, by the keyboard alone, and it is seen where one is."""
+    """The keyboard alone is enough to give the key and to send a command, and the focus is seen."""
     desk = Desk(scene, place="#key")
     page = desk.page
     page.run("document.querySelector('main h1').focus()")
@@ -452,7 +472,7 @@ ENGLISH = """Promise.all([import('/clerk/en.js'), import('/clerk/de.js')]).then(
 
 
 def german(scene: Scene) -> None:
-    """In German each screen is whole: no English word of the desk's books is left, and no text lacks."""
+    """In German each screen is whole: no English word of the desk's texts is left, and no text is missing."""
     desk = Desk(scene, place="?language=de", language="de")
     for screen in ("today", "budget", "tenderers", "new", "journal", "key", "notice/N1", "minutes/N1", "letter/N1/L1"):
         desk.go(screen)
@@ -484,7 +504,7 @@ def from_clerks_alone(scene: Scene) -> None:
 
 
 def printed(scene: Scene) -> None:
-    """On paper the minutes and the letters stand alone: neither the bar with the name nor a button is printed; each letter begins a page."""
+    """On paper the minutes and the letters are alone: neither the bar with the name nor a button is printed. Each letter begins a page."""
     desk = Desk(scene)
     for screen in ("minutes/N1", "letter/N1/L1"):
         desk.go(screen)
@@ -514,7 +534,7 @@ def speaks_german(desk: Desk) -> None:
 
 
 def plants(scene: Scene) -> None:
-    """A fault in a screen is found by the check that is for it."""
+    """The check for it finds a fault in a screen."""
     passed_over = []
     for fault, judge in PLANTS:
         desk = Desk(scene, place="?language=de#today", language="de")

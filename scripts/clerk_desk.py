@@ -1,4 +1,4 @@
-"""The clerk's desk in a page of a browser, and what a hand does there: fields are found by their labels, buttons by their texts."""
+"""The clerk's desk in a page of a browser, used as by hand: fields are found by their labels, buttons by their texts."""
 import json
 import os
 
@@ -9,7 +9,7 @@ from scene import Scene
 
 SHAPES = {"phone": 375, "desktop": 1280}
 WIDTHS = (320, 375, 1280, 1920)
-# What a hand does: a field is found by its label, a button by its text; of several the last that is seen, which is the one in front.
+# Actions by hand: a field is found by its label, a button by its text. Of several it takes the last visible one, which is in front.
 HANDS = """(() => {
   const seen = (at) => at.checkVisibility() && !at.closest("details:not([open]) > :not(summary)");
   const dialog = () => document.querySelector("dialog[open]");
@@ -51,7 +51,7 @@ HANDS = """(() => {
 
 
 class Desk:
-    """The desk in a page of its own, and what a hand does there."""
+    """The desk in a page of its own, used as by hand."""
 
     def __init__(self, scene: Scene, width: int = 1280, place: str = "", language: str = "en", zone: str = "Europe/Berlin") -> None:
         self.scene, self.page, self.language = scene, Page(scene.browser, width), language
@@ -91,7 +91,7 @@ class Desk:
         self.page.run(f"hands.drop({json.dumps(text)}, {json.dumps(name)}, {at})")
 
     def confirm(self, send: str, done: str, kind: str = "good") -> str:
-        """Says once more that it is meant, sends, and gives what the desk tells then, as something of a kind."""
+        """Ticks the confirmation, sends, and returns the words that the desk then shows, in a note of this kind."""
         self.page.wait("document.querySelector('dialog[open] .steps button')")
         self.page.run("hands.sure()")
         self.press(send)
@@ -101,7 +101,7 @@ class Desk:
         shown = self.page.run("document.querySelector('dialog[open] [role=status] > *').className")
         check(f"{done} is told as {shown}", shown == kind)
         self.press("Close")
-        # The screen is drawn anew then.
+        # The desk then draws the screen again.
         self.page.wait("!document.querySelector('dialog') && document.querySelector('main').getAttribute('aria-busy') === 'false'")
         return told
 
@@ -112,7 +112,7 @@ class Desk:
         self.press("Use this key")
 
     def give_key_by(self, language: str) -> None:
-        """The key, in a language that the hand doesn't read."""
+        """Gives the key, in a language other than English."""
         self.go("key")
         self.page.run("[...document.querySelectorAll('main form input')].forEach((at, number) => { at.value = ['Anna', 'abc'][number]; })")
         self.page.run("document.querySelector('main form button').click()")

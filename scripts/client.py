@@ -1,12 +1,12 @@
 """The client of everything that asks an office: a method for each of its sixteen commands and sixteen queries, over a choice of transports.
 
     Client(Port(port))              a connection for each request, over the loopback
-    Client(Front(base, context))    an HTTP server in front of the office, with or without TLS; after a 429 it waits as long as it is told and asks again
+    Client(Front(base, context))    an HTTP server in front of the office, with or without TLS; after a 429 it waits as long as that says and asks again
     Client(Blocks(moment))          blocks of `procure desk`: each method returns the block, `sent` keeps all, and `answers` runs them as one input
     Client(Requests())              asks nothing: each method returns the bytes of its request
 
 Over a connection a method returns the office's `Answer`, whose members are read as `answer["receipt"]`. An answer with another status than 200 ends the script,
-unless the transport was told not to be strict. `lot`, `notice`, `tender` and `text_of` make the parts of requests.
+unless the transport was made with `strict=False`. `lot`, `notice`, `tender` and `text_of` make the parts of requests.
 """
 import hashlib
 import http.client
@@ -23,15 +23,15 @@ from typing import Any, Generic, Protocol, TypeVar
 import common
 from common import CLERK, CONFIG, HOST, Caller, fail, parts_of
 
-# What a method gives: what its transport does.
+# The type of a method's result, which depends on the transport.
 Told = TypeVar("Told")
 Given = TypeVar("Given", covariant=True)
 Body = str | bytes | Mapping[str, Any]
-# Seconds, for the first answer of a server that just begins, and for all that a front makes wait.
+# Seconds, for the first answer of a server that just begins, and for requests that a front makes wait.
 PATIENCE = 60
 # How often a front is asked again.
 TRIES = 60
-# Seconds to the deadlines for which tests wait: more by AHEAD, where the machine or the program is slow.
+# Seconds to the deadlines for which tests wait: AHEAD adds to them if the machine or the program is slow.
 AHEAD = int(os.environ.get("AHEAD", "4"))
 HEAD = "line,kind,amount,title\n"
 
@@ -59,7 +59,7 @@ def notice(deadline: str, *lots: Mapping[str, Any], title: str = "Road repair", 
 
 
 def tender(*rows: tuple[int, int], wrong: int = 0) -> str:
-    """A tender of these quantities and unit prices, for the items I1 and so on, with so much too little in its sum."""
+    """A tender of these quantities and unit prices, for the items I1 and so on, with a sum that is too small by so much."""
     lines = [f"I{number},{quantity},{unit},{quantity * unit}\n" for number, (quantity, unit) in enumerate(rows, 1)]
     total = sum(quantity * unit for quantity, unit in rows) - wrong
     return "item,quantity,unit,total\n" + "".join(lines) + f"TOTAL,,,{total}\n"
@@ -111,7 +111,7 @@ class Transport(Protocol[Given]):
 
 
 class Requests:
-    """Carries nothing: gives the bytes of each request."""
+    """Sends nothing: returns the bytes of each request."""
 
     def send(self, method: str, target: str, body: bytes, caller: Caller | None) -> bytes:
         return common.request(method.encode(), target.encode(), body, caller) if method == "POST" or caller else common.look(target.encode())
@@ -166,7 +166,7 @@ class Port(Asking):
 
 
 class Front(Asking):
-    """An office behind a front, at an address without a path; a context for TLS if its certificate is self-signed."""
+    """An office with a front, at an address without a path; a context for TLS if its certificate is self-signed."""
 
     def __init__(self, base: str, context: ssl.SSLContext | None = None, source: str | None = None, strict: bool = True) -> None:
         super().__init__(strict)
@@ -205,12 +205,12 @@ def behind(after: str | None) -> str:
 
 
 def hello(_: str) -> str:
-    """The key that each tenderer has where no other is said."""
+    """The key that each tenderer has if no other is given."""
     return "hello"
 
 
 class Client(Generic[Told]):
-    """Asks an office. A tenderer's key is made of the name; what stands for a number is a number or the name that it has in the requests."""
+    """Asks an office. A tenderer's key is made of the name. Each number may be given as a number, or as the name that it has in the requests."""
 
     def __init__(self, transport: Transport[Told], key_of: Callable[[str], str] = hello) -> None:
         self.transport, self.key_of = transport, key_of

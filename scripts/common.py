@@ -1,4 +1,4 @@
-"""What the scripts of bench/, tests/ and tools/ share: the program and its settings, requests, connections, servers, responses, and timed runs.
+"""The parts that scripts of bench/, tests/ and tools/ share: the program and its settings, requests, connections, servers, responses, and timed runs.
 
 The program is $PROCURE, or build/procure if that isn't set. A fault of a run ends the script with status 1 and a line that says what is wrong. A missing tool
 ends it with status 3 and a line that says how to get it.
@@ -18,7 +18,7 @@ import time
 from collections.abc import Iterable, Iterator, Sequence
 from typing import Any, NoReturn
 
-# A name and a key, of which what is empty isn't sent.
+# A name and a key. An empty one isn't sent.
 Caller = tuple[bytes, bytes]
 
 ROOT = os.path.dirname(os.path.dirname(os.path.abspath(__file__)))
@@ -32,7 +32,7 @@ FIELDS = (b"Office-Caller", b"Office-Key")
 LENGTH = re.compile(rb"\r\nContent-Length: (\d+)\r\n")
 # Names that come in no order: this prime divides no count of tens.
 STRIDE = 7919
-# Who holds this chooses the next port.
+# The thread that holds this chooses the next port.
 TURN = threading.Lock()
 
 
@@ -42,7 +42,7 @@ def fail(what: object) -> NoReturn:
 
 
 def check(said: str, holds: object) -> None:
-    """That something holds; else what was said of it is raised."""
+    """Checks that something holds; otherwise raises the message."""
     if not holds:
         raise AssertionError(said)
 
@@ -53,7 +53,7 @@ def place_of(tool: str) -> str | None:
 
 
 def need(tool: str, package: str) -> str:
-    """Where a tool stands. Where it is missing the script ends with status 3, and says how to get it."""
+    """The path of a tool. If it is missing, the script ends with status 3, and says how to get it."""
     place = place_of(tool)
     if not place:
         print(f"{os.path.basename(sys.argv[0])}: missing: {tool}. Get it: apt-get install {package}", file=sys.stderr)
@@ -80,7 +80,7 @@ def runnable(path: str) -> str:
 
 
 def need_program() -> str:
-    """The program that is meant, for a script without an option for it."""
+    """The program to use, for a script without an option for it."""
     return shutil.which(PROGRAM) or fail(NO_PROGRAM.format(PROGRAM))
 
 
@@ -138,7 +138,7 @@ def own_ports() -> tuple[Iterator[int], socket.socket]:
 
 
 def free_port() -> int:
-    """A port where nothing listens."""
+    """A port at which nothing listens."""
     with TURN:
         for port in itertools.islice(own_ports()[0], 100):
             with socket.socket() as listener:
@@ -172,7 +172,7 @@ def read_all(stream: socket.socket) -> bytes:
 
 
 def exchange(port: int, text: bytes, patience: float = 0, ends: bool = False) -> tuple[bytes, float]:
-    """The whole response to these bytes, and the seconds that it took. Where the text ends, that is told behind it."""
+    """The whole response to these bytes, and the seconds that it took. With `ends`, it closes the sending side after the text."""
     with connect(port, patience) as stream:
         begun = time.perf_counter()
         stream.sendall(text)
@@ -209,7 +209,7 @@ def serve_words(program: str, file: str, port: int | str, count: int | str, sett
 
 @contextlib.contextmanager
 def running(words: Sequence[str], **how: Any) -> Iterator["subprocess.Popen[bytes]"]:
-    """A process that is killed where it still runs at the end."""
+    """A process that is killed if it still runs at the end."""
     process = subprocess.Popen(words, **how)
     try:
         yield process
@@ -243,7 +243,7 @@ def tenths(times: Sequence[float]) -> float:
 
 
 def peak(process: "subprocess.Popen[bytes]", before: int) -> int:
-    """The greatest memory of a process so far, in KiB. (What `wait4` tells counts this script's own, from before the program began.)"""
+    """The greatest memory of a process so far, in KiB. (The value of `wait4` counts this script's own, from before the program began.)"""
     try:
         with open(f"/proc/{process.pid}/status") as status:
             return max([before] + [int(line.split()[1]) for line in status if line.startswith("VmHWM")])
@@ -258,7 +258,7 @@ def processor(process: "subprocess.Popen[bytes]") -> float:
 
 
 def run_blocks(command: Sequence[str], path: str) -> tuple[float, int, bytes, list[tuple[int, float]]]:
-    """Runs a command over an input: seconds, peak memory in KiB, the output, and when how many bytes of it were there."""
+    """Runs a command over an input: seconds, peak memory in KiB, the output, and how many bytes of it existed at which moments."""
     marks: list[tuple[int, float]] = []
     chunks: list[bytes] = []
     faults: list[bytes] = []

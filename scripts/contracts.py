@@ -9,7 +9,7 @@ from pathlib import Path
 
 from definitions import ROOT, text_of
 
-# A function, by what stands in front of its name: at the left, or in a block.
+# A function, by the words before its name: at the left, or in a block.
 FUNCTION = re.compile(r"^( *)((?:pub(?:\([^)]*\))? )?)(?:const |async |unsafe )*fn (\w+)")
 BLOCK = re.compile(r"^(?:pub(?:\([^)]*\))? )?(impl|trait)\b(.*)")
 CLAUSE = re.compile(r"^( *)(requires|ensures)(?: (\w+))? \{", re.MULTILINE)
@@ -21,7 +21,7 @@ Block = tuple[str, bool, bool]
 
 
 class Clause:
-    """A clause: `ensures` or `requires`, its name or an empty text, and what it says."""
+    """A clause: `ensures` or `requires`, its name or an empty text, and its statement."""
 
     def __init__(self, kind: str, name: str, text: str) -> None:
         self.kind, self.name, self.text = kind, name, text
@@ -46,7 +46,7 @@ def folded(text: str) -> str:
 
 
 def behind_brace(text: str, at: int) -> int:
-    """Where the block ends whose brace opens in front of this place."""
+    """The end of the block whose brace opens before this place."""
     depth = 1
     while depth and at < len(text):
         depth += {"{": 1, "}": -1}.get(text[at], 0)
@@ -55,7 +55,7 @@ def behind_brace(text: str, at: int) -> int:
 
 
 def clauses_in(text: str, indent: int) -> list[Clause]:
-    """The clauses of a function's text: those that stand one step further in than the function."""
+    """The clauses of a function's text: those that are one step further in than the function."""
     found = []
     for clause in CLAUSE.finditer(text):
         if len(clause[1]) == indent + 4:
@@ -65,7 +65,7 @@ def clauses_in(text: str, indent: int) -> list[Clause]:
 
 
 def without_generics(text: str) -> str:
-    """A text without what stands in angle brackets; an arrow has none."""
+    """A text without its parts in angle brackets; an arrow has none."""
     depth, made = 0, ""
     for at, letter in enumerate(text):
         depth += letter == "<"
@@ -75,7 +75,7 @@ def without_generics(text: str) -> str:
 
 
 def owner_of(line: str) -> Block | None:
-    """(owner, whether it is a trait, whether it is an `impl` of a trait) of a line that begins a block; None where it begins none."""
+    """(owner, whether it is a trait, whether it is an `impl` of a trait) of a line that begins a block; None if it begins none."""
     found = BLOCK.match(line)
     if not found:
         return None

@@ -12,7 +12,7 @@ def named_in(root: Root) -> dict[str, list[str]]:
 
 
 def crates_of(root: Root) -> dict[str, set[str]]:
-    """The crates of crates.txt, each with those that it names and all that stand below it."""
+    """The crates of crates.txt, each with those that it names and all below them."""
     named = named_in(root)
     below: dict[str, set[str]] = {}
 

@@ -15,7 +15,7 @@ NAMED = re.compile(r"\s*(?:(?:abbrev|unfoldable) (?:pub )?(?!mutual\b)(\S+) :|(?
 BARE = re.compile(r"pub (?!mod\b|use\b|record\b|data\b)(\S+) :")
 IN_MUTUAL = re.compile(r"  (?:pub )?(\S+) :")
 KEYWORD = re.compile(r"(?:abbrev|unfoldable|record|data|pub) (?!mod\b|use\b)")
-# What stands between definitions, and belongs to none.
+# Lines between definitions, which belong to none.
 APART = re.compile(r"(?:use|pub use|pub mod|module|infix[lr]?|abbrev mutual)\b")
 WORD = re.compile(r"Rattle(?:\.[\w']+)+|[\w']+(?:\.[\w']+)*")
 IMPORT = re.compile(r"\buse Rattle\.([\w.]+?)(?:\.\{([^}]*)\}|\s+as\s+([\w']+))")
@@ -26,12 +26,12 @@ Imported = tuple[str, str | None]
 
 
 class Fault(Exception):
-    """What can't be read, and where."""
+    """A text that can't be read, and its place."""
 
 
 @lru_cache(maxsize=None)
 def text_of(path: Path) -> str:
-    """A file's text, as it was when it was first asked for."""
+    """A file's text, as it was at the first call."""
     try:
         return path.read_text(encoding="utf-8")
     except (OSError, UnicodeDecodeError) as fault:
@@ -45,7 +45,7 @@ def crates() -> list[Path]:
 
 @lru_cache(maxsize=None)
 def crates_of_the_program() -> set[str]:
-    """The names of the crates that the program `procure` is made of: itself, and what it stands on by crates.txt."""
+    """The names of the crates of the program `procure`: itself, and all crates below it by crates.txt."""
     return {"procure"} | crates_of(ROOT)["procure"]
 
 
@@ -57,7 +57,7 @@ def words_of(lines: Iterable[str]) -> str:
 
 
 def comment_above(lines: Sequence[str], at: int) -> str:
-    """The comment that stands directly above a line, as one text; empty where there is none."""
+    """The comment directly above a line, as one text; empty if there is none."""
     first = at
     while first > 0 and lines[first - 1].strip().startswith("--"):
         first -= 1
@@ -82,13 +82,13 @@ class Definition:
         self.lines: list[str] = []
 
     def words(self) -> set[str]:
-        """The names that it uses, as they stand there; of a name with dots the whole."""
+        """The names that it uses, as they are written; a name with dots is one name."""
         text = "\n".join(self.lines)
         steps = {"◌>>=◌"} if re.search(r"\bdo\b|>>=", text) else set()
         return set(WORD.findall(text)) | steps
 
     def cases(self) -> set[str]:
-        """The names of its cases, where it is of some: what stands in front of a colon in its further lines."""
+        """The names of its cases, if it is a type with cases: the words before a colon in its further lines."""
         is_of_cases = re.match(r"\s*(?:pub )?data\b", self.lines[0])
         return {found[1] for found in map(CASE.match, self.lines[1:]) if found} if is_of_cases else set()
 
@@ -137,7 +137,7 @@ class Source:
         self.by_name = {case: each for each in self.definitions for case in each.cases()} | {each.name: each for each in self.definitions}
 
     def defines(self, name: str) -> Definition | None:
-        """The definition of this name, or the one with this case; None where there is none."""
+        """The definition of this name, or the one with this case; None if there is none."""
         return self.by_name.get(name)
 
 
@@ -155,7 +155,7 @@ def source_at(crate: str, module: str) -> Source | None:
 
 
 def definition_at(crate: str, module: str, name: str) -> tuple[Source | None, Definition | None]:
-    """(file, definition) of a name of a module; a module may be that of a definition's cases. (None, None) where there is none."""
+    """(file, definition) of a name of a module; a module may be that of a definition's cases. (None, None) if there is none."""
     source = source_at(crate, module)
     if source:
         return source, source.defines(name)
@@ -167,7 +167,8 @@ def definition_at(crate: str, module: str, name: str) -> tuple[Source | None, De
 # ---- Imports.
 
 def imports_of(text: str) -> dict[str, Imported]:
-    """What a file calls each imported name: (name there, place, name in that place), a place as `office_base.specs.Tables`; a module has no name in it."""
+    """The meaning of each imported name in a file: (its name there, a place, the name in that place). A place is as `office_base.specs.Tables`; a module has no
+    name in it."""
     found: dict[str, Imported] = {}
     for place, names, alias in IMPORT.findall(text):
         if alias:
@@ -179,7 +180,7 @@ def imports_of(text: str) -> dict[str, Imported]:
 
 
 def places_in(words: Iterable[str], imports: Mapping[str, Imported]) -> Iterator[tuple[str, str]]:
-    """(place, name) of each word that was imported, or that tells its whole place."""
+    """(place, name) of each word that was imported, or that has its whole place."""
     for word in words:
         if word.startswith("Rattle."):
             place, _, name = word[len("Rattle."):].rpartition(".")

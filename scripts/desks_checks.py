@@ -1,5 +1,5 @@
-"""What `tests/desks` asks: a procurement from the budget to the last payment by the screens of the clerk, of three firms and of the public, and nothing else;
-and what becomes of a firm that has lost its key."""
+"""The questions of `tests/desks`: a procurement from the budget to the last payment, by the screens of the clerk, of three firms and of the public, and nothing
+else. One firm then loses its key."""
 import time
 from collections.abc import Callable
 
@@ -14,12 +14,12 @@ from tender_office import Scene
 # Seconds from the publication to the deadline: for three firms at their desks.
 SOON = AHEAD + 36
 FIRMS = {"T1": ("Alpha & Söhne", "High Street 1"), "T2": ("Beta Ltd", "Low Street 2"), "T3": ("Gamma", "Mill Lane 3")}
-# What a sheet of the second firm writes.
+# The sheet of the second firm.
 SHEET = "Pos;Menge;EP;GP\r\nI1;3;140,00;420,00\r\nI2;10;12,00;120,00\r\nSumme;;;540,00\r\n".encode("cp1252")
 
 
 def make_key(scene: Scene, name: str, firm: str, address: str) -> tender_page.Desk:
-    """A firm makes its key, saves it, drops it in again, and saves what is for the clerk."""
+    """A firm makes its key, saves it, drops it in again, and saves the file for the clerk."""
     desk = tender_page.Desk(scene)
     desk.at("key", "Key")
     for field, text in (("tenderer", name), ("name", firm), ("address", address)):
@@ -44,7 +44,7 @@ def register(clerk: clerk_desk.Desk, scene: Scene, name: str) -> None:
 
 
 def hand_in(desk: tender_page.Desk) -> int:
-    """Looks at an offer, and sends it: its receipt, which must be green."""
+    """Checks an offer, and sends it. Returns its receipt, which must be green."""
     desk.press("Check before submitting")
     desk.shows("Check before submitting")
     desk.press("Submit the tender")
@@ -83,7 +83,7 @@ def offers(desks: dict[str, tender_page.Desk], scene: Scene) -> None:
 
 
 def too_late(desk: tender_page.Desk, deadline: float) -> None:
-    """What comes behind the deadline is warned of, recorded, and given back."""
+    """A tender after the deadline: the page warns about it, the office records it and returns it."""
     wait_until(deadline + 1.1)
     desk.press("Check before submitting")
     desk.shows("Check before submitting")
@@ -137,8 +137,8 @@ def pay(clerk: clerk_desk.Desk) -> None:
 
 
 def life(scene: Scene) -> None:
-    """A procurement from the budget to the last payment, by the desks alone: a budget, three firms and their keys, a notice, tenders in time and a late one,
-    the opening, awards, contracts and payments; and what the firms and the public see of it then."""
+    """A procurement from the budget to the last payment, by the desks alone. There is a budget, three firms and their keys, and a notice. Tenders come in time
+    and late. The opening, awards, contracts and payments follow, and the firms and the public see each of them."""
     clerk = clerk_desk.Desk(scene)
     clerk.give_key()
     clerk.settle("today")
@@ -172,8 +172,8 @@ def life(scene: Scene) -> None:
 
 
 def lost_key(scene: Scene) -> None:
-    """A key that is lost can't be had again: the firm reads what to do, makes another one, and is registered anew; what it handed in before is another's
-    then."""
+    """A lost key can't be recovered. The firm reads how to continue, makes another key, and is registered again. Its earlier tenders then belong to another
+    tenderer."""
     clerk = clerk_desk.Desk(scene)
     clerk.give_key()
     clerk.settle("today")

@@ -1,8 +1,8 @@
 """The documents of the repository: their fenced blocks, which are run and compared, and their links. Read by tools/check_docs and tests/walk.
 
-A block fenced as ```sh run is run; where the next block of the document is fenced as ```text, it is what the run prints, its last line feeds apart. The blocks
-of a document run in turn in one bash, in an empty folder, with `procure`, `procure-backup`, `procure-check`, `audit` and `check_tender` on the PATH; each must
-end with status 0. curl shows no meter there. What a document left running is ended behind its last block.
+A block fenced as ```sh run is run. If the next block of the document is fenced as ```text, the run must print it, apart from its last line feeds. The blocks of
+a document run in turn in one bash, in an empty folder, with `procure`, `procure-backup`, `procure-check`, `audit` and `check_tender` on the PATH. Each must end
+with status 0. curl shows no meter there. Programs that a document leaves running are ended after its last block.
 """
 import difflib
 import functools
@@ -18,9 +18,9 @@ from collections.abc import Iterable, Iterator, Sequence
 
 from common import ROOT
 
-# The tools that documents use, each with the package of Debian that has it. What every Debian has isn't named.
+# The tools that documents use, each with the package of Debian that has it. Tools that every Debian has aren't listed.
 TOOLS = {"curl": "curl", "sqlite3": "sqlite3", "jq": "jq", "openssl": "openssl", "xxd": "xxd", "lslocks": "util-linux", "git": "git", "python3": "python3"}
-# What a block may take, in seconds.
+# The seconds that a block may take.
 PATIENCE = 60
 SKIPPED = {".git", "build", "out"}
 # The pages that name the buttons to press: each bold text in them is a text of these modules. A {value} of a text matches anything.
@@ -28,14 +28,14 @@ SCREENS = {"docs/CLERK.md": ("web/clerk/en*.js", "web/common/en*.js"), "docs/TEN
 
 
 class Wrong(Exception):
-    """What is wrong in a document, and in which line."""
+    """An error in a document, and its line."""
 
     def __init__(self, path: str, line: int, what: str) -> None:
         super().__init__(f"{path}:{line}: {what}")
 
 
 class Fence:
-    """A fenced block: the number of its first line, what stands behind the fence, and its text."""
+    """A fenced block: the number of its first line, the words after the fence, and its text."""
 
     def __init__(self, line: int, info: str, text: str) -> None:
         self.line, self.info, self.text = line, info, text
@@ -79,7 +79,7 @@ def fences_of(path: str) -> tuple[list[Fence], list[tuple[int, str]]]:
 
 
 class Step:
-    """A block that is run, and the text that it must print, or None where no text follows."""
+    """A block that is run, and the text that it must print, or None if no text follows."""
 
     def __init__(self, fence: Fence, shown: Fence | None) -> None:
         self.line, self.text, self.shown = fence.line, fence.text, shown.text if shown else None
@@ -99,7 +99,7 @@ def steps_of(path: str) -> list[Step]:
 
 
 def missing_tools(steps: Iterable[Step]) -> list[str]:
-    """The tools that these blocks use and that aren't there."""
+    """The tools that these blocks use and that are missing."""
     text = "\n".join(it.text for it in steps)
     return [tool for tool in TOOLS if re.search(rf"(?<![\w./-]){tool}(?![\w./-])", text) and not shutil.which(tool)]
 
@@ -123,7 +123,7 @@ class Shell:
         self.count = 0
 
     def run(self, text: str) -> tuple[str, int | None]:
-        """What a block printed, and its status; no status where it took too long or ended the shell."""
+        """The output of a block, and its status; no status if it took too long or ended the shell."""
         self.count += 1
         block, out = (os.path.join(self.tools, f"{kind}{self.count}") for kind in ("block", "out"))
         with open(block, "w") as file:
@@ -162,7 +162,7 @@ def indented(lines: Iterable[str]) -> str:
 
 
 def compare(path: str, step: Step, told: str) -> None:
-    """That a block printed what the document shows."""
+    """Checks that a block printed the output in the document."""
     printed, shown = (text.rstrip("\n").split("\n") for text in (told, step.shown or ""))
     if printed != shown:
         lines = list(difflib.unified_diff(shown, printed, "shown", "printed", lineterm="", n=1))
@@ -170,7 +170,7 @@ def compare(path: str, step: Step, told: str) -> None:
 
 
 def run_steps(path: str, steps: Sequence[Step], program: str, keep: str | None = None) -> int:
-    """Runs the blocks of a document, and says how many outputs were compared. Its files stay in the folder `keep`, where that is given."""
+    """Runs the blocks of a document, and says how many outputs were compared. Its files stay in the folder `keep`, if that is given."""
     with tempfile.TemporaryDirectory(prefix="office-docs-") as folder:
         shell = Shell(folder, program)
         try:
@@ -210,7 +210,7 @@ def anchors_of(path: str) -> set[str]:
 
 
 def links_of(path: str) -> Iterator[tuple[int, str]]:
-    """The links of a document to places of the repository, each with its line. What stands in a code span is no link."""
+    """The links of a document to places of the repository, each with its line. Text in a code span is no link."""
     prose = fences_of(path)[1]
     text = "\n".join(re.sub(r"(`+).+?\1", "", line) for _, line in prose)
     for found in re.finditer(r"\]\(\s*<?([^)\s>]+)>?[^)]*\)|^ {0,3}\[[^\]]+\]: +<?(\S+?)>?\s*$", text, re.M):
@@ -220,7 +220,7 @@ def links_of(path: str) -> Iterator[tuple[int, str]]:
 
 
 def check_link(path: str, line: int, target: str) -> None:
-    """That the file of a link is there, and its anchor."""
+    """Checks that the file of a link exists, and its anchor."""
     place, _, anchor = target.partition("#")
     file = os.path.normpath(os.path.join(os.path.dirname(path), place)) if place else path
     if place.startswith("/") or file.startswith("..") or not os.path.exists(os.path.join(ROOT, file)):

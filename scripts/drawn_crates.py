@@ -33,7 +33,7 @@ def direct(crate: str, below: Mapping[str, set[str]]) -> list[str]:
 
 
 def layer_lines() -> Iterator[str]:
-    """The lines of the layers: a box for each, and what keeps it above the next one."""
+    """The lines of the layers: a box for each, and the edge that keeps it above the next one."""
     for number, (title, colour, crates) in enumerate(LAYERS):
         yield f'  subgraph cluster_{number} {{ label="{title}"; labeljust=l; style="filled,rounded"; color="{colour}"; fillcolor="{colour}";'
         yield f"    {{ rank=same; {'; '.join(crates)}; }}"

@@ -1,10 +1,10 @@
 """Compares the arrows of docs/pictures/states.dot with the specification. Read by tools/pictures.
 
-- Tenders and both kinds of security: what `tender_decided`, `security_decided` and `performance_decided` of Fates.antt say of each command, and in which
-  states they begin. Everything is compared: from where, to where, by which command.
-- Notices, lots and awards: which states the puts of each command write (crates/*/specs/Rules/, `NAME_puts` and what it uses). From which state an arrow
-  leads is compared by the tests in BEFORE, which the rule of the command must use; for a lot whose award is signed or fails it is taken from FOLLOWS.
-- Contracts: whether `ended` is empty or filled in what a command puts, and that the command refuses a contract that has ended.
+- Tenders and both kinds of security: the decisions of `tender_decided`, `security_decided` and `performance_decided` of Fates.antt for each command, and the
+  states in which they begin. Everything is compared: from where, to where, by which command.
+- Notices, lots and awards: the states that the puts of each command write (crates/*/specs/Rules/, `NAME_puts` and the definitions that it uses). The tests in
+  BEFORE give the state from which an arrow leads: the rule of the command must use them. A lot whose award is signed or fails takes it from FOLLOWS.
+- Contracts: whether `ended` is empty or filled in the puts of a command, and that the command refuses a contract that has ended.
 """
 import re
 from collections.abc import Iterable, Iterator
@@ -12,7 +12,7 @@ from functools import lru_cache
 
 from definitions import ROOT, Definition, Fault, Source, WORD, definition_at, places_in, source_at, sources_of, text_of
 
-# A kind of thing, the state before (empty where it begins), the state after, and the command.
+# A kind of thing, the state before (empty if it begins), the state after, and the command.
 Arrow = tuple[str, str, str, str]
 
 DRAWING = "docs/pictures/states.dot"
@@ -22,7 +22,7 @@ STATE = re.compile(r"office_base\.specs\.declared\.records\.(\w+)State\.TheVaria
 # The crates that have the rules, a file for each command.
 CORES = ("tender_core", "award_core")
 KINDS = {"Notice": "notice", "Lot": "lot", "Award": "award"}
-# From which states a command leads: by a test of States.antt that its rule uses, or `not` such a test. A command that isn't here makes a new row.
+# The states from which a command leads: by a test of States.antt that its rule uses, or `not` such a test. A command that isn't here makes a new row.
 BEFORE = {
     ("Open", "Notice"): ["not is_cancelled", "not is_opened"], ("Cancel", "Notice"): ["is_receiving"], ("Award", "Lot"): ["is_undecided"],
     ("Cancel", "Lot"): ["is_open"], ("Cancel", "Award"): ["is_active"], ("Fail", "Award"): ["is_active"], ("Sign", "Award"): ["is_active"]}
@@ -32,7 +32,7 @@ FOLLOWS = {("Fail", "Lot"): ["Awarded"], ("Sign", "Lot"): ["Awarded"]}
 
 
 def command_name(name: str) -> str:
-    """As an arrow has it: `AmendContract` is amend_contract."""
+    """The name of a command in an arrow: `AmendContract` is amend_contract."""
     return re.sub(r"(?<!^)([A-Z])", r"_\1", name).lower()
 
 
@@ -125,7 +125,7 @@ def begun(source: Source) -> Iterator[Arrow]:
 
 
 def decided(source: Source) -> Iterator[Arrow]:
-    """What each command decides of tenders and securities that are undecided."""
+    """The decisions of each command about tenders and securities that are undecided."""
     for kind, name, undecided in (("tender", "tender_decided", "Sealed"), ("security", "security_decided", "Held"),
                                   ("performance", "performance_decided", "Held")):
         for command, words in lines_of(source, name):
@@ -147,7 +147,7 @@ def tests_of_states() -> dict[str, set[tuple[str, str]]]:
 
 
 def states_before(command: str, kind: str, words: set[str]) -> list[str]:
-    """The states from which a command leads, an empty one where it makes a new row."""
+    """The states from which a command leads; an empty one if it makes a new row."""
     if (command, kind) in NEW:
         return [""]
     if (command, kind) in FOLLOWS:
@@ -160,7 +160,7 @@ def states_before(command: str, kind: str, words: set[str]) -> list[str]:
 
 
 def contract_arrows(command: str, put: str, tests: str) -> Iterator[Arrow]:
-    """What a command makes of a contract, by the texts of its puts and of its tests."""
+    """The arrows of a contract by a command, by the texts of its puts and of its tests."""
     is_running = "has_ended" in tests
     if "ended = None" in put:
         yield "contract", "", "Running", command_name(command)

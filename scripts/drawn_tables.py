@@ -37,7 +37,7 @@ class Table:
 
 
 def without_brackets(text: str) -> str:
-    """A text without what is in round brackets, which may be nested."""
+    """A text without its round brackets and their content; they may be nested."""
     depth, made = 0, ""
     for letter in text:
         depth -= letter == ")"

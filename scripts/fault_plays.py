@@ -6,7 +6,7 @@ from common import STRIDE, import_of
 
 
 class Step(NamedTuple):
-    """A command: what it is called, the second of its moment, and its request."""
+    """A command: its name, the second of its moment, and its request."""
 
     name: str
     second: int
@@ -14,7 +14,7 @@ class Step(NamedTuple):
 
 
 class Play(NamedTuple):
-    """What is played, and the looks that show what came of it."""
+    """The steps of a play, and the queries that show its results."""
 
     name: str
     steps: list[Step]
@@ -84,7 +84,7 @@ def life() -> Play:
 
 
 def turn(number: int) -> int:
-    """Which line a row names: first each in its turn, and then, within each file, such as stand far apart in the table."""
+    """The line that a row names: first each in its turn, and then, within each file, lines that are far apart in the table."""
     files = LINES // ROWS
     return number if number < LINES else number % ROWS * files + number // ROWS % files
 

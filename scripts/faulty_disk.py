@@ -1,9 +1,9 @@
 """Disks that fail, for tests/faults: one that fails once, and one that is full.
 
-The first is a C library that is loaded before the C library (LD_PRELOAD), and the block of memory that controls it. It counts the program's flushes (fdatasync,
-fsync) and writes (pwrite). The call whose number is given fails with EIO. A write that fails writes nothing. After a flush that fails, of what was written to
-that file since its last good flush all is kept, or nothing, or each second write, as a disk may leave it. Everything else goes to the C library. It also sets
-the program's time, so that deadlines come when the test needs them.
+The first is a C library that is loaded before the C library (LD_PRELOAD), and a block of memory that controls it. It counts the program's flushes (fdatasync,
+fsync) and writes (pwrite). The call whose number is given fails with EIO. A write that fails writes nothing. A flush that fails keeps all writes to that file
+since its last good flush, or none, or each second one, as a disk may leave them. Everything else goes to the C library. The library also sets the program's
+time, so that deadlines come when the test needs them.
 """
 import mmap
 import os
@@ -14,11 +14,11 @@ from collections.abc import Callable
 
 from common import made_shim
 
-# What the block has, in this order: the clock's second; the flushes so far, the one that fails, and what it leaves; the writes so far, and the one that
-# fails; whether one has failed, and what it was a call on.
+# The fields of the block, in this order. The clock's second. The flushes so far, the number of the one that fails, and the writes that it keeps. The writes so
+# far, and the number of the one that fails. Whether a call has failed, and on which file.
 SECOND, FLUSHES, FAILING_FLUSH, LEFT, WRITES, FAILING_WRITE, FAILED, PLACE = range(8)
 FIELDS = 8
-# What a flush that fails leaves of the writes behind the last good one.
+# The writes after the last good flush that a failed flush keeps.
 ALL, NONE, ODD, EVEN = range(4)
 PLACES = {1: "the log", 2: "the file", 3: "the folder"}
 
@@ -153,11 +153,11 @@ class FaultyDisk:
             self.fields = memoryview(mmap.mmap(file.fileno(), FIELDS * 8)).cast("q")
 
     def environment(self) -> dict[str, str]:
-        """What a program's environment has to have."""
+        """The environment that a program needs."""
         return {**os.environ, "LD_PRELOAD": self.shim, "FAULTS": self.path}
 
     def begin(self, flush: int = 0, left: int = ALL, write: int = 0) -> None:
-        """Begins to count anew. The flush or the write of that number fails; what a flush leaves is given with it."""
+        """Begins to count from 0. The flush or the write of that number fails; `left` says which writes a flush keeps."""
         for field in range(FIELDS):
             self.fields[field] = 0
         self.fields[FAILING_FLUSH], self.fields[LEFT], self.fields[FAILING_WRITE] = flush, left, write
@@ -166,12 +166,12 @@ class FaultyDisk:
         self.fields[SECOND] = second
 
     def place(self) -> str | None:
-        """What failed, or nothing where all went well."""
+        """The file whose call failed, or None if none did."""
         return PLACES.get(self.fields[PLACE])
 
 
 class SmallDisk:
-    """A tmpfs in a folder, that has as much room as is left to it."""
+    """A tmpfs in a folder, with as much space as is left to it."""
 
     SIZE, PAGE = 64 << 20, 4096
 
@@ -180,7 +180,7 @@ class SmallDisk:
         subprocess.run(["mount", "-t", "tmpfs", "-o", f"size={self.SIZE}", "tmpfs", folder], check=True)
 
     def leave(self, pages: int, begin: Callable[[], None] = lambda: None) -> None:
-        """Empties it, has it begun, and leaves room for so many pages."""
+        """Empties it, calls `begin`, and leaves space for so many pages."""
         for name in os.listdir(self.folder):
             os.remove(os.path.join(self.folder, name))
         begin()
@@ -198,7 +198,7 @@ class SmallDisk:
 
 
 def with_mounts(script: str) -> bool:
-    """Runs the script anew where its mounts are its own, and end with it; nothing where that is so by now. False where it can't be had."""
+    """Runs the script again with mounts of its own, and ends with it. If it has them already, does nothing. False if it can't have them."""
     if os.environ.get("OWN_MOUNTS"):
         return True
     for how in (), ("--user", "--map-root-user"):

@@ -1,5 +1,5 @@
-"""The front of deploy/nginx.conf over an office, for tests: of the file only what its head names is adapted, and nginx runs in a folder as who runs the
-test."""
+"""The front of deploy/nginx.conf over an office, for tests. Only the parts of the file that its head names are adapted, and nginx runs in a folder as the user
+of the test."""
 import contextlib
 import http.client
 import os
@@ -15,7 +15,7 @@ OUTSIDE = "127.0.0.2"
 # Addresses from which a clerk may ask, each as 127.0.1.N.
 CLERKS = "127.0.1.0/24"
 PATIENCE = 60
-# For tests that look at the ledger right after a command: it is kept for a second, and isn't shown while it is asked again.
+# For tests that ask for the ledger right after a command: nginx keeps it for a second, and doesn't show it while it asks again.
 LEDGER_OF_NOW = [("proxy_cache_valid 200 1m;", 1, "proxy_cache_valid 200 1s;"), ("        proxy_cache_background_update on;\n", 1, "")]
 MAIN = """
 daemon off;
@@ -45,7 +45,7 @@ class Answer(NamedTuple):
 
 
 def adapted(text: str, changes: Iterable[tuple[str, int, str]]) -> str:
-    """The text with each old part replaced by a new one; it must stand there as often as is said."""
+    """The text with each old part replaced by a new one; it must occur as often as is given."""
     for old, count, new in changes:
         if text.count(old) != count:
             fail(f"deploy/nginx.conf: {old!r} stands there {text.count(old)} times, and not {count}")
@@ -54,7 +54,7 @@ def adapted(text: str, changes: Iterable[tuple[str, int, str]]) -> str:
 
 
 class Front:
-    """nginx over the office at a port, with a certificate that it signed itself; ended behind a `with`. More of its file may be changed."""
+    """nginx over the office at a port, with a certificate that it signed itself; it ends after its `with`. More of its file may be changed."""
 
     def __init__(self, folder: str, office: int, more: Iterable[tuple[str, int, str]] = ()) -> None:
         self.folder, self.office, self.port, self.plain_port, self.ways = folder, office, free_port(), free_port(), free_port()
@@ -72,7 +72,7 @@ class Front:
         self.process = subprocess.Popen(words, stdin=subprocess.DEVNULL)
 
     def changes(self, office: int) -> list[tuple[str, int, str]]:
-        """What of the file is adapted. (Of IPv6 not every machine has something.)"""
+        """The changes of the file. (Not every machine has IPv6.)"""
         return [("listen [::]:80;", 1, ""), ("listen [::]:443 ssl", 1, "# "), ("listen 80;", 1, f"listen {HOST}:{self.plain_port};"),
                 ("listen 443 ssl", 1, f"listen {HOST}:{self.port} ssl"), ("server_name office.example;", 2, f"server_name {HOST};"),
                 ("server 127.0.0.1:8080", 1, f"server {HOST}:{office}"),
@@ -89,7 +89,7 @@ class Front:
         return self
 
     def __exit__(self, *_: object) -> None:
-        # Told to end, it ends its workers; killed, it would leave them.
+        # On a signal to end, nginx ends its workers; after a kill they would remain.
         self.process.terminate()
         self.process.wait()
 
@@ -118,5 +118,5 @@ def exchange(connection: http.client.HTTPConnection, method: str, target: str, b
 
 
 def fields_of(caller: Caller | None) -> dict[str, str]:
-    """The fields of the head by which a caller is told."""
+    """The fields of the head that name a caller."""
     return {name.decode(): value.decode("latin-1") for name, value in zip(FIELDS, caller or ())}

@@ -1,4 +1,4 @@
-"""What `tests/page` asks of the front by itself: what it says beside the office, what it lets through, and whom it makes wait."""
+"""The questions of `tests/page` to the front alone: its own answers, the requests that it lets through, and the clients that it makes wait."""
 import contextlib
 import hashlib
 import http.client
@@ -17,7 +17,7 @@ HEADERS = {"Strict-Transport-Security": "max-age=15768000", "X-Content-Type-Opti
            "Cross-Origin-Opener-Policy": "same-origin", "Server": "nginx"}
 POLICY = ["default-src 'none'", "script-src 'self'", "style-src 'self'", "connect-src 'self'", "img-src 'self'", "base-uri 'none'", "form-action 'none'",
           "frame-ancestors 'none'", "require-trusted-types-for 'script'", "trusted-types 'none'"]
-# What is asked for, its type, and whether it may be kept.
+# The paths asked for, with the type of each, and whether it may be kept.
 KINDS = {"/": ("text/html", "no-cache"), "/page.css": ("text/css", "no-cache"), "/page.js": ("application/javascript", "no-cache"),
          "/icon.svg": ("image/svg+xml", "no-cache"), "/ledger": ("text/plain; charset=utf-8", "no-store"),
          "/notices/N9/record": ("application/json", "no-store"), "/notices": ("application/json", "no-store"),
@@ -36,7 +36,7 @@ MOST = 65_536
 
 
 def is_own(answer: Answer, status: int) -> bool:
-    """Whether the front answers so by itself, in JSON."""
+    """Whether this is an answer of the front itself, in JSON."""
     return answer.status == status and answer.head["Content-Type"] == "application/json" and list(json.loads(answer.body)) == ["front"]
 
 
@@ -46,7 +46,7 @@ def refusal(answer: Answer) -> object:
 
 
 def routes() -> list[tuple[str, str, str]]:
-    """The rows of the table of docs/API.md: a method, a path, and who may ask it."""
+    """The rows of the table of docs/API.md: a method, a path, and the callers that may ask it."""
     with open(os.path.join(ROOT, "docs", "API.md")) as file:
         rows = re.findall(r"^\| \[`(GET|POST) (/[^`]*)`\]\([^)]*\) \| ([^|]*) \|", file.read(), re.M)
     check(f"docs/API.md has {len(rows)} routes, and not 32", len(rows) == 32)
@@ -54,7 +54,7 @@ def routes() -> list[tuple[str, str, str]]:
 
 
 def headers(scene: Scene) -> None:
-    """Each answer has the front's headers, no version and no cookie, and its own type; what may be kept is told."""
+    """Each answer has the front's headers, no version and no cookie, and its own type. It says whether it may be kept."""
     for path, (media, keeping) in KINDS.items():
         head = scene.front.ask("GET", path).head
         policy = "cross-origin" if path in FOR_ALL_SITES else "same-origin"
@@ -85,7 +85,7 @@ def sizes(scene: Scene) -> None:
 
 
 def odd_paths(scene: Scene) -> None:
-    """A path that is written in another way than the office's has no answer but the front's own, and neither has what is no route."""
+    """A path that is written in another way than the office's gets only the front's own answer, and so does a path that is no route."""
     for path in ODD_PATHS + NOWHERE:
         answer = scene.front.ask("GET", path, caller=CLERK)
         check(f"GET {path}: {answer}", is_own(answer, 404))
@@ -97,7 +97,7 @@ def networks(scene: Scene) -> None:
         answer = scene.front.ask(method, path, source=OUTSIDE, caller=CLERK if who == "clerk" else None)
         check(f"{method} {path} from {OUTSIDE}: {answer}", is_own(answer, 403) if who == "clerk" else b'"front"' not in answer.body)
         if who == "clerk":
-            # (from another address each time: a wrong key makes its own wait)
+            # (from another address each time: after a wrong key its address must wait)
             answer = scene.front.ask(method, path, caller=(b"clerk", b"wrong"), source=f"127.0.1.{number}")
             told = exchange_with_office(scene, method, path, (b"clerk", b"wrong"))
             check(f"{method} {path} with a wrong key: {answer}, and from the office {told!r}", answer.status == 401 and answer.body == told)
@@ -113,7 +113,7 @@ def exchange_with_office(scene: Scene, method: str, path: str, caller: Caller) -
 
 
 def many_tenderers(scene: Scene) -> None:
-    """Sixty tenderers behind one address present at once, each for two lots, and all are taken by the office."""
+    """Sixty tenderers of one address present tenders at once, each for two lots, and the office takes all."""
     names = [f"M{number}" for number in range(60)]
     for name in names:
         body = json.dumps({"name": name, "address": "1 Park", "key": hashlib.sha256(key_of(name).encode()).hexdigest()}).encode()
@@ -127,7 +127,7 @@ def many_tenderers(scene: Scene) -> None:
 
 
 def slow_clients(scene: Scene) -> None:
-    """Whoever sends half a head or half a body, and then nothing, waits alone."""
+    """If a client sends half a head or half a body, and then nothing, it waits alone."""
     half_body = b"POST /tenderers/T7 HTTP/1.1\r\nHost: office\r\nContent-Length: 1000\r\n\r\n" + b" " * 500
     with contextlib.ExitStack() as clients:
         for sent in [half_body] * 4 + [b"GET /ledger HTTP/1.1\r\nHost: of"] * 2:
@@ -136,14 +136,14 @@ def slow_clients(scene: Scene) -> None:
             client.sock.sendall(sent)
         time.sleep(0.3)
         begun = time.monotonic()
-        # What wasn't asked before, so that the office must answer it.
+        # A path that wasn't asked before, so the office must answer it.
         answer = scene.front.ask("GET", "/lines/unknown")
         took = time.monotonic() - begun
         check(f"beside slow clients a look is answered after {took:.1f} seconds: {answer}", refusal(answer) == "NoSuch" and took < 3)
 
 
 def names_and_keys(scene: Scene) -> None:
-    """Public routes are told nothing of who asks, so a wrong key is no matter there; and no log has a key or a security."""
+    """On public routes the office doesn't learn the caller's name, so a wrong key doesn't matter there. No log has a key or a security."""
     # (The last one wasn't asked before, so the front has no answer of it.)
     statuses = {"/ledger": 200, "/lines/1100": 200, "/notices/N1/record": 200, "/notices/N1/releases": 200, "/notices/N1/minutes": 409, "/notices": 200,
                 "/notices/N1/terms": 200, "/notices/N1/evaluation": 409, "/lines/unseen": 404}
@@ -156,7 +156,7 @@ def names_and_keys(scene: Scene) -> None:
 
 
 def without_tls(scene: Scene) -> None:
-    """In the clear there is a way to the page alone; a key that comes so is refused."""
+    """Without TLS the front only redirects to the page, and refuses a request with a key."""
     with contextlib.closing(http.client.HTTPConnection(HOST, scene.front.plain_port, timeout=PATIENCE)) as connection:
         answer = exchange(connection, "GET", "/")
         check(f"GET / in the clear: {answer}", answer.status == 301 and answer.head["Location"] == f"https://{HOST}/")

@@ -12,7 +12,7 @@ EACH = 5_000_000_000
 
 
 def number_in(path: str, behind: str = "") -> int | None:
-    """The first number of the file, or of the line that begins so; none where there is none."""
+    """The first number of the file, or of the line that begins so; none if there is none."""
     try:
         with open(path) as file:
             lines = [line for line in file if line.startswith(behind)]
@@ -23,7 +23,7 @@ def number_in(path: str, behind: str = "") -> int | None:
 
 
 def processors() -> int:
-    """How many there are to use: those that a process may run on, or fewer by the quota of its control group (cpu.max of cgroups(7))."""
+    """The number of usable processors: those that a process may run on, or fewer by the quota of its control group (cpu.max of cgroups(7))."""
     found = len(os.sched_getaffinity(0))
     quota = number_in("/sys/fs/cgroup/cpu.max")
     return found if quota is None else max(1, min(found, quota // 100_000))
@@ -37,7 +37,7 @@ def free_memory() -> int:
 
 
 def side_by_side(wanted: int | None = None) -> str:
-    """RT_JOBS: the number, for so many processors or for all; empty where memory is short, or as it is set already."""
+    """RT_JOBS: the number, for so many processors or for all; empty if memory is short, or as it is set already."""
     count = wanted or processors()
     return os.environ.get("RT_JOBS") or (str(count) if free_memory() >= EACH * count else "")
 

@@ -4,10 +4,11 @@ import sys
 import textwrap
 from collections.abc import Callable, Sequence
 
+from common import options_of
 from definitions import ROOT, Fault, text_of
 
 WIDTH = 100
-# What makes a document: its lines, and what is reported of it.
+# A function that makes a document: its lines, and the summary to print.
 Make = Callable[[], tuple[list[str], str]]
 
 
@@ -28,7 +29,7 @@ def text_made(make: Make) -> str:
 
 
 def difference(name: str, had: Sequence[str], wanted: Sequence[str]) -> str:
-    """Where a document isn't what its script makes: the line, its text, and the text that is made."""
+    """The first difference between a document and its script: the line, its text, and the text that is made."""
     at = next((i for i, (a, b) in enumerate(zip(had, wanted)) if a != b), min(len(had), len(wanted)))
     there, made = (lines[at] if at < len(lines) else "(nothing)" for lines in (had, wanted))
     return f"{name}:{at + 1}: not what is made of the sources; `make docs` makes it again\n  there: {there}\n  made:  {made}"
@@ -51,13 +52,14 @@ def work(name: str, make: Make, check: bool) -> int:
     return 0
 
 
-def main(name: str, make: Make, manual: str | None, words: Sequence[Sequence[str]] = ([], ["--check"])) -> int:
+def main(name: str, make: Make, manual: str | None, may_check: bool = True) -> int:
     """Reads the words of the command line, none or --check; the exit status."""
-    if sys.argv[1:] not in words:
-        print(manual, file=sys.stderr)
-        return 2
+    options = options_of(manual)
+    if may_check:
+        options.add_argument("--check", action="store_true", help="write nothing, and say whether the document is current")
+    choice = options.parse_args()
     try:
-        return work(name, make, sys.argv[1:] == ["--check"])
+        return work(name, make, may_check and choice.check)
     except (Fault, OSError) as fault:
         print(f"{sys.argv[0]}: {fault}", file=sys.stderr)
         return 2
@@ -68,4 +70,4 @@ def write_below(folder: str, name: str, make: Make, manual: str | None) -> int:
     def made() -> tuple[list[str], str]:
         lines, said = make()
         return [re.sub(r"\]\((PROMISES|READING)\.md\)", r"](../../docs/\1.md)", line) for line in lines], said
-    return main(f"{folder}/{name}", made, manual, ([],))
+    return main(f"{folder}/{name}", made, manual, may_check=False)

@@ -50,7 +50,7 @@ def lines_of_crate(crate: str) -> tuple[list[str], list[Call]]:
 
 
 def calls() -> tuple[list[str], str]:
-    """The lines of the document, and what is reported of it."""
+    """The lines of the document, and the summary to print."""
     lines, found, with_calls = opening(HEAD), list[Call](), 0
     for crate in crates_in_order():
         of_crate, public = lines_of_crate(crate)

@@ -26,7 +26,7 @@ def entries_of(definitions: Sequence[Definition]) -> list[str]:
 
 
 def entry_text(name: str, comment: str, others: Sequence[str]) -> str:
-    """`name`: what its comment says. Then `other`. Or `name`, `other`, where there is no comment."""
+    """`name`: its comment. Then `other`. Or `name`, `other`, if there is no comment."""
     if not comment:
         return ", ".join(f"`{each}`" for each in [name, *others])
     text = f"`{name}`: {comment}"
@@ -44,7 +44,7 @@ def lines_of(source: Source) -> list[str]:
 
 
 def index() -> tuple[list[str], str]:
-    """The lines of the document, and what is told of it."""
+    """The lines of the document, and the summary to print."""
     made, sources = opening(HEAD), list[Source]()
     for crate in crates():
         of_crate = sources_of(crate.name)

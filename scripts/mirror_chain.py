@@ -1,8 +1,8 @@
-"""The chain of `tools/mirror`: a line for each release that was ever seen, each with the digest of all lines before it; and what is compared with it.
+"""The chain of `tools/mirror`, and comparisons with it. It has a line for each release that was seen at any time, each with the digest of all lines before it.
 
-A line is `CHAIN\tMOMENT\tNOTICE\tNUMBER\tDIGEST`: when the release was first seen, which one it is, and the SHA-256 of its text as the office writes it
-(compact JSON, members sorted by name, in UTF-8). CHAIN is the SHA-256 of the previous line's CHAIN, a tab, and the rest of this line; before the first line it
-is 64 zeros. If a release is gone or has changed, and that was accepted, it has another line, with the word `gone` or its new digest.
+A line is `CHAIN\tMOMENT\tNOTICE\tNUMBER\tDIGEST`: when the release was first seen, which one it is, and the SHA-256 of its text. The text is as the office
+writes it: compact JSON, members sorted by name, in UTF-8. CHAIN is the SHA-256 of the previous line's CHAIN, a tab, and the rest of this line; before the first
+line it is 64 zeros. If a release is gone or has changed, and that was accepted, it has another line, with the word `gone` or its new digest.
 """
 import hashlib
 from typing import Any, NamedTuple
@@ -13,7 +13,7 @@ FIRST, GONE = "0" * 64, "gone"
 
 
 class Finding(NamedTuple):
-    """A release that isn't as it was: when it was seen first, its digest then, and now (`gone` where it isn't there)."""
+    """A release that changed: when it was first seen, its digest then, and now (`gone` if it is missing)."""
 
     notice: str
     number: int
@@ -59,14 +59,14 @@ class Chain:
         return "".join(f"{line}\n" for line in self.lines)
 
     def compared(self, name: str, releases: list[Any]) -> list[Finding]:
-        """What of a notice isn't as it was: `releases` are those that the office has of it now."""
+        """The changes of a notice: `releases` are those that the office has of it now."""
         now = {number: digest_of_release(release) for number, release in enumerate(releases, 1)}
         known = {number: it for number, it in self.seen.get(name, {}).items() if it[0] != GONE}
         return [Finding(name, number, moment, digest, now.get(number, GONE)) for number, (digest, moment) in sorted(known.items())
                 if now.get(number) != digest]
 
     def take(self, notice: Notice) -> int:
-        """Adds the releases of a notice that aren't in the chain as they are; how many these were."""
+        """Adds the releases of a notice that are new or changed; returns how many these were."""
         added = 0
         for number, release in enumerate(notice.releases, 1):
             digest = digest_of_release(release)

@@ -11,14 +11,14 @@ from audit_office import Unreadable
 
 Json = dict[str, Any]
 IDENTIFIER = re.compile(r"[A-Za-z0-9_.-]{1,32}")
-# How often a notice is asked for again whose record isn't the list's, since a command came in between.
+# How often a notice is asked for again if its record isn't that of the list, because a command came in between.
 TRIES = 5
-# The folders of a mirror, and how their files end: what is kept of each notice as the office wrote it.
+# The folders of a mirror with the texts of each notice as the office wrote them, and the endings of their files.
 KEPT = {"records": ".json", "terms": ".json", "minutes": ".txt", "evaluations": ".txt"}
 
 
 def text_of(value: Any) -> str:
-    """A value as the office writes it: compact, its members in the order of their names. What a digest is of."""
+    """A value as the office writes it: compact, its members in the order of their names. Digests are computed of this text."""
     return json.dumps(value, ensure_ascii=False, sort_keys=True, separators=(",", ":"))
 
 
@@ -28,7 +28,7 @@ def now() -> str:
 
 @dataclass
 class Notice:
-    """A notice as it was looked at: its row in the list, when that was, and by folder what the office wrote; what there is none of isn't there."""
+    """A notice at one moment: its row in the list, that moment, and the office's answers by folder, without those that don't exist."""
 
     row: Json
     looked: str
@@ -60,12 +60,12 @@ class Notice:
         return dict(json.loads(self.texts["terms"]))
 
     def is_moving(self) -> bool:
-        """Whether something may come of it that no release tells: a late withdrawal, before all its lots are decided."""
+        """Whether a notice may still change without a release: by a late withdrawal, before all its lots are decided."""
         return bool(self.row["state"] == "opened" and any(lot["status"] == "active" for lot in self.compiled["tender"]["lots"]))
 
 
 class Office:
-    """An office at an address, asked for what anybody may see. Where it is asked too often it waits."""
+    """An office at an address, asked for public answers. If it is asked too often, it waits."""
 
     def __init__(self, base: str) -> None:
         self.base, self.answers = base.rstrip("/"), Answers(None, base.rstrip("/"))
@@ -86,7 +86,7 @@ class Office:
         while True:
             page = json.loads(self.must("/notices" + (f"?after={after}" if after else "")))
             found += page["notices"]
-            # (Names become those of files, and what is asked for may be anybody's answer.)
+            # (Names become names of files, and the answers may be anybody's.)
             names = [after, *(row["notice"] for row in page["notices"])]
             if not all(IDENTIFIER.fullmatch(name) for name in names[1:]) or names != sorted(set(names)):
                 raise Unreadable(f"{self.base}/notices: these aren't notices sorted by name: {names[:5]}")
@@ -97,7 +97,7 @@ class Office:
             after = page["next"]
 
     def notice(self, row: Json) -> Notice:
-        """A notice, looked at so that its record has as many releases as the list tells, or more."""
+        """A notice, fetched so that its record has at least as many releases as the list says."""
         name = row["notice"]
         paths = {"records": "record", "terms": "terms", "minutes": "minutes", "evaluations": "evaluation"}
         for _ in range(TRIES):
@@ -117,7 +117,7 @@ class Office:
 
 
 class Kept:
-    """What a folder keeps from the run before: nothing where there is none."""
+    """The files that a folder keeps from the run before; none if there was no run."""
 
     def __init__(self, folder: str) -> None:
         self.folder, self.state = folder, Json()
@@ -144,7 +144,7 @@ class Kept:
             return file.read()
 
     def notice(self, name: str) -> Notice | None:
-        """What is kept of a notice, as it was looked at last."""
+        """The data that is kept of a notice, as it was last fetched."""
         told = self.state.get("notices", {}).get(name)
         if told is None:
             return None

@@ -8,6 +8,18 @@ from mirror_office import Json, Notice
 NEWEST = 100
 # The state of a procurement, by the status of its tender. Before the opening it receives tenders.
 STATES = {"active": "opened", "complete": "contracted", "cancelled": "cancelled", "unsuccessful": "ended without a contract"}
+# The head of the index, a page of HTML.
+HEAD = """<!DOCTYPE html>
+<html lang="en">
+<head>
+<meta charset="utf-8">
+<meta name="viewport" content="width=device-width, initial-scale=1">
+<meta name="color-scheme" content="light dark">
+<title>Open data of the procurement office</title>
+<link rel="stylesheet" href="/page.css">
+<link rel="alternate" type="application/atom+xml" href="feed.atom">
+</head>
+"""
 WORDS = """<p>Everything that this office has published: the procurements below, and files to download. Amounts are whole units of the currency. Times
 are UTC.</p>
 <p lang="de">Alles, was diese Vergabestelle veröffentlicht hat: unten die Vergaben, dazu Dateien zum Herunterladen. Beträge sind ganze Einheiten der
@@ -21,17 +33,7 @@ def page(base: str, moment: str, files: list[tuple[str, int, str]], notices: lis
     rows = [f"<tr><td><a href={quoteattr(name)}>{html.escape(name)}</a></td><td>{length:,}</td><td><code>{digest}</code></td></tr>\n"
             for name, length, digest in files]
     newest = sorted(notices, key=lambda one: (one.row["published"], one.name), reverse=True)
-    return f"""<!DOCTYPE html>
-<html lang="en">
-<head>
-<meta charset="utf-8">
-<meta name="viewport" content="width=device-width, initial-scale=1">
-<meta name="color-scheme" content="light dark">
-<title>Open data of the procurement office</title>
-<link rel="stylesheet" href="/page.css">
-<link rel="alternate" type="application/atom+xml" href="feed.atom">
-</head>
-<body>
+    return f"""{HEAD}<body>
 <main>
 <h1>Open data of the procurement office</h1>
 {WORDS}

@@ -41,7 +41,7 @@ def tenderer_of(party: Json) -> str:
 
 
 def tender_rows(notice: Notice) -> list[Json]:
-    """The opened tenders of the minutes, each with what the evaluation shows of it."""
+    """The opened tenders of the minutes, each with its data in the evaluation."""
     found: dict[str, list[str]] = {}
     for line in notice.texts.get("evaluations", "").split("\n"):
         if line.startswith("tender\t"):

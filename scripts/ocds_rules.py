@@ -1,11 +1,17 @@
-"""What OCDS 1.1 requires of what the office publishes: members, types and codes, as tables, and what connects one place to another.
+"""The requirements of OCDS 1.1 for the office's publications: members, types and codes, as tables, and the references from one place to another.
 
 Source: the Open Contracting Data Standard 1.1, `release-schema.json`, `release-package-schema.json`, `record-package-schema.json` and its codelists
-(standard.open-contracting.org/1.1/en/schema), and its extension for lots, whose members are known only if a package's `extensions` name it. It requires: of a
-release `ocid`, `id`, `date`, `tag` and `initiationType`; of a tender, an item, a lot, an award and a transaction `id`; of a contract `id` and `awardID`; of a
-package `uri`, `publishedDate`, `publisher` with its `name`, `version`, and `releases` or `records`; of a record `ocid` and `releases`. Other members are
-required here if the office writes them whenever it writes the object at all. Members of OCDS that the office never writes, such as `milestones` and
-`documents`, are in no table, and neither are codes that it never uses.
+(standard.open-contracting.org/1.1/en/schema). Its extension for lots is used too: its members are known only if a package's `extensions` name it. The standard
+requires these members:
+
+- of a release `ocid`, `id`, `date`, `tag` and `initiationType`;
+- of a tender, an item, a lot, an award and a transaction `id`;
+- of a contract `id` and `awardID`;
+- of a package `uri`, `publishedDate`, `publisher` with its `name`, `version`, and `releases` or `records`;
+- of a record `ocid` and `releases`.
+
+Other members are required here if the office writes them whenever it writes the object at all. No table has members of OCDS that the office never writes, such
+as `milestones` and `documents`, or codes that it never uses.
 
 A place is the names on the way to it, such as `tender/lots`. Of a list each item is checked and reported by its number, such as `tender/lots/0`. An object has
 the members that the table lists at its place, and no others. A member is `NAME KIND`, or `NAME? KIND` if it may be missing.
@@ -16,7 +22,7 @@ from typing import Any
 
 
 class Flaw(Exception):
-    """At this path, what stands there isn't what the table says, is missing, or isn't in the table."""
+    """At this path, the value isn't as the table says, is missing, or isn't in the table."""
 
 
 CODES = {
@@ -88,8 +94,8 @@ RELEASE_PACKAGE = {"": PACKAGE + ", releases objects", "publisher": "name text"}
 # The record's compiled release is an option of OCDS, which the office always takes.
 RECORD_PACKAGE = {"": PACKAGE + ", records objects", "publisher": "name text", "records": "ocid text, releases objects, compiledRelease object"}
 
-# What refers to what: the texts at the one place are among those at the other, once all releases are merged (OCDS 1.1, OrganizationReference, Contract, and
-# the extension for lots).
+# The references: the texts at the first place are among those at the second, once all releases are merged. (Source: OCDS 1.1, OrganizationReference, Contract,
+# and the extension for lots.)
 REFERENCES = [(place, "parties/id") for place in (
     "buyer/id", "tender/procuringEntity/id", "tender/tenderers/id", "awards/suppliers/id", "contracts/implementation/transactions/payer/id",
     "contracts/implementation/transactions/payee/id")] + [
@@ -101,7 +107,7 @@ def below(path: str, name: str) -> str:
 
 
 def found_at(path: str, value: Any, place: str) -> list[tuple[str, Any]]:
-    """What stands at a place of a value that stands at this path, each with its own path."""
+    """The values at a place within a value, each with its own path. The path of the outer value is given."""
     found = [(path, value)]
     for name in place.split("/") if place else []:
         parents, found = found, []
@@ -160,7 +166,7 @@ def is_kind(value: Any, kind: str) -> bool:
 
 
 def check_members(path: str, value: Any, members: str) -> None:
-    """That this is an object with these members."""
+    """Checks that this is an object with these members."""
     if not isinstance(value, dict):
         raise Flaw(path)
     table = {name: kind for name, kind in (member.split(" ") for member in members.split(", "))}
@@ -176,7 +182,7 @@ def check_members(path: str, value: Any, members: str) -> None:
 
 
 def check(path: str, value: Any, table: Mapping[str, str]) -> None:
-    """That a value at this path is what the table says, at each of its places."""
+    """Checks that a value at this path is as the table says, at each of its places."""
     for place, members in table.items():
         for path_there, found in found_at(path, value, place):
             check_members(path_there, found, members)
@@ -188,8 +194,8 @@ def release_of(package: Any) -> Mapping[str, str]:
 
 
 def check_releases(package: Any, place: str) -> None:
-    """That each release at a place is one, and none a compiled one; that none is earlier than the one before it, and that the package is of the last one's
-    date."""
+    """Checks that each release at a place is a release and not a compiled one. None is earlier than the one before it, and the package has the date of the last
+    one."""
     for path, release in found_at("", package, place):
         check(path, release, release_of(package))
         if "compiled" in texts_at(release, "tag"):
@@ -201,21 +207,20 @@ def check_releases(package: Any, place: str) -> None:
 
 
 def check_last(value: Any, place: str, others: str) -> None:
-    """That the texts at one place are the last one at another."""
+    """Checks that the texts at one place are the last one at another."""
     last = (texts_at(value, others) or [""])[-1]
     if any(text != last for text in texts_at(value, place)):
         raise Flaw(place)
 
 
 def check_release_package(package: Any) -> None:
-    """That this is a release package whose releases are such, none earlier than the one before it, published when the last one was."""
+    """Checks that this is a release package whose releases are such, none earlier than the one before it, published when the last one was."""
     check("", package, RELEASE_PACKAGE)
     check_releases(package, "releases")
 
 
 def check_record_package(package: Any) -> None:
-    """That this is a record package, likewise, of records whose compiled release is a release of its own, dated by the last one, in which all that refers finds
-    what it refers to."""
+    """Checks a record package in the same way. Each record has a compiled release of its own, dated by the last release. Each reference in it is found."""
     check("", package, RECORD_PACKAGE)
     check_releases(package, "records/releases")
     check_last(package, "records/compiledRelease/date", "records/releases/date")

@@ -1,4 +1,4 @@
-"""What OpenAPI 3.1 requires of a document, as far as this repository's document uses it: a schema of the objects of its section 4.8, and what no schema says.
+"""The rules of OpenAPI 3.1 that this repository's document needs: a schema of the objects of its section 4.8, and rules that no schema can state.
 
 META has the fields of each object that may be in docs/openapi.yaml, with the required ones: another field, or a missing one, is a fault. (Fields of callbacks,
 links, encodings and webhooks are left out: a document with them is refused here, although OpenAPI has them.) Schemas are JSON Schema 2020-12, as OpenAPI 3.1
@@ -82,7 +82,7 @@ def nodes_of(tree: Any, way: tuple[str, ...] = ()) -> Iterator[tuple[tuple[str, 
 
 
 def target_of(tree: Any, reference: str) -> Any:
-    """What a reference within the document names, or None."""
+    """The value that a reference within the document names, or None."""
     for word in reference.removeprefix("#/").split("/") if reference.startswith("#/") else ["#"]:
         tree = tree.get(word.replace("~1", "/").replace("~0", "~")) if isinstance(tree, dict) else None
     return tree
@@ -109,7 +109,7 @@ def flaws_of_schemas(tree: Any) -> Iterator[str]:
 
 
 def flaws_of_operations(tree: Any) -> Iterator[str]:
-    """Names that come twice, and parameters of paths that the path lacks or that it has and nothing declares."""
+    """Names that come twice, parameters of paths that aren't in the path, and those in the path that nothing declares."""
     names = [operation.get("operationId") for _, _, operation, _ in operations_of(tree)]
     for name in sorted({name for name in names if name and names.count(name) > 1}):
         yield f"operationId {name}: {names.count(name)} times"
@@ -125,7 +125,7 @@ def flaws_of_operations(tree: Any) -> Iterator[str]:
 
 
 def flaws_of(tree: Any) -> list[str]:
-    """What of a document isn't as OpenAPI 3.1 asks."""
+    """The places where a document breaks the rules of OpenAPI 3.1."""
     error = best_match(jsonschema.Draft202012Validator(META).iter_errors(tree))
     if error:
         return [f"{error.json_path}: {error.message[:200]}"]

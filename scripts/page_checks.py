@@ -1,4 +1,4 @@
-"""What `tests/page` asks of the page, in a browser: what each view says and how, for eyes, keyboards and screen readers, and what can't break it."""
+"""The questions that `tests/page` asks the page in a browser: what each view says to eyes, keyboards and screen readers, and that no input breaks it."""
 import contextlib
 import difflib
 import json
@@ -20,13 +20,13 @@ VIEWS = {"list": "", "open": "#notice/N3", "awarded": "#notice/N2", "paid": "#no
          "running": "#notice/N6", "budget": "#ledger", "line": "#line/1100", "firms": "#firms", "firm": "#firm/T1", "figures": "#figures", "about": "#about",
          "missing": "#notice/N99"}
 WIDTHS, NARROWEST = {"narrow": 375, "wide": 1280}, 320
-# What must have a name.
+# The roles of elements that must have a name.
 NAMED = ("link", "button", "textbox", "image", "table", "region", "article", "navigation", "search")
-# How many looks are more than the front takes from one address at a time, whatever the machine.
+# The number of queries that are more than the front takes from one address at a time, on any machine.
 MANY = 2000
 # How often a check asks again while the front answers 429. One address may ask 10 a second, and at most 100 are counted.
 TRIES = 20
-# Moments, days, clocks and years: what is another at each run.
+# Moments, days, clocks and years, which differ in each run.
 MOVING = [(re.compile(r"\d{1,2} [A-Z][a-z]+ \d{4},? (at )?\d\d:\d\d:\d\d UTC \(here: [^)]*\)"), "MOMENT"), (re.compile(r"\d{1,2} [A-Z][a-z]+ \d{4}"), "DAY"),
           (re.compile(r"closes in [^\n]*"), "closes in CLOCK"), (re.compile(r"^20\d\d(?=$|:)", re.M), "YEAR")]
 ZONE = "Europe/Berlin"
@@ -52,7 +52,7 @@ PALE = """(() => {
   return found;
 })()"""
 
-# Texts with a mark that turns the direction of what follows, and nothing that ends it.
+# The texts with a mark that turns the direction of the letters after it, if no mark ends it.
 TURNING = """(() => {
   const texts = document.createTreeWalker(document.body, NodeFilter.SHOW_TEXT), found = [];
   while (texts.nextNode()) {
@@ -61,7 +61,7 @@ TURNING = """(() => {
   return found;
 })()"""
 
-# How the parts of bars are told apart without their colours: kind, picture and whether the part is filled, each once.
+# The patterns that distinguish the parts of bars without their colours: kind, picture and whether the part is filled, each once.
 PATTERNS = """[...new Set([...document.querySelectorAll(".part, .swatch")].map((at) => {
   const style = getComputedStyle(at), empty = getComputedStyle(document.documentElement).backgroundColor;
   return `${at.classList[1]} ${style.backgroundImage.split("(")[0]} ${style.backgroundColor === empty}`;
@@ -84,7 +84,7 @@ def views(scene: Scene) -> None:
         page.go(scene.front.address(place))
         page.wait("[...document.querySelectorAll('.lines h3')].every((heading) => heading.textContent.includes(':'))")
         differences += difference(scene, name, page)
-        # (Colours go by light and dark, and not by the width: each is looked at once, and wherever pictures are asked for.)
+        # (Colours depend on light and dark, and not on the width: each is checked once, and also for each picture.)
         for shape, dark in (("narrow", False), ("wide", True), *((("narrow", True), ("wide", False)) if page.browser.pictures else ())):
             page.shape(WIDTHS[shape], dark=dark)
             page.picture(os.path.join(scene.pictures, f"{name}-{shape}-{'dark' if dark else 'light'}.png"))
@@ -98,10 +98,10 @@ def views(scene: Scene) -> None:
 
 
 def difference(scene: Scene, name: str, page: Page) -> str:
-    """Where a view says something else than `page_texts/`; what it says is left with the pictures. Its title is its own, and markup in a text is text."""
+    """Checks a view against `page_texts/`; its text is left with the pictures. Its title is its own, and markup in a text is text."""
     text = without_moments(page.text())
     if name == "list":
-        # (Which of those that were published within a few seconds come first isn't told beforehand.)
+        # (The order of those that were published within a few seconds isn't known before.)
         text = "".join(sorted(text.splitlines(True)))
     with open(os.path.join(scene.pictures, f"{name}.txt"), "w") as file:
         file.write(text)
@@ -123,7 +123,7 @@ def has_its_own(name: str, page: Page) -> None:
 
 
 def otherwise(name: str, text: str) -> str:
-    """Where a text is another than that of `page_texts/`, moments apart."""
+    """The difference of a text from that of `page_texts/`, except for moments."""
     path, wanted = os.path.join(ROOT, "tests", "page_texts", f"{name}.txt"), ""
     if os.path.exists(path):
         with open(path) as file:
@@ -137,14 +137,13 @@ def has_contrast(name: str, page: Page) -> None:
 
 
 def is_within(name: str, width: object, page: Page) -> None:
-    """Nothing is wider than the window. (A phone's `innerWidth` grows with what it shows.)"""
+    """Nothing is wider than the window. (A phone's `innerWidth` grows with its content.)"""
     wide = page.run("document.documentElement.scrollWidth")
     check(f"{name} is {wide} wide in a window of {width}", wide <= width)
 
 
 def is_read_out(name: str, page: Page) -> None:
-    """What a screen reader is told: landmarks, one heading of the first level and none left out, a name for each thing, a text for each bar, headers of
-    tables."""
+    """A screen reader finds landmarks, one heading of the first level and no level left out. Each thing has a name, each bar a text, each table headers."""
     tree = page.tree()
     roles = [role for role, _, _ in tree]
     for role in ("banner", "navigation", "main", "contentinfo", "status"):
@@ -165,11 +164,11 @@ def is_read_out(name: str, page: Page) -> None:
 
 
 def keeps_nothing(scene: Scene, page: Page) -> None:
-    """No cookie, nothing stored, nothing asked of another server; no error in the console but what the browser says of a refusal, and no breach of the
-    policy."""
+    """The page sets no cookie, stores nothing and asks no other server. The console has no errors, except the browser's own lines about refusals. The policy is
+    not broken."""
     check("there is a cookie", page.ask("Network.getAllCookies")["cookies"] == [])
     check("something is stored", page.run("localStorage.length + sessionStorage.length === 0 && indexedDB.databases().then((all) => all.length === 0)"))
-    # (What the browser draws its own fields with is asked of no server.)
+    # (The browser asks no server for the parts of its own fields.)
     asked = {url for event in page.events("Network.requestWillBeSent") if not (url := event["request"]["url"]).startswith(("about:", "data:"))}
     check(f"foreign things were asked for: {asked}", asked and all(url.startswith(scene.front.address()) for url in asked))
     is_quiet(page)
@@ -177,14 +176,14 @@ def keeps_nothing(scene: Scene, page: Page) -> None:
 
 def is_quiet(page: Page) -> None:
     faults = page.events("Runtime.exceptionThrown", "Runtime.consoleAPICalled", "Audits.issueAdded")
-    # (That a script went to another place is the test's own doing: newer browsers tell it.)
+    # (The test itself moves a script to another place, and newer browsers report that.)
     faults = [event for event in faults if "NavigationEntryMarkedSkippable" not in str(event)]
     faults += [event for event in page.events("Log.entryAdded") if event["entry"]["source"] != "network"]
     check(f"the console says {faults}", not faults)
 
 
 def focused(page: Page) -> Any:
-    """What has the focus: its name, and whether it is seen there with an outline around it."""
+    """The element that has the focus: its name, and whether it is seen there with an outline around it."""
     return page.run("""(() => {
       const at = document.activeElement, box = at.getBoundingClientRect(), style = getComputedStyle(at);
       const seen = box.left >= 0 && box.top >= 0 && box.right <= innerWidth && box.bottom <= innerHeight;
@@ -193,7 +192,7 @@ def focused(page: Page) -> Any:
 
 
 def tab(page: Page, count: int) -> list[Any]:
-    """What has the focus behind each of so many tabs."""
+    """The elements that have the focus after each of so many tabs."""
     seen = []
     for _ in range(count):
         page.press("Tab")
@@ -201,13 +200,13 @@ def tab(page: Page, count: int) -> list[Any]:
     return seen
 
 
-# Where tabs lead from the top of the list: links by their texts, fields and buttons by their names.
+# The elements to which tabs lead from the top of the list: links by their texts, fields and buttons by their names.
 ORDER = ["skip", "Procurements", "Budget", "Firms", "Figures", "About", "For tenderers", "English", "Deutsch", "by-words", "Filters",
          "by-state", "by-year", "by-line", "by-firm", "by-from", "by-to", "Search", "A footbridge over the river"]
 
 
 def keyboard(scene: Scene) -> None:
-    """Everything can be reached and used by the keyboard, in the order in which it stands there, and it is seen where one is."""
+    """The keyboard reaches and uses everything, in the order of the page, and the element with the focus is seen."""
     page = page_of(scene, "")
     order = tab(page, len(ORDER))
     page.picture(os.path.join(scene.pictures, "focus-wide-light.png"))
@@ -236,7 +235,7 @@ def keyboard(scene: Scene) -> None:
     is_quiet(page)
 
 
-# Faults that are planted in a view: what is done to the page, and which of the checks above must find it.
+# Faults that are planted in a view: the change of the page, and the check above that must find it.
 PLANTS: list[tuple[str, Callable[[Scene, Page], None]]] = [
     ("document.querySelector('main h2').append(' x')", lambda _, page: says_what_it_should(page)),
     ("document.querySelector('main dd, main td').remove()", lambda _, page: says_what_it_should(page)),
@@ -264,13 +263,13 @@ def says_what_it_should(page: Page) -> None:
 
 
 def is_seen(page: Page) -> None:
-    """Where the first tabs lead is seen."""
+    """The elements to which the first tabs lead are seen."""
     order = tab(page, 3)
     check(f"tabs lead to {order}", all(seen for _, seen in order))
 
 
 def plants(scene: Scene) -> None:
-    """A fault in a page is found by the check that is for it, and nothing where none is planted."""
+    """The check for it finds a fault in a page, and finds nothing if none is planted."""
     passed_over = []
     page = page_of(scene, VIEWS["paid"])
     for _, judge in PLANTS:
@@ -287,7 +286,7 @@ def plants(scene: Scene) -> None:
 
 
 def refusals() -> Iterator[tuple[int, bytes]]:
-    """The rows of the table of docs/API.md: what each refusal answers, as a status and a body."""
+    """The rows of the table of docs/API.md: the answer of each refusal, as a status and a body."""
     with open(os.path.join(ROOT, "docs", "API.md")) as file:
         rows = re.findall(r"^\| (\d+) \| `(\w+)` \| (\d+) \|([^|]*)\|", file.read(), re.M)
     check(f"docs/API.md has {len(rows)} refusals, and not 32", len(rows) == 32)
@@ -300,7 +299,7 @@ KINDS_OF_LOOKS = ("record", "releases", "terms", "minutes", "evaluation")
 
 
 def sentence(page: Page, notice: str, answer: tuple[int, bytes] | None) -> str:
-    """The sentence that the page shows where its requests for a notice are answered so."""
+    """The sentence that the page shows if its requests for a notice get this answer."""
     page.answer_for({**{f"/notices/{notice}/{name}": answer for name in KINDS_OF_LOOKS}, "/notices": (200, b'{"next":null,"notices":[]}')})
     page.run(f"document.querySelector('main').replaceChildren(); location.hash = '#notice/{notice}'")
     page.wait("document.querySelector('main h1') && document.querySelector('main').getAttribute('aria-busy') === 'false'")
@@ -311,7 +310,8 @@ def sentence(page: Page, notice: str, answer: tuple[int, bytes] | None) -> str:
 
 
 def each_refusal(scene: Scene) -> None:
-    """Each refusal of the office is shown as a sentence of its own, what the front or the net says as one too; so is what is no number of a notice."""
+    """The page shows each refusal of the office as a sentence of its own. It also does so for errors of the front and the net, and for a wrong notice
+    number."""
     page = page_of(scene, "")
     told = {answer: sentence(page, f"R{at}", answer) for at, answer in enumerate(refusals())}
     check(f"two refusals have one sentence: {told}", len(set(told.values())) == len(told))
@@ -357,7 +357,7 @@ def long_texts(scene: Scene) -> None:
 
 
 def without_scripts(scene: Scene) -> None:
-    """Where scripts are turned off, the page says where the answers are."""
+    """If scripts are turned off, the page says where the answers are."""
     page = Page(scene.browser, WIDTHS["narrow"])
     page.ask("Emulation.setScriptExecutionDisabled", value=True)
     page.ask("Page.navigate", url=scene.front.address())
@@ -366,7 +366,7 @@ def without_scripts(scene: Scene) -> None:
 
 
 def injected(scene: Scene) -> None:
-    """What would be done to the page by a fault of it: no markup is made of texts, no script within the page runs, and nothing is asked of another server."""
+    """If the page had a fault, an attacker could still do little: no markup is made of texts, no script in the page runs, no other server is asked."""
     page = page_of(scene, "")
     elsewhere = f"https://{OUTSIDE}:{scene.front.port}/ledger"
     styled = "Object.assign(document.createElement('style'), {onload: yes, onerror: no, textContent: '*{}'})"
@@ -381,13 +381,13 @@ def injected(scene: Scene) -> None:
 
 
 def breaches(page: Page) -> list[Any]:
-    """What of the policy was broken, as the browser tells it."""
+    """The directives of the policy that were broken, as the browser reports them."""
     told = [event["issue"]["details"].get("contentSecurityPolicyIssueDetails", {}) for event in page.events("Audits.issueAdded")]
     return [details.get("violatedDirective") for details in told]
 
 
 def office_away(scene: Scene) -> None:
-    """Where the office is gone, the front says so, and so does the page."""
+    """If the office is gone, the front says so, and so does the page."""
     scene.office.kill()
     scene.office.wait()
     # The checks before used up what one address may ask at once. So the front may answer 429 first, until its count has run down.
@@ -402,9 +402,9 @@ def office_away(scene: Scene) -> None:
 
 
 def too_often(scene: Scene) -> None:
-    """Who asks too often is told so by the front; the page waits as long as it says, and then draws."""
+    """If a client asks too often, the front says so. The page waits as long as the front says, and then draws."""
     with contextlib.closing(scene.front.connection()) as connection:
-        # (A busy machine asks more slowly, and each second ten looks more are free)
+        # (A busy machine asks more slowly, and each second ten more queries are free)
         for _ in range(MANY):
             answer = exchange(connection, "GET", "/lines/77")
             if answer.status == 429:

@@ -19,7 +19,7 @@ PAVING, KERBS, DESKS = ("Paving, square metres", 3000), ("Kerbs", 250), ("Desks"
 SCRIPT = '<script>document.title="broken"</script>'
 TENDERERS = {"T1": ('Alpha <b>Bau</b> & "Söhne"', "Straße 1 &amp; <i>2</i>"), "T2": ("Beta Paving Ltd", "2 Low Street"),
              "T3": ("Gamma O'Neill", "3 Mill Lane"), "T4": ("Delta Works", "4 Quay")}
-# What stands in no log of the front.
+# A text that must be in no log of the front.
 SECURITY = "GUARANTEE-77"
 # Seconds.
 DAY = 86_400
@@ -88,7 +88,7 @@ class Procurements(Client[Answer]):
                       lot("L2", "1500", 19_000, 0, ("Poles", 40), title="Poles"))
 
     def after_the_deadline(self) -> None:
-        """The openings, and how the opened notices go on."""
+        """The openings, and the further steps of the opened notices."""
         wait_until(self.deadline + 1.05)
         for name in ("N1", "N2", "N5", "N6"):
             self.open(name)

@@ -8,7 +8,7 @@ from collections.abc import Sequence
 
 from common import check
 
-# The bytes of a page: of files that were made before, and of a new one.
+# The bytes of a page: of earlier files, and of a new one.
 FORMER, NEW = 4096, 1024
 SIZES = (FORMER, NEW)
 
@@ -22,7 +22,7 @@ def begin(path: str, size: int) -> None:
 
 
 def size_of(path: str) -> int:
-    """The size of its pages that a database file names: in two bytes, where 1 stands for 65,536."""
+    """The size of its pages that a database file names: in two bytes, where 1 means 65,536."""
     with open(path, "rb") as file:
         head = file.read(18)
     check(f"{path} is no database", head.startswith(b"SQLite format 3\0"))
@@ -31,7 +31,7 @@ def size_of(path: str) -> int:
 
 
 def check_size(path: str, size: int) -> None:
-    """That a file has pages of this size."""
+    """Checks that a file has pages of this size."""
     found = size_of(path)
     check(f"{path} has pages of {found} bytes, and not of {size}", found == size)
 
@@ -47,4 +47,4 @@ def sizes_of(words: str) -> list[int]:
 def add_sizes(options: argparse.ArgumentParser, sizes: Sequence[int] = SIZES) -> None:
     """The option that names the sizes."""
     default = ",".join(map(str, sizes))
-    options.add_argument("--page-sizes", type=sizes_of, default=list(sizes), metavar="BYTES,..", help=f"the sizes of the pages of the files ({default})")
+    options.add_argument("--page-sizes", type=sizes_of, default=list(sizes), metavar="BYTES,..", help=f"the page sizes of the files ({default})")

@@ -51,7 +51,7 @@ def chunk(kind: bytes, data: bytes) -> bytes:
 
 
 def smaller(picture: bytes) -> bytes:
-    """The picture that a browser took, with a palette."""
+    """A browser's picture, with a palette."""
     parts = chunks_of(picture)
     width, height, _, kind = struct.unpack(">IIBB", parts[b"IHDR"][:10])
     depth = {2: 3, 6: 4}[kind]

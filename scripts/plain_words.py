@@ -1,7 +1,7 @@
-"""What reads badly in a text: long sentences, words of docs/STYLE.md's table, and relative clauses without a noun. Read by tools/check_words.
+"""Finds sentences that read badly: long ones, words of docs/STYLE.md's table, and relative clauses without a noun. Used by tools/check_words.
 
-Texts are the prose of documents, the comments and docstrings of sources and scripts (a docstring at the head of a script is its --help), and the English texts
-of the screens. Code spans, code blocks and links' targets are no prose. These are rules of thumb: a text may break one of them and be clear.
+It reads the prose of documents, the comments and docstrings of sources and scripts, and the English texts of the screens. (A docstring at the head of a script
+is its --help.) Code spans, code blocks and links' targets are no prose. These are rules of thumb: a text may break one of them and be clear.
 """
 import ast
 import re
@@ -10,7 +10,7 @@ from pathlib import Path
 from typing import NamedTuple
 
 LONGEST = 30
-# The words of the table, each with what it is looked for by. (A name in a code span isn't found.)
+# The words of the table, each with its pattern. (A name in a code span isn't found.)
 WORDS = {
     "behind": r"behind", "stand": r"stands?|stood|standing(?! still)", "want": r"wants?|wanted|wanting",
     "told": r"(?:is|are|was|were|be|been|being|as|not) told|tells?", "lacks": r"lack(?:s|ed|ing)?", "anew": r"anew|once more",
@@ -40,7 +40,7 @@ class Paragraph(NamedTuple):
 
 
 class Finding(NamedTuple):
-    """What reads badly: the line where its paragraph begins, the kind (`long`, a word of the table, or `bare`), and the words."""
+    """A sentence that reads badly: the line where its paragraph begins, the kind (`long`, a word of the table, or `bare`), and the words."""
 
     line: int
     kind: str
@@ -78,7 +78,7 @@ def of_document(text: str) -> Iterator[Paragraph]:
 
 
 def of_comments(text: str, mark: str) -> Iterator[Paragraph]:
-    """The comments that stand on lines of their own, by the mark with which they begin."""
+    """The comments on lines of their own, by the mark with which they begin."""
     found = [(number, line.strip()) for number, line in enumerate(text.split("\n"), 1) if line.strip().startswith(mark)]
     lines = [(number, re.sub(rf"^{re.escape(mark)}[/!]* ?", "", line)) for number, line in found if not line.startswith("#!")]
     yield from joined([(number, line) for number, line in lines if not line.startswith("----")])
@@ -135,7 +135,7 @@ def is_long(sentence: str) -> bool:
 
 
 def findings_in(paragraph: Paragraph) -> Iterator[Finding]:
-    """What reads badly in a paragraph."""
+    """The findings in a paragraph."""
     for sentence in sentences_of(paragraph.text):
         if is_long(sentence):
             yield Finding(paragraph.line, "long", sentence)
@@ -145,5 +145,5 @@ def findings_in(paragraph: Paragraph) -> Iterator[Finding]:
 
 
 def findings_of(path: Path) -> list[Finding]:
-    """What reads badly in a file, in the order of its lines."""
+    """The findings in a file, in the order of its lines."""
     return sorted((finding for paragraph in paragraphs_of(path) for finding in findings_in(paragraph)), key=lambda it: it.line)

@@ -1,7 +1,7 @@
-"""The faults that `tests/audit` plants in an office that `audit_life.py` made, and where `tools/audit` must find each.
+"""The faults that `tests/audit` plants in an office that `audit_life.py` made, and the rule and row by which `tools/audit` must find each.
 
 A plain fault is one change of the file, or of an answer. A forgery changes all related rows, releases and merges, so that the file alone shows nothing. The
-test tries that too, and which witnesses expose it and which don't. These forgeries show that what docs/AUDITOR.md calls unseen is unseen.
+test tries that too, and tries which witnesses expose it. These forgeries show that the facts which docs/AUDITOR.md calls unseen are unseen.
 """
 import hashlib
 import json
@@ -17,7 +17,7 @@ from client import text_of
 
 
 def without(notice: str) -> str:
-    """Deletes a procurement whole, with all that it left in a file, where nobody took part."""
+    """Deletes a procurement whole, with all its rows in a file, in which nobody took part."""
     return "".join(f"DELETE FROM {table} WHERE notice = '{notice}'; " for table in ("releases", "compiled", "lots", "notices_2"))
 
 
@@ -33,28 +33,28 @@ def in_places(*tables: str) -> str:
 
 
 def other_bytes(receipt: str, body: str) -> str:
-    """Puts other bytes in the place of a tender's, with all that is said of them."""
+    """Replaces a tender's bytes, with all that other rows say of them."""
     data = body.encode()
     return (f"UPDATE seals SET bytes = X'{data.hex()}' WHERE receipt = {receipt}; UPDATE envelopes SET digest = X'{hashlib.sha256(data).hexdigest()}', "
             f"length = {len(data)} WHERE receipt = {receipt}; ")
 
 
 def names_of(life: AuditedLife) -> dict[str, object]:
-    """What an office gave the names that the faults below have in braces: numbers of tenders, awards and contracts, and moments."""
+    """The values that an office gave for the names in braces below: numbers of tenders, awards and contracts, and moments."""
     numbers = {name: getattr(life, name) for name in ("contract", "failed", "running", "broken", "active")}
     return {**life.receipt, **numbers, "in_time": life.deadline - 1, "moved": text_of(life.deadline + 90_000), "further": text_of(life.deadline + 180_000)}
 
 
 def filled(texts: Iterable[str], life: AuditedLife) -> tuple[str, ...]:
-    """Texts with what an office gave in the place of each name in braces."""
+    """Texts with the office's values in the place of each name in braces."""
     names = names_of(life)
     return tuple(re.sub(r"\{(\w+)\}", lambda found: str(names[str(found[1])]), text) for text in texts)
 
 
 UNCHECKED = "PRAGMA ignore_check_constraints = ON; "
-# Faults of the file: the rule, the row that it must name, and what is written into the file.
+# Faults of the file: the rule, the row that it must name, and the script that writes it into the file.
 FAULTS_OF_FILES = [
-    # The pots, a release, a security, a compiled release, a late tender and a payment.
+    # The balances, a release, a security, a compiled release, a late tender and a payment.
     ("pots_add_up", "lines 1000", "UPDATE lines SET free = free + 1 WHERE line = '1000'"),
     ("pots_add_up", "lines 2000", "UPDATE lots SET reserved = reserved - 1 WHERE notice = 'N6' AND lot = 'L2'"),
     ("releases_are_numbered", "releases N1/5", "DELETE FROM releases WHERE notice = 'N1' AND seq = 5"),
@@ -73,7 +73,7 @@ FAULTS_OF_FILES = [
      "INSERT INTO entries SELECT * FROM e WHERE entry = 'P1' AND contract = {contract}; DROP TABLE e"),
     ("events_come_once", "notices N1", "INSERT INTO releases SELECT notice, (SELECT releases + 1 FROM notices_2 WHERE notice = 'N1'), moment, text "
      "FROM releases WHERE notice = 'N1' AND seq IN (SELECT seq FROM releases WHERE notice = 'N1' AND text LIKE '%\"P1\"%')"),
-    # One for each other rule.
+    # One fault for each other rule.
     ("file_is_sound", "file", UNCHECKED + "UPDATE notices_2 SET validity = 999 WHERE notice = 'N5'"),
     ("tables_are_as_made", "trigger taken", "CREATE TRIGGER taken AFTER INSERT ON entries BEGIN UPDATE lines SET free = free - 1; END"),
     ("tables_are_as_made", "table lines", "ALTER TABLE lines ADD COLUMN note TEXT"),
@@ -148,13 +148,13 @@ def take_over(record: Json, other: Json) -> None:
 
 
 def pay_twice(package: Json) -> None:
-    """Puts a payment a second time behind the releases, as a release of the next number."""
+    """Adds a copy of a payment after the releases, as a release of the next number."""
     releases = package.get("releases") or package["records"][0]["releases"]
     again = json.loads(json.dumps(next(release for release in releases if release["tag"] == ["implementation"])))
     releases.append({**again, "id": again["id"][:-4] + f"{len(releases) + 1:04}", "date": releases[-1]["date"]})
 
 
-# Faults of answers beside the file: the rule, the row, the files, and what is done to their JSON (with that of N2) or text.
+# Faults of answers beside the file: the rule, the row, the files, and the change of their JSON (with that of N2) or text.
 FAULTS_OF_ANSWERS = [
     ("answered_releases_are_kept", "notices N1", ["releases-N1.json"], lambda package, _: lose(package, -1)),
     ("records_have_the_releases", "notices N1", ["record-N1.json"], lambda package, _: lose(package["records"][0], 4)),
@@ -213,7 +213,7 @@ def lose_notice(folder: str, notice: str) -> None:
 
 
 def faults_outside(life: AuditedLife) -> list[tuple[Any, ...]]:
-    """Faults of answers without a file: the rule, the row, what is done to their folder, and further arguments."""
+    """Faults of answers without a file: the rule, the row, the change of their folder, and further arguments."""
     r, running = life.receipt, life.running
     start = text_of(life.deadline + 20_000_000)
     return [
@@ -252,7 +252,7 @@ def faults_outside(life: AuditedLife) -> list[tuple[Any, ...]]:
     ]
 
 
-# The witnesses: what anybody was answered, what the clerk and tenderers were, and an earlier copy of the file.
+# The witnesses: the public answers, those to the clerk and tenderers, and an earlier copy of the file.
 PUBLIC, HELD, COPY = "earlier answers", "what was handed out", "an earlier copy"
 
 
@@ -272,15 +272,15 @@ ENDED = ("UPDATE contracts SET ended = (SELECT moment FROM office), how = 'defau
          "UPDATE performance SET state = 'forfeited' WHERE contract = {running}; UPDATE lines SET free = free + 150 WHERE line = '2000'; "
          "UPDATE notices_2 SET releases = 6 WHERE notice = 'N2'; INSERT INTO releases SELECT 'N2', 6, moment, '" + RELEASE_OF_END + "' FROM office; "
          """UPDATE compiled SET text = replace(text, ']},"status":"active","value"', ']},"status":"terminated","value"') WHERE notice = 'N2'""")
-# Forgeries of the file that the file alone doesn't show: what is forged, how, and where it is found: by which witness, rule and row.
+# Forgeries that the file alone doesn't show: their name, the script, and the witness, the rule and the row by which each is found.
 FORGERIES: list[tuple[Any, ...]] = [
-    ("a procurement is deleted whole, and its places are filled", without("N7") + in_places("releases", "compiled", "lots", "notices_2"),
+    ("a whole procurement is deleted, and the gaps are closed", without("N7") + in_places("releases", "compiled", "lots", "notices_2"),
      (PUBLIC, "saved_notices_are_there", "notices N7"), (HELD, "saved_notices_are_there", "notices N7"), (COPY, STAY, "notices N7")),
-    ("a late tender is one in time, and withdrawn",
+    ("a late tender is shown as withdrawn in time",
      "UPDATE envelopes SET state = 'withdrawn', moment = {in_time} WHERE receipt = {late}",
      (HELD, RECEIPTS, "envelopes {late}"), (HELD, "registers_are_of_the_rows", "envelopes {late}"), (COPY, DECIDED, "envelopes {late}"),
      (COPY, STAY, "envelopes {late}")),
-    ("a contract ended regularly, not by default, and its security went back",
+    ("a contract that ended by default is shown as ended as agreed, and its security as returned",
      "UPDATE contracts SET how = 'regular' WHERE contract = {broken}; UPDATE performance SET state = 'returned' WHERE contract = {broken}",
      (HELD, "securities_are_as_shown", "performance {broken}"), (COPY, DECIDED, "contracts {broken}"), (COPY, DECIDED, "performance {broken}")),
     ("less was paid", "UPDATE entries SET amount = 90 WHERE contract = {running}; " + said("N2", '"amount":100,', '"amount":90,'),
@@ -288,50 +288,50 @@ FORGERIES: list[tuple[Any, ...]] = [
      (COPY, STAY, "entries {running}/P1")),
     ("a contract was changed for another reason", "UPDATE entries SET rationale = 'Works' WHERE rationale = 'Kerbs'; " + said("N1", "Kerbs", "Works"),
      (PUBLIC, "saved_releases_stay", "notices N1"), (HELD, SHOWN, "contracts {contract}"), (COPY, STAY, "entries {contract}/A1")),
-    ("a tender asked another price", other_bytes("{low}", offer(0, 21)) + "UPDATE envelopes SET stated = 210, corrected = 210 WHERE receipt = {low}",
+    ("an opened tender has another price", other_bytes("{low}", offer(0, 21)) + "UPDATE envelopes SET stated = 210, corrected = 210 WHERE receipt = {low}",
      (PUBLIC, "saved_minutes_stay", "notices N2"), (HELD, RECEIPTS, "envelopes {low}"), (COPY, STAY, "seals {low}")),
-    ("a sealed tender is another one", other_bytes("{sealed}", offer(9, 9)), (HELD, RECEIPTS, "envelopes {sealed}"), (COPY, STAY, "envelopes {sealed}")),
+    ("a sealed tender has another content", other_bytes("{sealed}", offer(9, 9)), (HELD, RECEIPTS, "envelopes {sealed}"), (COPY, STAY, "envelopes {sealed}")),
     ("a tenderer has another name", "UPDATE tenderers SET name = 'Firm A4' WHERE tenderer = 'T4'; " + said("N1", "Firm T4", "Firm A4"),
      (PUBLIC, "saved_releases_stay", "notices N1"), (PUBLIC, "saved_minutes_stay", "notices N1"), (COPY, STAY, "tenderers T4")),
-    ("tenders may come for longer", "UPDATE notices_2 SET deadline = deadline + 90000 WHERE notice = 'N5'; " + said("N5", "{moved}", "{further}"),
+    ("the deadline is later", "UPDATE notices_2 SET deadline = deadline + 90000 WHERE notice = 'N5'; " + said("N5", "{moved}", "{further}"),
      (PUBLIC, "saved_releases_stay", "notices N5"), (COPY, STAY, "releases N5/2")),
     ("a tenderer has another key", "UPDATE tenderers SET key = zeroblob(32) WHERE tenderer = 'T1'", (COPY, STAY, "tenderers T1")),
     ("a security has another reference", "UPDATE securities SET reference = 'G0' WHERE security = {sealed}",
      (HELD, "securities_are_as_shown", "securities {sealed}"), (COPY, STAY, "securities {sealed}")),
     ("the standstill is longer", "UPDATE notices_2 SET standstill = 5 WHERE notice = 'N5'", (PUBLIC, TERMS, "notices N5"), (COPY, STAY, "notices N5")),
-    ("a performance security is asked", "UPDATE notices_2 SET performance = 5 WHERE notice = 'N5'", (PUBLIC, TERMS, "notices N5"),
+    ("a performance security is required", "UPDATE notices_2 SET performance = 5 WHERE notice = 'N5'", (PUBLIC, TERMS, "notices N5"),
      (COPY, STAY, "notices N5")),
-    ("tenders may be withdrawn late", "INSERT INTO late_rules VALUES ('N5')", (PUBLIC, TERMS, "notices N5"),
+    ("tenders may be withdrawn after the deadline", "INSERT INTO late_rules VALUES ('N5')", (PUBLIC, TERMS, "notices N5"),
      (COPY, "nothing_is_put_in_behind", "late_rules N5")),
-    ("a withdrawn tender was another one", "UPDATE envelopes SET digest = zeroblob(32) WHERE receipt = {taken}",
+    ("a withdrawn tender had another content", "UPDATE envelopes SET digest = zeroblob(32) WHERE receipt = {taken}",
      (HELD, RECEIPTS, "envelopes {taken}"), (COPY, STAY, "envelopes {taken}")),
     ("a tender was found not responsive", "UPDATE envelopes SET responsive = 0, quality = NULL WHERE receipt = {low}",
      (PUBLIC, "saved_evaluations_stay", "notices N2"), (COPY, DECIDED, "envelopes {low}")),
     ("a tender of an undecided lot was found not responsive", "UPDATE envelopes SET responsive = 0 WHERE receipt = {open}",
      (HELD, "saved_evaluations_stay", "notices N6"), (COPY, DECIDED, "envelopes {open}")),
-    ("a budget file came in", "INSERT INTO batches VALUES ('B0', (SELECT max(moment) FROM batches), 9)", (COPY, "what_is_new_is_later", "batches B0")),
-    ("a line has more money", "UPDATE lines SET appropriation = appropriation + 1, free = free + 1 WHERE line = '3000'",
+    ("a budget file is added", "INSERT INTO batches VALUES ('B0', (SELECT max(moment) FROM batches), 9)", (COPY, "what_is_new_is_later", "batches B0")),
+    ("a budget line has more money", "UPDATE lines SET appropriation = appropriation + 1, free = free + 1 WHERE line = '3000'",
      (COPY, "appropriations_come_from_batches", "lines 3000")),
-    ("a line has another title", "UPDATE lines SET title = 'Woods' WHERE line = '3000'", (COPY, "appropriations_come_from_batches", "lines 3000")),
-    ("a budget file came in at another time", "UPDATE batches SET moment = moment - 100", (COPY, STAY, "batches B1")),
-    ("a lot asks for another security", "UPDATE lots SET security = 15 WHERE notice = 'N5'", (PUBLIC, TERMS, "notices N5"), (COPY, STAY, "lots N5/L1")),
-    ("a lot is of another line", "UPDATE lots SET line = '2000' WHERE notice = 'N5'; UPDATE lines SET free = free + 900 WHERE line = '1000'; "
+    ("a budget line has another title", "UPDATE lines SET title = 'Woods' WHERE line = '3000'", (COPY, "appropriations_come_from_batches", "lines 3000")),
+    ("a budget file was imported at another time", "UPDATE batches SET moment = moment - 100", (COPY, STAY, "batches B1")),
+    ("a lot requires another tender security", "UPDATE lots SET security = 15 WHERE notice = 'N5'", (PUBLIC, TERMS, "notices N5"), (COPY, STAY, "lots N5/L1")),
+    ("a lot is on another budget line", "UPDATE lots SET line = '2000' WHERE notice = 'N5'; UPDATE lines SET free = free + 900 WHERE line = '1000'; "
      "UPDATE lines SET free = free - 900 WHERE line = '2000'", (PUBLIC, TERMS, "notices N5"), (COPY, STAY, "lots N5/L1")),
-    ("a withdrawn tender was another tenderer's", "UPDATE envelopes SET tenderer = 'T5' WHERE receipt = {taken}; "
+    ("a withdrawn tender is another tenderer's", "UPDATE envelopes SET tenderer = 'T5' WHERE receipt = {taken}; "
      "UPDATE securities SET tenderer = 'T5' WHERE security = {taken}",
      (HELD, "securities_are_as_shown", "securities {taken}"), (COPY, STAY, "envelopes {taken}")),
-    ("the last tender never came", "DELETE FROM envelopes WHERE receipt = {later}; UPDATE office SET receipts = receipts - 1",
+    ("the last tender is missing", "DELETE FROM envelopes WHERE receipt = {later}; UPDATE office SET receipts = receipts - 1",
      (HELD, RECEIPTS, "envelopes {later}"), (HELD, "registers_are_of_the_rows", "envelopes {later}"), (COPY, STAY, "envelopes {later}"),
      (COPY, DECIDED, "office 2")),
-    ("the last event never was", UNENDED, (PUBLIC, "saved_releases_stay", "notices N8"), (HELD, "securities_are_as_shown", "performance {broken}"),
+    ("the last event is missing", UNENDED, (PUBLIC, "saved_releases_stay", "notices N8"), (HELD, "securities_are_as_shown", "performance {broken}"),
      (COPY, STAY, "releases N8/5")),
-    # What a command could have done, since the last witness or within what a witness leaves open, none of them shows.
+    # No witness shows a change that a command could have made since the last witness, or within the facts that a witness leaves open.
     ("a sealed tender was withdrawn before the deadline", "UPDATE envelopes SET state = 'withdrawn' WHERE receipt = {sealed}; "
      "DELETE FROM seals WHERE receipt = {sealed}; UPDATE securities SET state = 'returned' WHERE security = {sealed}"),
-    ("a line has another title and more money, as by a budget file that came since",
+    ("a budget line has another title and more money, as if by a later budget file",
      "UPDATE lines SET title = 'Woods', appropriation = 8, free = 8 WHERE line = '3000'; INSERT INTO batches SELECT 'B9', moment, 1 FROM office"),
-    ("a tenderer was registered since", "INSERT INTO tenderers VALUES ('T9', 'Firm T9', 'T9 Street', zeroblob(32))"),
-    ("a contract ended by default since", ENDED),
+    ("a tenderer is added, registered after all witnesses", "INSERT INTO tenderers VALUES ('T9', 'Firm T9', 'T9 Street', zeroblob(32))"),
+    ("a contract is shown as ended by default, after all witnesses", ENDED),
 ]
 
 

@@ -1,4 +1,5 @@
-"""What `tests/page` asks of the portal beyond its single views: German, open data, the search, many notices, paper, and an office without a mirror."""
+"""The questions of `tests/page` about the portal beyond its single views: German, open data, the search, many notices, paper, and an office without a
+mirror."""
 import base64
 import json
 import os
@@ -16,13 +17,13 @@ from page_checks import NARROWEST, VIEWS, has_contrast, is_quiet, is_within, pag
 from scene import Scene
 
 WIDEST = 1920
-# How many notices an office has that is there for some years, and within how many seconds of the page's own work they are shown.
+# The notices of an office that has run for some years, and the seconds of the page's own work within which they are shown.
 MANY, LONGEST = 500, 1.0
 NAMES = [f"M{number:04}" for number in range(MANY)]
 # Seconds until a deadline, and how many connections an office takes before it ends.
 DAY, SOON, CONNECTIONS = 86_400, 2, 100_000
 FOUND = "[...document.querySelectorAll('.entry-of-list h3')].map((at) => at.textContent)"
-# What is asked of the mirror's files: the type of each.
+# The paths below /data/ that the test asks for, each with its type.
 FILES = {"": "text/html; charset=utf-8", "notices.csv": "text/csv; charset=utf-8", "releases.jsonl": "application/jsonl; charset=utf-8",
          "feed.atom": "application/atom+xml", "records/N1.json": "application/json", "minutes/N1.txt": "text/plain; charset=utf-8",
          "releases.jsonl.gz": "application/gzip", "mirror.json": "application/json"}
@@ -55,8 +56,8 @@ def german(scene: Scene) -> None:
 
 
 def open_data(scene: Scene) -> None:
-    """The mirror's files have their types, come by gzip to who takes it, are told to be unchanged, and may be read by any site's page; a mirror elsewhere, that
-    asks by the net, has the same releases."""
+    """The mirror's files have their types, and gzip for clients that accept it. The front answers that a file is unchanged, and any site's page may read it. A
+    mirror elsewhere, which asks by the net, has the same releases."""
     for name, media in FILES.items():
         answer = scene.front.ask("GET", f"/data/{name}")
         told = (answer.status, answer.head["Content-Type"], answer.head["Cache-Control"], answer.head["Access-Control-Allow-Origin"])
@@ -122,8 +123,7 @@ def search(scene: Scene) -> None:
 
 
 def publish_many(port: int) -> list[str]:
-    """Publishes many notices, of which one in ten takes tenders for a day and the others for a moment; gives the titles in the order in which they are to be
-    shown."""
+    """Publishes many notices. One in ten takes tenders for a day and the others for a moment. Returns the titles in the order of the list."""
     office = client.Client(client.Port(port))
     office.import_budget("B1", client.budget(f"1100,add,{MANY * 1000},Roads"))
     for name in NAMES:
@@ -181,7 +181,7 @@ CITY = {"name": {"en": "Example City", "de": "Beispielstadt"}, "imprint": {"en":
 
 
 def city(scene: Scene) -> None:
-    """The city's own words are its file's: the name above, its paragraphs as texts with links, in the language that there is."""
+    """The city's own words are its file's: the name above, its paragraphs as texts with links, in the language in which they exist."""
     os.makedirs(os.path.join(scene.front.folder, "city"), exist_ok=True)
     path = os.path.join(scene.front.folder, "city", "city.json")
     with open(path, "w") as file:
@@ -199,7 +199,7 @@ def city(scene: Scene) -> None:
 
 
 def on_paper(scene: Scene) -> None:
-    """Printed, a view is without menus and buttons; what was folded is there; it says where it comes from and when."""
+    """On paper, a view has no menus and buttons. Folded parts are printed. The page prints its address and the time."""
     page = page_of(scene, "#notice/N1")
     page.run("document.querySelector('main').append(Object.assign(document.createElement('details'), { textContent: 'folded' }))")
     printed = base64.b64decode(page.ask("Page.printToPDF", printBackground=False)["data"])
@@ -222,7 +222,7 @@ def on_paper(scene: Scene) -> None:
 
 
 def without_mirror(scene: Scene) -> None:
-    """Where there is no mirror, the list and the notices are there, what needs the tables says so, and nothing breaks."""
+    """If there is no mirror, the list and the notices are shown. Views that need the tables say so, and nothing breaks."""
     page = page_of(scene, "")
     page.answer_for({f"/data/{name}.csv": (404, b"{}") for name in ("notices", "lots", "tenders", "awards", "contracts", "payments", "budget")})
     for place in ("#list", "#firms", "#firm/T1", "#figures", "#line/1100"):
@@ -236,12 +236,12 @@ def without_mirror(scene: Scene) -> None:
     is_quiet(page)
 
 
-# Of each page the module that begins, and one that it imports.
+# For each page the module that begins, and one that it imports.
 MODULES = {"": ("/page.js", "/common/draw.js"), "tender/": ("/tender/main.js", "/tender/key.js"), "clerk/": ("/clerk/desk.js", "/clerk/today.js")}
 
 
 def failing_scripts(scene: Scene) -> None:
-    """Where a module doesn't come, or is none, each page says that its scripts didn't come; a fault of a script that runs is told where one looks."""
+    """If a module doesn't come, or isn't one, each page says that its scripts didn't come. A fault of a script that runs is reported within the view."""
     for place, modules in MODULES.items():
         for module, answer in ((modules[0], None), (modules[1], None), (modules[1], (200, b"export const nothing = 1;"))):
             page = Page(scene.browser, 1280)
@@ -262,7 +262,7 @@ def failing_scripts(scene: Scene) -> None:
     check(f"without a module of a screen it says {page.text()!r}", page.text().startswith("Not shown\nSomething went wrong in this page."))
     page.run("location.hash = '#today'")
     page.wait("document.querySelector('main h1').textContent === 'Today'")
-    # (what the page goes on to load is nobody's to answer then)
+    # (Nobody answers the other files that the page then loads.)
     page.ask("Fetch.disable")
     page.ask("Page.navigate", url="about:blank")
     page.browser.paused.clear()

@@ -23,7 +23,7 @@ BESIDES: dict[str, list[str]] = {
 }
 
 class Reached:
-    """What was reached so far, and what is still to be followed."""
+    """The definitions reached so far, and those to follow."""
 
     def __init__(self) -> None:
         self.crates = crates_of_the_program()
@@ -34,7 +34,7 @@ class Reached:
         self.seen: set[Path] = set()
 
     def add_all(self, words: Iterable[str], imports: Mapping[str, Imported], source: Source | None = None) -> None:
-        """Adds what words mean in a file with these imports; where it is a file of definitions, its own are meant first."""
+        """Adds the meanings of words in a file with these imports. In a file of definitions, its own come first."""
         for word in sorted(words):
             own = source.defines(word.split(".")[0]) if source else None
             if own:
@@ -54,7 +54,7 @@ class Reached:
             self.add(*definition_at(crate, module, name))
 
     def need(self, imports: Mapping[str, Imported], where: Path | str) -> None:
-        """That each definition of the program's crates is there which a file imports."""
+        """Checks that each definition of the program's crates that a file imports exists."""
         for place, name in imports.values():
             crate, _, module = place.partition(".specs.")
             if name and crate in self.crates and not module.startswith("declared."):
@@ -88,7 +88,7 @@ class Reached:
 
 
 def begin(made: Reached, start: Mapping[str, Sequence[str]]) -> None:
-    """Follows what the clauses of these calls use."""
+    """Follows the names that the clauses of these calls use."""
     for name, wanted in start.items():
         path = ROOT / "crates" / name
         calls = [call for call in calls_of(path) if call.name in wanted]

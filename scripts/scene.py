@@ -1,4 +1,4 @@
-"""What the tests of `tests/page` share."""
+"""The parts that the tests of `tests/page` share."""
 import subprocess
 from dataclasses import dataclass
 
@@ -8,7 +8,7 @@ from front import Front
 
 @dataclass
 class Scene:
-    """The front, the browser, the office's process, where pictures go, and the program."""
+    """The front, the browser, the office's process, the folder for pictures, and the program."""
 
     front: Front
     browser: Browser

@@ -31,7 +31,7 @@ Counts = collections.Counter[str]
 
 
 class Strangers:
-    """All of them, until an end."""
+    """All strangers, until an end."""
 
     def __init__(self, port: int, begin: float, end: float, lines: int) -> None:
         self.port, self.begin, self.end, self.lines, self.counts, self.random = port, begin, end, lines, Counts(), random.Random(1)
@@ -79,7 +79,7 @@ class Strangers:
             path = self.random.choice(["/ledger", f"/lines/{100_000 + number}", f"/lines/{100_000 + number}", f"/notices?after=C{1_000_000 + number}",
                                        "/notices/N0/record", "/notices/N0/releases", "/notices/N0/minutes", "/notices/N0/evaluation", "/notices/D/terms",
                                        f"/notices/C{1_000_001 + number}/evaluation", f"/notices/C{1_000_001 + number}/minutes"])
-            # (A ledger may have megabytes, which aren't what is tried here.)
+            # (A ledger may have megabytes, which this test doesn't need.)
             yield request("HEAD" if path == "/ledger" else "GET", path)
 
     async def goes_away(self, source: str) -> None:

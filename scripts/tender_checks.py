@@ -1,4 +1,4 @@
-"""What `tests/tender_desk` asks of the tenderer's desk, in a browser: a tender's life by the desk alone, what can't be sent, and answers that are lost."""
+"""The questions of `tests/tender_desk` in a browser: a tender's life at the desk alone, files that can't be sent, and answers that are lost."""
 import json
 import os
 import signal
@@ -48,9 +48,30 @@ def key(scene: Scene) -> None:
 
 
 def offer(scene: Scene) -> None:
-    """A notice by its number, a price for each item, sums as one types, what is out of range told at once; what is sent, its digest, the receipt, its file; and
-    whether both belong together."""
+    """A tenderer finds a notice by its number and types a price for each item. Sums appear at once, and so do errors of range. The test compares the file sent,
+    its digest, the receipt and the saved file, and whether both belong together."""
     desk = Desk(scene, "T1")
+    finds_notice(desk)
+    desk.prices("N1", "L1", 150, 12)
+    check(f"the sums are {desk.page.text()}", all(text in desk.page.text() for text in ("450", "120", "570 EUR")))
+    names_security(desk)
+    shown = desk.page.run("document.querySelector('pre').textContent"), desk.page.run("document.getElementById('digest').textContent").replace(" ", "")
+    check(f"what will be sent is {shown}", shown == (RIGHT.decode(), digest_of(RIGHT)))
+    desk.press("Submit the tender")
+    receipt = desk.receipt()
+    check(f"the receipt is {desk.page.text()}", desk.has("good", "The office received exactly what you submitted.") and not desk.has("bad", ""))
+    found = scene.client.tender("T1", receipt)
+    check(f"the office has {found.body!r}", (found["digest"], found["security"], found["lot"]) == (digest_of(RIGHT), receipt, "L1"))
+    desk.press("Save the receipt")
+    desk.press("Save what you submitted")
+    kept, sent = json.loads(desk.saved(f"receipt-{receipt}.json")), desk.saved(f"N1-L1-receipt-{receipt}.csv")
+    check(f"the receipt's file has {kept}", sent == RIGHT and all(kept[name] == found[name] for name in ("digest", "receipt", "moment", "state", "notice")))
+    belongs(scene, desk, receipt)
+    is_quiet(desk.page)
+
+
+def finds_notice(desk: Desk) -> None:
+    """The desk lists open notices, finds one by its number, and reports unit prices that are out of range."""
     desk.at("offer", "Prepare a tender")
     desk.says("are open for tenders")
     check(f"open notices are listed: {desk.page.text()}", all(text in desk.page.text() for text in ("Road repair", "Things of all kinds", "closes in")))
@@ -65,8 +86,10 @@ def offer(scene: Scene) -> None:
     for unit, text in (("12.5", "no point"), ("1000000001", "too much"), ("x", "digits only")):
         desk.fill("unit-1", unit)
         check(f"{unit}: {desk.page.text()}", text in desk.page.text() and not desk.can_press("Check before submitting"))
-    desk.prices("N1", "L1", 150, 12)
-    check(f"the sums are {desk.page.text()}", all(text in desk.page.text() for text in ("450", "120", "570 EUR")))
+
+
+def names_security(desk: Desk) -> None:
+    """A security with a wrong reference can't be sent; with a right one the tender can be checked."""
     desk.fill("security-reference", "G 1")
     desk.fill("security-amount", "50")
     desk.press("Check before submitting")
@@ -77,19 +100,6 @@ def offer(scene: Scene) -> None:
     desk.fill("security-reference", "G1")
     desk.press("Check before submitting")
     desk.shows("Check before submitting")
-    shown = desk.page.run("document.querySelector('pre').textContent"), desk.page.run("document.getElementById('digest').textContent").replace(" ", "")
-    check(f"what will be sent is {shown}", shown == (RIGHT.decode(), digest_of(RIGHT)))
-    desk.press("Submit the tender")
-    receipt = desk.receipt()
-    check(f"the receipt is {desk.page.text()}", desk.has("good", "The office received exactly what you submitted.") and not desk.has("bad", ""))
-    found = scene.client.tender("T1", receipt)
-    check(f"the office has {found.body!r}", (found["digest"], found["security"], found["lot"]) == (digest_of(RIGHT), receipt, "L1"))
-    desk.press("Save the receipt")
-    desk.press("Save what you submitted")
-    kept, sent = json.loads(desk.saved(f"receipt-{receipt}.json")), desk.saved(f"N1-L1-receipt-{receipt}.csv")
-    check(f"the receipt's file has {kept}", sent == RIGHT and all(kept[name] == found[name] for name in ("digest", "receipt", "moment", "state", "notice")))
-    belongs(scene, desk, receipt)
-    is_quiet(desk.page)
 
 
 def belongs(scene: Scene, desk: Desk, receipt: int) -> None:
@@ -109,8 +119,8 @@ def belongs(scene: Scene, desk: Desk, receipt: int) -> None:
 
 
 def files(scene: Scene) -> None:
-    """A file with semicolons, cents of zero and a formula is made to what the office reads, each change shown; one that can't be is refused with its lines, and
-    can't be sent; one that is right goes as it is, dropped or chosen."""
+    """The desk turns a file with semicolons, cents of zero and a formula into a file that the office reads, and shows each change. If it can't, it lists the
+    wrong lines and sends nothing. A file that is right is sent unchanged, whether it was dropped or chosen."""
     desk = Desk(scene, "T1")
     desk.at("offer/N1/L2", "Tender for")
     desk.press("Use a file")
@@ -143,7 +153,7 @@ def files(scene: Scene) -> None:
 
 
 def changes(scene: Scene) -> None:
-    """A tender is changed by its receipt, and withdrawn: what it costs is said before, and the button wants a tick."""
+    """A tender is changed by its receipt, and withdrawn. The page says first what a withdrawal costs, and the button needs a tick."""
     old = scene.client.present("T2", "N1", "L1", RIGHT, "G5", 55)["receipt"]
     desk = Desk(scene, "T2")
     desk.at("tenders", "My tenders")
@@ -165,13 +175,23 @@ def changes(scene: Scene) -> None:
     desk.says("The prices that you submitted from this tab are filled in.")
     prices = [desk.page.run(f"document.getElementById('unit-{at}').value") for at in (0, 1)]
     check(f"the prices that are filled in are {prices}", prices == ["140", "12"])
+    withdraws(scene, desk, old, new)
+    desk.at("tenders", "My tenders")
+    desk.says(f"replaced by {new}")
+    check("own tenders aren't found", desk.page.run("document.querySelectorAll('tbody tr').length") >= 4)
+    check("a notice wasn't looked into", not desk.can_press("Search all notices"))
+    is_quiet(desk.page)
+
+
+def withdraws(scene: Scene, desk: Desk, old: int, new: int) -> None:
+    """A withdrawal needs a tick. If its cost changed meanwhile, the desk asks again. The security is returned."""
     desk.at(f"tender/{new}", f"Tender with receipt {new}")
     check(f"the price of a withdrawal is told so: {desk.page.text()}", desk.has("look", "Nothing: the security of 55 EUR (G5) is returned."))
     check("what it costs late isn't told", desk.has("look", "After the deadline this notice allows no withdrawal."))
     check("it can be withdrawn without a tick", not desk.can_press("Withdraw the tender"))
     is_close(scene, desk, new)
     desk.tick("withdraw-sure")
-    # (as where the deadline comes while the view stands there)
+    # (The deadline comes while the view is shown.)
     desk.page.run("void (Date.now = ((now) => () => now() + 172_800_000)(Date.now.bind(Date)))")
     desk.press("Withdraw the tender")
     desk.says("because the cost may have changed")
@@ -181,15 +201,10 @@ def changes(scene: Scene) -> None:
     desk.says("The tender is withdrawn.")
     told = scene.client.tender("T2", new)["state"], scene.client.security("T2", old)["state"]
     check(f"the office has {told}", told == ("withdrawn", "returned"))
-    desk.at("tenders", "My tenders")
-    desk.says(f"replaced by {new}")
-    check("own tenders aren't found", desk.page.run("document.querySelectorAll('tbody tr').length") >= 4)
-    check("a notice wasn't looked into", not desk.can_press("Search all notices"))
-    is_quiet(desk.page)
 
 
 def is_close(scene: Scene, desk: Desk, receipt: int) -> None:
-    """Shortly before the deadline it is told what a withdrawal that comes late would cost."""
+    """Shortly before the deadline, the page says what a late withdrawal would cost."""
     terms = {**json.loads(scene.front.ask("GET", "/notices/N1/terms").body), "late_withdrawal": "forfeits", "deadline": text_of(time.time() + 40)}
     desk.page.answer_for({"/notices/N1/terms": (200, json.dumps(terms).encode())})
     for place, head in (("check", "Do a file"), (f"tender/{receipt}", "Tender with")):
@@ -201,7 +216,7 @@ def is_close(scene: Scene, desk: Desk, receipt: int) -> None:
 
 
 def lost(scene: Scene) -> None:
-    """Where no answer comes, that is told, and the office is asked what became of it: what was done is found, and what wasn't may be sent again."""
+    """If no answer comes, the page says so, and asks the office about the command. A command that was done is found, and any other may be sent again."""
     desk = Desk(scene, "T1")
     for lot_name, is_done in (("L2", False), ("L3", True)):
         path = f"/notices/N4/lots/{lot_name}/tenders"
@@ -235,7 +250,7 @@ def lost(scene: Scene) -> None:
 
 
 def stopped(scene: Scene) -> None:
-    """The office is killed in the middle of a sending: that is told, and once it serves again it is asked, and the tender sent."""
+    """The office is killed while a tender is sent. The page says so. Once the office serves again, the page asks it and sends the tender."""
     desk = Desk(scene, "T1")
     desk.prices("N4", "L4", 150, 12)
     desk.press("Check before submitting")
@@ -274,8 +289,8 @@ def each_refusal(scene: Scene) -> None:
 
 
 def late(scene: Scene) -> None:
-    """Behind the deadline: a tender is warned of and given back; a late withdrawal costs the security where the notice says so, which is told before; else it
-    is refused in a sentence."""
+    """After the deadline: the page warns about a tender, and the office returns it. A late withdrawal costs the security if the notice says so, and the page
+    says that first. Otherwise the office refuses it, and the page shows one sentence."""
     wait_until(scene.deadline + 1.05)
     desk = Desk(scene, "T1")
     desk.prices("N2", "L1", 150, 12)
@@ -307,7 +322,7 @@ def late(scene: Scene) -> None:
 
 
 def results(scene: Scene) -> None:
-    """Behind the opening: what was read, what was corrected, the award, the contract with what is outstanding, and its security."""
+    """After the opening: the lines that were read, the corrections, the award, the contract with its outstanding amount, and its security."""
     wait_until(scene.deadline + 1.05)
     client = scene.client
     client.open("N3")

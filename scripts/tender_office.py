@@ -32,8 +32,8 @@ def serving(program: str, file: str, port: int) -> "subprocess.Popen[bytes]":
 
 @dataclass
 class Scene(scene.Scene):
-    """What the tests of the desk share besides: the program and its file, which a test may stop and start again; who asks the office beside the desk; a folder
-    for files."""
+    """The further parts that the tests of the desk share. They are the program and its file, which a test may stop and start again; the client that asks the
+    office beside the desk; and a folder for files."""
 
     file: str
     client: Client[Answer]
@@ -62,7 +62,7 @@ def asking(front: Front) -> Client[Answer]:
 
 
 def prepare(desk: Scene) -> None:
-    """The budget, the tenderers, the notices, and what they have before the tests."""
+    """The budget, the tenderers and the notices, with their state before the tests."""
     client = desk.client
     client.import_budget("B1", budget("1000,add,1000000000,Roads"))
     for name, firm in (("T1", "Alpha & Söhne"), ("T2", "Beta")):
@@ -73,7 +73,7 @@ def prepare(desk: Scene) -> None:
     client.publish("N1", notice(far, secured, lot("L2", "1000", 9000, 0, ("Paving", 1), title="South"), title="Road repair"))
     more = [lot(name, "1000", 900, 0, *ITEMS) for name in ("L2", "L3", "L4")]
     client.publish("N4", notice(far, lot("L1", "1000", 90_000, 0, *LONG, title="A long list"), *more, title="Things of all kinds"))
-    # (two publications and two tenders come before it, also where the machine is busy)
+    # (two publications and two tenders come before it, even if the machine is busy)
     desk.deadline = int(time.time()) + AHEAD + 8
     client.publish("N2", notice(text_of(desk.deadline), secured, title="Late tenders", late_withdrawal="forfeits"))
     client.publish("N3", notice(text_of(desk.deadline), secured, title="A bridge", performance=70))

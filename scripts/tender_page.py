@@ -8,7 +8,7 @@ from tender_office import Scene
 
 # The file of the prices 150 and 12 for the items of the first lot.
 RIGHT = b"item,quantity,unit,total\nI1,3,150,450\nI2,10,12,120\nTOTAL,,,570\n"
-# A file for another lot, as a sheet of a German office writes it, and what the desk makes of it.
+# A file for another lot, as a sheet of a German office writes it, and the file that the desk makes of it.
 SHEET = "Pos;Bezeichnung;Menge;Einzelpreis;Gesamtpreis\r\nL2/I1;Straße;1;1.500,00 €;=C2*D2\r\nSumme;;;;1500\r\n"
 MADE = b"item,quantity,unit,total\nI1,1,1500,1500\nTOTAL,,,1500\n"
 
@@ -26,7 +26,7 @@ class Desk:
             self.page.wait(f"document.getElementById('who').textContent.includes('{who}')")
 
     def at(self, place: str, head: str) -> None:
-        """Goes to a place, until a view with this heading is there."""
+        """Goes to a place, until a view with this heading is shown."""
         self.page.run(f"location.hash = {json.dumps('#' + place)}")
         self.shows(head, place)
 
@@ -56,7 +56,7 @@ class Desk:
                                   f"at.textContent.includes({json.dumps(text)}))"))
 
     def fill(self, name: str, text: str) -> None:
-        """Types into a field, in the place of what was there."""
+        """Types into a field, in place of its old text."""
         self.page.run(f"(() => {{ const at = document.getElementById({json.dumps(name)}); at.focus(); at.select(); }})()")
         self.page.type(text)
 
@@ -71,7 +71,7 @@ class Desk:
             return file.read()
 
     def receipt(self) -> int:
-        """The receipt that is shown behind a sending."""
+        """The receipt that the page shows after a sending."""
         self.shows("Receipt ")
         return int(self.page.run("document.querySelector('main h1').textContent.split(' ')[1]"))
 

@@ -12,21 +12,21 @@ from tender_page import MADE, RIGHT, SHEET, Desk
 
 WIDTHS = (320, 375, 768, 1280, 1920)
 PICTURED = {"phone": 375, "desktop": 1280}
-# Whether what has the focus is seen, to a pixel, with an outline around it.
+# Whether the element with the focus is seen, to a pixel, with an outline around it.
 SEEN = """(() => {
   const at = document.activeElement, box = at.getBoundingClientRect(), style = getComputedStyle(at);
   const isWithin = box.left >= -1 && box.top >= -1 && box.right <= innerWidth + 1 && box.bottom <= innerHeight + 1;
   return isWithin && style.outlineStyle === "solid" && parseFloat(style.outlineWidth) >= 2;
 })()"""
-# What must have a name.
+# The roles of elements that must have a name.
 NAMED = ("link", "button", "textbox", "checkbox", "table", "region", "navigation")
 
 
 def tab_to(page: Page, name: str) -> None:
-    """Goes on by the keyboard to what has this name, which must be seen there."""
+    """Moves the focus by the keyboard to the element with this name. It must be seen there."""
     for _ in range(80):
         page.press("Tab")
-        # (The window may still be on its way there.)
+        # (The window may still scroll to it.)
         page.expect("what has the focus is seen", lambda: page.run(SEEN))
         found = focused(page)[0]
         if found.startswith(name):
@@ -35,7 +35,7 @@ def tab_to(page: Page, name: str) -> None:
 
 
 def keyboard(scene: Scene) -> None:
-    """A tender is handed in by the keyboard alone, and the focus is seen at each step."""
+    """The keyboard alone is enough to submit a tender, and the focus is seen at each step."""
     desk = Desk(scene, "T1")
     page = desk.page
     desk.at("offer", "Prepare a tender")
@@ -66,7 +66,7 @@ def keyboard(scene: Scene) -> None:
 
 
 def is_read_out(name: str, page: Page) -> None:
-    """What a screen reader is told: landmarks, one heading of the first level and none left out, a name for each thing, headers of tables."""
+    """A screen reader finds landmarks, one heading of the first level and no level left out. Each thing has a name, each table headers."""
     tree = page.tree()
     roles = [role for role, _, _ in tree]
     for role in ("banner", "navigation", "main", "contentinfo"):
@@ -80,7 +80,7 @@ def is_read_out(name: str, page: Page) -> None:
 
 
 def shapes(scene: Scene) -> None:
-    """Each view, in both languages, narrow to wide, light and dark: nothing is wider than the window, texts are seen, and all is told to a screen reader."""
+    """Each view, in both languages, narrow to wide, light and dark: nothing is wider than the window, texts are seen, and a screen reader reads everything."""
     sealed = scene.client.present("T2", "N1", "L2", MADE)["receipt"]
     for language in ("en", "de"):
         desk = Desk(scene, "T2", language=language)
@@ -100,7 +100,7 @@ def shapes(scene: Scene) -> None:
             if name == "send":
                 is_sent(scene, desk, language)
             if name == "list":
-                # The view of what is sent is that of the offer for N1 again.
+                # After sending, the view is again that of the offer for N1.
                 desk.page.run("location.hash = '#offer/N1/L1'")
                 desk.page.wait("document.getElementById('unit-1') && !document.getElementById('unit-2')")
                 desk.fill("unit-0", "150")
@@ -112,14 +112,14 @@ def shapes(scene: Scene) -> None:
 
 
 def is_sent(scene: Scene, desk: Desk, language: str) -> None:
-    """The receipt; and where a tender is there already, the refusal."""
+    """The page shows the receipt; or the refusal, if a tender exists already."""
     desk.press("Submit the tender" if language == "en" else "Angebot abgeben")
     desk.page.wait("document.querySelector('main .good, main .bad')")
     looked_at(scene, desk, "receipt" if language == "en" else "already", language)
 
 
 def with_file(scene: Scene, desk: Desk, language: str) -> None:
-    """The views of a file that is refused, and of one that is made to another."""
+    """The views of a file that is refused, and of one that is converted."""
     desk.page.run("location.hash = '#offer/N1/L2'")
     desk.page.run("new Promise((done) => { setTimeout(done, 0); })")
     desk.page.wait("document.getElementById('source-file') && document.querySelector('main').getAttribute('aria-busy') === 'false'")
@@ -148,7 +148,7 @@ def looked_at(scene: Scene, desk: Desk, name: str, language: str) -> None:
 
 
 def printed(scene: Scene) -> None:
-    """What is printed: the sheet of a registration and of a receipt, alone, without buttons and ways to other views; and as a PDF."""
+    """The sheets of a registration and of a receipt print alone, without buttons and ways to other views; also as a PDF."""
     receipt = scene.client.present("T2", "N4", "L2", RIGHT)["receipt"]
     desk = Desk(scene)
     desk.at("key", "Key")
@@ -166,7 +166,7 @@ def printed(scene: Scene) -> None:
 
 
 def on_paper(scene: Scene, desk: Desk, name: str, is_sheet: bool = True) -> str:
-    """What is seen on paper, which is left as a PDF too."""
+    """The texts that are seen on paper. The paper is saved as a PDF too."""
     desk.page.run(f"document.body.classList.toggle('one-sheet', {json.dumps(is_sheet)})")
     desk.page.ask("Emulation.setEmulatedMedia", media="print")
     seen = str(desk.page.run("document.body.innerText"))
@@ -180,7 +180,7 @@ def on_paper(scene: Scene, desk: Desk, name: str, is_sheet: bool = True) -> str:
 
 
 def without_scripts(scene: Scene) -> None:
-    """Where scripts are turned off, the page says what there is."""
+    """If scripts are turned off, the page names the alternatives."""
     page = Page(scene.browser, 375)
     page.ask("Emulation.setScriptExecutionDisabled", value=True)
     page.ask("Page.navigate", url=scene.front.address("tender/"))
@@ -189,7 +189,7 @@ def without_scripts(scene: Scene) -> None:
 
 
 def other_digest(scene: Scene, desk: Desk) -> None:
-    """A receipt that tells another digest is never green."""
+    """A receipt with another digest is never green."""
     desk.prices("N4", "L1", *range(50))
     desk.press("Check before submitting")
     desk.shows("Check before submitting")
@@ -228,7 +228,8 @@ def stores_nothing(scene: Scene, desk: Desk) -> None:
     keeps_nothing(scene, desk.page)
 
 
-# Faults that are planted in modules of the desk: the module, what stands there, what stands there then, whose key, and what must find it.
+# Faults that are planted in modules of the desk. Each has the module, its text, the text that replaces it, the tenderer whose key is used, and the test that
+# must find it.
 PLANTS: list[tuple[str, str, str, str, Callable[[Scene, Desk], None]]] = [
     ("receipt", "const isSame = own === others;", "const isSame = true;", "T1", other_digest),
     ("session", "BigInt(value) * BigInt(offer.lot.items[at].quantity)", "BigInt(value)", "T1", sums),
@@ -254,7 +255,7 @@ def planted_desk(scene: Scene, who: str, module: str, old: str, new: str) -> Des
 
 
 def plants(scene: Scene) -> None:
-    """A fault in a module of the desk is found by what is asked here, and nothing where none is planted."""
+    """The tests here find each fault that is planted in a module of the desk. They find nothing if no fault is planted."""
     passed_over = []
     for module, old, new, who, judge in PLANTS:
         judge(scene, Desk(scene, who))

@@ -1,4 +1,4 @@
-"""A front for tests. It answers what is saved in a folder, and now and then that it is asked too often, or that no answer can be had."""
+"""A front for tests. It answers with the files of a folder. Sometimes it answers that it is asked too often, or that it can't answer."""
 import contextlib
 import http.server
 import os
@@ -7,15 +7,15 @@ import threading
 import time
 from collections.abc import Iterator
 
-# What there is of an opened notice alone.
+# The answers that only an opened notice has.
 OF_OPENED = ("minutes", "evaluation")
 NOT_THERE = {404: b'{"name":"NoSuch","refusal":9,"what":"notice"}', 409: b'{"name":"NotOpened","refusal":22}'}
 
 
 class Front:
-    """What is answered: the files of a folder, of notices K0, K1 and so on those of the notice that is `copied`, of the notice that is `lacking` nothing. After
-    `burst` requests it says 429, and `wait` seconds later takes as many again; so many of the first requests as are `failing` get 503. Each ledger is from
-    so many seconds ago as `old` says next, and then of now."""
+    """Answers with the files of a folder. Notices K0, K1 and so on have the files of the notice `copied`; the notice `lacking` has none. After `burst` requests
+    it answers 429, and after `wait` seconds it takes as many again. The first `failing` requests get 503. `old` says how many seconds old the next ledgers are;
+    later ones are of now."""
 
     def __init__(self, folder: str, copied: str = "", burst: int = 1 << 30, wait: int = 1, failing: int = 0, lacking: str = "",
                  old: tuple[int, ...] = ()) -> None:
@@ -24,7 +24,7 @@ class Front:
         self.left, self.until, self.refused, self.hasty, self.address, self.lock = burst, 0.0, 0, 0, "", threading.Lock()
 
     def turn(self) -> tuple[int, str] | None:
-        """The status of a refusal and what it says of when to ask again, or None."""
+        """The status of a refusal and its `Retry-After`, or None."""
         now = time.monotonic()
         with self.lock:
             if self.failing > 0:
@@ -34,14 +34,14 @@ class Front:
                 self.hasty += 1
                 return 429, str(self.wait)
             if self.left == 0:
-                # (A client that waits as long as it was told comes behind this moment.)
+                # (A client that waits as long as `Retry-After` says comes after this moment.)
                 self.left, self.until, self.refused = self.burst, now + self.wait, self.refused + 1
                 return 429, str(self.wait)
             self.left -= 1
             return None
 
     def body(self, path: str) -> bytes | None:
-        """What is saved of a path, or None."""
+        """The saved answer of a path, or None."""
         if path in ("/ledger", "/notices"):
             return self.read({"/ledger": "ledger.txt", "/notices": "notices.json"}[path])
         if path.startswith("/notices?after="):

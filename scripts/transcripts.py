@@ -11,7 +11,7 @@ PHRASES = {"200": "OK", "400": "Bad Request", "401": "Unauthorized", "403": "For
 
 
 class Topic:
-    """A file: its pieces, each a list of blocks, and what is played, each a kind, a title and lists of names."""
+    """A file: its pieces, each a list of blocks, and its plays, each a kind, a title and lists of names."""
 
     def __init__(self, name: str) -> None:
         self.name = name
@@ -30,7 +30,7 @@ class Topic:
 
 
 def blocks_of(block: str) -> list[str]:
-    """What a block stands for that may begin with a number: so many blocks, with the number of each, from 1, in place of each `#`."""
+    """The blocks that a block means. It may begin with a number: it then means so many blocks, with the number of each, from 1, in place of each `#`."""
     counted = re.fullmatch(r"(\d+) (.*)", block, re.S)
     return [counted[2].replace("#", str(number + 1)) for number in range(int(counted[1]))] if counted else [block]
 
@@ -42,7 +42,7 @@ def topics() -> list[Topic]:
 
 
 def text_of(line: str) -> str:
-    """What a line of a body stands for."""
+    """The text that a line of a body means."""
     counted = re.fullmatch(r"(\d+) (.*)", line, re.S)
     count, line = (int(counted[1]), counted[2]) if counted else (1, line)
     if line.startswith("> "):
@@ -69,7 +69,7 @@ def request_of(block: str) -> bytes:
 
 
 def answer_of(block: str) -> tuple[str, str, str] | None:
-    """The status, the kind and the body of a block's answer; None where any will do."""
+    """The status, the kind and the body of a block's answer; None if any is right."""
     told = block.split("\n= ", 1)[1]
     if told == "any":
         return None

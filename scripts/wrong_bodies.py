@@ -9,7 +9,7 @@ import re
 NO_GOAL = "the borrow checker does not cover"
 UNTRIED = "REFUSED BY NO GOAL"
 
-# What rt says of one, and what it is called here; the first that fits counts.
+# The words of rt about a mutant, and the result's name here; the first that fits counts.
 SAID = {
     "refused, as it must be (only by a limit": "only by a limit",
     "refused, as it must be (only because a proof": "only by a proof's names",
@@ -22,7 +22,7 @@ REFUSED = ("refused", "only by a limit", "only by a proof's names")
 
 
 def came_to(line: str) -> tuple[str, str, str] | None:
-    """The crate and name of the wrong body that a line of rt speaks of, and what it came to."""
+    """The crate and name of the mutant in a line of rt, and its result."""
     found = re.match(r"rt: (?:must-fail |\S*crates/)(\w+)/(?:must-fail/)?(\S+): (.*)", line)
     if found:
         for said, kind in SAID.items():

@@ -1,5 +1,5 @@
-// The city's own words (name, imprint, contact, privacy, accessibility) from `city.json`, and what this page
-// is made of.
+// The city's own words (name, imprint, contact, privacy, accessibility) from `city.json`, and the sources
+// of this page.
 import { file } from "./common/office.js";
 import { language, say } from "./common/texts.js";
 import { element, given, link, section, title } from "./common/draw.js";
@@ -18,7 +18,7 @@ async function cityFile() {
   return city;
 }
 
-/** What the city says about a part, in the spoken language, or else in another one. */
+/** The city's words about a part, in the spoken language, or else in another one. */
 function wordsOf(part) {
   const told = Object.entries(part ?? {}).filter(([, words]) => words.length > 0);
   return (told.find(([tag]) => tag === language()) ?? told[0] ?? [language(), []]);

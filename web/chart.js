@@ -1,5 +1,5 @@
 // Charts: SVG bars between names and figures that are words of the page, so that they keep their size on a
-// phone. Patterns tell the kinds apart.
+// phone. Patterns distinguish the kinds.
 import { element } from "./common/draw.js";
 
 const SPACE = "http://www.w3.org/2000/svg";
@@ -13,7 +13,7 @@ function drawn(name, attributes, ...children) {
   return made;
 }
 
-// The pattern of each kind that isn't plain: its size, and what is drawn in it.
+// The pattern of each kind that isn't plain: its size, and its drawing.
 const PATTERNS = {
   contracted: () => [9, drawn("path", { d: "M-2 11 11 -2 M-2 2 2 -2 M7 11 11 7", class: "stripe" })],
   reserved: () => [8, drawn("circle", { cx: "4", cy: "4", r: "2.5", class: "dot" })],

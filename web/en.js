@@ -1,7 +1,7 @@
 // The texts of the public page, in English.
 export default {
   "see.site": "Public procurement",
-  "see.foot": "Your browser draws this page from what the office publishes. All amounts are whole units of the currency. The page stores nothing on your device: no cookies, no accounts, no tracking.",
+  "see.foot": "Your browser draws this page from data that the office publishes. All amounts are whole units of the currency. The page stores nothing on your device: no cookies, no accounts, no tracking.",
   "see.page.list": "Procurements",
   "see.page.ledger": "Budget",
   "see.page.firms": "Firms",
@@ -12,7 +12,7 @@ export default {
   "see.search": "Search",
   "see.filters": "Filters",
   "see.nodata": "The office's open data isn't available at the moment. So this page can't show estimates, firms, budget lines or charts.",
-  "see.list.intro": "What is bought, from whom and for how much: each procurement from the notice to the last payment.",
+  "see.list.intro": "Each procurement from the notice to the last payment: the purchase, the firm and the price.",
   "see.list.open": ["Open for tenders ({count})", "Open for tenders ({count})"],
   "see.list.rest": ["No longer open for tenders ({count})", "No longer open for tenders ({count})"],
   "see.list.all": ["One procurement", "{count} procurements"],
@@ -45,7 +45,7 @@ export default {
   "see.line.list": "Show these procurements in the list",
   "see.procurement": "Procurement",
   "see.firm": "Firm",
-  "see.firms.intro": "The firms that tendered, what each one won and what it was paid, over all years. A tender counts once it is opened.",
+  "see.firms.intro": "The firms that tendered, and how much each one won and was paid, over all years. A tender counts once it is opened.",
   "see.firms.search": "Name of a firm",
   "see.firms.none": "No tender has been opened yet.",
   "see.firms.count": ["{count} firm", "{count} firms"],
@@ -72,6 +72,6 @@ export default {
   "see.about.nothing": "The city hasn't filled this in yet.",
   "see.about.data": "Download everything as open data",
   "see.about.made": "What you see here",
-  "see.about.drawn": "Your browser draws each view from what the office answers to everybody. The sources are linked below each view. The time in UTC counts; your local time is shown beside it.",
+  "see.about.drawn": "Your browser draws each view from the answers that the office gives to everybody. The sources are linked below each view. The time in UTC counts; your local time is shown beside it.",
   "see.about.kept": "Do you want to be sure that nothing is changed later? Keep a copy of everything that was published and compare it yourself. The open data explains how.",
 };

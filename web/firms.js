@@ -1,4 +1,4 @@
-// Firms: what each tendered for, what it won and what it was paid, from the mirror's tables.
+// Firms: the tenders, awards and payments of each, from the mirror's tables.
 import { grouped, sum, tables, worthNow } from "./common/data.js";
 import { badge, below, element, facts, given, link, placeOf, title } from "./common/draw.js";
 import { plain } from "./common/filters.js";

@@ -2,7 +2,7 @@
 # Makes offices of 10,000 lines, 50,000 lots, 20,000 contracts and 100,000 entries, and of a tenth of each, and prints the ratio of the times of their ledgers.
 # It takes a few minutes, more if the crates below weren't checked before. The program isn't a crate of the repository, so that the gate doesn't prove and run
 # it. Its source ends in `.in`, because the gate rejects a `.rt` file outside a crate.
-# If all processors are busy, a long ledger is interrupted and a short one isn't. BY='chrt -f 1' runs the program once more, by that command.
+# If all processors are busy, a long ledger is interrupted and a short one isn't. BY='chrt -f 1' runs the program a second time, by that command.
 set -eu
 here=$(cd "$(dirname "$0")" && pwd)
 root=$(cd "$here/../.." && pwd)

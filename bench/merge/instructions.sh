@@ -1,6 +1,6 @@
 #!/bin/sh
-# Counts with callgrind the instructions of merging one more payment into a stored merge of 38,151 bytes: those of a hundred merges, with what the program does
-# besides (about one in a hundred). It takes a few minutes, most of it proofs, more if `ocds_merge` wasn't checked before.
+# Counts with callgrind the instructions of merging one more payment into a stored merge of 38,151 bytes. The count is of a hundred merges, with the program's
+# other work (about one in a hundred). It takes a few minutes, most of it proofs, more if `ocds_merge` wasn't checked before.
 set -eu
 command -v valgrind > /dev/null || { echo 'instructions.sh: missing: valgrind. Get it: apt-get install valgrind' >&2; exit 3; }
 set -- instructions.rt.in

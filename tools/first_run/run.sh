@@ -1,9 +1,11 @@
 #!/bin/sh
-# The first run (`make run`): an import and a query, crates/procure/stdin, and the two responses to them, without waiting for proofs.
-# If `make build` or `make test` has left build/procure, the proved program answers them. Otherwise a smaller program does, compiled from the same sources
-# (`rt try`, which proves nothing): an office in memory with the settings of office.rt.in, without the file store and the command line, whose libraries take
-# longer to compile than the whole office. It isn't a crate of the repository, so that the gate doesn't prove it. Its files end in `.in`, because the gate
-# rejects a `.rt` file outside a crate. On standard error it says which of the two programs runs. It ends with the program's status.
+# The first run (`make run`): an import and a query, crates/procure/stdin, and the two responses to them, without waiting for proofs. If `make build` or `make
+# test` has left build/procure, the proved program answers them. Otherwise a smaller program does, compiled from the same sources (`rt try`, which proves
+# nothing).
+#
+# The smaller program is an office in memory with the settings of office.rt.in. It has no file store and no command line, whose libraries take longer to compile
+# than the whole office. It isn't a crate of the repository, so that the gate doesn't prove it. Its files end in `.in`, because the gate rejects a `.rt` file
+# outside a crate. On standard error the script says which of the two programs runs. It ends with the program's status.
 set -eu
 here=$(cd "$(dirname "$0")" && pwd)
 root=$(cd "$here/../.." && pwd)

@@ -47,7 +47,7 @@ function examinationOrder(notice, { name, receipt }, body) {
     again: "AlreadyDecided", find: () => ofExamination(notice.name, receipt, body.responsive) };
 }
 
-/** What a lot needs next. */
+/** The next task of a lot. */
 export function awardPart(notice, lot, again) {
   return { undecided, awarded }[lot.state]?.(notice, lot, again) ?? (lot.active ? element("p", {}, letters(notice, lot)) : null);
 }
@@ -86,7 +86,7 @@ async function tellLacking(lot, more, currency, award, place) {
   }
 }
 
-/** What an award would do. */
+/** The result of an award, as a sentence. */
 function outlookText(lot, { code, count = 0, tender }, currency) {
   const values = { count, lot: lot.id, name: given(tender?.name ?? ""), price: tender ? money(tender.corrected, currency) : "" };
   return sayParts(`award.${code}`, values);

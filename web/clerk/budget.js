@@ -1,5 +1,5 @@
-// A budget file as the office reads it: its rows, the faults of each record, what the office would answer,
-// and what the file would change.
+// A budget file as the office reads it: its rows, the faults of each record, the office's answer, and the
+// changes by the file.
 import { binaryOf, contentOf, isId, isTextLine, isUtf8, numberOf, recordsOf, textOf, whyNoNumber } from "../common/csv.js";
 import { bytesOf } from "../common/digest.js";
 import { MOST } from "./values.js";
@@ -89,8 +89,8 @@ function titleFault(field) {
 }
 
 /** Applies the rows in order to the existing budget lines (a map from identifiers to `appropriation` and
- * `free`): the state of each line before and after, and the rows that the office would refuse. Amounts are
- * BigInt, because sums of rows may exceed what a Number holds exactly. */
+ * `free`). Returns the state of each line before and after, and the rows that the office would refuse.
+ * Amounts are BigInt, because sums of rows may exceed what a Number holds exactly. */
 export function changesOf(rows, lines) {
   const changes = new Map();
   const faults = [];
@@ -123,7 +123,7 @@ function begun(id, held) {
   return { id, isNew: held === undefined, isThere: held !== undefined, before: { appropriation, free }, appropriation, free, title: null };
 }
 
-/** What the office refuses at a row for this budget line. */
+/** The office's refusal of a row for this budget line. */
 function wrongAt(line, amount, kind) {
   if (kind === "add") {
     return line.appropriation + amount > BigInt(MOST.line) ? "past" : null;

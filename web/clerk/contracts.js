@@ -12,7 +12,7 @@ import { jsonBody, sendThen } from "./send.js";
 import { caller } from "./session.js";
 import { MOST, digitsOf, wholeNumber } from "./values.js";
 
-/** What the clerk can do with a running contract. `behind` gives the function that runs after a command for
+/** The clerk's actions for a running contract. `behind` gives the function that runs after a command for
  * its lot. */
 export function contractPart(notice, contract, behind) {
   if (contract.status === "terminated") {
@@ -84,8 +84,8 @@ function payPart(contracted) {
   return element("div", {}, element("h4", {}, say("pay.title")), form(say("pay.title"), [id.made, sum.made, warning], say("pay.send"), run));
 }
 
-/** What all orders for a contract share. The release of the order is one of those after the releases that
- * were shown. */
+/** The common part of all orders for a contract. The release of the order is one of those after the
+ * releases that were shown. */
 function orderOf({ notice, lot, contract }, kind, path, body, isOwn, { says, ...rest }) {
   const whose = say("contract.with", { contract: contract.id, lot: lot.id, name: lot.active.suppliers[0].name });
   return { kind, values: { contract: contract.id }, path: `/contracts/${contract.id}/${path}`, body: jsonBody(body), says: [whose, ...says],

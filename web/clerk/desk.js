@@ -17,7 +17,7 @@ const LATER = { budget: [() => import("./budgets.js"), "drawBudget"], tenderers:
 // The screens by the first word of the address. The other words are their arguments.
 const SCREENS = { today: drawToday, key: drawKey,
   ...Object.fromEntries(Object.entries(LATER).map(([page, [load, name]]) => [page, async (...asked) => (await load())[name](...asked)])) };
-// Seconds until all other screens are loaded too. The first screen is there by then, and a lost connection
+// Seconds until all other screens are loaded too. The first screen is drawn by then, and a lost connection
 // later takes no screen away.
 const BEHIND = 1;
 let redraw = () => {};

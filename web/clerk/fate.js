@@ -1,5 +1,5 @@
-// What happened to a command that got no answer, found by queries: true if it is done, false if it isn't,
-// null if the data doesn't show it.
+// The result of a command that got no answer, found by queries: true if it is done, false if it isn't, null
+// if the data doesn't show it.
 import { evaluationOf } from "../common/findings.js";
 import { Refused, evaluationText, line, minutesText, releases, tenderers } from "../common/office.js";
 import { caller } from "./session.js";

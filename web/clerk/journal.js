@@ -1,4 +1,4 @@
-// The journal of what this desk sent: one entry for each command, a line of JSON with the digest of the line
+// The journal of this desk's commands: one entry for each, a line of JSON with the digest of the line
 // before it. Runs in node too.
 import { bytesOf, sha256 } from "../common/digest.js";
 import { textOf } from "./values.js";
@@ -13,7 +13,7 @@ export function newJournal(office) {
 }
 
 /** Adds an entry: the moment by the office's clock, the clerk's name, the request, and the answer. `answer`
- * is `{ status, text }`, or null if none came; `found` is what queries showed then. */
+ * is `{ status, text }`, or null if none came; `found` is the state that queries showed then. */
 export async function addEntry(journal, { moment, who, title, method, path, body, answer, found }) {
   const bytes = body ?? new Uint8Array();
   const entry = { number: journal.entries.length + 1, moment, who, title, method, path, bytes: bytes.length, digest: await sha256(bytes),
@@ -96,7 +96,7 @@ export function joined(earlier, later) {
   return { office: earlier.office, entries, saved: more.length === 0 ? entries.length : earlier.entries.length };
 }
 
-/** What distinguishes one entry from another. */
+/** The members that distinguish one entry from another. */
 function keyOf({ moment, method, path, digest, status, answer }) {
   return JSON.stringify([moment, method, path, digest, status, answer]);
 }

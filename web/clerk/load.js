@@ -36,7 +36,7 @@ async function heldOf(number) {
   }
 }
 
-/** The same with what only the clerk may see: the securities, and the contracts with theirs. */
+/** The same with the parts that only the clerk may see: the securities, and the contracts with theirs. */
 export async function loadNotice(name) {
   const notice = await stagedOf(name);
   if (caller() === null) {

@@ -145,7 +145,7 @@ function itemTable(editor, lot, path) {
   return element("div", { class: "items" }, element("p", { class: "quiet" }, say("lots.items.hint")), rows);
 }
 
-/** Below each budget line: its free money, and what the notice leaves of it. */
+/** Below each budget line: its free money, and the rest after this notice. */
 export function drawMoney(editor) {
   const wanted = wantedOf(editor.draft);
   for (const [at, place] of editor.money) {

@@ -37,8 +37,8 @@ export function bodyBytes(draft) {
   return bytesOf(JSON.stringify(bodyOf(draft)));
 }
 
-/** What the office would refuse, in its order. A fault has the field, a code and values. `lines` are the
- * existing budget lines; `now` is the office's time. */
+/** The reasons for which the office would refuse, in its order. A fault has the field, a code and values.
+ * `lines` are the existing budget lines; `now` is the office's time. */
 export function faultsOf(draft, lines, now) {
   const found = [...headFaults(draft), ...draft.lots.flatMap((lot, at) => lotFaults(draft, lot, `lots.${at}`))];
   if (draft.lots.length === 0) {
@@ -115,7 +115,7 @@ function limitFaults(draft) {
     ...(many >= 0 ? [{ field: `lots.${many}.items`, code: "items.many", value: draft.lots[many].items.length }] : [])];
 }
 
-/** Warnings: what is allowed but unusual, as codes with values. */
+/** Warnings about allowed but unusual values, as codes with values. */
 export function warningsOf(draft, now) {
   const validity = wholeNumber(draft.validity, 1, MOST.validity);
   const standstill = wholeNumber(draft.standstill, 0, MOST.standstill);

@@ -1,5 +1,5 @@
-// What is printed and signed: the minutes of an opening, and a letter to each tenderer for a lot. A letter
-// tells the winner of the award, and every other tenderer why it didn't win.
+// The papers to print and sign: the minutes of an opening, and a letter to each tenderer for a lot. A
+// letter informs the winner of the award, and every other tenderer of the reason why it didn't win.
 import { bytesOf, inGroups, sha256 } from "../common/digest.js";
 import { below, element, given, link, placeOf, title } from "../common/draw.js";
 import { outcomeOf } from "../common/findings.js";
@@ -83,7 +83,7 @@ function standstill({ date }, until) {
   return until <= Date.parse(date) ? "" : sayParts("letter.standstill", { until: moment(momentText(until)) });
 }
 
-/** What happens to a tender's security, if this tab may see it. */
+/** The sentence about a tender's security, if this tab may see it. */
 function secured({ held, currency }, lot, one) {
   const own = held.findLast((it) => it.lot === lot.id && it.tenderer === one.tenderer);
   return own ? say(`letter.security.${own.state}`, { security: own.reference, amount: money(own.amount, currency) }) : "";

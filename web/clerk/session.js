@@ -1,5 +1,5 @@
-// What this tab holds, and nothing else does: the key, the clerk's name, the journal and a draft. Nothing of
-// it is stored.
+// The data that only this tab has: the key, the clerk's name, the journal and a draft. Nothing of it is
+// stored.
 import { Refused, registerText } from "../common/office.js";
 import { newJournal } from "./journal.js";
 

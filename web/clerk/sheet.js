@@ -82,7 +82,7 @@ function begun(found, row) {
   return lot;
 }
 
-/** Where a later row contradicts the first row of its lot. */
+/** The places at which a later row contradicts the first row of its lot. */
 function disagree(found, line, lot, row) {
   for (const [name, held] of [["lotTitle", lot.title], ["line", lot.line], ["estimate", lot.estimate], ["security", lot.security]]) {
     if (row[name] !== "" && held !== row[name]) {

@@ -1,5 +1,5 @@
-// The stage of a procurement and what can be done now, from its terms, record, minutes and evaluation. Runs
-// in node too.
+// The stage of a procurement and the tasks that are possible now, from its terms, record, minutes and
+// evaluation. Runs in node too.
 import { awardsOf, contractOf, paidOf } from "../common/findings.js";
 import { ranked } from "../common/tenders.js";
 import { DAY } from "./values.js";
@@ -35,7 +35,7 @@ export function isWaiting({ reading, found }) {
   return reading === "priced" && found?.answer === "-" && found.standing !== "failed";
 }
 
-/** What an award would do now: `waits` with the number of open examinations; `nobody`; `best` with the
+/** The result of an award now: `waits` with the number of open examinations; `nobody`; `best` with the
  * tender; `unknown` if the evaluation isn't shown. The office decides. */
 export function outlookOf({ tenders, shown }) {
   const waiting = tenders.filter(isWaiting);

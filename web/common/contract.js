@@ -15,7 +15,7 @@ export function against({ amount, currency }, estimate) {
   return more === 0 ? say("see.same") : say(more > 0 ? "see.above" : "see.below", { amount: money(Math.abs(more), currency) }) + share(more, estimate.amount);
 }
 
-/** What changes added to a price, such as `+12,000 EUR (2.5%)`, or took from it, with a minus. */
+/** The sum of the changes of a price, such as `+12,000 EUR (2.5%)`, or with a minus. */
 function addedText(added, { amount, currency }) {
   return `${added < 0 ? "−" : "+"}${money(Math.abs(added), currency)}${share(added, amount)}`;
 }
@@ -43,8 +43,8 @@ function performance({ performance: asked }, held, ended, currency) {
   return asked > 0 ? [money(asked, currency), below(say(ended ? "see.performance.ended" : "see.performance.held"))] : null;
 }
 
-/** The contract of an award. Its parties also see what the office tells only them (`seen`), its performance
- * security (`held`), and `more`. */
+/** The contract of an award. Its parties also see the parts that the office shows only to them (`seen`),
+ * its performance security (`held`), and `more`. */
 export function contractPart(one, award, lot, { terms, releases }, { seen = null, held = undefined, more = null } = {}) {
   const { currency } = one.value;
   const paid = paidOf(one);

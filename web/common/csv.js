@@ -90,7 +90,7 @@ export function isUtf8(binary) {
   }
 }
 
-// What fields look like that aren't numbers. (Spreadsheets put a space, a no-break space or a narrow no-break
+// The forms of fields that aren't numbers. (Spreadsheets put a space, a no-break space or a narrow no-break
 // space between digits.)
 const NO_NUMBERS = [
   ["empty", /^$/],

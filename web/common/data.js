@@ -43,7 +43,7 @@ export function grouped(all, by) {
   return groups;
 }
 
-/** The current value of a row's contract. After its end this is what was paid, because the rest is free
+/** The current value of a row's contract. After its end this is the amount paid, because the rest is free
  * again. */
 export function worthNow({ worth, paid, status, contract_status: own = status }) {
   return own === "terminated" ? paid : worth;

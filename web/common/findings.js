@@ -1,4 +1,4 @@
-// What happened to a procurement, its lots and its tenders, as badge kinds and names of texts. Runs in node
+// The results of a procurement, its lots and its tenders, as badge kinds and names of texts. Runs in node
 // too.
 
 /** The awards of a lot, in the order in which they were made. */
@@ -22,12 +22,12 @@ export function endOf(releases, contract) {
   return releases.find(({ tag, contracts }) => tag.includes("contractTermination") && contracts.some(({ id }) => id === contract.id))?.date;
 }
 
-/** What was paid for a contract. */
+/** The amount paid for a contract. */
 export function paidOf(contract) {
   return (contract.implementation?.transactions ?? []).reduce((sum, { value }) => sum + value.amount, 0);
 }
 
-/** What changes added to a contract since its award; this can be negative. */
+/** The amount by which a contract changed since its award; this can be negative. */
 export function addedTo(contract, award) {
   return contract.value.amount - award.value.amount;
 }
@@ -59,7 +59,7 @@ function stateOfContracts(contracts) {
   return isPaid ? [allRun ? "done" : "ended", "paid"] : ["running", contracts.some((contract) => paidOf(contract) > 0) ? "part" : "unpaid"];
 }
 
-/** The state of one lot, likewise. */
+/** The state of one lot, in the same form. */
 export function stateOfLot(compiled, lot) {
   if (lot.status === "complete") {
     const contract = awardsOf(compiled, lot).map((award) => contractOf(compiled, award)).find(Boolean);

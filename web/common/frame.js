@@ -1,4 +1,4 @@
-// The frame of every page: the view that the address asks for, what surrounds it, and what is printed.
+// The frame of every page: the view that the address asks for, the parts around it, and printing.
 import { element, link, title } from "./draw.js";
 import { note } from "./forms.js";
 import { sentenceOf } from "./office.js";

@@ -47,7 +47,7 @@ function hearClock(answer) {
   ahead = Number.isNaN(told) ? ahead : told - Date.now();
 }
 
-/** What the office said in a refusal. Anything else comes from nginx or from somewhere else. */
+/** The words of a refusal by the office. Anything else comes from nginx or from somewhere else. */
 function refusalOf(answer, text) {
   let told = {};
   try {

@@ -100,9 +100,9 @@ function sources({ name, tenders }) {
   return section(say("see.raw"), element("ul", {}, paths.map((path) => element("li", {}, link(path, path)))));
 }
 
-/** The whole of a notice, which has what `seenOf` returns. More members: `isPreview`; `linked`, if budget
- * lines and firms are views of this page; `above`, the content above the lots; `ofLot` and `ofContract`,
- * which add to each lot and contract; and `isPressing`, for lots that need something now. */
+/** The whole of a notice, which has the members that `seenOf` returns. More members: `isPreview`; `linked`,
+ * if budget lines and firms are views of this page; and `above`, the content above the lots. `ofLot` and
+ * `ofContract` add to each lot and contract. `isPressing` has the lots that need something now. */
 export function drawProcess(notice) {
   const { compiled, releases: all } = notice;
   const { tender } = compiled;

@@ -2,7 +2,8 @@
 import { evaluationOf } from "./findings.js";
 import { evaluationText, minutesText, record, releases, tendersOf, terms } from "./office.js";
 
-/** What there is to see of a notice; where nothing was opened, its tenders and its evaluation are null. The clerk sees the whole of that. */
+/** The parts of a notice to show. If nothing was opened, its tenders and its evaluation are null. The clerk
+ * sees all of them. */
 export async function seenOf(name, clerk = null) {
   const [compiled, all, own, minutes, evaluation] = await Promise.all(
     [record(name), releases(name), terms(name), minutesText(name), evaluationText(name, clerk)]);

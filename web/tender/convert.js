@@ -1,6 +1,6 @@
-// Converts a price file that a spreadsheet wrote to the file that the office reads, and reports each change.
-// If a figure could mean two things, or if the tenderer must decide, it refuses the file with line and
-// reason. papers.js always reads the result as a price without a correction.
+// Converts a price file that a spreadsheet wrote to the file that the office reads, and reports each
+// change. It refuses a file, with line and reason, in two cases: a figure could mean two things, or the
+// tenderer must decide. papers.js always reads the result as a price without a correction.
 import { binaryOf, contentOf, isUtf8, recordsOf, textOf } from "../common/csv.js";
 import { KINDS, SEPARATORS, faultsOf, meantBy } from "./faults.js";
 import { figureOf } from "./figures.js";

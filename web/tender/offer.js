@@ -18,7 +18,7 @@ export function deadlineOf({ deadline }) {
   return [moment(deadline), " – ", clock(deadline)];
 }
 
-/** What is known of a notice. */
+/** The facts about a notice. */
 function termsOf(one) {
   return [facts([[say("see.notice"), one.notice], [say("see.buyer"), given(one.buyer)], [say("see.deadline"), deadlineOf(one)]]),
     element("details", {}, element("summary", {}, say("see.terms")), termList(one, one.currency))];
@@ -110,7 +110,7 @@ function sources(offer, redraw) {
   return element("div", { class: "steps", role: "group", "aria-label": say("offer.source") }, made("table"), made("file"));
 }
 
-/** The part for a file. What reads files is loaded on demand. */
+/** The part for a file. The modules that read files are loaded on demand. */
 async function filePart(offer, redraw) {
   const { drawFile } = await import("./file.js");
   return drawFile(offer, (sentence, isWrong) => redraw(sentence, isWrong, "offer-file"));

@@ -1,5 +1,5 @@
-// What the office reads in a tender's file at the opening, to the letter (crates/tender_papers/specs, Files
-// and Tender). This module decides; faults.js explains. It runs in node too: tests/tender_files compares it
+// The reading of a tender's file at the opening, to the letter (crates/tender_papers/specs, Files and
+// Tender). This module decides; faults.js explains. It runs in node too: tests/tender_files compares it
 // with tools/check_tender, which is compared with the office.
 import { binaryOf, contentOf, numberOf, recordsOf } from "../common/csv.js";
 
@@ -42,8 +42,9 @@ export function isWrong({ quantity, unit, total }) {
   return total !== quantity * unit;
 }
 
-/** How the office reads a file's bytes for a lot with these items: `priced`, with the stated price, the price
- * that counts and the number of corrections; else `unreadable`, `nonconforming`, or `not taken`. */
+/** The office's reading of a file's bytes, for a lot with these items. `priced` comes with the stated
+ * price, the price that counts and the number of corrections. Otherwise it is `unreadable`,
+ * `nonconforming`, or `not taken`. */
 export function readingOf(bytes, items) {
   if (bytes.length < 1 || bytes.length > MOST_BYTES) {
     return { kind: "not taken", rows: [] };

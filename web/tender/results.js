@@ -22,7 +22,7 @@ function readPart({ reading, corrected, stated, corrections }, [kind, name], con
     element("p", {}, badge(name === "signed" ? kindOfSigned(contract) : kind, say(`see.outcome.${name}`)), " ", say(`see.why.${name}`)));
 }
 
-/** One of the caller's contracts, with what the office tells only its tenderer. */
+/** One of the caller's contracts, with the parts that the office shows only to its tenderer. */
 async function ownContract(one, award, lot, notice) {
   const [seen, held] = await Promise.all([contract(one.id, session.caller), performance(one.id, session.caller).catch((fault) => {
     if (fault.name !== "NoSuch") {

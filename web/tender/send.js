@@ -1,5 +1,5 @@
-// Before a submission: what the office will read at the opening, and the digest of the bytes. Then the
-// submission itself, and its receipt, or what happened if no answer came.
+// Before a submission: the lines that the office will read at the opening, and the digest of the bytes.
+// Then the submission itself, and its receipt, or the outcome if no answer came.
 import { inGroups, sha256 } from "../common/digest.js";
 import { element, facts, given, link, placeOf, section, title } from "../common/draw.js";
 import { button, note, steps, table, tick } from "../common/forms.js";
@@ -10,7 +10,7 @@ import { deadlineOf, securityFaults, securityOf } from "./offer.js";
 import { drawReceipt } from "./receipt.js";
 import { keep, keptOf, noticeOf, readyOf, session } from "./session.js";
 
-/** What the office will read at the opening: each item's row, the price, and the corrections. */
+/** The reading at the opening: each item's row, the price, and the corrections. */
 function readingTable({ rows, price, stated, corrections }, { lot, terms }) {
   const corrected = (found, right) => (found === right ? null : element("span", { class: "wrong below" }, say("send.corrects", { found })));
   const heads = ["table.item", "table.title", "table.quantity", "table.unit", "table.total"].map((name) => say(name));
@@ -26,15 +26,15 @@ function placeOfLot(offer) {
   return placeOf("offer", offer.terms.notice, offer.lot.id);
 }
 
-/** What prevents the submission, as sentences with a link to its place. */
+/** The obstacles to a submission, as sentences with a link to their place. */
 function hindrances(offer, ready) {
   const found = [session.caller ? null : ["who.none", "#key", "key.title"], ready ? null : ["send.notReady", placeOfLot(offer), "send.back"],
     Object.keys(securityFaults(offer)).length > 0 ? ["send.wrongSecurity", placeOfLot(offer), "see.security"] : null].filter(Boolean);
   return found.map(([sentence, href, text]) => note("bad", say(sentence), link(say(text), href)));
 }
 
-/** What the office returns for a received tender. It adds the notice and the lot, which a receipt lacks. If
- * it can't be asked, this is what the tab knows. */
+/** The office's answer about a received tender, with the notice and the lot, which aren't in a receipt. If
+ * the office can't be asked, only the data of this tab. */
 async function lookAt({ notice, lot, length }, { receipt, digest, moment, security, state }) {
   const known = { receipt, digest, moment, security, state, notice, lot, length };
   return { ...known, ...await tender(receipt, session.caller).catch(() => ({})) };
@@ -88,8 +88,8 @@ async function ofWithdrawal({ isLate }, old, caller) {
   return old.security === null ? "unknown" : (await security(old.security, caller)).state === "forfeited" ? "done" : "not";
 }
 
-/** What happened to a command that got no answer; it was done completely or not at all. The caller's own
- * tenders show which: `done` with the tender; `not` (so far); `other`, if something else happened to it; or
+/** The outcome of a command that got no answer; it was done completely or not at all. The caller's own
+ * tenders show it: `done` with the tender; `not` (so far); `other`, if something else happened to it; or
  * `unknown`. `sent` has the notice and the receipt of the tender to change or withdraw. For a submission it
  * has the lot, the digest, and the newest receipt before it. */
 export async function becameOf(sent, caller) {
@@ -164,7 +164,7 @@ function bytesPart(bytes, digest) {
     element("p", {}, say("send.digest")), element("p", { class: "code", id: "digest" }, inGroups(digest)));
 }
 
-/** Fetches the notice and the caller's tenders again. What can't be fetched stays as it was. */
+/** Fetches the notice and the caller's tenders again. Whatever can't be fetched stays unchanged. */
 async function renew(offer) {
   const { notice } = offer.terms;
   const [one, own] = await Promise.all([noticeOf(notice).catch(() => offer.terms), session.caller ? ownTenders(notice, session.caller).catch(() => []) : []]);

@@ -1,4 +1,4 @@
-// What this tab knows, only in its memory. Nothing is stored, and closing the tab forgets it.
+// The data of this tab, only in its memory. Nothing is stored, and closing the tab forgets it.
 import { typed } from "../common/money.js";
 import { record, terms } from "../common/office.js";
 import { MOST_PRICE, MOST_UNIT, fileOf, readingOf } from "./papers.js";
@@ -25,7 +25,7 @@ export function putAway() {
   session.kept.clear();
 }
 
-/** What this tab knows of the tender with a receipt: `units`, its submitted prices by item, and `named`, its
+/** This tab's data about the tender with a receipt: `units`, its submitted prices by item, and `named`, its
  * security, if it has them. */
 export function keptOf(receipt) {
   return session.kept.get(receipt) ?? {};
@@ -55,7 +55,7 @@ export function unitsOf({ lot, units }) {
   return lot.items.map(({ id }) => typed(units[id] ?? "", MOST_UNIT));
 }
 
-/** The sum of what is typed so far, and whether it is complete. */
+/** The sum of the prices typed so far, and whether it is complete. */
 export function sumOf(offer) {
   const units = unitsOf(offer);
   const sum = units.reduce((all, { value = 0 }, at) => all + BigInt(value) * BigInt(offer.lot.items[at].quantity), 0n);

@@ -95,7 +95,7 @@ function timeOf({ deadline, late_withdrawal: rule }) {
   return left <= 0 ? "late" : left < CLOSE && rule === "forfeits" ? "close" : "free";
 }
 
-/** What a withdrawal costs then, by the terms and the security, and whether it is possible. */
+/** The cost of a withdrawal then, by the terms and the security, and whether it is possible. */
 function costOf(one, held, time) {
   const amount = held ? `${money(held.amount, one.currency)} (${held.reference})` : "";
   if (time === "late" && one.late_withdrawal === "refused") {

@@ -18,6 +18,7 @@ ghost use Rattle.office_desk.specs.Steps.{Does, HasShown, IsReplyOrRefusal, IsSe
 
 use crate::callers::{clerk_with_key, is_clerk_name, tenderer_named};
 use crate::queries::look_at;
+use office_base::puts::Put;
 use office_base::shelf::{Lookups, Shelf, ShelfFault};
 use office_base::stored::StoredShelf;
 use office_commands::command::{Caller, may, may_look};
@@ -140,6 +141,19 @@ impl<H: Shelf + Drop> Desk<H> {
         plan_command(self.alloc, shelf, publisher, &asking, command)
     }
 
+    /// Makes these changes, all of them or none. An error says whether memory was too small or the store failed. Nothing is allocated after the changes are made.
+    pub fn carry_out(&mut self, puts: Vec<Put>) -> Result<(), ShelfFault>
+        ensures alters { Alters H.meaning self.old.shelf self.new.shelf result (after_puts puts.items) }
+        ensures settings { self.new.settings ≡ self.old.settings }
+        ensures risen { IfErr result (λ _. HasRisen (H.meaning.fault_count self.old.shelf) (H.meaning.fault_count self.new.shelf)) }
+        ensures cause { PutsFail H.meaning self.old.shelf self.new.shelf result puts.items }
+    {
+        match self.shelf.apply(puts) {
+            Ok(()) => Ok(()),
+            Err(fault) => Err(fault),
+        }
+    }
+
     /// Carries out a plan, all of it or nothing, and returns the reply. An error says whether memory was too small or the store failed. Nothing is allocated
     /// after the changes are made.
     pub fn try_commit(&mut self, planned: Planned) -> Result<Vec<u8>, ShelfFault>
@@ -150,7 +164,7 @@ impl<H: Shelf + Drop> Desk<H> {
         ensures cause { PutsFail H.meaning self.old.shelf self.new.shelf result planned.puts }
     {
         let (puts, reply) = planned.into_parts();
-        match self.shelf.apply(puts) {
+        match self.carry_out(puts) {
             Ok(()) => Ok(reply),
             Err(fault) => Err(fault),
         }

@@ -64,11 +64,12 @@ fn answer_command<H: Shelf + Drop>(
         Ok(planned) => planned,
         Err(refusal) => return refuse(refusal, None),
     };
-    let Ok(response) = accepted_response(alloc, planned.reply()) else {
+    let (puts, text) = planned.into_parts();
+    let Ok(response) = accepted_response(alloc, text) else {
         return Answer::constant(unavailable());
     };
-    match desk.commit(planned) {
-        Ok(_) => Answer::built(response),
+    match desk.carry_out(puts) {
+        Ok(()) => Answer::built(response),
         Err(_) => Answer::constant(unavailable()),
     }
 }

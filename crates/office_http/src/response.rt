@@ -92,13 +92,6 @@ pub(crate) fn challenge_field(status: u16) -> &'static str
     }
 }
 
-// The response to an accepted command, as a JSON text.
-pub(crate) fn accepted_response(alloc: Global, text: &[u8]) -> Result<Vec<u8>, AllocError>
-    ensures { IfOk result (λ out. out.items ≡ response_of (Json text.now)) }
-{
-    response(alloc, 200, JSON, "", "", text)
-}
-
 // Puts a text before the content. It takes no memory if the capacity is large enough.
 fn put_before(out: &mut Vec<u8>, front: &[u8]) -> Result<(), AllocError>
     ensures { IfOk result (λ _. out.new.items ≡ front.now ++ out.old.items) }
@@ -127,6 +120,13 @@ fn response_around(alloc: Global, media: &str, body: Vec<u8>) -> Result<Vec<u8>,
     let mut out = body;
     put_before(&mut out, &head)?;
     Ok(out)
+}
+
+// The response to an accepted command, as a JSON text, in the memory of this text.
+pub(crate) fn accepted_response(alloc: Global, text: Vec<u8>) -> Result<Vec<u8>, AllocError>
+    ensures { IfOk result (λ out. out.items ≡ response_of (Json text.items)) }
+{
+    response_around(alloc, JSON, text)
 }
 
 // The response to a query of this kind, with the text that it shows.
@@ -163,7 +163,7 @@ pub fn respond(alloc: Global, reply: &Reply) -> Result<Vec<u8>, AllocError>
     ensures { IfOk result (λ response. response.items ≡ response_of reply.now) }
 {
     match reply {
-        Reply::Json(body) => accepted_response(alloc, body.as_slice()),
+        Reply::Json(body) => response(alloc, 200, JSON, "", "", body.as_slice()),
         Reply::Text(body) => response(alloc, 200, PLAIN_TEXT, "", "", body.as_slice()),
         Reply::Refused(refusal, method) => {
             let text = refusal_text(*refusal, *method);

@@ -6,6 +6,7 @@ pub mod NamedLines
 pub mod NamedStandings
 pub mod NamedTenderers
 pub mod NextRelease
+pub mod Numbered
 pub mod OnContracts
 pub mod OwnTenders
 pub mod AwardedLots

@@ -3,7 +3,6 @@
 #![tactic(auto)]
 
 pub mod commands;
-mod contract_release;
 mod events;
 mod lines;
 mod looked_up;
@@ -15,7 +14,6 @@ mod outstanding;
 mod parents;
 pub mod planned;
 mod published;
-mod releases;
 mod replies;
 mod standings;
 mod tenderers;

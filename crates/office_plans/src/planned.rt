@@ -2,14 +2,13 @@
 ghost use Rattle.std.specs.Prelude.{◌≡◌};
 
 use office_base::puts::Put;
-use office_values::text::Bytes;
 use std::marker::Model;
 
 /// The changes that a command makes, and the text of its reply. A plan changes nothing.
 #[derive(Drop)]
 pub struct Planned {
     puts: Vec<Put>,
-    reply: Bytes,
+    reply: Vec<u8>,
 }
 
 impl Model for Planned {
@@ -17,7 +16,7 @@ impl Model for Planned {
 
     ghost Value = { Plan };
 
-    ghost view = { λ p. record { puts = p.puts.items; reply = p.reply } };
+    ghost view = { λ p. record { puts = p.puts.items; reply = p.reply.items } };
 }
 
 impl Planned {
@@ -26,10 +25,7 @@ impl Planned {
         ensures puts { result.puts ≡ puts.items }
         ensures reply { result.reply ≡ reply.items }
     {
-        Planned {
-            puts,
-            reply: Bytes::from_vec(reply),
-        }
+        Planned { puts, reply }
     }
 
     /// The reply's bytes.
@@ -51,6 +47,6 @@ impl Planned {
         ensures puts { result.0.items ≡ self.puts }
         ensures reply { result.1.items ≡ self.reply }
     {
-        (self.puts, self.reply.into_vec())
+        (self.puts, self.reply)
     }
 }

@@ -50,7 +50,7 @@ pub(crate) struct Released {
 }
 
 // The number of the next release of a notice, or 1 if the notice doesn't exist. None exactly if the notice has all its releases.
-fn next_number(row: &Option<NoticeRow>) -> Option<Sequence>
+fn next_release(row: &Option<NoticeRow>) -> Option<Sequence>
     ensures next { IfSome result (λ seq. seq ≡ releases_in row.now + 1) }
     ensures none { IfNone result (has_all_releases row.now ≡ true) }
 {
@@ -76,7 +76,7 @@ pub(crate) fn make_release<'a>(
 {
     keeping();
     releases_can_be_kept();
-    let Some(seq) = next_number(row) else {
+    let Some(seq) = next_release(row) else {
         return Err(Refusal::Unavailable);
     };
     match release_of_event(alloc, publisher, seq, t, event) {

@@ -14,6 +14,10 @@ pub(crate) const PORT_BOUND: u16 = 65535;
 /// The most connections of one run.
 pub(crate) const COUNT_BOUND: u32 = 1_000_000;
 
+// The program reports a fault in two words. `procure-check` names the file and the cause.
+const CAUSES: &str =
+    "After `procure: settings` or `procure: store`, run `procure-check`: it names the file and the cause.";
+
 // An argument that must be given.
 fn required_argument<'a>(alloc: Global, name: &'a str, help: &'a str) -> Arg<'a>
     ensures rule { rule_of result ≡ spec.needed_rule name.entry.now }
@@ -30,44 +34,63 @@ fn number<'a>(alloc: Global, name: &'a str, most: u64, help: &'a str) -> Arg<'a>
     required_argument(alloc, name, help).value_parser(ValueParser::unsigned(1, most))
 }
 
-// A subcommand with the settings of an office.
+// A subcommand with the settings of an office. Its help ends with an example.
 fn over_settings<'a>(
     alloc: Global,
     name: &'a str,
     about: &'a str,
+    example: &'a str,
 ) -> Result<Command<'a>, AllocError>
     ensures shape { IfOk result (λ command. app_of command ≡ spec.over_settings name.entry.now) }
     ensures local { IfOk result (λ command. (fields_of command).has_globals ≡ false) }
 {
     let config = required_argument(alloc, "CONFIG", "The office's settings, a TOML file");
-    Command::new(alloc, name).about(about).arg(config)
+    Command::new(alloc, name)
+        .about(about)
+        .after_help(example)
+        .arg(config)
 }
 
 // A subcommand with an office in a file.
-fn over_store<'a>(alloc: Global, name: &'a str, about: &'a str) -> Result<Command<'a>, AllocError>
+fn over_store<'a>(
+    alloc: Global,
+    name: &'a str,
+    about: &'a str,
+    example: &'a str,
+) -> Result<Command<'a>, AllocError>
     ensures shape { IfOk result (λ command. app_of command ≡ spec.over_store name.entry.now) }
     ensures local { IfOk result (λ command. (fields_of command).has_globals ≡ false) }
 {
     let store = required_argument(
         alloc,
         "DB",
-        "The office's file, which is made where there is none",
+        "The office's file; if it doesn't exist, an empty office is made",
     );
-    over_settings(alloc, name, about)?.arg(store)
+    over_settings(alloc, name, about, example)?.arg(store)
 }
 
 // A subcommand with a notice of such an office.
-fn over_notice<'a>(alloc: Global, name: &'a str, about: &'a str) -> Result<Command<'a>, AllocError>
+fn over_notice<'a>(
+    alloc: Global,
+    name: &'a str,
+    about: &'a str,
+    example: &'a str,
+) -> Result<Command<'a>, AllocError>
     ensures shape { IfOk result (λ command. app_of command ≡ spec.over_notice name.entry.now) }
     ensures local { IfOk result (λ command. (fields_of command).has_globals ≡ false) }
 {
     let notice = required_argument(alloc, "NOTICE", "The notice's identifier");
-    over_store(alloc, name, about)?.arg(notice)
+    over_store(alloc, name, about, example)?.arg(notice)
 }
 
 // A subcommand with such an office at a port. Each function adds one argument, because a function with two waiting arguments must drop both at each of its
 // ends.
-fn over_port<'a>(alloc: Global, name: &'a str, about: &'a str) -> Result<Command<'a>, AllocError>
+fn over_port<'a>(
+    alloc: Global,
+    name: &'a str,
+    about: &'a str,
+    example: &'a str,
+) -> Result<Command<'a>, AllocError>
     ensures shape { IfOk result (λ command. app_of command ≡ spec.over_port name.entry.now) }
     ensures local { IfOk result (λ command. (fields_of command).has_globals ≡ false) }
 {
@@ -77,7 +100,7 @@ fn over_port<'a>(alloc: Global, name: &'a str, about: &'a str) -> Result<Command
         PORT_BOUND as u64,
         "The port, from 1 to 65535",
     );
-    over_store(alloc, name, about)?.arg(port)
+    over_store(alloc, name, about, example)?.arg(port)
 }
 
 // The subcommand `serve`.
@@ -85,14 +108,15 @@ fn serve<'a>(alloc: Global) -> Result<Command<'a>, AllocError>
     ensures shape { IfOk result (λ command. app_of command ≡ spec.serve) }
     ensures local { IfOk result (λ command. (fields_of command).has_globals ≡ false) }
 {
-    let about = "Serves connections on 127.0.0.1, one after another, from an office in a file";
+    let about = "Serves HTTP on 127.0.0.1, one connection after another, from an office in a file";
+    let example = "Example: procure serve office.toml office.db 8080 1000000";
     let count = number(
         alloc,
         "COUNT",
         COUNT_BOUND as u64,
-        "How many connections are served, from 1 to 1000000",
+        "The program ends after this many connections, from 1 to 1000000",
     );
-    over_port(alloc, "serve", about)?.arg(count)
+    over_port(alloc, "serve", about, example)?.arg(count)
 }
 
 /// The program's command line, with this version.
@@ -103,20 +127,43 @@ pub(crate) fn procure<'a>(alloc: Global, version: &'a str) -> Result<Command<'a>
     let procure = Command::new(alloc, "procure")
         .about("A public procurement office")
         .version(version)
+        .after_help(CAUSES)
         .subcommand(over_settings(
             alloc,
             "desk",
-            "Answers the requests of the standard input, from an empty office in memory",
+            "Answers requests from standard input, over an empty office in memory, to try it out",
+            "Example: procure desk office.toml < requests",
         )?)?
         .subcommand(serve(alloc)?)?
-        .subcommand(over_store(alloc, "ledger", "Prints the ledger of an office in a file")?)?
-        .subcommand(over_notice(alloc, "minutes", "Prints the minutes of an opening")?)?
-        .subcommand(over_notice(alloc, "record", "Prints the record of a notice")?)?
-        .subcommand(over_store(alloc, "notices", "Prints a line for each notice")?)?
+        .subcommand(over_store(
+            alloc,
+            "ledger",
+            "Prints the balances of each budget line",
+            "Example: procure ledger office.toml office.db",
+        )?)?
+        .subcommand(over_notice(
+            alloc,
+            "minutes",
+            "Prints the minutes of a notice's opening",
+            "Example: procure minutes office.toml office.db 2026-101",
+        )?)?
+        .subcommand(over_notice(
+            alloc,
+            "record",
+            "Prints the OCDS record of a notice",
+            "Example: procure record office.toml office.db 2026-101",
+        )?)?
+        .subcommand(over_store(
+            alloc,
+            "notices",
+            "Prints a line for each notice",
+            "Example: procure notices office.toml office.db",
+        )?)?
         .subcommand(over_notice(
             alloc,
             "evaluation",
-            "Prints how the awards of a notice came about",
+            "Prints how the awards of a notice were decided",
+            "Example: procure evaluation office.toml office.db 2026-101",
         )?)?;
     Ok(procure.subcommand_required(true))
 }

@@ -5,7 +5,8 @@ ghost use Rattle.office_commands.specs.Rights.{may};
 ghost use Rattle.office_commands.specs.declared.command.CommandKind.TheVariants as kinds;
 ghost use Rattle.office_commands.specs.declared.commands.Command.TheVariants.{AmendContract};
 ghost use Rattle.office_base.specs.Shelves.{Looks, LooksUp};
-ghost use Rattle.office_base.specs.Tables.{Tables};
+ghost use Rattle.office_base.specs.Tables.{Tables, contract_at};
+ghost use Rattle.office_machine.specs.Replies.{release_of_contract};
 ghost use Rattle.office_machine.specs.Machine.{refusal_of};
 ghost use Rattle.office_plans.specs.Asking.{given_by};
 ghost use Rattle.office_plans.specs.Published.{IsPlanned, TellsRefusal, accepted_reply};
@@ -13,7 +14,6 @@ ghost use Rattle.office_plans.specs.Released.{IsReleased};
 ghost use Rattle.office_plans.specs.Replies.{reply_text};
 ghost use Rattle.office_values.specs.declared.refusal.Refusal.TheVariants.{Unavailable};
 
-use crate::contract_release::contract_release;
 use crate::outstanding::left_by_change;
 use crate::parents::{line_of_lot, lot_of_contract, notice_of_contract};
 use crate::planned::Planned;
@@ -22,6 +22,7 @@ use crate::replies::contract_text;
 use award_core::amend_contract::{AmendContractRows, puts, refusal};
 use ocds_release::borrowed::BorrowedLine;
 use ocds_release::event::{ContractAmended, Event};
+use office_base::counts::Sequence;
 use office_base::laws::{looks_follow, rows_are_kept};
 use office_base::records::ContractRow;
 use office_base::rows::Rows;
@@ -65,15 +66,15 @@ fn reply(
     contract: AskedNumber,
     kind: ChangeKind,
     amount: EntryAmount,
+    release: Sequence,
 ) -> Result<Vec<u8>, Refusal>
     ensures told { IfOk result (λ text. (s : Tables) (entry rationale : List ℕ) → rows.now ≡ amend_contract_rows s contract
-        → refusal_of (given_by asking.now s (AmendContract contract entry kind amount rationale)) ≡ None
+        → release ≡ release_of_contract (contract_at contract s) s.notices → refusal_of (given_by asking.now s (AmendContract contract entry kind amount rationale)) ≡ None
         → text.items ≡ reply_text (accepted_reply (given_by asking.now s (AmendContract contract entry kind amount rationale)))) }
     ensures none { IfErr result (λ why. why ≡ Unavailable) }
 {
     laws::outstanding();
     let left = left_by_change(rows, kind, amount)?;
-    let release = contract_release(&rows.contract, &rows.notice);
     let t = asking.time(&rows.clock);
     let text = contract_text(alloc, contract, left, release, t)?;
     Ok(text)
@@ -136,11 +137,11 @@ pub fn plan<H: Lookups>(
     if let Some(why) = refusal(&rows, &entry, kind, amount) {
         return Err(why);
     }
-    let text = reply(alloc, asking, &rows, contract, kind, amount)?;
     let row = rows.contract.as_ref().unwrap();
     let release = release(
         alloc, publisher, asking, &rows, row, entry, kind, amount, &rationale,
     )?;
+    let text = reply(alloc, asking, &rows, contract, kind, amount, release.seq)?;
     let puts = puts(alloc, t, rows, entry, kind, amount, rationale)?;
     published(alloc, shelf, puts, text, release)
 }

@@ -95,10 +95,10 @@ pub fn plan<H: Lookups>(
     if let Some(why) = refusal(t, &rows, deadline) {
         return Err(why);
     }
-    let text = notice_reply(alloc, asking, notice, &rows.notice, &rows.clock)?;
     let release = release(
         alloc, publisher, asking, &rows, notice, deadline, &rationale,
     )?;
+    let text = notice_reply(alloc, asking, notice, release.seq, &rows.clock)?;
     let puts = puts(alloc, t, rows, deadline)?;
     published(alloc, shelf, puts, text, release)
 }

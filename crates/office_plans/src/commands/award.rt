@@ -7,6 +7,7 @@ ghost use Rattle.office_commands.specs.declared.commands.Command.TheVariants.{Aw
 ghost use Rattle.office_base.specs.Shelves.{Looks, LooksUp};
 ghost use Rattle.office_base.specs.Tables.{Tables};
 ghost use Rattle.office_machine.specs.Replies as replies;
+ghost use Rattle.office_machine.specs.Replies.{release_of};
 ghost use Rattle.office_plans.specs.Asking.{given_by};
 ghost use Rattle.office_plans.specs.AwardedLots.{awarded_rows, securities_unless_won};
 ghost use Rattle.office_plans.specs.Published.{IsPlanned, TellsRefusal, accepted_reply};
@@ -21,10 +22,10 @@ use crate::orphans::award_is_taken;
 use crate::parents::line_of_lot;
 use crate::planned::Planned;
 use crate::published::{Released, make_release, published};
-use crate::releases::next_release;
 use award_core::award::{AwardRows, best_tender, puts, refusal};
 use award_core::best::price_of;
 use ocds_release::event::{Awarded, Event, NotAwarded};
+use office_base::counts::Sequence;
 use office_base::laws::looks_follow;
 use office_base::records::{ClockRow, EnvelopeRow, LotState, SecurityRow};
 use office_base::rows::Rows;
@@ -105,7 +106,7 @@ fn awarded_text(
     clock: &ClockRow,
     lot: Id,
     best: Option<&EnvelopeRow>,
-    release: u64,
+    release: Sequence,
     moment: Moment,
 ) -> Result<Vec<u8>, AllocError>
     ensures { IfOk result (λ text. text.items
@@ -119,7 +120,7 @@ fn awarded_text(
             ("lot", Plain::Id(lot)),
             ("moment", Plain::Moment(moment)),
             ("price", Plain::Count(price)),
-            ("release", Plain::Number(release)),
+            ("release", Plain::Number(release.get())),
             ("tender", Plain::Count(tender)),
         ],
     )
@@ -132,12 +133,12 @@ fn reply(
     rows: &AwardRows,
     lot: Id,
     best: Option<&EnvelopeRow>,
+    release: Sequence,
 ) -> Result<Vec<u8>, AllocError>
     ensures { IfOk result (λ text. (s : Tables) (notice : List ℕ) → rows.now ≡ awarded_rows s notice lot
-        → option_map (λ e. e.now) best.entry ≡ winner rows.now.notice rows.now.envelopes
+        → option_map (λ e. e.now) best.entry ≡ winner rows.now.notice rows.now.envelopes → release ≡ release_of s.notices notice
         → text.items ≡ reply_text (accepted_reply (given_by asking.now s (Award notice lot)))) }
 {
-    let release = next_release(&rows.notice);
     let t = asking.time(&rows.clock);
     awarded_text(alloc, &rows.clock, lot, best, release, t)
 }
@@ -247,8 +248,8 @@ pub fn plan<H: Lookups>(
     if taken {
         return Err(Refusal::Unavailable);
     }
-    let text = reply(alloc, asking, &rows, lot, best)?;
     let release = release(alloc, shelf, publisher, asking, &rows, notice, lot, best)?;
+    let text = reply(alloc, asking, &rows, lot, best, release.seq)?;
     let puts = puts(alloc, t, rows)?;
     published(alloc, shelf, puts, text, release)
 }

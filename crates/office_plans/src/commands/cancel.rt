@@ -143,8 +143,8 @@ pub fn plan<H: Lookups>(
         return Err(why);
     }
     let rows = with_lines(alloc, shelf, found)?;
-    let text = notice_reply(alloc, asking, notice, &rows.notice, &rows.clock)?;
     let release = release(alloc, publisher, asking, &rows, notice, &rationale)?;
+    let text = notice_reply(alloc, asking, notice, release.seq, &rows.clock)?;
     let puts = puts(alloc, t, rows)?;
     published(alloc, shelf, puts, text, release)
 }

@@ -6,7 +6,8 @@ ghost use Rattle.office_commands.specs.declared.command.CommandKind.TheVariants 
 ghost use Rattle.office_commands.specs.declared.commands.Command.TheVariants.{End};
 ghost use Rattle.office_commands.specs.declared.contract.How.{How};
 ghost use Rattle.office_base.specs.Shelves.{Looks, LooksUp};
-ghost use Rattle.office_base.specs.Tables.{Tables};
+ghost use Rattle.office_base.specs.Tables.{Tables, contract_at};
+ghost use Rattle.office_machine.specs.Replies.{release_of_contract};
 ghost use Rattle.office_machine.specs.Machine.{refusal_of};
 ghost use Rattle.office_plans.specs.Asking.{given_by};
 ghost use Rattle.office_plans.specs.Published.{IsPlanned, TellsRefusal, accepted_reply};
@@ -14,7 +15,6 @@ ghost use Rattle.office_plans.specs.Released.{IsReleased};
 ghost use Rattle.office_plans.specs.Replies.{reply_text};
 ghost use Rattle.office_values.specs.declared.refusal.Refusal.TheVariants.{Unavailable};
 
-use crate::contract_release::contract_release;
 use crate::outstanding::left_by_end;
 use crate::parents::{line_of_lot, lot_of_contract, notice_of_contract};
 use crate::planned::Planned;
@@ -22,6 +22,7 @@ use crate::published::{Released, make_release, published};
 use crate::replies::contract_text;
 use award_core::end::{EndRows, puts, refusal};
 use ocds_release::event::{ContractEnded, Event};
+use office_base::counts::Sequence;
 use office_base::laws::looks_follow;
 use office_base::records::ContractRow;
 use office_base::rows::Rows;
@@ -61,14 +62,15 @@ fn reply(
     asking: &Asking,
     rows: &EndRows,
     contract: AskedNumber,
+    release: Sequence,
 ) -> Result<Vec<u8>, Refusal>
-    ensures told { IfOk result (λ text. (s : Tables) (how : How) → rows.now ≡ end_rows s contract → refusal_of (given_by asking.now s (End contract how)) ≡ None
+    ensures told { IfOk result (λ text. (s : Tables) (how : How) → rows.now ≡ end_rows s contract
+        → release ≡ release_of_contract (contract_at contract s) s.notices → refusal_of (given_by asking.now s (End contract how)) ≡ None
         → text.items ≡ reply_text (accepted_reply (given_by asking.now s (End contract how)))) }
     ensures none { IfErr result (λ why. why ≡ Unavailable) }
 {
     laws::outstanding();
     let left = left_by_end(rows)?;
-    let release = contract_release(&rows.contract, &rows.notice);
     let t = asking.time(&rows.clock);
     let text = contract_text(alloc, contract, left, release, t)?;
     Ok(text)
@@ -113,9 +115,9 @@ pub fn plan<H: Lookups>(
     if let Some(why) = refusal(&rows) {
         return Err(why);
     }
-    let text = reply(alloc, asking, &rows, contract)?;
     let row = rows.contract.as_ref().unwrap();
     let release = release(alloc, publisher, asking, &rows, row)?;
+    let text = reply(alloc, asking, &rows, contract, release.seq)?;
     let puts = puts(alloc, t, rows, how)?;
     published(alloc, shelf, puts, text, release)
 }

@@ -5,8 +5,8 @@ ghost use Rattle.office_commands.specs.Rights.{may};
 ghost use Rattle.office_commands.specs.declared.command.CommandKind.TheVariants as kinds;
 ghost use Rattle.office_commands.specs.declared.commands.Command.TheVariants.{Fail};
 ghost use Rattle.office_base.specs.Shelves.{Looks, LooksUp};
-ghost use Rattle.office_base.specs.Tables.{Tables};
-ghost use Rattle.office_machine.specs.Replies.{Failed};
+ghost use Rattle.office_base.specs.Tables.{Tables, award_at};
+ghost use Rattle.office_machine.specs.Replies.{Failed, release_of_award};
 ghost use Rattle.office_plans.specs.Asking.{given_by};
 ghost use Rattle.office_plans.specs.Published.{IsPlanned, TellsRefusal, accepted_reply};
 ghost use Rattle.office_plans.specs.Released.{IsReleased};
@@ -17,9 +17,9 @@ use crate::objects::{Plain, object_text};
 use crate::parents::{envelope_of_award, lot_of_award, notice_of_award, security_of_envelope};
 use crate::planned::Planned;
 use crate::published::{Released, make_release, published};
-use crate::releases::release_of_award;
 use award_core::fail::{FailRows, puts, refusal};
 use ocds_release::event::{AwardFailed, Event};
+use office_base::counts::Sequence;
 use office_base::laws::looks_follow;
 use office_base::records::AwardRow;
 use office_base::shelf::{Lookups, ShelfFault};
@@ -54,7 +54,7 @@ fn load<H: Lookups>(shelf: &mut H, award: AskedNumber) -> Result<FailRows, Shelf
 fn failed_text(
     alloc: Global,
     award: AskedNumber,
-    release: u64,
+    release: Sequence,
     moment: Moment,
 ) -> Result<Vec<u8>, AllocError>
     ensures { IfOk result (λ text. text.items ≡ reply_text (Failed award release moment)) }
@@ -64,7 +64,7 @@ fn failed_text(
         &[
             ("award", Plain::Number(award.get())),
             ("moment", Plain::Moment(moment)),
-            ("release", Plain::Number(release)),
+            ("release", Plain::Number(release.get())),
         ],
     )
 }
@@ -75,11 +75,11 @@ fn reply(
     asking: &Asking,
     rows: &FailRows,
     award: AskedNumber,
+    release: Sequence,
 ) -> Result<Vec<u8>, AllocError>
-    ensures { IfOk result (λ text. (s : Tables) → rows.now ≡ fail_rows s award
+    ensures { IfOk result (λ text. (s : Tables) → rows.now ≡ fail_rows s award → release ≡ release_of_award (award_at award s) s.notices
         → text.items ≡ reply_text (accepted_reply (given_by asking.now s (Fail award)))) }
 {
-    let release = release_of_award(&rows.award, &rows.notice);
     let t = asking.time(&rows.clock);
     failed_text(alloc, award, release, t)
 }
@@ -122,9 +122,9 @@ pub fn plan<H: Lookups>(
     if let Some(why) = refusal(t, &rows) {
         return Err(why);
     }
-    let text = reply(alloc, asking, &rows, award)?;
     let row = rows.award.as_ref().unwrap();
     let release = release(alloc, publisher, asking, &rows, row)?;
+    let text = reply(alloc, asking, &rows, award, release.seq)?;
     let puts = puts(alloc, t, rows)?;
     published(alloc, shelf, puts, text, release)
 }

@@ -4,7 +4,7 @@ ghost use Rattle.office_commands.specs.Rights.{may};
 ghost use Rattle.office_commands.specs.declared.command.CommandKind.TheVariants as kinds;
 ghost use Rattle.office_commands.specs.declared.commands.Command.TheVariants.{Open};
 ghost use Rattle.office_base.specs.Shelves.{Looks, LooksUp};
-ghost use Rattle.office_machine.specs.Replies.{OpenedAll};
+ghost use Rattle.office_machine.specs.Replies.{OpenedAll, release_of};
 ghost use Rattle.office_base.specs.Tables.{Tables};
 ghost use Rattle.office_plans.specs.Asking.{given_by};
 ghost use Rattle.office_plans.specs.Opening.{tenders_read};
@@ -18,10 +18,10 @@ use crate::objects::{Plain, object_text};
 use crate::opened::load_tenders;
 use crate::planned::Planned;
 use crate::published::{Released, make_release, published};
-use crate::releases::next_release;
 use crate::tenderers::load_tenderers;
 use ocds_release::borrowed::Tenderers;
 use ocds_release::event::{Event, Opened};
+use office_base::counts::Sequence;
 use office_base::laws::looks_follow;
 use office_base::shelf::{Lookups, ShelfFault};
 use office_values::id::Id;
@@ -48,7 +48,7 @@ fn opened_text(
     alloc: Global,
     notice: Id,
     count: u64,
-    release: u64,
+    release: Sequence,
     moment: Moment,
 ) -> Result<Vec<u8>, AllocError>
     ensures { IfOk result (λ text. text.items ≡ reply_text (OpenedAll notice count release moment)) }
@@ -59,7 +59,7 @@ fn opened_text(
             ("moment", Plain::Moment(moment)),
             ("notice", Plain::Id(notice)),
             ("opened", Plain::Number(count)),
-            ("release", Plain::Number(release)),
+            ("release", Plain::Number(release.get())),
         ],
     )
 }
@@ -71,12 +71,12 @@ fn reply(
     rows: &OpenRows,
     notice: Id,
     tenders: &[OpenedTender],
+    release: Sequence,
 ) -> Result<Vec<u8>, AllocError>
     ensures { IfOk result (λ text. (s : Tables) → rows.now ≡ open_rows s notice → tenders.now ≡ tenders_read notice s
-        → text.items ≡ reply_text (accepted_reply (given_by asking.now s (Open notice)))) }
+        → release ≡ release_of s.notices notice → text.items ≡ reply_text (accepted_reply (given_by asking.now s (Open notice)))) }
 {
     let count = tenders.len() as u64;
-    let release = next_release(&rows.notice);
     let t = asking.time(&rows.clock);
     opened_text(alloc, notice, count, release, t)
 }
@@ -122,7 +122,6 @@ pub fn plan<H: Lookups>(
         return Err(why);
     }
     let tenders = load_tenders(alloc, shelf, &notice)?;
-    let text = reply(alloc, asking, &rows, notice, tenders.as_slice())?;
     let release = release(
         alloc,
         shelf,
@@ -131,6 +130,14 @@ pub fn plan<H: Lookups>(
         &rows,
         notice,
         tenders.as_slice(),
+    )?;
+    let text = reply(
+        alloc,
+        asking,
+        &rows,
+        notice,
+        tenders.as_slice(),
+        release.seq,
     )?;
     let puts = puts(alloc, t, rows, tenders)?;
     published(alloc, shelf, puts, text, release)

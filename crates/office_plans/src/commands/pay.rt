@@ -4,7 +4,8 @@ ghost use Rattle.office_commands.specs.Rights.{may};
 ghost use Rattle.office_commands.specs.declared.command.CommandKind.TheVariants as kinds;
 ghost use Rattle.office_commands.specs.declared.commands.Command.TheVariants.{Pay};
 ghost use Rattle.office_base.specs.Shelves.{Looks, LooksUp};
-ghost use Rattle.office_base.specs.Tables.{Tables};
+ghost use Rattle.office_base.specs.Tables.{Tables, contract_at};
+ghost use Rattle.office_machine.specs.Replies.{release_of_contract};
 ghost use Rattle.office_machine.specs.Machine.{refusal_of};
 ghost use Rattle.office_values.specs.declared.refusal.Refusal.TheVariants.{Unavailable};
 ghost use Rattle.office_plans.specs.Asking.{given_by};
@@ -13,7 +14,6 @@ ghost use Rattle.office_plans.specs.Released.{IsReleased};
 ghost use Rattle.office_plans.specs.Replies.{reply_text};
 ghost use Rattle.award_core.specs.Rules.Pay.{pay_rows};
 
-use crate::contract_release::contract_release;
 use crate::events::party_of;
 use crate::outstanding::left_by_payment;
 use crate::parents::notice_of_contract;
@@ -22,6 +22,7 @@ use crate::published::{Released, make_release, published};
 use crate::replies::contract_text;
 use award_core::pay::{PayRows, puts, refusal};
 use ocds_release::event::{Event, Paid};
+use office_base::counts::Sequence;
 use office_base::laws::looks_follow;
 use office_base::records::ContractRow;
 use office_base::rows::Rows;
@@ -58,15 +59,15 @@ fn reply(
     rows: &PayRows,
     contract: AskedNumber,
     amount: EntryAmount,
+    release: Sequence,
 ) -> Result<Vec<u8>, Refusal>
     ensures told { IfOk result (λ text. (s : Tables) (entry : List ℕ) → rows.now ≡ pay_rows s contract
-        → refusal_of (given_by asking.now s (Pay contract entry amount)) ≡ None
+        → release ≡ release_of_contract (contract_at contract s) s.notices → refusal_of (given_by asking.now s (Pay contract entry amount)) ≡ None
         → text.items ≡ reply_text (accepted_reply (given_by asking.now s (Pay contract entry amount)))) }
     ensures none { IfErr result (λ why. why ≡ Unavailable) }
 {
     laws::outstanding();
     let left = left_by_payment(rows, amount)?;
-    let release = contract_release(&rows.contract, &rows.notice);
     let t = asking.time(&rows.clock);
     let text = contract_text(alloc, contract, left, release, t)?;
     Ok(text)
@@ -123,9 +124,9 @@ pub fn plan<H: Lookups>(
     if let Some(why) = refusal(&rows, &entry, amount) {
         return Err(why);
     }
-    let text = reply(alloc, asking, &rows, contract, amount)?;
     let row = rows.contract.as_ref().unwrap();
     let release = release(alloc, shelf, publisher, asking, &rows, row, entry, amount)?;
+    let text = reply(alloc, asking, &rows, contract, amount, release.seq)?;
     let puts = puts(alloc, t, rows, entry, amount)?;
     published(alloc, shelf, puts, text, release)
 }

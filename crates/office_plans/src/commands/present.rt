@@ -1,40 +1,29 @@
 //! The plan for a submission: its reply and its changes.
-ghost use Rattle.std.specs.Prelude.{◌≡◌, ℕ, List, IfOk, cond, option_map, true};
-ghost use Rattle.sha2.specs.Sha256.{sha256};
+ghost use Rattle.std.specs.Prelude.{◌≡◌, true};
 ghost use Rattle.office_commands.specs.Rights.{may};
-ghost use Rattle.office_commands.specs.declared.command.Caller.{Caller};
 ghost use Rattle.office_commands.specs.declared.command.CommandKind.TheVariants as kinds;
 ghost use Rattle.office_commands.specs.declared.commands.Command.TheVariants.{Present};
-ghost use Rattle.office_base.specs.Transitions.{is_in_time};
-ghost use Rattle.office_base.specs.Rows.{holds_of};
 ghost use Rattle.office_base.specs.Shelves.{Looks, LooksUp};
-ghost use Rattle.office_base.specs.declared.records.EnvelopeState.TheVariants as states;
-ghost use Rattle.office_machine.specs.Replies.{received_reply};
 ghost use Rattle.office_plans.specs.Asking.{given_by};
 ghost use Rattle.office_plans.specs.OwnTenders.{own_rows};
 ghost use Rattle.office_plans.specs.Published.{IsPlanned, TellsRefusal};
-ghost use Rattle.office_plans.specs.Replies.{reply_text};
 ghost use Rattle.office_values.specs.declared.settings.Publisher.{Publisher};
-ghost use Rattle.tender_core.specs.Rules.Present.{received};
 
 use crate::of_lot::own_envelopes;
 use crate::orphans::receipt_is_taken;
 use crate::planned::Planned;
 use crate::published::silent;
-use crate::replies::received_text;
+use crate::replies::tender_reply;
 use office_base::laws::looks_follow;
-use office_base::records::EnvelopeState;
 use office_base::shelf::{Lookups, ShelfFault};
 use office_commands::command::Caller;
 use office_commands::sealed::Sealed;
 use office_commands::tender::NamedSecurity;
 use office_values::id::Id;
-use office_values::moment::Moment;
 use office_values::refusal::Refusal;
-use std::alloc::{AllocError, Global};
+use std::alloc::Global;
 use tender_core::asking::Asking;
 use tender_core::present::{PresentRows, puts, refusal};
-use tender_core::tenders::is_in_time;
 
 // Loads the rows by which the command is decided. Of the lot's tenders these are only the caller's own, which may be few among many.
 fn load<H: Lookups>(
@@ -53,45 +42,6 @@ fn load<H: Lookups>(
         envelopes: own_envelopes(alloc, shelf, caller, notice, lot)?,
         clock,
     })
-}
-
-// The number of the security, which is the number of the receipt, or none if the tender names no security.
-fn number_of(receipt: u64, security: &Option<NamedSecurity>) -> Option<u64>
-    ensures { result ≡ option_map (λ _. receipt) security.now }
-{
-    match security {
-        Some(_) => Some(receipt),
-        None => None,
-    }
-}
-
-// The state of the new tender: sealed if it comes in time, and returned if it comes late.
-fn state_of(in_time: bool) -> EnvelopeState
-    ensures { result ≡ cond in_time states.Sealed states.Returned }
-{
-    if in_time {
-        EnvelopeState::Sealed
-    } else {
-        EnvelopeState::Returned
-    }
-}
-
-// The text of the reply to an accepted submission: the next receipt, with the digest of the sealed bytes and the number of the named security.
-fn reply(
-    alloc: Global,
-    t: Moment,
-    rows: &PresentRows,
-    security: &Option<NamedSecurity>,
-    sealed: &Sealed<'_>,
-) -> Result<Vec<u8>, AllocError>
-    ensures { IfOk result (λ text. (caller : Caller) (notice lot : List ℕ) → text.items
-        ≡ reply_text (received_reply (received sha256 rows.now.clock t caller notice lot security.now sealed.now (holds_of (is_in_time t) rows.now.notice)))) }
-{
-    let digest = sealed.digest();
-    let receipt = rows.clock.receipts.get() + 1;
-    let number = number_of(receipt, security);
-    let state = state_of(is_in_time(t, &rows.notice));
-    received_text(alloc, digest, receipt, number, state, t)
 }
 
 /// Plans a submission. A tender gets a receipt whether it comes in time or late. A refusal needs no memory except for the rows.
@@ -120,7 +70,6 @@ pub fn plan<H: Lookups>(
     if taken {
         return Err(Refusal::Unavailable);
     }
-    let text = reply(alloc, t, &rows, &security, &sealed)?;
     let puts = puts(
         alloc,
         t,
@@ -131,5 +80,6 @@ pub fn plan<H: Lookups>(
         security,
         &sealed,
     )?;
+    let text = tender_reply(alloc, puts.as_slice(), 0)?;
     Ok(silent(puts, text))
 }

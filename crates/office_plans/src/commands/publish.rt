@@ -118,8 +118,8 @@ pub fn plan<H: Lookups>(
     if found {
         return Err(Refusal::Unavailable);
     }
-    let text = notice_reply(alloc, asking, notice, &rows.notice, &rows.clock)?;
     let release = release(alloc, publisher, asking, &rows, notice, &content)?;
+    let text = notice_reply(alloc, asking, notice, release.seq, &rows.clock)?;
     let puts = puts(alloc, t, rows, notice, content)?;
     published(alloc, shelf, puts, text, release)
 }

@@ -6,8 +6,9 @@ ghost use Rattle.office_commands.specs.declared.command.CommandKind.TheVariants 
 ghost use Rattle.office_commands.specs.declared.commands.Command.TheVariants.{Sign};
 ghost use Rattle.office_commands.specs.declared.tender.NamedSecurity.{NamedSecurity};
 ghost use Rattle.office_base.specs.Shelves.{Looks, LooksUp};
-ghost use Rattle.office_base.specs.Tables.{Tables};
+ghost use Rattle.office_base.specs.Tables.{Tables, award_at};
 ghost use Rattle.office_machine.specs.Replies as replies;
+ghost use Rattle.office_machine.specs.Replies.{release_of_award};
 ghost use Rattle.office_plans.specs.Asking.{given_by};
 ghost use Rattle.office_plans.specs.Published.{IsPlanned, TellsRefusal, accepted_reply};
 ghost use Rattle.office_plans.specs.Released.{IsReleased};
@@ -21,9 +22,9 @@ use crate::orphans::cant_be_signed;
 use crate::parents::{envelope_of_award, lot_of_award, notice_of_award};
 use crate::planned::Planned;
 use crate::published::{Released, make_release, published};
-use crate::releases::release_of_award;
 use award_core::sign::{SignRows, puts, refusal};
 use ocds_release::event::{Event, Signed};
+use office_base::counts::Sequence;
 use office_base::laws::looks_follow;
 use office_base::records::{AwardRow, LotState};
 use office_base::shelf::{Lookups, ShelfFault};
@@ -63,7 +64,7 @@ fn load<H: Lookups>(
 fn signed_text(
     alloc: Global,
     contract: AskedNumber,
-    release: u64,
+    release: Sequence,
     moment: Moment,
 ) -> Result<Vec<u8>, AllocError>
     ensures { IfOk result (λ text. text.items ≡ reply_text (replies.Signed contract release moment)) }
@@ -73,7 +74,7 @@ fn signed_text(
         &[
             ("contract", Plain::Number(contract.get())),
             ("moment", Plain::Moment(moment)),
-            ("release", Plain::Number(release)),
+            ("release", Plain::Number(release.get())),
         ],
     )
 }
@@ -84,11 +85,11 @@ fn reply(
     asking: &Asking,
     rows: &SignRows,
     award: AskedNumber,
+    release: Sequence,
 ) -> Result<Vec<u8>, AllocError>
     ensures { IfOk result (λ text. (s : Tables) (named : Option NamedSecurity) → rows.now ≡ sign_rows s award
-        → text.items ≡ reply_text (accepted_reply (given_by asking.now s (Sign award named)))) }
+        → release ≡ release_of_award (award_at award s) s.notices → text.items ≡ reply_text (accepted_reply (given_by asking.now s (Sign award named)))) }
 {
-    let release = release_of_award(&rows.award, &rows.notice);
     let t = asking.time(&rows.clock);
     signed_text(alloc, award, release, t)
 }
@@ -143,9 +144,9 @@ pub fn plan<H: Lookups>(
     if taken {
         return Err(Refusal::Unavailable);
     }
-    let text = reply(alloc, asking, &rows, award)?;
     let row = rows.award.as_ref().unwrap();
     let release = release(alloc, shelf, publisher, asking, &rows, row)?;
+    let text = reply(alloc, asking, &rows, award, release.seq)?;
     let puts = puts(alloc, t, rows, security)?;
     published(alloc, shelf, puts, text, release)
 }

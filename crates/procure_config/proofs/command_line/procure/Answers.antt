@@ -8,9 +8,10 @@ use Rattle.procure_config.proofs.command_line.procure.Goals as goal
 pub returns : goal.returns
 unfolding procure
 returns c =
-    let alone : app_of c.version.result ≡ named =
+    let versioned : app_of c.version.result ≡ named =
     ap app_of_fields c.version.ensures
     ∙ ap (λ (a : App). let app : App = record a { top = record a.top { has_version = true } } in app) (ap app_of_fields c.about.ensures ∙ c.new.ensures.app) in
+    let alone : app_of c.after_help.result ≡ named = ap app_of_fields c.after_help.ensures ∙ versioned in
     let desk = subcommand_added _ _ _ _ _ c.in_ok-subcommand.ensures alone c.in_ok-over_settings.ensures.shape c.in_ok-over_settings.ensures.local in
     let serve = subcommand_added _ _ _ _ _ c.in_ok-subcommand-2.ensures desk c.in_ok-serve.ensures.shape c.in_ok-serve.ensures.local in
     let ledger = subcommand_added _ _ _ _ _ c.in_ok-subcommand-3.ensures serve c.in_ok-over_store.ensures.shape c.in_ok-over_store.ensures.local in

@@ -2,6 +2,7 @@ use Rattle.std.specs.Prelude.{List, ℕ}
 use Rattle.std.proofs.Common.{◌∙◌, ap, refl}
 use Rattle.office_commands.specs.declared.commands.Command.TheVariants.{AmendNotice}
 use Rattle.office_base.specs.Tables.{Tables}
+use Rattle.office_plans.proofs.Numbered.{numbered_notice}
 use Rattle.office_plans.proofs.Publishing.{IsTested, not_planned, puts_on, refused_on, two_looks}
 use Rattle.office_plans.proofs.Telling.{fault_told, none_to_tell, refusal_told}
 use Rattle.office_plans.proofs.commands.amend_notice.plan.Goals as goal
@@ -29,7 +30,8 @@ returns-clause-looks g c =
     (λ s are joined.
     let allowed = refused_on ruled _ _ moment _ c.requires c.refusal.ensures s are ∙ c.in_default.is in
     let puts = puts_on ruled _ _ moment (λ (rows : AmendNoticeRows) (t : ℕ). amend_notice_puts rows t a.deadline) _ c.in_ok-puts.ensures.puts s are refl in
-    joined a.publisher.now (given_by a.asking.now s (AmendNotice a.notice a.deadline a.rationale)) refl tt allowed refl puts (c.in_ok-text.ensures s (ap (λ (rows : AmendNoticeRows). rows.notice) are) (ap (λ (rows : AmendNoticeRows). rows.clock) are)) (c.in_ok-release.ensures.release s are))
+    let made = c.in_ok-release.ensures.release s are in
+    joined a.publisher.now (given_by a.asking.now s (AmendNotice a.notice a.deadline a.rationale)) refl tt allowed refl puts (c.in_ok-text.ensures s (numbered_notice made a.notice refl) (ap (λ (rows : AmendNoticeRows). rows.clock) are)) made)
 
 pub returns-in_err-rows-clause-tells : goal.returns-in_err-rows-clause-tells
 returns-in_err-rows-clause-tells g c =
@@ -41,14 +43,14 @@ returns-in-Some-clause-tells g c =
     let a = c.args in
     refusal_told (rule a.asking.now a.notice a.deadline a.rationale) _ _ c.time-t.ensures _ _ _ c.in_ok-rows.ensures.0 c.requires _ c.refusal.ensures _ c.in-Some.is
 
-pub returns-in_err-text-clause-tells : goal.returns-in_err-text-clause-tells
-returns-in_err-text-clause-tells g c =
+pub returns-in_err-release-clause-tells : goal.returns-in_err-release-clause-tells
+returns-in_err-release-clause-tells g c =
     let a = c.args in
     none_to_tell (rule a.asking.now a.notice a.deadline a.rationale) _ _ c.time-t.ensures _ _ _ c.in_ok-rows.ensures.0 c.requires _ c.refusal.ensures _ _
     (λ honest. honest) c.in_default.is
 
-pub returns-in_err-release-clause-tells : goal.returns-in_err-release-clause-tells
-returns-in_err-release-clause-tells g c =
+pub returns-in_err-text-clause-tells : goal.returns-in_err-text-clause-tells
+returns-in_err-text-clause-tells g c =
     let a = c.args in
     none_to_tell (rule a.asking.now a.notice a.deadline a.rationale) _ _ c.time-t.ensures _ _ _ c.in_ok-rows.ensures.0 c.requires _ c.refusal.ensures _ _
     (λ honest. honest) c.in_default.is

@@ -9,6 +9,7 @@ use Rattle.office_machine.specs.Lacking.{is_lacking}
 use Rattle.office_machine.specs.Machine.{time_of}
 use Rattle.office_machine.specs.Orphans.{award_is_taken}
 use Rattle.office_plans.proofs.AwardedLots.{same_puts}
+use Rattle.office_plans.proofs.Numbered.{numbered_notice}
 use Rattle.office_plans.proofs.Publishing.{IsTested, four_looks, not_planned, puts_on, refused_on}
 use Rattle.office_plans.proofs.Telling.{fault_told, none_to_tell, refusal_told}
 use Rattle.office_plans.proofs.commands.award.plan.Goals as goal
@@ -45,7 +46,8 @@ returns-clause-looks g c =
     let new = is_new a.notice a.lot s _ are _ c.best_tender-best.ensures _ taken c.if-taken.false in
     let whole : is_lacking (given_by a.asking.now s (Award a.notice a.lot)) ≡ false = λ i. there i || new i in
     let puts = puts_on ruled _ _ moment (λ (rows : AwardRows) (t : ℕ). award_puts rows t) _ c.in_ok-puts.ensures.puts s are (same_puts a.notice a.lot s (time_of (given_by a.asking.now s (Award a.notice a.lot)))) in
-    joined a.publisher.now (given_by a.asking.now s (Award a.notice a.lot)) refl tt allowed whole puts (c.in_ok-text.ensures s a.notice are c.best_tender-best.ensures) (released are c.best_tender-best.ensures))
+    let made = released are c.best_tender-best.ensures in
+    joined a.publisher.now (given_by a.asking.now s (Award a.notice a.lot)) refl tt allowed whole puts (c.in_ok-text.ensures s a.notice are c.best_tender-best.ensures (numbered_notice made a.notice refl)) made)
 
 pub returns-in_err-rows-clause-tells : goal.returns-in_err-rows-clause-tells
 returns-in_err-rows-clause-tells g c =
@@ -69,17 +71,17 @@ returns-then-taken-clause-tells g c =
     none_to_tell (rule a.asking.now a.notice a.lot) _ _ c.time-t.ensures _ _ _ c.in_ok-rows.ensures.0 c.requires _ c.refusal.ensures _ _
     c.in_ok-taken.ensures.0.0.before c.in_default.is
 
-pub returns-in_err-text-clause-tells : goal.returns-in_err-text-clause-tells
-returns-in_err-text-clause-tells g c =
-    let a = c.args in
-    none_to_tell (rule a.asking.now a.notice a.lot) _ _ c.time-t.ensures _ _ _ c.in_ok-rows.ensures.0 c.requires _ c.refusal.ensures _ _
-    c.in_ok-taken.ensures.0.0.before c.in_default.is
-
 pub returns-in_err-release-clause-tells : goal.returns-in_err-release-clause-tells
 returns-in_err-release-clause-tells g c =
     let a = c.args in
     none_to_tell (rule a.asking.now a.notice a.lot) _ _ c.time-t.ensures _ _ _ c.in_ok-rows.ensures.0 c.requires _ c.refusal.ensures _ _
     (λ honest. c.in_ok-taken.ensures.0.0.before (c.in_err-release.ensures.looks.0.before honest)) c.in_default.is
+
+pub returns-in_err-text-clause-tells : goal.returns-in_err-text-clause-tells
+returns-in_err-text-clause-tells g c =
+    let a = c.args in
+    none_to_tell (rule a.asking.now a.notice a.lot) _ _ c.time-t.ensures _ _ _ c.in_ok-rows.ensures.0 c.requires _ c.refusal.ensures _ _
+    (λ honest. c.in_ok-taken.ensures.0.0.before (c.in_ok-release.ensures.looks.0.before honest)) c.in_default.is
 
 pub returns-in_err-puts-clause-tells : goal.returns-in_err-puts-clause-tells
 returns-in_err-puts-clause-tells g c =

@@ -1,9 +1,8 @@
-use Rattle.std.specs.Prelude.{◌≡◌, ℕ, ◌+◌, List, Option, max, option_map}
+use Rattle.std.specs.Prelude.{◌≡◌, ℕ, List, Option, max, option_map}
 use Rattle.std.proofs.Common.{◌∙◌, ap}
 use Rattle.award_core.specs.Rules.Award.{winner}
 use Rattle.award_core.specs.declared.award.AwardRows.{AwardRows}
 use Rattle.office_base.specs.declared.records.EnvelopeRow.{EnvelopeRow}
-use Rattle.office_machine.specs.Counted.{releases_in}
 use Rattle.office_machine.specs.Replies.{Awarded, Winning}
 use Rattle.office_machine.specs.Replies as replies
 use Rattle.office_plans.specs.AwardedLots.{awarded_rows}
@@ -20,10 +19,9 @@ pub returns : goal.returns
 returns c =
     let rows : AwardRows = c.args.rows.now in
     if_ok c.awarded_text.result c.awarded_text.ensures
-    (λ text is s notice are best.
+    (λ text is s notice are best release.
     let told : AwardRows → Option Winning = λ r. option_map (replies.winning r.clock) (winner r.notice r.envelopes) in
     let won : option_map (replies.winning rows.clock) (option_map (λ e. e.now) c.args.best) ≡ told (awarded_rows s notice c.args.lot) =
     ap (λ (e : Option EnvelopeRow). option_map (replies.winning rows.clock) e) best ∙ ap told are in
-    let release = c.next_release-release.ensures ∙ ap (λ (r : AwardRows). releases_in r.notice + 1) are in
     let time = c.time-t.ensures ∙ ap (λ (r : AwardRows). max c.args.asking.now.moment r.clock.moment) are in
     is ∙ ap reply_text (told_alike c.args.lot _ _ _ _ _ _ won release time))

@@ -4,6 +4,7 @@ use Rattle.office_commands.specs.declared.commands.Command.TheVariants.{Cancel}
 use Rattle.office_base.specs.Tables.{Tables, lots_of_notice}
 use Rattle.office_machine.specs.Machine.{time_of}
 use Rattle.office_plans.proofs.NamedLines.{lines_agree}
+use Rattle.office_plans.proofs.Numbered.{numbered_notice}
 use Rattle.office_plans.proofs.Publishing.{IsTested, not_planned, puts_on, refused_on, three_looks, whole_on}
 use Rattle.office_plans.proofs.Telling.{fault_told, none_to_tell, refusal_told}
 use Rattle.office_plans.proofs.commands.cancel.plan.Goals as goal
@@ -46,8 +47,9 @@ returns-clause-looks g c =
     let puts = puts_on (decided a.asking.now a.notice a.rationale) _ _ later (λ (rows : CancelRows) (t : ℕ). cancel_puts rows t) _ c.in_ok-puts.ensures.puts s named
     (sym (c.cancels_agree.ensures.puts (lines_named s (map line_of_lot (filter is_open_lot (lots_of_notice a.notice s)))) s.lines (cancel_rows s a.notice)
     (time_of (given_by a.asking.now s (Cancel a.notice a.rationale))) (lines_agree c.rows_are_kept.ensures s line_of_lot (filter is_open_lot (lots_of_notice a.notice s))))) in
+    let made = c.in_ok-release.ensures.release s named in
     joined a.publisher.now (given_by a.asking.now s (Cancel a.notice a.rationale)) refl tt allowed whole puts
-    (c.in_ok-text.ensures s (ap (λ (rows : CancelRows). rows.notice) named) (ap (λ (rows : CancelRows). rows.clock) named)) (c.in_ok-release.ensures.release s named))
+    (c.in_ok-text.ensures s (numbered_notice made a.notice refl) (ap (λ (rows : CancelRows). rows.clock) named)) made)
 
 pub returns-in_err-found-clause-tells : goal.returns-in_err-found-clause-tells
 returns-in_err-found-clause-tells g c =
@@ -65,14 +67,14 @@ returns-in_err-rows-clause-tells g c =
     none_to_tell (refused a.asking.now a.notice a.rationale) _ _ c.time-t.ensures _ _ _ c.in_ok-found.ensures.0 c.requires _ c.refusal.ensures _ _
     c.in_err-rows.ensures.0.before c.in_default.is
 
-pub returns-in_err-text-clause-tells : goal.returns-in_err-text-clause-tells
-returns-in_err-text-clause-tells g c =
+pub returns-in_err-release-clause-tells : goal.returns-in_err-release-clause-tells
+returns-in_err-release-clause-tells g c =
     let a = c.args in
     none_to_tell (refused a.asking.now a.notice a.rationale) _ _ c.time-t.ensures _ _ _ c.in_ok-found.ensures.0 c.requires _ c.refusal.ensures _ _
     c.in_ok-rows.ensures.0.before c.in_default.is
 
-pub returns-in_err-release-clause-tells : goal.returns-in_err-release-clause-tells
-returns-in_err-release-clause-tells g c =
+pub returns-in_err-text-clause-tells : goal.returns-in_err-text-clause-tells
+returns-in_err-text-clause-tells g c =
     let a = c.args in
     none_to_tell (refused a.asking.now a.notice a.rationale) _ _ c.time-t.ensures _ _ _ c.in_ok-found.ensures.0 c.requires _ c.refusal.ensures _ _
     c.in_ok-rows.ensures.0.before c.in_default.is

@@ -4,7 +4,8 @@ use Rattle.award_core.specs.Rules.End.{end_lacks, end_puts, end_rows, end_tests}
 use Rattle.award_core.specs.declared.end.EndRows.{EndRows}
 use Rattle.office_commands.specs.declared.commands.Command.TheVariants.{End}
 use Rattle.office_commands.specs.declared.contract.How.{How}
-use Rattle.office_base.specs.Tables.{Tables}
+use Rattle.office_base.specs.Tables.{Tables, contract_at}
+use Rattle.office_plans.proofs.Numbered.{numbered_contract}
 use Rattle.office_plans.proofs.Publishing.{IsTested, not_planned, puts_on, refused_on, two_looks, whole_on}
 use Rattle.office_plans.proofs.Telling.{fault_told, none_to_tell, refusal_told}
 use Rattle.office_plans.proofs.commands.end.plan.Goals as goal
@@ -33,7 +34,8 @@ returns-clause-looks g c =
     let whole = whole_on ruled _ _ moment (λ (rows : EndRows). end_lacks rows) c.in_ok-puts.ensures.whole s are refl in
     let puts = puts_on ruled _ _ moment (λ (rows : EndRows) (t : ℕ). end_puts rows t a.how) _ c.in_ok-puts.ensures.puts s are refl in
     let row = sym c.as_ref.ensures.value ∙ ap option_copied c.unwrap-row.ensures in
-    joined a.publisher.now (given_by a.asking.now s (End a.contract a.how)) refl tt allowed whole puts (c.in_ok-text.ensures.told s a.how are allowed) (c.in_ok-release.ensures.release s a.contract a.how are row))
+    let made = c.in_ok-release.ensures.release s a.contract a.how are row in
+    joined a.publisher.now (given_by a.asking.now s (End a.contract a.how)) refl tt allowed whole puts (c.in_ok-text.ensures.told s a.how are (numbered_contract made (contract_at a.contract s) refl) allowed) made)
 
 pub returns-in_err-rows-clause-tells : goal.returns-in_err-rows-clause-tells
 returns-in_err-rows-clause-tells g c =
@@ -45,14 +47,14 @@ returns-in-Some-clause-tells g c =
     let a = c.args in
     refusal_told (rule a.asking.now a.contract a.how) _ _ c.time-t.ensures _ _ _ c.in_ok-rows.ensures.0 c.requires _ c.refusal.ensures _ c.in-Some.is
 
-pub returns-in_err-text-clause-tells : goal.returns-in_err-text-clause-tells
-returns-in_err-text-clause-tells g c =
+pub returns-in_err-release-clause-tells : goal.returns-in_err-release-clause-tells
+returns-in_err-release-clause-tells g c =
     let a = c.args in
     none_to_tell (rule a.asking.now a.contract a.how) _ _ c.time-t.ensures _ _ _ c.in_ok-rows.ensures.0 c.requires _ c.refusal.ensures _ _
     (λ honest. honest) c.in_default.is
 
-pub returns-in_err-release-clause-tells : goal.returns-in_err-release-clause-tells
-returns-in_err-release-clause-tells g c =
+pub returns-in_err-text-clause-tells : goal.returns-in_err-text-clause-tells
+returns-in_err-text-clause-tells g c =
     let a = c.args in
     none_to_tell (rule a.asking.now a.contract a.how) _ _ c.time-t.ensures _ _ _ c.in_ok-rows.ensures.0 c.requires _ c.refusal.ensures _ _
     (λ honest. honest) c.in_default.is

@@ -3,7 +3,8 @@ use Rattle.std.proofs.Common.{◌∙◌, ap, refl, sym}
 use Rattle.award_core.specs.Rules.Fail.{fail_lacks, fail_puts, fail_rows, fail_tests}
 use Rattle.award_core.specs.declared.fail.FailRows.{FailRows}
 use Rattle.office_commands.specs.declared.commands.Command.TheVariants.{Fail}
-use Rattle.office_base.specs.Tables.{Tables}
+use Rattle.office_base.specs.Tables.{Tables, award_at}
+use Rattle.office_plans.proofs.Numbered.{numbered_award}
 use Rattle.office_plans.proofs.Publishing.{IsTested, not_planned, puts_on, refused_on, two_looks, whole_on}
 use Rattle.office_plans.proofs.Telling.{fault_told, none_to_tell, refusal_told}
 use Rattle.office_plans.proofs.commands.fail.plan.Goals as goal
@@ -32,7 +33,8 @@ returns-clause-looks g c =
     let whole = whole_on ruled _ _ moment (λ (rows : FailRows). fail_lacks rows) c.in_ok-puts.ensures.whole s are refl in
     let puts = puts_on ruled _ _ moment (λ (rows : FailRows) (t : ℕ). fail_puts rows t) _ c.in_ok-puts.ensures.puts s are refl in
     let row = sym c.as_ref.ensures.value ∙ ap option_copied c.unwrap-row.ensures in
-    joined a.publisher.now (given_by a.asking.now s (Fail a.award)) refl tt allowed whole puts (c.in_ok-text.ensures s are) (c.in_ok-release.ensures.release s a.award are row))
+    let made = c.in_ok-release.ensures.release s a.award are row in
+    joined a.publisher.now (given_by a.asking.now s (Fail a.award)) refl tt allowed whole puts (c.in_ok-text.ensures s are (numbered_award made (award_at a.award s) refl)) made)
 
 pub returns-in_err-rows-clause-tells : goal.returns-in_err-rows-clause-tells
 returns-in_err-rows-clause-tells g c =
@@ -44,14 +46,14 @@ returns-in-Some-clause-tells g c =
     let a = c.args in
     refusal_told (rule a.asking.now a.award) _ _ c.time-t.ensures _ _ _ c.in_ok-rows.ensures.0 c.requires _ c.refusal.ensures _ c.in-Some.is
 
-pub returns-in_err-text-clause-tells : goal.returns-in_err-text-clause-tells
-returns-in_err-text-clause-tells g c =
+pub returns-in_err-release-clause-tells : goal.returns-in_err-release-clause-tells
+returns-in_err-release-clause-tells g c =
     let a = c.args in
     none_to_tell (rule a.asking.now a.award) _ _ c.time-t.ensures _ _ _ c.in_ok-rows.ensures.0 c.requires _ c.refusal.ensures _ _
     (λ honest. honest) c.in_default.is
 
-pub returns-in_err-release-clause-tells : goal.returns-in_err-release-clause-tells
-returns-in_err-release-clause-tells g c =
+pub returns-in_err-text-clause-tells : goal.returns-in_err-text-clause-tells
+returns-in_err-text-clause-tells g c =
     let a = c.args in
     none_to_tell (rule a.asking.now a.award) _ _ c.time-t.ensures _ _ _ c.in_ok-rows.ensures.0 c.requires _ c.refusal.ensures _ _
     (λ honest. honest) c.in_default.is

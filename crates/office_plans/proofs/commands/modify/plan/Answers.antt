@@ -1,21 +1,23 @@
-use Rattle.std.specs.Prelude.{◌≡◌, ◌+◌, ◌||◌, List, Option, Some, false, is_some, ℕ}
+use Rattle.std.specs.Prelude.{◌≡◌, ◌+◌, ◌||◌, List, Option, Some, None, false, is_some, ℕ, slice_get}
 use Rattle.std.proofs.Common.{◌∙◌, ap, refl, sym}
+use Rattle.office_commands.specs.declared.command.Caller.{Caller}
 use Rattle.office_commands.specs.declared.commands.Command.TheVariants.{Modify}
+use Rattle.office_base.specs.Rules.{first_of}
 use Rattle.office_base.specs.Tables.{Tables, envelope_at}
+use Rattle.office_base.specs.declared.puts.Put.{Put}
+use Rattle.office_base.specs.declared.puts.Put.TheVariants.{Envelope}
 use Rattle.office_base.specs.declared.records.EnvelopeRow.{EnvelopeRow}
 use Rattle.office_machine.specs.Lacking.{is_lacking}
-use Rattle.office_machine.specs.Machine.{time_of}
 use Rattle.office_machine.specs.OfficeMeans.{office_readings}
 use Rattle.office_machine.specs.Orphans.{is_torn, receipt_is_taken}
-use Rattle.office_machine.specs.Replies.{modify_reply}
+use Rattle.office_machine.specs.Replies.{modify_reply, received_reply}
 use Rattle.office_plans.proofs.Publishing.{IsTested, grouped, not_planned, on_rows, puts_on, refused_on, two_looks}
 use Rattle.office_plans.proofs.Telling.{fault_told, none_to_tell, refusal_told}
 use Rattle.office_plans.proofs.commands.modify.plan.Goals as goal
 use Rattle.office_plans.specs.Asking.{given_by}
 use Rattle.office_plans.specs.Replies.{reply_text}
 use Rattle.sha2.specs.Sha256.{sha256}
-use Rattle.std.specs.Option.{option_copied}
-use Rattle.tender_core.specs.Rules.Modify.{modify_lacks, modify_puts, modify_rows, modify_tests}
+use Rattle.tender_core.specs.Rules.Modify.{modify_lacks, modify_puts, modify_rows, modify_tests, replacing}
 use Rattle.tender_core.specs.declared.asking.Asking.{Asking}
 use Rattle.tender_core.specs.declared.modify.ModifyRows.{ModifyRows}
 
@@ -23,6 +25,18 @@ use Rattle.tender_core.specs.declared.modify.ModifyRows.{ModifyRows}
 rule : (asking : Asking) (receipt : ℕ) (sealed : List ℕ) → IsTested asking (Modify receipt sealed) (λ (s : Tables). modify_rows s receipt) (λ (rows : ModifyRows). rows.clock)
     (λ (rows : ModifyRows) (t : ℕ). modify_tests rows t asking.caller.now)
 rule asking receipt sealed = record { clock = λ s. refl; tested = λ s. refl }
+
+-- The text by the row of the new tender is the reply.
+told_of : (rows : ModifyRows) (t : ℕ) (caller : Caller) (sealed text : List ℕ) → first_of (modify_tests rows t caller) ≡ None
+    → ((tender : EnvelopeRow) → slice_get (modify_puts sha256 rows t sealed) 2 ≡ Some (Envelope tender) → text ≡ reply_text (received_reply tender))
+    → text ≡ reply_text (modify_reply office_readings rows.clock t sealed rows.envelope)
+told_of rows t caller sealed text = by rows.envelope
+  where
+    by : (o : Option EnvelopeRow) → first_of (modify_tests (record rows { envelope = o }) t caller) ≡ None
+        → ((tender : EnvelopeRow) → slice_get (modify_puts sha256 (record rows { envelope = o }) t sealed) 2 ≡ Some (Envelope tender) → text ≡ reply_text (received_reply tender))
+        → text ≡ reply_text (modify_reply office_readings rows.clock t sealed o)
+    by None allowed told = absurd cc
+    by (Some e) allowed told = told (replacing sha256 rows.clock t e sealed) refl
 
 pub returns-in-Some-clause-looks : goal.returns-in-Some-clause-looks
 returns-in-Some-clause-looks g c publisher =
@@ -42,12 +56,10 @@ returns-clause-looks g c publisher =
     let whole : is_lacking (given_by a.asking.now s (Modify a.receipt a.sealed)) ≡ false =
     grouped (modify_lacks (modify_rows s a.receipt)) (receipt_is_taken s) (is_torn s (envelope_at a.receipt s)) ∙ (λ i. there i || found i) in
     let puts = puts_on ruled _ _ moment (λ (rows : ModifyRows) (t : ℕ). modify_puts sha256 rows t a.sealed) _ c.in_ok-puts.ensures.puts s are refl in
-    let tender : Some c.unwrap-row.result.now ≡ envelope_at a.receipt s =
-    sym (sym c.as_ref.ensures.value ∙ ap option_copied c.unwrap-row.ensures) ∙ ap (λ (rows : ModifyRows). rows.envelope) are in
-    let reply = λ (tender : Option EnvelopeRow) (rows : ModifyRows) (t : ℕ). reply_text (modify_reply office_readings rows.clock t a.sealed tender) in
+    let third = ap (λ (ps : List Put). slice_get ps 2) (c.as_slice.ensures.value ∙ c.in_ok-puts.ensures.puts) in
     let told =
-    c.in_ok-text.ensures ∙ on_rows ruled _ _ moment (reply (Some c.unwrap-row.result.now)) s are
-    ∙ ap (λ tender. reply tender (modify_rows s a.receipt) (time_of (given_by a.asking.now s (Modify a.receipt a.sealed)))) tender in
+    told_of _ _ a.asking.now.caller.now a.sealed _ (sym c.refusal.ensures ∙ c.in_default.is) (λ tender at. c.in_ok-text.ensures.told tender (third ∙ at))
+    ∙ on_rows ruled _ _ moment (λ (rows : ModifyRows) (t : ℕ). reply_text (modify_reply office_readings rows.clock t a.sealed rows.envelope)) s are in
     c.silent.ensures publisher (given_by a.asking.now s (Modify a.receipt a.sealed)) tt allowed whole refl refl puts told)
 
 pub returns-in_err-rows-clause-tells : goal.returns-in_err-rows-clause-tells
@@ -72,14 +84,14 @@ returns-then-broken-clause-tells g c =
     none_to_tell (rule a.asking.now a.receipt a.sealed) _ _ c.time-t.ensures _ _ _ c.in_ok-rows.ensures.0 c.requires _ c.refusal.ensures _ _
     c.in_ok-broken.ensures.0.0.before c.in_default.is
 
-pub returns-in_err-text-clause-tells : goal.returns-in_err-text-clause-tells
-returns-in_err-text-clause-tells g c =
+pub returns-in_err-puts-clause-tells : goal.returns-in_err-puts-clause-tells
+returns-in_err-puts-clause-tells g c =
     let a = c.args in
     none_to_tell (rule a.asking.now a.receipt a.sealed) _ _ c.time-t.ensures _ _ _ c.in_ok-rows.ensures.0 c.requires _ c.refusal.ensures _ _
     c.in_ok-broken.ensures.0.0.before c.in_default.is
 
-pub returns-in_err-puts-clause-tells : goal.returns-in_err-puts-clause-tells
-returns-in_err-puts-clause-tells g c =
+pub returns-in_err-text-clause-tells : goal.returns-in_err-text-clause-tells
+returns-in_err-text-clause-tells g c =
     let a = c.args in
     none_to_tell (rule a.asking.now a.receipt a.sealed) _ _ c.time-t.ensures _ _ _ c.in_ok-rows.ensures.0 c.requires _ c.refusal.ensures _ _
     c.in_ok-broken.ensures.0.0.before c.in_default.is

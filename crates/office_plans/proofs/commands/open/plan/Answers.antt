@@ -5,6 +5,7 @@ use Rattle.office_base.specs.Tables.{Tables, notice_at}
 use Rattle.office_machine.specs.Machine.{time_of}
 use Rattle.office_machine.specs.OfficeMeans.{office_readings}
 use Rattle.office_machine.specs.Rule.{sealed_tenders}
+use Rattle.office_plans.proofs.Numbered.{numbered_notice}
 use Rattle.office_plans.proofs.Publishing.{IsTested, both_looks, four_looks, not_planned, puts_on, refused_on}
 use Rattle.office_plans.proofs.ReadTenders.{tenders_are}
 use Rattle.office_plans.proofs.Telling.{fault_told, none_to_tell, refusal_told}
@@ -38,7 +39,8 @@ returns-clause-looks g c =
     puts_on ruled _ _ moment (λ (rows : OpenRows) (t : ℕ). opened_with rows.clock t rows.notice c.in_ok-tenders.tenders) _ c.in_ok-puts.ensures.puts s are
     (c.readings_are_put.ensures office_readings.read (open_rows s a.notice) time (sealed_tenders a.notice s)
     ∙ ap (λ (ts : List OpenedTender). opened_with s.clock time (notice_at a.notice s) ts) (sym (read.0 ∙ tenders_are a.notice s))) in
-    joined a.publisher.now (given_by a.asking.now s (Open a.notice)) refl tt allowed read.1 puts (c.in_ok-text.ensures s are (c.as_slice.ensures ∙ read.0)) (released are (c.as_slice-2.ensures ∙ read.0)))
+    let made = released are (c.as_slice.ensures ∙ read.0) in
+    joined a.publisher.now (given_by a.asking.now s (Open a.notice)) refl tt allowed read.1 puts (c.in_ok-text.ensures s are (c.as_slice-2.ensures ∙ read.0) (numbered_notice made a.notice refl)) made)
 
 pub returns-in_err-rows-clause-tells : goal.returns-in_err-rows-clause-tells
 returns-in_err-rows-clause-tells g c =
@@ -56,17 +58,17 @@ returns-in_err-tenders-clause-tells g c =
     none_to_tell (rule a.asking.now a.notice) _ _ c.time-t.ensures _ _ _ c.in_ok-rows.ensures.0 c.requires _ c.refusal.ensures _ _
     c.in_err-tenders.ensures.looks.0.before c.in_default.is
 
-pub returns-in_err-text-clause-tells : goal.returns-in_err-text-clause-tells
-returns-in_err-text-clause-tells g c =
-    let a = c.args in
-    none_to_tell (rule a.asking.now a.notice) _ _ c.time-t.ensures _ _ _ c.in_ok-rows.ensures.0 c.requires _ c.refusal.ensures _ _
-    c.in_ok-tenders.ensures.looks.0.before c.in_default.is
-
 pub returns-in_err-release-clause-tells : goal.returns-in_err-release-clause-tells
 returns-in_err-release-clause-tells g c =
     let a = c.args in
     none_to_tell (rule a.asking.now a.notice) _ _ c.time-t.ensures _ _ _ c.in_ok-rows.ensures.0 c.requires _ c.refusal.ensures _ _
     (λ honest. c.in_ok-tenders.ensures.looks.0.before (c.in_err-release.ensures.looks.0.before honest)) c.in_default.is
+
+pub returns-in_err-text-clause-tells : goal.returns-in_err-text-clause-tells
+returns-in_err-text-clause-tells g c =
+    let a = c.args in
+    none_to_tell (rule a.asking.now a.notice) _ _ c.time-t.ensures _ _ _ c.in_ok-rows.ensures.0 c.requires _ c.refusal.ensures _ _
+    (λ honest. c.in_ok-tenders.ensures.looks.0.before (c.in_ok-release.ensures.looks.0.before honest)) c.in_default.is
 
 pub returns-in_err-puts-clause-tells : goal.returns-in_err-puts-clause-tells
 returns-in_err-puts-clause-tells g c =

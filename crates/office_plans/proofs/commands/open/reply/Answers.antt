@@ -1,7 +1,6 @@
-use Rattle.std.specs.Prelude.{◌≡◌, ℕ, ◌+◌, List, length, max}
+use Rattle.std.specs.Prelude.{◌≡◌, ℕ, List, length, max}
 use Rattle.std.proofs.Common.{◌∙◌, ap}
 use Rattle.std.proofs.lemmas.List.{length-map}
-use Rattle.office_machine.specs.Counted.{releases_in}
 use Rattle.office_machine.specs.Replies.{OpenedAll}
 use Rattle.office_machine.specs.Rule.{sealed_of_notice}
 use Rattle.office_plans.specs.Opening.{tender_read}
@@ -20,9 +19,8 @@ pub returns : goal.returns
 returns c =
     let n = c.args.notice in
     if_ok c.opened_text.result c.opened_text.ensures
-    (λ text is s are read.
+    (λ text is s are read release.
     let count : length c.args.tenders.now ≡ length (sealed_of_notice n s) =
     ap (λ (tenders : List OpenedTender). length tenders) read ∙ length-map (sealed_of_notice n s) (tender_read s) in
-    let release = c.next_release-release.ensures ∙ ap (λ (rows : OpenRows). releases_in rows.notice + 1) are in
     let time = c.time-t.ensures ∙ ap (λ (rows : OpenRows). max c.args.asking.now.moment rows.clock.moment) are in
     is ∙ ap reply_text (told_alike n _ _ _ _ _ _ count release time))

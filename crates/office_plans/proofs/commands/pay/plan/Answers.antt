@@ -3,7 +3,8 @@ use Rattle.std.proofs.Common.{◌∙◌, ap, refl, sym}
 use Rattle.award_core.specs.Rules.Pay.{pay_lacks, pay_puts, pay_rows, pay_tests}
 use Rattle.award_core.specs.declared.pay.PayRows.{PayRows}
 use Rattle.office_commands.specs.declared.commands.Command.TheVariants.{Pay}
-use Rattle.office_base.specs.Tables.{Tables}
+use Rattle.office_base.specs.Tables.{Tables, contract_at}
+use Rattle.office_plans.proofs.Numbered.{numbered_contract}
 use Rattle.office_plans.proofs.Publishing.{IsTested, not_planned, puts_on, refused_on, three_looks, whole_on}
 use Rattle.office_plans.proofs.Telling.{fault_told, none_to_tell, refusal_told}
 use Rattle.office_plans.proofs.commands.pay.plan.Goals as goal
@@ -32,7 +33,8 @@ returns-clause-looks g c =
     let whole = whole_on ruled _ _ moment (λ (rows : PayRows). pay_lacks rows) c.in_ok-puts.ensures.whole s are refl in
     let puts = puts_on ruled _ _ moment (λ (rows : PayRows) (t : ℕ). pay_puts rows t a.entry a.amount) _ c.in_ok-puts.ensures.puts s are refl in
     let row = sym c.as_ref.ensures.value ∙ ap option_copied c.unwrap-row.ensures in
-    joined a.publisher.now (given_by a.asking.now s (Pay a.contract a.entry a.amount)) refl tt allowed whole puts (c.in_ok-text.ensures.told s a.entry are allowed) (released a.contract are row))
+    let made = released a.contract are row in
+    joined a.publisher.now (given_by a.asking.now s (Pay a.contract a.entry a.amount)) refl tt allowed whole puts (c.in_ok-text.ensures.told s a.entry are (numbered_contract made (contract_at a.contract s) refl) allowed) made)
 
 pub returns-in_err-rows-clause-tells : goal.returns-in_err-rows-clause-tells
 returns-in_err-rows-clause-tells g c =
@@ -44,17 +46,17 @@ returns-in-Some-clause-tells g c =
     let a = c.args in
     refusal_told (rule a.asking.now a.contract a.entry a.amount) _ _ c.time-t.ensures _ _ _ c.in_ok-rows.ensures.0 c.requires _ c.refusal.ensures _ c.in-Some.is
 
-pub returns-in_err-text-clause-tells : goal.returns-in_err-text-clause-tells
-returns-in_err-text-clause-tells g c =
-    let a = c.args in
-    none_to_tell (rule a.asking.now a.contract a.entry a.amount) _ _ c.time-t.ensures _ _ _ c.in_ok-rows.ensures.0 c.requires _ c.refusal.ensures _ _
-    (λ honest. honest) c.in_default.is
-
 pub returns-in_err-release-clause-tells : goal.returns-in_err-release-clause-tells
 returns-in_err-release-clause-tells g c =
     let a = c.args in
     none_to_tell (rule a.asking.now a.contract a.entry a.amount) _ _ c.time-t.ensures _ _ _ c.in_ok-rows.ensures.0 c.requires _ c.refusal.ensures _ _
     c.in_err-release.ensures.looks.0.before c.in_default.is
+
+pub returns-in_err-text-clause-tells : goal.returns-in_err-text-clause-tells
+returns-in_err-text-clause-tells g c =
+    let a = c.args in
+    none_to_tell (rule a.asking.now a.contract a.entry a.amount) _ _ c.time-t.ensures _ _ _ c.in_ok-rows.ensures.0 c.requires _ c.refusal.ensures _ _
+    c.in_ok-release.ensures.looks.0.before c.in_default.is
 
 pub returns-in_err-puts-clause-tells : goal.returns-in_err-puts-clause-tells
 returns-in_err-puts-clause-tells g c =

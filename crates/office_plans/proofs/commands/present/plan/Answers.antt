@@ -1,10 +1,11 @@
-use Rattle.std.specs.Prelude.{List, Option, is_some, ℕ, ◌+◌}
+use Rattle.std.specs.Prelude.{List, Option, is_some, ℕ, ◌+◌, slice_get}
 use Rattle.std.proofs.Common.{◌∙◌, ap, refl, sym}
 use Rattle.office_commands.specs.declared.commands.Command.TheVariants.{Present}
 use Rattle.office_commands.specs.declared.tender.NamedSecurity.{NamedSecurity}
 use Rattle.office_base.specs.Rows.{holds_of}
 use Rattle.office_base.specs.Transitions.{is_in_time}
 use Rattle.office_base.specs.Tables.{Tables, envelope_at}
+use Rattle.office_base.specs.declared.puts.Put.{Put}
 use Rattle.office_machine.specs.Machine.{time_of}
 use Rattle.office_machine.specs.Replies.{received_reply}
 use Rattle.office_plans.proofs.OwnTenders.{own_tests}
@@ -41,7 +42,8 @@ returns-clause-looks g c publisher =
     let puts = puts_on ruled _ _ moment (λ (rows : PresentRows) (t : ℕ). present_puts sha256 rows t a.asking.now.caller.now a.notice a.lot a.security a.sealed) _ c.in_ok-puts.ensures.puts s are refl in
     let reply = λ (rows : PresentRows) (t : ℕ).
     reply_text (received_reply (received sha256 rows.clock t a.asking.now.caller.now a.notice a.lot a.security a.sealed (holds_of (is_in_time t) rows.notice))) in
-    let told = c.in_ok-text.ensures a.asking.now.caller.now a.notice a.lot ∙ on_rows ruled _ _ moment reply s are in
+    let first = ap (λ (ps : List Put). slice_get ps 0) (c.as_slice.ensures.value ∙ c.in_ok-puts.ensures.puts) in
+    let told = c.in_ok-text.ensures.told _ first ∙ on_rows ruled _ _ moment reply s are in
     c.silent.ensures publisher (given_by a.asking.now s (Present a.notice a.lot a.security a.sealed)) tt allowed new refl refl puts told)
 
 pub returns-in_err-rows-clause-tells : goal.returns-in_err-rows-clause-tells
@@ -66,14 +68,14 @@ returns-then-taken-clause-tells g c =
     none_to_tell (rule a.asking.now a.notice a.lot a.security a.sealed) _ _ c.time-t.ensures _ _ _ c.in_ok-rows.ensures.0 c.requires _ c.refusal.ensures _ _
     c.in_ok-taken.ensures.0.0.before c.in_default.is
 
-pub returns-in_err-text-clause-tells : goal.returns-in_err-text-clause-tells
-returns-in_err-text-clause-tells g c =
+pub returns-in_err-puts-clause-tells : goal.returns-in_err-puts-clause-tells
+returns-in_err-puts-clause-tells g c =
     let a = c.args in
     none_to_tell (rule a.asking.now a.notice a.lot a.security a.sealed) _ _ c.time-t.ensures _ _ _ c.in_ok-rows.ensures.0 c.requires _ c.refusal.ensures _ _
     c.in_ok-taken.ensures.0.0.before c.in_default.is
 
-pub returns-in_err-puts-clause-tells : goal.returns-in_err-puts-clause-tells
-returns-in_err-puts-clause-tells g c =
+pub returns-in_err-text-clause-tells : goal.returns-in_err-text-clause-tells
+returns-in_err-text-clause-tells g c =
     let a = c.args in
     none_to_tell (rule a.asking.now a.notice a.lot a.security a.sealed) _ _ c.time-t.ensures _ _ _ c.in_ok-rows.ensures.0 c.requires _ c.refusal.ensures _ _
     c.in_ok-taken.ensures.0.0.before c.in_default.is

@@ -8,6 +8,7 @@ use Rattle.office_base.specs.Shelves.{Looks, Meaning}
 use Rattle.office_base.specs.Tables.{Tables, line_key}
 use Rattle.office_machine.specs.Machine.{time_of}
 use Rattle.office_plans.proofs.NamedLines.{lines_agree}
+use Rattle.office_plans.proofs.Numbered.{numbered_notice}
 use Rattle.office_plans.proofs.Publishing.{IsTested, not_planned, puts_on, refused_on, three_looks}
 use Rattle.office_plans.proofs.commands.publish.plan.Goals as goal
 use Rattle.office_plans.specs.Asking.{given_by}
@@ -51,4 +52,5 @@ returns g c =
     let puts = puts_on ruled _ _ moment (λ (rows : PublishRows) (t : ℕ). publish_puts rows t a.notice a.content) _ c.in_ok-puts.ensures.puts s are
     (sym (c.publishes_agree.ensures.puts (lines_named s (map line_of_new a.content.lots)) s.lines (publish_rows s a.notice)
     (time_of (given_by a.asking.now s (Publish a.notice a.content))) a.notice a.content (lines_agree c.rows_are_kept.ensures s line_of_new a.content.lots))) in
-    joined a.publisher.now (given_by a.asking.now s (Publish a.notice a.content)) refl c.as_slice.ensures.differ allowed (sym found ∙ c.if-found.false) puts (c.in_ok-text.ensures s (ap (λ (rows : PublishRows). rows.notice) are) (ap (λ (rows : PublishRows). rows.clock) are)) (c.in_ok-release.ensures.release s are))
+    let made = c.in_ok-release.ensures.release s are in
+    joined a.publisher.now (given_by a.asking.now s (Publish a.notice a.content)) refl c.as_slice.ensures.differ allowed (sym found ∙ c.if-found.false) puts (c.in_ok-text.ensures s (numbered_notice made a.notice refl) (ap (λ (rows : PublishRows). rows.clock) are)) made)

@@ -9,6 +9,7 @@ use Rattle.office_base.specs.Parents.{envelope_of_award}
 use Rattle.office_base.specs.Tables.{Tables, award_at}
 use Rattle.office_machine.specs.Lacking.{is_lacking}
 use Rattle.office_machine.specs.Orphans.{contract_is_taken, lacks_its_security}
+use Rattle.office_plans.proofs.Numbered.{numbered_award}
 use Rattle.office_plans.proofs.Publishing.{IsTested, four_looks, grouped, not_planned, puts_on, refused_on}
 use Rattle.office_plans.proofs.Telling.{fault_told, none_to_tell, refusal_told}
 use Rattle.office_plans.proofs.commands.sign.plan.Goals as goal
@@ -41,7 +42,8 @@ returns-clause-looks g c =
     ∙ (λ i. there i || new i) in
     let puts = puts_on ruled _ _ moment (λ (rows : SignRows) (t : ℕ). sign_puts rows t a.security) _ c.in_ok-puts.ensures.puts s are refl in
     let row = sym c.as_ref.ensures.value ∙ ap option_copied c.unwrap-row.ensures in
-    joined a.publisher.now (given_by a.asking.now s (Sign a.award a.security)) refl tt allowed whole puts (c.in_ok-text.ensures s a.security are) (released a.award a.security are row))
+    let made = released a.award a.security are row in
+    joined a.publisher.now (given_by a.asking.now s (Sign a.award a.security)) refl tt allowed whole puts (c.in_ok-text.ensures s a.security are (numbered_award made (award_at a.award s) refl)) made)
 
 pub returns-in_err-rows-clause-tells : goal.returns-in_err-rows-clause-tells
 returns-in_err-rows-clause-tells g c =
@@ -65,17 +67,17 @@ returns-then-taken-clause-tells g c =
     none_to_tell (rule a.asking.now a.award a.security) _ _ c.time-t.ensures _ _ _ c.in_ok-rows.ensures.0 c.requires _ c.refusal.ensures _ _
     c.in_ok-taken.ensures.0.0.before c.in_default.is
 
-pub returns-in_err-text-clause-tells : goal.returns-in_err-text-clause-tells
-returns-in_err-text-clause-tells g c =
-    let a = c.args in
-    none_to_tell (rule a.asking.now a.award a.security) _ _ c.time-t.ensures _ _ _ c.in_ok-rows.ensures.0 c.requires _ c.refusal.ensures _ _
-    c.in_ok-taken.ensures.0.0.before c.in_default.is
-
 pub returns-in_err-release-clause-tells : goal.returns-in_err-release-clause-tells
 returns-in_err-release-clause-tells g c =
     let a = c.args in
     none_to_tell (rule a.asking.now a.award a.security) _ _ c.time-t.ensures _ _ _ c.in_ok-rows.ensures.0 c.requires _ c.refusal.ensures _ _
     (λ honest. c.in_ok-taken.ensures.0.0.before (c.in_err-release.ensures.looks.0.before honest)) c.in_default.is
+
+pub returns-in_err-text-clause-tells : goal.returns-in_err-text-clause-tells
+returns-in_err-text-clause-tells g c =
+    let a = c.args in
+    none_to_tell (rule a.asking.now a.award a.security) _ _ c.time-t.ensures _ _ _ c.in_ok-rows.ensures.0 c.requires _ c.refusal.ensures _ _
+    (λ honest. c.in_ok-taken.ensures.0.0.before (c.in_ok-release.ensures.looks.0.before honest)) c.in_default.is
 
 pub returns-in_err-puts-clause-tells : goal.returns-in_err-puts-clause-tells
 returns-in_err-puts-clause-tells g c =
