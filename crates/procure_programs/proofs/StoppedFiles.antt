@@ -111,7 +111,7 @@ module _ {D : Type 0} {g : Ghosts D} (image : Image) (settings : Settings) (most
             )
       ]
 
--- so of what comes back with a fault
+-- the files of a store that a failed closing returns
 pub closes_half_err : {D F R : Type 0} {g : Ghosts D} (image : Image) (settings : Settings) (most : ℕ) (old new : Connected (FileStore D g) × ℕ) (result : Result R (F × FileStore D g))
     → TablesAreInOrder → OpensHeld image old.0 → OpensEmpty image old.0 → (HasCleanDisk (file_state old.0) → LeavesShown (file_state old.0))
     → (HasCleanDisk (file_state old.0) → LeavesNoOther (file_state old.0)) → WasServed (sql_meaning over_files) most settings old new → IfErr result (λ left. IsHalfClosed new.0 left.1)
