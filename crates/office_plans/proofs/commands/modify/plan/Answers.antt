@@ -58,7 +58,7 @@ returns-clause-looks g c publisher =
     let puts = puts_on ruled _ _ moment (λ (rows : ModifyRows) (t : ℕ). modify_puts sha256 rows t a.sealed) _ c.in_ok-puts.ensures.puts s are refl in
     let third = ap (λ (ps : List Put). slice_get ps 2) (c.as_slice.ensures.value ∙ c.in_ok-puts.ensures.puts) in
     let told =
-    told_of _ _ a.asking.now.caller.now a.sealed _ (sym c.refusal.ensures ∙ c.in_default.is) (λ tender at. c.in_ok-text.ensures.told tender (third ∙ at))
+    told_of c.in_ok-rows.rows _ a.asking.now.caller.now a.sealed _ (sym c.refusal.ensures ∙ c.in_default.is) (λ tender at. c.in_ok-text.ensures.told tender (third ∙ at))
     ∙ on_rows ruled _ _ moment (λ (rows : ModifyRows) (t : ℕ). reply_text (modify_reply office_readings rows.clock t a.sealed rows.envelope)) s are in
     c.silent.ensures publisher (given_by a.asking.now s (Modify a.receipt a.sealed)) tt allowed whole refl refl puts told)
 
