@@ -1,6 +1,6 @@
 // The editor of a notice: its terms and lots, what the office would refuse, warnings, and its size.
 import { element, link, placeOf, section, title } from "../common/draw.js";
-import { DIGITS, ID, button, field, steps } from "../common/forms.js";
+import { DIGITS, ID, button, field, growing, steps } from "../common/forms.js";
 import { moment } from "../common/money.js";
 import { ledger, notices, officeNow, terms as termsOf } from "../common/office.js";
 import { say } from "../common/texts.js";
@@ -125,10 +125,10 @@ function faultList(editor, faults) {
     return element("p", { class: "quiet" }, say("editor.begin"));
   }
   const go = (fault) => button(placeText(editor, fault.field), () => focusOn(editor, fault), "second small");
-  const listed = faults.slice(0, MOST_FAULTS).map((fault) => element("li", {}, go(fault), " ", faultText(fault)));
-  const more = faults.length > MOST_FAULTS ? element("p", { class: "quiet" }, say("budget.more", { count: faults.length - MOST_FAULTS })) : null;
+  const lineOf = (fault) => element("li", {}, go(fault), " ", faultText(fault));
+  const list = element("ul", { class: "plain" });
   return element("div", { class: editor.isChecked ? "bad" : "look" }, element("p", {}, say("editor.faults", { count: faults.length })),
-    element("ul", { class: "plain" }, listed), more);
+    growing(list, faults, lineOf, MOST_FAULTS));
 }
 
 /** Goes to the field of a fault, if it has one. */

@@ -7,6 +7,7 @@ import { moment } from "../common/money.js";
 import { Refused, command, officeNow, sentenceOf } from "../common/office.js";
 import { hasText, say } from "../common/texts.js";
 import { addEntry } from "./journal.js";
+import { forgetStages } from "./load.js";
 import { caller, journal, who } from "./session.js";
 import { momentText, textOf } from "./values.js";
 
@@ -97,7 +98,7 @@ async function transmit(state) {
   const { order } = state;
   state.isBusy = true;
   draw(state, element("p", {}, say("order.sending")), []);
-  const outcome = await outcomeOf(order);
+  const outcome = await outcomeOf(order).finally(forgetStages);
   state.isBusy = false;
   await keep(state, outcome);
   if (outcome.value) {

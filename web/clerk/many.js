@@ -1,0 +1,46 @@
+// Long tables: the first rows, a button that shows more of them, and a field that searches them all.
+import { element } from "../common/draw.js";
+import { plain } from "../common/filters.js";
+import { field, table } from "../common/forms.js";
+import { say } from "../common/texts.js";
+
+// So many rows are shown at first, and with each press of the button.
+export const FIRST = 25;
+const MORE = 100;
+
+/** A table of the first entries, and a button that shows more. `rowOf` makes the cells of an entry. */
+export function growingTable(caption, heads, all, rowOf, { first = FIRST, ...options } = {}) {
+  const made = table(caption, heads, all.slice(0, first).map(rowOf), options);
+  const more = element("button", { type: "button", class: "more second" });
+  let shown = Math.min(first, all.length);
+  const tell = () => {
+    more.hidden = shown >= all.length;
+    more.textContent = say("list.more", { count: all.length - shown });
+  };
+  more.addEventListener("click", () => {
+    const rows = [...table("", heads, all.slice(shown, shown + MORE).map(rowOf), options).querySelectorAll("tbody > tr")];
+    made.querySelector("tbody").append(...rows);
+    shown += rows.length;
+    tell();
+    rows[0].tabIndex = -1;
+    rows[0].focus();
+  });
+  tell();
+  return [made, more];
+}
+
+/** What `draw` makes of all entries, below a field that searches them if there are many. `wordsOf` gives the
+ * text in which an entry is searched. */
+export function searched(label, all, wordsOf, draw) {
+  const found = element("div", { "aria-live": "polite" }, draw(all));
+  if (all.length <= FIRST) {
+    return found;
+  }
+  const asked = field(label, { kind: "search" });
+  asked.input.addEventListener("input", () => {
+    const words = plain(asked.value()).split(/\s+/).filter(Boolean);
+    const some = all.filter((one) => words.every((word) => plain(wordsOf(one)).includes(word)));
+    found.replaceChildren(...[some.length > 0 ? draw(some) : element("p", {}, say("search.none"))].flat(Infinity).filter(Boolean));
+  });
+  return [asked.made, found];
+}
