@@ -5,7 +5,7 @@ import write from "./de_write.js";
 export default {
   "site": "Vergabestelle",
   "back": "Zurück zur Bekanntmachung {notice}",
-  "foot": "Nur dieser Tab hat Schlüssel und Journal. Wenn Sie den Tab schließen, sind beide weg. Die Seite speichert nichts und fragt keinen anderen Server.",
+  "foot": "Nur dieser Tab hat Schlüssel, Journal und Entwurf. Schlüssel und Journal sind weg, wenn Sie die Seite neu laden oder den Tab schließen. Die Seite speichert nichts und fragt keinen anderen Server.",
   "in": "(in {span})",
   "ago": "(vor {span})",
   "moment.both": "{local} ({second})",

@@ -13,7 +13,7 @@ const MENU = ["today", "budget", "tenderers", "new", "journal"];
 const LATER = { budget: [() => import("./budgets.js"), "drawBudget"], tenderers: [() => import("./tenderers.js"), "drawTenderers"],
   new: [() => import("./editor.js"), "drawEditor"], preview: [() => import("./preview.js"), "drawPreview"],
   journal: [() => import("./journals.js"), "drawJournal"], notice: [() => import("./procurement.js"), "drawProcurement"],
-  minutes: [() => import("./printed.js"), "drawMinutes"], letter: [() => import("./printed.js"), "drawLetter"] };
+  minutes: [() => import("./printed.js"), "drawMinutes"], letter: [() => import("./letters.js"), "drawLetter"] };
 // The screens by the first word of the address. The other words are their arguments.
 const SCREENS = { today: drawToday, key: drawKey,
   ...Object.fromEntries(Object.entries(LATER).map(([page, [load, name]]) => [page, async (...asked) => (await load())[name](...asked)])) };

@@ -5,7 +5,7 @@ import write from "./en_write.js";
 export default {
   "site": "Clerk's desk",
   "back": "Back to notice {notice}",
-  "foot": "Only this tab holds the key and the journal. When you close the tab, both are gone. The page stores nothing and asks no other server.",
+  "foot": "Only this tab holds the key, the journal and the draft of a notice. The key and the journal are gone when you load the page again or close the tab. The page stores nothing and asks no other server.",
   "in": "(in {span})",
   "ago": "({span} ago)",
   "moment.both": "{local} ({second})",

@@ -4,9 +4,10 @@ import { element, link, placeOf, section } from "../common/draw.js";
 import { note } from "../common/forms.js";
 import { drawProcess } from "../common/process.js";
 import { say } from "../common/texts.js";
-import { awardPart, examinations } from "./award.js";
+import { awardPart, letters } from "./award.js";
 import { contractPart } from "./contracts.js";
 import { cancelPart, movePart, openingPart, registerPart } from "./deadline.js";
+import { examinations } from "./examine.js";
 import { loadNotice, tasks } from "./load.js";
 import { STEPS, stepOf } from "./stage.js";
 
@@ -38,8 +39,14 @@ function doing(stage) {
 
 function parts(notice, again) {
   const of = { receiving: [movePart, openingPart, registerPart], due: [openingPart, registerPart], opened: [minutesPart, registerPart],
-    cancelled: [registerPart] };
+    cancelled: [lettersPart, registerPart] };
   return of[notice.stage.kind].map((part) => part(notice, again));
+}
+
+/** A notice that was cancelled before its opening: one letter for each lot, to everybody who tendered. */
+function lettersPart(notice) {
+  const { lots } = notice.stage;
+  return section(say("letters.link"), element("p", {}, lots.map((lot, at) => [at > 0 ? " · " : "", say("see.lot", { lot: lot.id }), ": ", letters(notice, lot)])));
 }
 
 function minutesPart({ name }) {
