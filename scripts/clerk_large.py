@@ -11,6 +11,10 @@ DAY = 86_400
 WARES = ["Clay tiles", "Paving stones", "School desks", "Street lamps", "Playground swings", "Trees for avenues", "Fire hoses", "Library books"]
 
 
+def key_of(firm: str) -> str:
+    return f"key of {firm}"
+
+
 def line_of(number: int) -> str:
     return f"{2000 + number}"
 

@@ -9,6 +9,7 @@ import { ledger, line as lineOf, sentenceOf } from "../common/office.js";
 import { POTS, pots } from "../common/pots.js";
 import { hasText, say } from "../common/texts.js";
 import { changesOf, readBudget, repeatsOf } from "./budget.js";
+import { converted } from "./convert.js";
 import { ofBudget } from "./fate.js";
 import { isUsed } from "./journal.js";
 import { growingTable, searched } from "./many.js";
@@ -81,19 +82,33 @@ function titled(name) {
   return [name, place];
 }
 
-/** The content of a file, its faults or its changes, and the form that sends it. */
+/** The content of a file, its faults or its changes, and the form that sends it. A file of a spreadsheet is
+ * converted first, and each change of it is shown. */
 async function checked(name, bytes, lines, again) {
-  const reading = readBudget(bytes);
-  const size = say("budget.size", { bytes: bytes.length, rows: reading.rows.length, count: reading.rows.length });
+  const turned = converted(bytes, new Map([...mirrored, ...titles]));
+  const sent = turned?.bytes ?? bytes;
+  const reading = readBudget(sent);
+  const size = say("budget.size", { bytes: sent.length, rows: reading.rows.length, count: reading.rows.length });
   const head = element("h3", { tabindex: "-1" }, name, " ", element("span", { class: "quiet" }, size));
   const { changes, faults } = changesOf(reading.rows, lines);
-  const all = [...reading.faults, ...(reading.faults.length === 0 ? faults : []), ...limits(reading)];
+  const all = [...reading.faults, ...(reading.faults.length === 0 ? faults : []), ...limits(reading)]
+    .map((fault) => (turned && fault.record ? { ...fault, line: turned.lines[fault.record - 1] ?? fault.line } : fault));
   if (all.length > 0) {
     return [head, note("bad", say("budget.refused", { count: all.length }), say("budget.refused.whole")), faultTable(all)];
   }
   const warnings = warningsOf(repeatsOf(reading.rows, changes, journal().entries));
-  return [head, note(warnings.length > 0 ? "look" : "good", say("budget.right"), say("budget.right.more"), warnings), changeTable(changes),
-    sending(name, bytes, changes, warnings, again)];
+  return [head, turned ? conversion(turned.changes) : null,
+    note(warnings.length > 0 ? "look" : "good", say("budget.right"), say("budget.right.more"), warnings), changeTable(changes),
+    sending(name, sent, changes, warnings, again)].filter(Boolean);
+}
+
+/** What was changed in the file before it is sent, line by line. */
+function conversion(changes) {
+  const heads = [say("budget.fileline"), say("convert.what"), say("convert.was"), say("convert.now")];
+  const rowOf = ({ line, name, value, told }) => [number(line), say(`convert.${name}`), given(value), told === null ? say("convert.out") : element("b", {}, given(told))];
+  return element("div", {}, note("look", say("convert.done", { count: changes.length }), say("convert.check")),
+    searched(say("budget.search.changes"), changes, ({ line, value, told }) => `${line} ${value} ${told ?? ""}`,
+      (some) => growingTable(say("convert.table"), heads, some, rowOf, { figures: [0], first: 10 })));
 }
 
 /** Warnings that the file may already be imported. */

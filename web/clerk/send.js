@@ -7,6 +7,7 @@ import { moment } from "../common/money.js";
 import { Refused, command, officeNow, sentenceOf } from "../common/office.js";
 import { hasText, say } from "../common/texts.js";
 import { addEntry } from "./journal.js";
+import { touch } from "./idle.js";
 import { forgetStages } from "./load.js";
 import { caller, journal, who } from "./session.js";
 import { momentText, textOf } from "./values.js";
@@ -31,13 +32,17 @@ export function send(order) {
       finish(state.value);
     });
     document.body.append(dialog);
-    if (caller() === null) {
-      draw(state, note("bad", say("order.nokey"), say("order.nokey.do")), [closing(state)]);
-    } else {
-      drawAsked(state);
-    }
+    drawAsked(state);
     dialog.showModal();
   });
+}
+
+/** Says that this tab holds no key, if so. */
+function hasNoKey(state) {
+  if (caller() === null) {
+    draw(state, note("bad", say("order.nokey"), say("order.nokey.do")), [closing(state)]);
+  }
+  return caller() === null;
 }
 
 /** Shows an order, and calls `behind` if it was done. */
@@ -61,6 +66,9 @@ function closing(state, text = say("order.close")) {
 /** The request, and the button that sends it. */
 async function drawAsked(state) {
   const { order } = state;
+  if (hasNoKey(state)) {
+    return;
+  }
   const sure = confirmation(order);
   const sending = button(say(`order.${order.kind}.send`), () => (order.orders ? transmitAll(state) : transmit(state)), order.isFinal || order.word ? "harm" : "");
   sending.disabled = sure !== null;
@@ -104,6 +112,9 @@ function requestsShown(orders) {
  * first one that isn't done: the rest stays unsent. */
 async function transmitAll(state) {
   const { orders, kind } = state.order;
+  if (hasNoKey(state)) {
+    return;
+  }
   const parts = [];
   let last = null;
   state.isBusy = true;
@@ -147,6 +158,9 @@ function partText({ order, entry, fault, isDone }) {
 /** Sends the command, and keeps the answer. */
 async function transmit(state) {
   const { order } = state;
+  if (hasNoKey(state)) {
+    return;
+  }
   state.isBusy = true;
   draw(state, element("p", {}, say("order.sending")), []);
   const outcome = await outcomeOf(order).finally(forgetStages);
@@ -163,6 +177,7 @@ async function transmit(state) {
 
 /** The office's answer and its value, or the fault. */
 async function outcomeOf({ path, body }) {
+  touch();
   try {
     const { text, value } = await command(path, caller(), body ?? undefined);
     return { answer: { status: 200, text }, value };

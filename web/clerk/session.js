@@ -3,7 +3,8 @@
 import { Refused, registerText } from "../common/office.js";
 import { newJournal } from "./journal.js";
 
-const session = { caller: null, who: "", journal: newJournal(globalThis.location?.origin ?? null), draft: null, isUnsaved: false, former: null };
+const session = { caller: null, who: "", journal: newJournal(globalThis.location?.origin ?? null), draft: null, isUnsaved: false, former: null,
+  place: "" };
 
 export function journal() {
   return session.journal;
@@ -39,6 +40,15 @@ export async function holdKey(key, name) {
 
 export function forgetKey() {
   session.caller = null;
+}
+
+/** Remembers the view before the key is asked for, to return to it. */
+export function keepPlace(hash) {
+  session.place = hash;
+}
+
+export function placeBefore() {
+  return session.place;
 }
 
 /** The draft of a notice. It stays while other screens are shown, and after a reload. */
