@@ -60,7 +60,8 @@ def drafts(scene: Scene) -> None:
 
 
 def answers(scene: Scene) -> None:
-    """Before a notice is published, its window shows each answer and each warning, and leads back to each field. An odd hour and a low estimate are warned of."""
+    """Before a notice is published, its window shows each answer and each warning, and leads back to each field. An odd hour and a low estimate are warned
+    of."""
     desk = Desk(scene)
     desk.give_key()
     desk.settle("today")
@@ -76,15 +77,14 @@ def answers(scene: Scene) -> None:
     desk.press("Publish the notice …")
     desk.page.wait("document.querySelector('dialog[open] .answers')")
     desk.press("Request, as it is sent")
-    texts = ("N7", "Answers", "90", "The lowest price", "not possible", "70", "North", "South", "1,600", "300", "50", "none", "Paving, square metres", "Kerbs, 10 m",
-             "Signs", "400", "Without a standstill the losing firms", "The deadline is in 11 hours", "Item L2/I1", "The deadline is outside office hours")
-    tells(desk, *texts[:-1])
+    tells(desk, "N7", "Answers", "90", "The lowest price", "not possible", "70", "North", "South", "1,600", "300", "50", "none", "Paving, square metres",
+          "Kerbs, 10 m", "Signs", "400", "Without a standstill the losing firms", "The deadline is in 11 hours", "Item L2/I1")
     told = desk.page.run("[...document.querySelectorAll('dialog[open] .answers button')].map((at) => at.getAttribute('aria-label'))")
-    wanted = ["Change Notice number", "Change Title", "Change Deadline", "Change Validity of tenders, in days", "Change Standstill, in days", "Change Award criteria",
-              "Change Withdrawal after the deadline", "Change Performance security"]
-    lots = [f"Change {name}" for lot, items in (("L1", 2), ("L2", 1))
+    wanted = ["Notice number", "Title", "Deadline", "Validity of tenders, in days", "Standstill, in days", "Award criteria",
+              "Withdrawal after the deadline", "Performance security"]
+    lots = [name for lot, items in (("L1", 2), ("L2", 1))
             for name in ("Title of the lot", "Budget line", "Estimate", "Tender security", *(f"{lot}/I{at + 1}" for at in range(items)))]
-    check(f"the answers lead back to {told}", told == wanted + lots)
+    check(f"the answers lead back to {told}", told == [f"Change {name}" for name in wanted + lots])
     desk.picture("answers")
     for label, value in (("Change Performance security", "70"), ("Change L1/I2", "Kerbs, 10 m")):
         desk.page.run(f"document.querySelector('dialog[open] [aria-label=\"{label}\"]').click()")
@@ -123,7 +123,8 @@ def letterheads(scene: Scene) -> None:
     path = os.path.join(scene.front.folder, "city", "city.json")
     try:
         with open(path, "w") as file:
-            json.dump({"letterhead": {"en": ["City of Example", "1 Town Hall Square"], "de": []}, "remedy": {"en": ["Object within ten days at the chamber."]}}, file)
+            json.dump({"letterhead": {"en": ["City of Example", "1 Town Hall Square"], "de": []},
+                       "remedy": {"en": ["Object within ten days at the chamber."]}}, file)
         desk = Desk(scene)
         desk.go("letter/N1/L1")
         tells(desk, "City of Example", "1 Town Hall Square")
@@ -225,7 +226,8 @@ def budget_lines(desk: Desk) -> None:
     desk.says("The office would accept this file.")
     desk.page.wait("hands.field('Name of the file at the office').getBoundingClientRect().top + scrollY < 3000")
     desk.press("Show more (95 left)")
-    shown = desk.page.run("[...document.querySelectorAll('main table')].find((at) => at.caption?.textContent === 'What the file changes').tBodies[0].rows.length")
+    shown = desk.page.run("[...document.querySelectorAll('main table')].find((at) => at.caption?.textContent === 'What the file changes')"
+                          ".tBodies[0].rows.length")
     check(f"{shown} changes are shown", shown == 120)
 
 
