@@ -181,7 +181,7 @@ def views(desk: Desk) -> None:
     timed(desk, "budget", "[...document.querySelectorAll('main button')].find((at) => at.textContent === 'Show more (100 left)')")
     today(desk)
     budget_lines(desk)
-    timed(desk, "tenderers", "[...document.querySelectorAll('main td')].at(-1)")
+    timed(desk, "tenderers", "[...document.querySelectorAll('main button')].find((at) => at.textContent === 'Show more (35 left)')")
     timed(desk, "new", "[...document.querySelectorAll('main button')].find((at) => at.textContent === 'Publish the notice …')")
     timed(desk, "notice/N005", "document.querySelector('main form')")
     timed(desk, "notice/N001", "document.querySelector('.examination')")

@@ -16,6 +16,7 @@ export default {
   "id.wrong": "Use 1 to 32 letters without accents, digits, _ . or -, without spaces. A single . or .. isn't allowed.",
   "amount.wrong": "Use a whole number from 1 to 1,000,000,000,000, digits only.",
   "search.none": "Nothing matches these words.",
+  "search.found": ["1 found", "{count} found"],
   "kind.fault": "Something went wrong in this page. Save the journal, then load the page again and enter the key.",
   "page.today": "Today",
   "page.budget": "Budget",

@@ -32,15 +32,17 @@ export function growingTable(caption, heads, all, rowOf, { first = FIRST, ...opt
 /** What `draw` makes of all entries, below a field that searches them if there are many. `wordsOf` gives the
  * text in which an entry is searched. */
 export function searched(label, all, wordsOf, draw) {
-  const found = element("div", { "aria-live": "polite" }, draw(all));
+  const found = element("div", {}, draw(all));
   if (all.length <= FIRST) {
     return found;
   }
   const asked = field(label, { kind: "search" });
+  const told = element("p", { class: "quiet", role: "status" });
   asked.input.addEventListener("input", () => {
     const words = plain(asked.value()).split(/\s+/).filter(Boolean);
     const some = all.filter((one) => words.every((word) => plain(wordsOf(one)).includes(word)));
-    found.replaceChildren(...[some.length > 0 ? draw(some) : element("p", {}, say("search.none"))].flat(Infinity).filter(Boolean));
+    told.textContent = words.length === 0 ? "" : some.length === 0 ? say("search.none") : say("search.found", { count: some.length });
+    found.replaceChildren(...[some.length > 0 ? draw(some) : []].flat(Infinity));
   });
-  return [asked.made, found];
+  return [asked.made, told, found];
 }

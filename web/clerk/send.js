@@ -75,7 +75,7 @@ async function drawAsked(state) {
   sure?.input.addEventListener("input", () => { sending.disabled = !sure.isGiven(); });
   const says = element("ul", {}, order.says.map((part) => element("li", {}, part)));
   draw(state, [says, order.shows?.(() => state.dialog.close()) ?? null, sure?.made ?? null,
-    order.orders ? requestsShown(order.orders) : await requestShown(order)], [sending, closing(state, say("order.back"))]);
+    await (order.orders ? requestsShown(order.orders) : requestShown(order))], [sending, closing(state, say("order.back"))]);
   (sure?.input ?? sending).focus();
 }
 

@@ -48,20 +48,22 @@ export async function drawToday(again) {
   const place = element("div", {}, shown.length > 0 ? groups(shown, []) : none);
   const draw = (words) => {
     const matching = (some) => some.filter((one) => words.every((word) => one.words.includes(word)));
-    const drawn = words.length > 0 ? groups(matching(shown), matching(others)) : groups(shown, []);
-    place.replaceChildren(...(drawn.length > 0 ? drawn : [words.length > 0 ? element("p", {}, say("search.none")) : none]));
+    const [some, rest] = words.length > 0 ? [matching(shown), matching(others)] : [shown, []];
+    place.replaceChildren(...(some.length + rest.length > 0 ? groups(some, rest) : [words.length > 0 ? element("p", {}, say("search.none")) : none]));
+    return [...some, ...rest];
   };
   return { title: say("page.today"), content: [title(say("page.today")), element("p", { class: "intro" }, say("today.intro")), list.length > 0
     ? seeking(list, draw) : null, place, left.length > 0 ? steps(more) : null] };
 }
 
-/** The field for a number or words: while somebody types, the groups show what matches; the button opens a
- * notice by its number. */
+/** The field for a number or words: while somebody types, the groups show what matches; the button opens the
+ * notice with the number, or the only one that matches. */
 function seeking(list, draw) {
+  let matching = [];
   const asking = field(say("today.name"), { hint: say("today.name.hint"), kind: "search", maxlength: "200" });
-  asking.input.addEventListener("input", () => draw(plain(asking.value()).split(/\s+/).filter(Boolean)));
+  asking.input.addEventListener("input", () => { matching = draw(plain(asking.value()).split(/\s+/).filter(Boolean)); });
   return form(say("today.open"), [asking.made], say("today.show"), () => {
-    const found = noticeOf(list, asking.value());
+    const found = noticeOf(list, asking.value()) ?? (matching.length === 1 ? matching[0].notice : null);
     if (areRight([[asking, found ? "" : say("refusal.NoSuch.notice")]])) {
       location.hash = placeOf("notice", found);
     }
