@@ -17,10 +17,13 @@ export async function drawProcurement(again, name) {
   const lotOf = ({ id }) => stage.lots.find((lot) => lot.id === id);
   // (after a command for a lot, the focus returns to the lot)
   const behind = ({ id }) => () => again("", false, `lot-${id}`);
-  const ofLot = (lot) => (stage.kind === "opened" ? [examinations, awardPart].map((part) => part(notice, lotOf(lot), behind(lot))) : null);
+  const isOpened = stage.kind === "opened";
+  // (the examination comes before the table of tenders, which can be long)
+  const firstOfLot = (lot) => (isOpened ? examinations(notice, lotOf(lot), behind(lot)) : null);
+  const ofLot = (lot) => (isOpened ? awardPart(notice, lotOf(lot), behind(lot)) : null);
   const ofContract = (one) => ({ ...notice.contracts.get(one.id), more: contractPart(notice, one, behind) });
-  const isPressing = (lot) => stage.kind === "opened" && ["undecided", "awarded"].includes(lotOf(lot).state);
-  const content = drawProcess({ ...notice, above: [path(stage), doing(stage), parts(notice, again)], ofLot, ofContract, isPressing });
+  const isPressing = (lot) => isOpened && ["undecided", "awarded"].includes(lotOf(lot).state);
+  const content = drawProcess({ ...notice, above: [path(stage), doing(stage), parts(notice, again)], firstOfLot, ofLot, ofContract, isPressing });
   return { title: `${name}: ${compiled.tender.title}`, content: [content, stage.canCancel ? cancelPart(notice, again) : null] };
 }
 
