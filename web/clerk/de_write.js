@@ -3,7 +3,7 @@ export default {
   "budget.intro": "Eine Haushaltsdatei gibt Haushaltsstellen Geld, legt neue an oder kürzt freies Geld. Die Vergabestelle liest alles davon ein oder nichts. Diese Seite prüft die Datei, bevor Sie sie senden.",
   "budget.file": "Haushaltsdatei",
   "budget.drop": "Datei wählen oder hier ablegen",
-  "budget.drop.hint": "CSV, das mit dieser Zeile beginnt, dann Zeilen wie unten. Die Datei einer Tabelle mit Semikolons oder Beträgen wie 230.000,00 wird umgewandelt, und Sie sehen jede Änderung.",
+  "budget.drop.hint": "Eine CSV-Datei. Hat eine Tabelle Semikolons geschrieben oder Beträge wie 230.000,00, wird die Datei umgewandelt, und Sie sehen jede Änderung. Sie beginnt mit dieser Zeile; dann folgen Zeilen wie:",
   "budget.drop.row": "1000,add,2500,Straßen",
   "budget.lines": "Haushaltsstellen",
   "budget.table": "Haushaltsstellen der Vergabestelle",

@@ -3,7 +3,7 @@ export default {
   "budget.intro": "A budget file adds money to budget lines, creates new lines, or cuts free money. The office imports all of it or nothing. This page checks the file before you send it.",
   "budget.file": "Budget file",
   "budget.drop": "Choose a file, or drop it here",
-  "budget.drop.hint": "CSV that begins with this line, followed by lines such as those below. A spreadsheet's file with semicolons or amounts like 230.000,00 is converted, and you see each change.",
+  "budget.drop.hint": "A CSV file. If a spreadsheet wrote semicolons or amounts like 230.000,00, the file is converted, and you see each change. It begins with this line, followed by lines such as:",
   "budget.drop.row": "1000,add,2500,Roads",
   "budget.lines": "Budget lines",
   "budget.table": "Budget lines of the office",

@@ -12,7 +12,7 @@ import { growingTable } from "./many.js";
 import { GROUPS, groupOf, inOrder, stageOfEntry, stepOf } from "./stage.js";
 
 const OVER = ["complete", "unsuccessful", "cancelled"];
-// This many opened notices are queried at once; this many rows of a group are shown at first.
+// This many opened notices are queried at once, those first whose validity ends first; this many rows of a group are shown at first.
 const AT_ONCE = 20, ROWS = 10;
 const asked = { count: AT_ONCE };
 
@@ -34,7 +34,7 @@ export async function drawToday(again) {
   const entries = entriesOf(list, data, officeNow());
   const coming = entries.filter(({ state }) => state === "open" || state === "waiting");
   const opened = entries.filter((entry) => !coming.includes(entry) && !OVER.includes(entry.state))
-    .sort((one, other) => (one.state === "running") - (other.state === "running"));
+    .sort((one, other) => (one.state === "running") - (other.state === "running") || (one.deadline < other.deadline ? -1 : 1));
   const found = await Promise.all(opened.slice(0, asked.count).map(staged));
   const shown = inOrder([...coming, ...found.filter(({ stage }) => !stage || stepOf(stage) !== "over")], officeNow());
   const left = opened.slice(asked.count).map((entry) => ({ ...entry, isLeft: true }));
