@@ -35,7 +35,7 @@ def drafts(scene: Scene) -> None:
     time.sleep(0.6)
     desk.reload()
     check("the draft is lost by a reload", desk.page.run(TITLE) == "Kept" and desk.page.run(ASKS))
-    page_checks.keeps_nothing(scene, desk.page)
+    check("something is stored", desk.page.run("localStorage.length + sessionStorage.length === 0 && indexedDB.databases().then((all) => all.length === 0)"))
     desk.press("Clear the form")
     desk.says("Your draft was replaced before it was saved.")
     check("the form isn't cleared", desk.page.run(TITLE) == "")

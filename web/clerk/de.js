@@ -25,7 +25,7 @@ export default {
   "page.journal": "Journal",
   "menu": "Menü",
   "key.held": "{who} verwendet den Schlüssel.",
-  "key.none": "Kein Schlüssel: Sie sehen, was öffentlich ist, und können nichts senden.",
+  "key.none": "Kein Schlüssel: Sie sehen nur, was öffentlich ist.",
   "key.give": "Schlüssel eingeben",
   "key.forget": "Schlüssel vergessen",
   "key.title": "Der Schlüssel der Vergabestelle",

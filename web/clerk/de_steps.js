@@ -119,7 +119,7 @@ export default {
   "letter.receipts.none": "Wir danken für Ihre Angebote.",
   "letter.own": "Ihr Preis: {price}.",
   "letter.standstill": "Vor diesem Zeitpunkt wird kein Vertrag unterzeichnet: {until}.",
-  "letter.look": "Alle Angebote und den Zuschlag finden Sie unter {address}.",
+  "letter.look": "Alle veröffentlichten Angebote und Ergebnisse finden Sie unter {address}.",
   "letter.more": "Weitere Gründe",
   "letter.more.hint": "Dieser Text wird im Schreiben gedruckt. Die Vergabestelle speichert ihn nicht.",
   "letter.sign": "Unterschrift: {sender}",

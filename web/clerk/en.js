@@ -25,7 +25,7 @@ export default {
   "page.journal": "Journal",
   "menu": "Menu",
   "key.held": "{who} is using the clerk's key.",
-  "key.none": "No key: you see what is public and can't send anything.",
+  "key.none": "No key: you see only what is public.",
   "key.give": "Enter the key",
   "key.forget": "Forget the key",
   "key.title": "The clerk's key",

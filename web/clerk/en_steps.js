@@ -119,7 +119,7 @@ export default {
   "letter.receipts.none": "Thank you for your tenders.",
   "letter.own": "Your price: {price}.",
   "letter.standstill": "No contract will be signed before {until}.",
-  "letter.look": "You find all tenders and the award at {address}.",
+  "letter.look": "All published tenders and results are at {address}.",
   "letter.more": "More reasons",
   "letter.more.hint": "This text is printed in the letter. The office doesn't store it.",
   "letter.sign": "Signature: {sender}",

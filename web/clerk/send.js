@@ -76,7 +76,8 @@ async function drawAsked(state) {
   const says = element("ul", {}, order.says.map((part) => element("li", {}, part)));
   draw(state, [says, order.shows?.(() => state.dialog.close()) ?? null, sure?.made ?? null,
     await (order.orders ? requestsShown(order.orders) : requestShown(order))], [sending, closing(state, say("order.back"))]);
-  (sure?.input ?? sending).focus();
+  // (a window with much to read begins at its top)
+  (order.shows ? state.dialog.querySelector("h2") : sure?.input ?? sending).focus();
 }
 
 /** The confirmation: a tick, a word to type, or null if the order can be undone. */
