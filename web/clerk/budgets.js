@@ -102,7 +102,7 @@ async function checked(name, bytes, lines, again) {
     sending(name, sent, changes, warnings, again)].filter(Boolean);
 }
 
-/** What was changed in the file before it is sent, line by line. */
+/** The changes in the file before it is sent, line by line. */
 function conversion(changes) {
   const heads = [say("budget.fileline"), say("convert.what"), say("convert.was"), say("convert.now")];
   const rowOf = ({ line, name, value, told }) => [number(line), say(`convert.${name}`), given(value), told === null ? say("convert.out") : element("b", {}, given(told))];

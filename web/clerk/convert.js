@@ -76,9 +76,9 @@ function amountOf(field) {
   return /^0[.,]\d{3}/.test(bare) ? field : digitsOf(bare) ?? field;
 }
 
-/** The new file, its changes (each with its line, a name, and the text before and after), and for each of its
- * records the line of the old one; null if the file is right as it is, or can't be converted. `titles` has
- * the titles of budget lines that exist. */
+/** The new file, its changes, and for each of its records the line of the old one. A change has its line, a
+ * name, and the text before and after. Null if the file is right as it is, or can't be converted. `titles`
+ * has the titles of budget lines that exist. */
 export function converted(bytes, titles) {
   const told = readBudget(bytes).faults.length === 0 ? null : textIn(bytes);
   const found = told && tableIn(told.text);

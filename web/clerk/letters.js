@@ -1,5 +1,5 @@
-// The letters for a lot that was awarded or has ended. They tell the winner of the award, and every other
-// tenderer why it didn't win. If the lot ended without a winner or was cancelled, they tell everybody so.
+// The letters for a lot that was awarded or has ended. The winner learns of the award, and every other
+// tenderer why it didn't win, or that the lot ended without a winner or was cancelled.
 import { cityFile, wordsOf } from "../common/city.js";
 import { element, given, title } from "../common/draw.js";
 import { outcomeOf } from "../common/findings.js";
@@ -88,7 +88,7 @@ function standstill({ date }, until) {
   return until <= Date.parse(date) ? "" : sayParts("letter.standstill", { until: moment(momentText(until)) });
 }
 
-/** What happens to a tender's security, if this tab may see it. */
+/** The state of a tender's security, if this tab may see it. */
 function secured({ held, currency }, lot, one) {
   const own = held.findLast((it) => it.lot === lot.id && it.tenderer === one.tenderer);
   return own ? say(`letter.security.${own.state}`, { security: own.reference, amount: money(own.amount, currency) }) : "";
@@ -105,7 +105,7 @@ async function openLetter(notice, lot) {
   return [letter(notice, lot, one, told, true)];
 }
 
-/** A letter. Anyone who lost is told how to object, if the city's file says it. */
+/** A letter. For anyone who lost it has the remedy, if the city's file has one. */
 function letter(notice, lot, one, told, isLoser) {
   const { name, compiled, city } = notice;
   const sender = [compiled.buyer.name, who()].filter(Boolean).join(", ");

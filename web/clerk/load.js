@@ -15,8 +15,8 @@ export async function stagedOf(name) {
   return { ...seen, currency: seen.compiled.tender.value.currency, stage: stageOf(seen, officeNow()) };
 }
 
-// What queries returned about an opened notice is used again for a minute, unless the notice has a new release
-// or this tab sent a command. An examination by another clerk has no release.
+// The results of queries for an opened notice are used for a minute, unless the notice has a new release or
+// this tab sent a command. An examination by another clerk has no release.
 const KEPT = 60_000;
 let kept = new Map();
 

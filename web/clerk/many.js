@@ -29,8 +29,8 @@ export function growingTable(caption, heads, all, rowOf, { first = FIRST, ...opt
   return [made, more];
 }
 
-/** What `draw` makes of all entries, below a field that searches them if there are many. `wordsOf` gives the
- * text in which an entry is searched. */
+/** All entries as `draw` shows them. If there are many, a field above searches them; `wordsOf` gives the text of
+ * an entry. */
 export function searched(label, all, wordsOf, draw) {
   const found = element("div", {}, draw(all));
   if (all.length <= FIRST) {

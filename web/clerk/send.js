@@ -146,7 +146,7 @@ async function transmitted(order) {
   return { ...part, fault: outcome.fault, isDone: Boolean(outcome.value) || part.entry.found === "done" };
 }
 
-/** What became of one of several commands. */
+/** The result of one of several commands. */
 function partText({ order, entry, fault, isDone }) {
   const name = say(`order.${order.kind}.title`, order.values);
   const advice = `order.${order.kind}.after.${fault?.name}`;

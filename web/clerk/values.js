@@ -66,8 +66,8 @@ export function localText(milliseconds) {
 // By so many minutes clocks go forward or back.
 const SHIFTS = [30, 60, 120];
 
-/** What is odd about the local time in such a field: `missing` if clocks skip it, `twice` if they repeat it,
- * else null. */
+/** Whether the local time in such a field is odd: `missing` if clocks skip it, `twice` if they repeat it, else
+ * null. */
 export function oddHour(text) {
   const at = localMilliseconds(text);
   const typed = text.replace(/(T\d\d:\d\d):00$/, "$1");

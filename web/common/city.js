@@ -15,7 +15,7 @@ export async function cityFile() {
   return city;
 }
 
-/** What the city says about a part, in the spoken language, or else in another one: the language, and the
+/** A part of the city's words in the spoken language, or else in another one: the language, and the
  * paragraphs. */
 export function wordsOf(part) {
   const told = Object.entries(part ?? {}).filter(([, words]) => words.length > 0);
