@@ -12,6 +12,7 @@ from clerk_desk import Desk
 from client import AHEAD, Client
 from common import check, connect, free_port, running, serve_words
 from front import PATIENCE, Front
+from mirror_tables import table
 from scene import Scene
 
 # Whether the page would ask somebody who leaves it.
@@ -172,6 +173,10 @@ def large(scene: Scene) -> None:
             connect(port, PATIENCE).close()
             clerk_large.fill(Client(client.Port(port), clerk_large.key_of))
             with Front(folder, port) as front:
+                titles = [{"line": clerk_large.line_of(at), "title": f"Upkeep of district {at}"} for at in range(clerk_large.LINES)]
+                os.makedirs(os.path.join(folder, "mirror", "data"))
+                with open(os.path.join(folder, "mirror", "data", "budget.csv"), "w") as file:
+                    file.write(table("budget", titles))
                 views(Desk(Scene(front, scene.browser, office, scene.pictures, scene.program)))
 
 
@@ -221,6 +226,8 @@ def budget_lines(desk: Desk) -> None:
     desk.picture("large-budget")
     desk.field("Budget line or words of its title", "2117")
     desk.page.wait(f"{count} === 1")
+    desk.field("Budget line or words of its title", "district 124")
+    desk.page.wait(f"{count} === 1 && document.querySelector('main section:last-of-type tbody').innerText.includes('Upkeep of district 124')")
     rows = "".join(f"{2000 + at},add,{100 + at},Upkeep of district {at}\n" for at in range(120))
     desk.drop(f"line,kind,amount,title\n{rows}", "all.csv")
     desk.says("The office would accept this file.")
