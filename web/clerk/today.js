@@ -76,7 +76,7 @@ function groups(shown, others) {
   const of = (name) => (name === "others" ? others : shown.filter((entry) => (entry.fault ? "week" : groupOf(stageOfEntry(entry), now)) === name));
   const parts = [...GROUPS, "others"].map((name) => [name, of(name)]).filter(([, entries]) => entries.length > 0)
     .map(([name, entries]) => groupPart(name, entries));
-  return parts.length > 1 ? [element("div", { class: "steps", role: "group", "aria-label": say("today.groups") }, parts.map(({ jump }) => jump)),
+  return parts.length > 1 ? [element("div", { class: "jumps", role: "group", "aria-label": say("today.groups") }, parts.map(({ jump }) => jump)),
     ...parts.map(({ made }) => made)] : parts.map(({ made }) => made);
 }
 
