@@ -537,12 +537,12 @@ def printed(scene: Scene) -> None:
 
 # Faults that are planted in the desk's screen, and which of the checks must find each.
 PLANTS: list[tuple[str, Callable[[Scene, Desk], None]]] = [
-    ("document.querySelector('main h2').style.color = '#ddd'", lambda _, desk: page_checks.has_contrast("planted", desk.page)),
+    ("document.querySelector('main h1').style.color = '#ddd'", lambda _, desk: page_checks.has_contrast("planted", desk.page)),
     ("document.querySelector('main').style.width = '2000px'", lambda _, desk: page_checks.is_within("planted", 1280, desk.page)),
     ("localStorage.setItem('x', 'y')", lambda scene, desk: page_checks.keeps_nothing(scene, desk.page)),
     ("document.cookie = 'x=y'", lambda scene, desk: page_checks.keeps_nothing(scene, desk.page)),
     ("console.log('x')", lambda _, desk: page_checks.is_quiet(desk.page)),
-    ("document.querySelector('main h2').textContent = 'What to do next'", lambda _, desk: speaks_german(desk)),
+    ("document.querySelector('main h1').textContent = 'What to do next'", lambda _, desk: speaks_german(desk)),
 ]
 
 
