@@ -52,6 +52,7 @@ def drafts(scene: Scene) -> None:
             text = file.read()
     check("a saved draft is asked for", not desk.page.run(ASKS))
     desk.press("Clear the form")
+    desk.page.wait(f"{TITLE} === ''")
     desk.press("Open a saved draft")
     desk.drop('{"kind":"something else"}', "draft.json")
     desk.says("This file contains no draft.")
