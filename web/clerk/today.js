@@ -62,12 +62,14 @@ function seeking(list, draw) {
   let matching = [];
   const asking = field(say("today.name"), { hint: say("today.name.hint"), kind: "search", maxlength: "200" });
   asking.input.addEventListener("input", () => { matching = draw(plain(asking.value()).split(/\s+/).filter(Boolean)); });
-  return form(say("today.open"), [asking.made], say("today.show"), () => {
+  const made = form(say("today.open"), [asking.made], say("today.show"), () => {
     const found = noticeOf(list, asking.value()) ?? (matching.length === 1 ? matching[0].notice : null);
     if (areRight([[asking, found ? "" : say("refusal.NoSuch.notice")]])) {
       location.hash = placeOf("notice", found);
     }
   });
+  made.classList.add("seek");
+  return made;
 }
 
 /** The groups that have notices, each with its heading; above them a button for each. */
