@@ -34,7 +34,8 @@ function amount(text) {
 }
 
 function answerTable(caption, rows, back) {
-  return table(caption, [say("answers.field"), say("answers.answer"), say("answers.way")], rows.map(([path, label, value]) => [label, value, change(path, label, back)]));
+  const heads = [say("answers.field"), say("answers.answer"), say("answers.way")];
+  return table(caption, heads, rows.map(([path, label, value]) => [label, value, change(path, label, back)]));
 }
 
 /** The button that leads back to a field. */
@@ -51,6 +52,7 @@ function lotPart(lot, path, back, isFolded) {
   const heads = ["item", "title", "quantity"].map((name) => say(`column.${name}`));
   const items = lot.items.map((item, at) => [item.id, given(item.title), number(Number(item.quantity)),
     change(`${path}.items.${at}.title`, `${lot.id}/${item.id}`, back)]);
-  const content = [answerTable(say("see.lot", { lot: lot.id }), rows, back), table(say("answers.items", { lot: lot.id }), [...heads, say("answers.way")], items, { figures: [2] })];
+  const content = [answerTable(say("see.lot", { lot: lot.id }), rows, back),
+    table(say("answers.items", { lot: lot.id }), [...heads, say("answers.way")], items, { figures: [2] })];
   return isFolded ? element("details", { class: "card" }, element("summary", {}, head), content) : [element("h3", {}, head), content];
 }

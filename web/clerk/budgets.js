@@ -105,7 +105,8 @@ async function checked(name, bytes, lines, again) {
 /** The changes in the file before it is sent, line by line. */
 function conversion(changes) {
   const heads = [say("budget.fileline"), say("convert.what"), say("convert.was"), say("convert.now")];
-  const rowOf = ({ line, name, value, told }) => [number(line), say(`convert.${name}`), given(value), told === null ? say("convert.out") : element("b", {}, given(told))];
+  const rowOf = ({ line, name, value, told }) => [number(line), say(`convert.${name}`), given(value),
+    told === null ? say("convert.out") : element("b", {}, given(told))];
   return element("div", {}, note("look", say("convert.done", { count: changes.length }), say("convert.check")),
     searched(say("budget.search.changes"), changes, ({ line, value, told }) => `${line} ${value} ${told ?? ""}`,
       (some) => growingTable(say("convert.table"), heads, some, rowOf, { figures: [0], first: 10 })));

@@ -60,7 +60,8 @@ function tableIn(text) {
   const tries = (forced ? [forced] : SEPARATORS).map((separator) => {
     const { records, isOpen } = recordsOf(body, separator);
     const at = records.slice(0, MOST_ABOVE).findIndex(({ fields }) => columnsOf(fields) !== null);
-    return { separator, records, isOpen, at, skipped: forced ? 1 : 0, isRows: records.length > 0 && records.every(({ fields }) => fields.length === 4 && kindOf(fields[1])) };
+    const isRows = records.length > 0 && records.every(({ fields }) => fields.length === HEAD.length && kindOf(fields[1]));
+    return { separator, records, isOpen, at, isRows, skipped: forced ? 1 : 0 };
   });
   return tries.find(({ at, isOpen }) => at >= 0 && !isOpen) ?? tries.find(({ isRows, isOpen }) => isRows && !isOpen) ?? null;
 }
@@ -108,7 +109,8 @@ export function converted(bytes, titles) {
       drop(line, isSum ? "sum" : "blank", fields.join(separator));
     } else {
       fields.forEach((field, place) => !known.has(place) && field.trim() !== "" && drop(line, "beside", field.trim()));
-      rows.push({ line: line + skipped, text: rowOf(fields, columns, titles, (name, value, now) => changes.push({ line: line + skipped, name, value, told: now })) });
+      const tell = (name, value, now) => changes.push({ line: line + skipped, name, value, told: now });
+      rows.push({ line: line + skipped, text: rowOf(fields, columns, titles, tell) });
     }
   }
   if (changes.length === 0) {

@@ -61,7 +61,8 @@ function former(again) {
     keepFormer(draft);
     again();
   };
-  return note("look", say("draft.former"), steps(button(say("draft.back"), settle(formerDraft()), "second"), button(say("draft.drop.former"), settle(null), "second")));
+  return note("look", say("draft.former"), steps(button(say("draft.back"), settle(formerDraft()), "second"),
+    button(say("draft.drop.former"), settle(null), "second")));
 }
 
 /** The button that saves the draft. */

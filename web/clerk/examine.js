@@ -75,5 +75,6 @@ function resultTable({ currency, stage: { byPoints } }, results) {
   element("b", { class: responsive ? "right" : "wrong" }, say(responsive ? "examine.yes" : "examine.no")),
   ...(byPoints ? [quality === undefined ? "–" : number(quality)] : [])]);
   const refused = results.filter(({ responsive }) => !responsive).length;
-  return [refused > 0 ? note("look", say("examine.refused", { count: refused })) : null, table(say("examine.table"), heads, rows, { figures: byPoints ? [1, 3] : [1] })];
+  return [refused > 0 ? note("look", say("examine.refused", { count: refused })) : null,
+    table(say("examine.table"), heads, rows, { figures: byPoints ? [1, 3] : [1] })];
 }

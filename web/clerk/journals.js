@@ -21,7 +21,8 @@ export function drawJournal(again) {
   });
   keep.disabled = entries.length === 0;
   const take = async (file) => told.replaceChildren(await taken(textOf(await bytesOfFile(file)), again));
-  const list = entries.length === 0 ? element("p", {}, say("journal.empty")) : growing(element("ol", { class: "entries" }), entries.toReversed(), entryPart, FIRST);
+  const list = entries.length === 0 ? element("p", {}, say("journal.empty"))
+    : growing(element("ol", { class: "entries" }), entries.toReversed(), entryPart, FIRST);
   return { title: say("page.journal"), content: [title(say("page.journal")), element("p", { class: "intro" }, say("journal.intro")),
     savedNote(entries.length, saved), steps(keep, printButton()),
     section(say("journal.take"), drop(say("journal.drop"), say("journal.drop.hint"), take, { accept: ".jsonl,application/jsonl" }), told),

@@ -180,7 +180,8 @@ function itemWarnings(draft) {
   const dear = draft.lots.find(({ estimate, security }) => wholeNumber(security, 1, MOST.amount) * 20 > (wholeNumber(estimate, 1, MOST.amount) ?? Infinity));
   const size = bodyBytes(draft).length;
   const cheap = draft.lots.flatMap(({ id, estimate, items: own }) => own.filter(({ quantity }) => isCheap(estimate, quantity)).map((item) => [id, item.id]));
-  return [...(cheap.length > 0 ? [{ code: "cents", value: cheap[0].join("/"), amount: cheap.length, least: LEAST_PRICE }] : []), ...(odd ? [{ code: "item.id", value: odd.id }] : []), ...(dear ? [{ code: "security", value: dear.id }] : []),
+  return [...(cheap.length > 0 ? [{ code: "cents", value: cheap[0].join("/"), amount: cheap.length, least: LEAST_PRICE }] : []),
+    ...(odd ? [{ code: "item.id", value: odd.id }] : []), ...(dear ? [{ code: "security", value: dear.id }] : []),
     ...(size > MOST.body * 0.9 && size <= MOST.body ? [{ code: "size", value: size }] : [])];
 }
 

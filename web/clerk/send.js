@@ -52,11 +52,12 @@ export async function sendThen(order, behind) {
   }
 }
 
-function draw(state, content, buttons) {
+/** Shows content that is read out, and more below it that isn't. */
+function draw(state, content, buttons, more = []) {
   const { kind, values = {} } = state.order;
   const status = element("div", { role: "status" }, content);
   state.dialog.replaceChildren(element("h2", { id: "order-title", tabindex: "-1" }, say(`order.${kind}.title`, values)), status,
-    steps(buttons));
+    ...[more].flat(Infinity).filter(Boolean), steps(buttons));
 }
 
 function closing(state, text = say("order.close")) {
@@ -74,8 +75,8 @@ async function drawAsked(state) {
   sending.disabled = sure !== null;
   sure?.input.addEventListener("input", () => { sending.disabled = !sure.isGiven(); });
   const says = element("ul", {}, order.says.map((part) => element("li", {}, part)));
-  draw(state, [says, order.shows?.(() => state.dialog.close()) ?? null, sure?.made ?? null,
-    await (order.orders ? requestsShown(order.orders) : requestShown(order))], [sending, closing(state, say("order.back"))]);
+  const request = await (order.orders ? requestsShown(order.orders) : requestShown(order));
+  draw(state, says, [sending, closing(state, say("order.back"))], [order.shows?.(() => state.dialog.close()), sure?.made, request]);
   // (a window with much to read begins at its top)
   (order.shows ? state.dialog.querySelector("h2") : sure?.input ?? sending).focus();
 }
