@@ -24,6 +24,8 @@ SOON = int(os.environ.get("AHEAD", "4")) + 26
 TABLE = "Lot\tTitle of the lot\tBudget line\tEstimate\tTender security\tItem\tTitle\tQuantity\nL1\tNorth\t1000\t1.600,00\t50\tI1\tPaving, square metres\t3\n" \
     "\t\t\t\t\tI2\tKerbs, 10 m\t10\nL2\tSouth\t1000\t300\t0\tI1\tSigns\t1\n"
 BUDGET = "line,kind,amount,title\n1000,add,5000,Roads\n2000,add,50,Parks\n"
+# The same as a German spreadsheet writes it, with a sum.
+SHEET = "Haushaltsstelle;Art;Betrag;Bezeichnung\r\n1000;Zugang;5.000,00;Roads\r\n2000;add;50;Parks\r\nSumme;;5.050,00;\r\n"
 FIRMS = {"T1": ("Alpha & S\u00f6hne", "High Street 1"), "T2": ("Beta Ltd", "Low Street 2")}
 
 def firms(scene: Scene) -> Client[Answer]:
@@ -32,11 +34,21 @@ def firms(scene: Scene) -> Client[Answer]:
 
 
 def budget_part(desk: Desk) -> None:
-    """A file with semicolons is reported. A right file shows its changes, and is taken in. The desk warns of the same file under another name."""
+    """A spreadsheet's file is converted, and each change is shown. A right file shows its changes, and is taken in. The desk warns of the same file under another
+    name."""
     desk.go("budget")
-    desk.drop(BUDGET.replace(",", ";"), "budget.csv")
-    desk.says("The fields are separated by semicolons")
-    check("rows that echo the semicolons are told", "it has 1 fault." in desk.told())
+    desk.drop(SHEET, "budget.csv")
+    desk.says("The file was converted: 5 changes.")
+    desk.says("The office would accept this file.")
+    rows = desk.page.run("[...document.querySelectorAll('main table')].find((at) => at.caption?.textContent === 'Changes of the conversion').innerText")
+    check(f"what was converted isn't shown: {rows}", all(word in rows for word in ("Zugang", "5.000,00", "5000", "Summe;;5.050,00;", "left out")))
+    sent = desk.page.run("Promise.all([import('/clerk/convert.js'), import('/common/digest.js')]).then(([{ converted }, { bytesOf }]) => "
+                         f"new TextDecoder().decode(converted(bytesOf({json.dumps(SHEET)}), new Map()).bytes))")
+    check(f"the file is converted to {sent}", sent == BUDGET)
+    desk.picture("budget-converted")
+    desk.drop(SHEET.replace("5.000,00", "5.000,50"), "budget.csv")
+    desk.says("it has 1 fault.")
+    check(f"the fault isn't named by its line: {desk.told()}", "\n2\t" in desk.told() or "2\tThe amount" in desk.told())
     desk.drop("line,kind,amount,title\n1000,add,1.5,Roads\n2000,cut,5,Parks\n", "budget.csv")
     desk.says("has cents or a fraction")
     desk.picture("budget-wrong")
@@ -103,7 +115,7 @@ def notice_part(desk: Desk) -> None:
     check("what is seldom meant is told", "Without a standstill the losing firms can't object" in desk.told())
     for field, value in (("Validity of tenders, in days", "10"), ("Standstill, in days", "10"), ("Deadline", local(desk, time.time() + 86_400 * 3 - 60))):
         desk.field(field, value)
-    for text in ("So you could never sign a contract", "Full days until the deadline: 2."):
+    for text in ("So you could never sign a contract", "The deadline is in 2 days, 23 hours."):
         desk.says(text)
     for field, value in (("Validity of tenders, in days", "90"), ("Standstill, in days", "0"), ("Deadline", local(desk, time.time() + 86_400 * 40))):
         desk.field(field, value)
@@ -188,15 +200,24 @@ def examination_part(desk: Desk) -> None:
     other.go("notice/N1")
     other.says("2 tenders to examine")
     for name, receipt in (("Alpha & S\u00f6hne", 1), ("Beta Ltd", 2)):
-        desk.press("Requirements met \u2026", place=f"Examination of {name}, receipt {receipt}")
-        desk.confirm("Record the result", f"The tender of {name} is examined.")
+        desk.tick("Requirements met", place=f"Examination of {name}, receipt {receipt}")
+    desk.picture("examination")
+    desk.press("Record the results \u2026", place="Lot L1")
+    desk.says("The page sends 2 commands, one for each tender.")
+    desk.picture("examination-order")
+    desk.confirm("Record the results", "2 tenders are examined.")
     desk.says("Lot L1 goes to Beta Ltd for 540 EUR.")
     examined_elsewhere(other)
 
 
 def letters_part(desk: Desk) -> None:
-    """The letters after the award have the winner's price, the loser's reason, and the state of both securities."""
-    desk.press("Letters to the tenderers")
+    """Each lot that ended has letters, also one that nobody won. They have the winner's price, the losers' reasons, and the state of the securities."""
+    desk.press("Letters to the tenderers", place="Lot L2")
+    desk.settle("letter/N1/L2")
+    tells(desk, "No tender can win the lot. We ended it without an award on", "The office couldn't read it as a price list.", "Alpha & S\u00f6hne")
+    desk.picture("letters-nobody")
+    desk.go("notice/N1")
+    desk.press("Letters to the tenderers", place="Lot L1")
     desk.settle("letter/N1/L1")
     tells(desk, "We accept your tender at 540 EUR.", "We hold your security G2, of 60 EUR, until the contract for the lot is signed. Then we return it.",
           "We are sorry that we can't accept it. Its price wasn't the lowest.", "We hold your security G1, of 50 EUR, until",
@@ -242,10 +263,13 @@ def short_of_money(desk: Desk) -> None:
 
 def examined_elsewhere(other: Desk) -> None:
     """A tab whose screen is older than the examinations learns of them from the office, and then shows their findings."""
-    other.press("Requirements met \u2026", place="Examination of Alpha & S\u00f6hne, receipt 1")
+    for name, receipt in (("Alpha & S\u00f6hne", 1), ("Beta Ltd", 2)):
+        other.tick("Requirements met", place=f"Examination of {name}, receipt {receipt}")
+    other.press("Record the results \u2026", place="Lot L1")
     other.page.wait("document.querySelector('dialog[open] .steps button')")
     other.page.run("hands.sure()")
-    other.press("Record the result")
+    other.press("Record the results")
+    other.says("1 command was not sent.")
     other.says("Someone else examined this tender, or it was withdrawn late. That result stays.")
     other.press("Close")
     other.says("Lot L1 goes to Beta Ltd for 540 EUR.")
@@ -305,9 +329,12 @@ def life(scene: Scene) -> None:
     desk.give_key("wrong")
     desk.says("The name and the key don't belong together. Check both.")
     desk.picture("key")
+    desk.drop("no key\n", "letter.txt")
+    desk.says("This file contains no key")
+    check(f"what was said of another key stays: {desk.told()}", "The name and the key don't belong together" not in desk.told())
+    check("a field keeps a key", not desk.page.run("document.querySelector('input[type=password]')"))
     time.sleep(2.2)
-    desk.field("Key", "abc")
-    desk.press("Use this key")
+    desk.drop_key("abc")
     desk.settle("today")
     budget_part(desk)
     tenderers_part(desk)
@@ -340,6 +367,10 @@ def moved_and_cancelled(scene: Scene) -> None:
     desk.field("New deadline", local(desk, time.time() + 200_000))
     desk.press("Move the deadline \u2026")
     desk.confirm("Move the deadline", "The deadline of notice N2 is moved.")
+    firms(scene).present("T1", "N2", "L1", tender((3, 150), (10, 12)), "G7", 50)
+    desk.go("letter/N2/L1")
+    desk.says("There are no letters to print")
+    desk.go("notice/N2")
     desk.press("Cancel the notice")
     desk.field("Reason", "No need")
     desk.press("Cancel the notice \u2026")
@@ -348,6 +379,9 @@ def moved_and_cancelled(scene: Scene) -> None:
     desk.picture("cancel")
     desk.confirm("Cancel the notice", "All open lots of notice N2 are cancelled.")
     desk.says("There is nothing to do.")
+    desk.go("letter/N2/L1")
+    tells(desk, "To everybody who tendered for lot L1", "Thank you for your tender (receipt ", "Our reason: No need.", "No tender for the lot was opened.")
+    check(f"a firm whose tender stayed sealed is named: {desk.told()}", "Alpha" not in desk.told())
 
 
 def stops(scene: Scene) -> None:
@@ -443,7 +477,10 @@ def keyboard(scene: Scene) -> None:
     page.run("hands.field('Your name').focus()")
     page.type("Anna")
     page.press("Tab")
-    page.type("abc")
+    check("the tab leads to the key file", page.run("document.activeElement.type") == "file")
+    desk.drop("abc", "clerk.key")
+    desk.says("The file clerk.key contains a key.")
+    page.press("Tab")
     page.press("Enter")
     desk.settle("today")
     desk.go("tenderers")
@@ -520,17 +557,17 @@ def printed(scene: Scene) -> None:
 
 # Faults that are planted in the desk's screen, and which of the checks must find each.
 PLANTS: list[tuple[str, Callable[[Scene, Desk], None]]] = [
-    ("document.querySelector('main h2').style.color = '#ddd'", lambda _, desk: page_checks.has_contrast("planted", desk.page)),
+    ("document.querySelector('main h1').style.color = '#ddd'", lambda _, desk: page_checks.has_contrast("planted", desk.page)),
     ("document.querySelector('main').style.width = '2000px'", lambda _, desk: page_checks.is_within("planted", 1280, desk.page)),
     ("localStorage.setItem('x', 'y')", lambda scene, desk: page_checks.keeps_nothing(scene, desk.page)),
     ("document.cookie = 'x=y'", lambda scene, desk: page_checks.keeps_nothing(scene, desk.page)),
     ("console.log('x')", lambda _, desk: page_checks.is_quiet(desk.page)),
-    ("document.querySelector('main h2').textContent = 'Find a notice by its number'", lambda _, desk: speaks_german(desk)),
+    ("document.querySelector('main h1').textContent = 'What to do next'", lambda _, desk: speaks_german(desk)),
 ]
 
 
 def speaks_german(desk: Desk) -> None:
-    check("an English text is shown", "Find a notice by its number" not in desk.told())
+    check("an English text is shown", "What to do next" not in desk.told())
 
 
 def plants(scene: Scene) -> None:

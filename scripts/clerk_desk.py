@@ -29,6 +29,7 @@ HANDS = """(() => {
     },
     button: (name, place) => all("button, summary, nav a, main a", place).filter((at) => text(at) === name && seen(at)).at(-1),
     press: (name, place) => hands.button(name, place).click(),
+    tick: (label, place) => hands.field(label, place).click(),
     part: (name) => all("article, section, form, [role=group]").filter((at) => nameOf(at) === name).at(-1),
     drop(text, name, at = 0) {
       const files = new DataTransfer();
@@ -78,6 +79,9 @@ class Desk:
     def field(self, label: str, value: str, place: str = "") -> None:
         self.hand("set", label, value, place=place)
 
+    def tick(self, label: str, place: str = "") -> None:
+        self.hand("tick", label, place=place)
+
     def press(self, name: str, place: str = "") -> None:
         where = f", hands.part({json.dumps(place)})" if place else ""
         self.page.wait(f"hands.button({json.dumps(name)}{where}) && !hands.button({json.dumps(name)}{where}).disabled")
@@ -108,16 +112,30 @@ class Desk:
     def give_key(self, key: str = "abc") -> None:
         self.go("key")
         self.field("Your name", "Anna")
-        self.field("Key", f"Office-Key: {key}")
+        self.drop_key(key)
+
+    def drop_key(self, key: str) -> None:
+        """Drops a key file, and uses its key."""
+        self.drop(f"Office-Caller: clerk\nOffice-Key: {key}\n", "clerk.key")
+        self.says("The file clerk.key contains a key.")
         self.press("Use this key")
 
     def give_key_by(self, language: str) -> None:
         """Gives the key, in a language other than English."""
         self.go("key")
-        self.page.run("[...document.querySelectorAll('main form input')].forEach((at, number) => { at.value = ['Anna', 'abc'][number]; })")
+        self.page.run("document.querySelector('main form input').value = 'Anna'")
+        self.drop("abc", "clerk.key")
+        self.page.wait("document.querySelector('main .good')")
         self.page.run("document.querySelector('main form button').click()")
         self.settle("today")
         check(f"the page speaks {language}", self.page.run("document.documentElement.lang") == language)
+
+    def reload(self) -> None:
+        """Loads the page again, as F5 does."""
+        self.page.run("void (window.isOld = true)")
+        self.page.ask("Page.reload")
+        self.page.wait("!window.isOld && document.querySelector('main')?.getAttribute('aria-busy') === 'false' && document.querySelector('main h1')")
+        self.page.run(HANDS)
 
     def leave(self) -> None:
         """Leaves the desk, so that nothing of it asks any more."""

@@ -102,8 +102,10 @@ def decide(clerk: clerk_desk.Desk) -> None:
     clerk.press("Open the tenders …")
     clerk.confirm("Open the tenders", "3 tenders of notice N1 are open.")
     for name, receipt in (("Alpha & Söhne", 1), ("Alpha & Söhne", 2), ("Beta Ltd", 3)):
-        clerk.press("Requirements met …", place=f"Examination of {name}, receipt {receipt}")
-        clerk.confirm("Record the result", f"The tender of {name} is examined.")
+        clerk.tick("Requirements met", place=f"Examination of {name}, receipt {receipt}")
+    for lot, told in (("L1", "2 tenders are examined."), ("L2", "1 tender is examined.")):
+        clerk.press("Record the results …", place=f"Lot {lot}")
+        clerk.confirm("Record the results", told)
     for lot, price in (("L1", 540), ("L2", 290)):
         clerk.press("Award the lot …", place=f"Lot {lot}")
         clerk.confirm("Award the lot", f"Lot {lot} is decided. Price: {price}")

@@ -1,28 +1,10 @@
 // The city's own words (name, imprint, contact, privacy, accessibility) from `city.json`, and the sources
 // of this page.
-import { file } from "./common/office.js";
-import { language, say } from "./common/texts.js";
+import { cityFile, wordsOf } from "./common/city.js";
 import { element, given, link, section, title } from "./common/draw.js";
+import { language, say } from "./common/texts.js";
 
 const PARTS = ["imprint", "contact", "privacy", "accessibility"];
-let city = null;
-
-/** The city's file, fetched once. A file that is missing or can't be read counts as empty. */
-async function cityFile() {
-  try {
-    city ??= JSON.parse((await file("/city.json")) ?? "{}");
-  } catch (fault) {
-    console.warn(`city.json: ${fault.message}`);
-    city = {};
-  }
-  return city;
-}
-
-/** The city's words about a part, in the spoken language, or else in another one. */
-function wordsOf(part) {
-  const told = Object.entries(part ?? {}).filter(([, words]) => words.length > 0);
-  return (told.find(([tag]) => tag === language()) ?? told[0] ?? [language(), []]);
-}
 
 /** The name of the page: the city's, or else a plain one. */
 export async function siteName() {

@@ -1,55 +1,21 @@
-// A lot from the opening to its contract: examinations, the award, the standstill, and then the signing or
-// the passing over.
+// A lot from its examination to its contract: the award, the standstill, and then the signing or the passing
+// over.
 import { isId } from "../common/csv.js";
 import { element, given, link, placeOf } from "../common/draw.js";
 import { DIGITS, ID, areRight, button, field, form, note, steps } from "../common/forms.js";
 import { money, number } from "../common/money.js";
 import { line, officeNow } from "../common/office.js";
 import { say, sayParts } from "../common/texts.js";
-import { ofExamination, ofRelease, own } from "./fate.js";
+import { ofRelease, own } from "./fate.js";
 import { momentAndSpan } from "./load.js";
-import { jsonBody, send, sendThen } from "./send.js";
+import { jsonBody, sendThen } from "./send.js";
 import { caller } from "./session.js";
-import { isWaiting, outlookOf } from "./stage.js";
+import { outlookOf } from "./stage.js";
 import { MOST, digitsOf, wholeNumber } from "./values.js";
-
-/** The tenders of a lot that aren't examined yet, each with its two buttons. */
-export function examinations(notice, lot, again) {
-  const waiting = lot.tenders.filter(isWaiting);
-  if (lot.state !== "undecided" || waiting.length === 0) {
-    return null;
-  }
-  return element("div", {}, element("h4", {}, say("examine.title", { count: waiting.length })), element("p", {}, say("examine.what")),
-    waiting.map((one) => examination(notice, one, again)));
-}
-
-function examination(notice, one, again) {
-  const { terms, stage: { byPoints }, currency } = notice;
-  const most = 100 - (terms.price_weight ?? 0);
-  const quality = field(say("examine.quality"), { hint: say("examine.quality.hint", { most }), maxlength: "3", ...DIGITS });
-  const examine = async (responsive) => {
-    const points = responsive && byPoints ? wholeNumber(quality.value(), 0, most) : 0;
-    if (areRight([[quality, points === null ? say("examine.quality.wrong", { most }) : ""]])) {
-      await send(examinationOrder(notice, one, responsive && byPoints ? { responsive, quality: points } : { responsive }));
-      // (drawn again in any case: someone else may have decided meanwhile)
-      again();
-    }
-  };
-  const told = `${say("see.tender.receipt", { receipt: String(one.receipt) })}, ${money(one.corrected, currency)}`;
-  return element("div", { class: "examination", role: "group", "aria-label": say("examine.of", { name: one.name, receipt: String(one.receipt) }) },
-    element("p", {}, element("b", {}, given(one.name)), " ", element("span", { class: "quiet" }, told)), byPoints ? quality.made : null,
-    steps(button(say("examine.yes"), () => examine(true)), button(say("examine.no"), () => examine(false), "second")));
-}
-
-function examinationOrder(notice, { name, receipt }, body) {
-  return { kind: "examine", values: { receipt: String(receipt), name }, path: `/tenders/${receipt}/examine`, body: jsonBody(body), isFinal: true,
-    says: [say(body.responsive ? "examine.does.yes" : "examine.does.no", { name }), say("examine.stays"), say("examine.reasons")],
-    again: "AlreadyDecided", find: () => ofExamination(notice.name, receipt, body.responsive) };
-}
 
 /** The next task of a lot. */
 export function awardPart(notice, lot, again) {
-  return { undecided, awarded }[lot.state]?.(notice, lot, again) ?? (lot.active ? element("p", {}, letters(notice, lot)) : null);
+  return { undecided, awarded }[lot.state]?.(notice, lot, again) ?? (lot.tenders.length > 0 ? element("p", {}, letters(notice, lot)) : null);
 }
 
 /** The name and the price of an award, for a text. */
@@ -57,7 +23,8 @@ function ofAward(award, currency) {
   return { name: given(award.suppliers[0].name), price: money(award.value.amount, currency) };
 }
 
-function letters({ name }, lot) {
+/** The way to the letters: for every lot with tenders that was awarded or has ended. */
+export function letters({ name }, lot) {
   return link(say("letters.link"), placeOf("letter", name, lot.id));
 }
 

@@ -4,7 +4,7 @@ import { binaryOf, contentOf, isId, isTextLine, isUtf8, numberOf, recordsOf, tex
 import { bytesOf } from "../common/digest.js";
 import { MOST } from "./values.js";
 
-const HEAD = ["line", "kind", "amount", "title"];
+export const HEAD = ["line", "kind", "amount", "title"];
 const SEPARATORS = { ";": "separator.semicolons", "\t": "separator.tabs", "|": "separator.strokes" };
 // How files begin that aren't CSV.
 const KINDS = [[[0x50, 0x4b, 3, 4], "workbook"], [[0xd0, 0xcf, 0x11, 0xe0], "workbook"], [[0x25, 0x50, 0x44, 0x46], "pdf"], [[0xff, 0xfe], "utf16"],

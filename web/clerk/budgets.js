@@ -1,24 +1,27 @@
 // The budget: its lines, and a budget file that is checked row by row and shown with its changes before it is
 // sent.
+import { rows as tableOf } from "../common/data.js";
 import { bytesOfFile } from "../common/digest.js";
 import { bar, below, element, given, key as legend, section, title } from "../common/draw.js";
-import { ID, areRight, drop, field, form, note, table } from "../common/forms.js";
+import { ID, areRight, drop, field, form, note } from "../common/forms.js";
 import { number } from "../common/money.js";
 import { ledger, line as lineOf, sentenceOf } from "../common/office.js";
 import { POTS, pots } from "../common/pots.js";
 import { hasText, say } from "../common/texts.js";
 import { changesOf, readBudget, repeatsOf } from "./budget.js";
+import { converted } from "./convert.js";
 import { ofBudget } from "./fate.js";
 import { isUsed } from "./journal.js";
+import { growingTable, searched } from "./many.js";
 import { sendThen } from "./send.js";
 import { caller, journal } from "./session.js";
 import { MOST, isAskable } from "./values.js";
 
-const MOST_SHOWN = 50, MOST_NAMED = 5;
+const MOST_NAMED = 5;
 const COLUMNS = POTS.toReversed();
 // The titles of budget lines. Only a budget file changes them, so they are fetched once: nginx limits queries
-// per second.
-const titles = new Map();
+// per second. All lines are searched by the titles in the mirror's table, which can be some minutes old.
+const titles = new Map(), mirrored = new Map();
 
 /** The title of a budget line, or null if it can't be fetched. */
 async function titleOf(name) {
@@ -29,7 +32,10 @@ async function titleOf(name) {
 }
 
 export async function drawBudget(again) {
-  const lines = await ledger(caller());
+  const [lines, known] = await Promise.all([ledger(caller()), tableOf("budget").catch(() => null)]);
+  for (const { line: name, title: text } of known ?? []) {
+    mirrored.set(name, text);
+  }
   const place = element("div", { "aria-live": "polite" });
   const take = async (file) => {
     place.replaceChildren(...await checked(file.name, await bytesOfFile(file), new Map(lines.map((one) => [one.line, one])), again));
@@ -52,14 +58,15 @@ function lineTable(lines) {
     return element("p", {}, say("see.budget.none"));
   }
   const heads = [say("see.line"), say("see.appropriation"), ...COLUMNS.map((name) => say(`see.pot.${name}`)), say("budget.bar")];
-  const rows = lines.slice(0, MOST_SHOWN).map((one) => [titled(one.line), number(one.appropriation), ...COLUMNS.map((name) => number(one[name])),
-    bar(`${say("see.line")} ${one.line}`, pots((kind) => one[kind]))]);
-  return [table(say("budget.table"), heads, rows, { figures: [1, 2, 3, 4, 5] }), andMore(lines), sums(lines)];
+  const rowOf = (one) => [titled(one.line), number(one.appropriation), ...COLUMNS.map((name) => number(one[name])),
+    bar(`${say("see.line")} ${one.line}`, pots((kind) => one[kind]))];
+  return [searched(say("budget.search"), lines, wordsOf, (some) => growingTable(say("budget.table"), heads, some, rowOf, { figures: [1, 2, 3, 4, 5] })),
+    sums(lines)];
 }
 
-/** A note that there are more entries than the table shows. */
-function andMore(list) {
-  return list.length > MOST_SHOWN ? element("p", { class: "quiet" }, say("budget.more", { count: list.length - MOST_SHOWN })) : null;
+/** The text in which a budget line is searched. */
+function wordsOf({ line: name }) {
+  return `${name} ${titles.get(name) ?? mirrored.get(name) ?? ""}`;
 }
 
 /** The sums over all budget lines, as long as a Number holds them exactly. */
@@ -75,19 +82,34 @@ function titled(name) {
   return [name, place];
 }
 
-/** The content of a file, its faults or its changes, and the form that sends it. */
+/** The content of a file, its faults or its changes, and the form that sends it. A file of a spreadsheet is
+ * converted first, and each change of it is shown. */
 async function checked(name, bytes, lines, again) {
-  const reading = readBudget(bytes);
-  const size = say("budget.size", { bytes: bytes.length, rows: reading.rows.length, count: reading.rows.length });
+  const turned = converted(bytes, new Map([...mirrored, ...titles]));
+  const sent = turned?.bytes ?? bytes;
+  const reading = readBudget(sent);
+  const size = say("budget.size", { bytes: sent.length, rows: reading.rows.length, count: reading.rows.length });
   const head = element("h3", { tabindex: "-1" }, name, " ", element("span", { class: "quiet" }, size));
   const { changes, faults } = changesOf(reading.rows, lines);
-  const all = [...reading.faults, ...(reading.faults.length === 0 ? faults : []), ...limits(reading)];
+  const all = [...reading.faults, ...(reading.faults.length === 0 ? faults : []), ...limits(reading)]
+    .map((fault) => (turned && fault.record ? { ...fault, line: turned.lines[fault.record - 1] ?? fault.line } : fault));
   if (all.length > 0) {
     return [head, note("bad", say("budget.refused", { count: all.length }), say("budget.refused.whole")), faultTable(all)];
   }
   const warnings = warningsOf(repeatsOf(reading.rows, changes, journal().entries));
-  return [head, note(warnings.length > 0 ? "look" : "good", say("budget.right"), say("budget.right.more"), warnings), await changeTable(changes),
-    sending(name, bytes, changes, warnings, again)];
+  return [head, turned ? conversion(turned.changes) : null,
+    note(warnings.length > 0 ? "look" : "good", say("budget.right"), say("budget.right.more"), warnings), changeTable(changes),
+    sending(name, sent, changes, warnings, again)].filter(Boolean);
+}
+
+/** The changes in the file before it is sent, line by line. */
+function conversion(changes) {
+  const heads = [say("budget.fileline"), say("convert.what"), say("convert.was"), say("convert.now")];
+  const rowOf = ({ line, name, value, told }) => [number(line), say(`convert.${name}`), given(value),
+    told === null ? say("convert.out") : element("b", {}, given(told))];
+  return element("div", {}, note("look", say("convert.done", { count: changes.length }), say("convert.check")),
+    searched(say("budget.search.changes"), changes, ({ line, value, told }) => `${line} ${value} ${told ?? ""}`,
+      (some) => growingTable(say("convert.table"), heads, some, rowOf, { figures: [0], first: 10 })));
 }
 
 /** Warnings that the file may already be imported. */
@@ -104,8 +126,9 @@ function limits({ bytes, rows }) {
 
 function faultTable(faults) {
   const heads = [say("budget.fileline"), say("budget.wrong"), say("budget.mend")];
-  const rows = faults.slice(0, MOST_SHOWN).map((fault) => [number(fault.line), wrongText(fault), mendText(fault)]);
-  return element("div", {}, table(say("budget.faults"), heads, rows, { figures: [0] }), andMore(faults));
+  const rowOf = (fault) => [number(fault.line), wrongText(fault), mendText(fault)];
+  return element("div", {}, searched(say("budget.search.faults"), faults, (fault) => `${fault.line} ${wrongText(fault)}`,
+    (some) => growingTable(say("budget.faults"), heads, some, rowOf, { figures: [0] })));
 }
 
 function values({ value = "", free = 0n, amount = 0 }) {
@@ -126,18 +149,25 @@ function mendText(fault) {
 }
 
 /** Each budget line before and after, and its new title if the file changes it. */
-async function changeTable(changes) {
-  const before = await Promise.all(changes.slice(0, MOST_SHOWN).map(({ id, isNew }) => (isNew ? null : titleOf(id))));
+function changeTable(changes) {
   const heads = [say("see.line"), say("see.appropriation"), say("budget.difference"), say("see.pot.free"), say("column.title")];
   const step = (from, to) => [number(from), " → ", element("b", {}, number(to))];
-  const rows = changes.slice(0, MOST_SHOWN).map((change, at) => {
+  const rowOf = (change) => {
     const difference = change.appropriation - change.before.appropriation;
-    const isSame = before[at] === null || before[at] === change.title;
-    const text = isSame ? given(change.title) : [given(before[at]), " → ", element("b", {}, given(change.title))];
     const name = [change.id, change.isNew ? below(say("budget.new")) : ""];
-    return [name, step(change.before.appropriation, change.appropriation), signed(difference), step(change.before.free, change.free), text];
-  });
-  return element("div", {}, table(say("budget.changes"), heads, rows, { figures: [1, 2, 3] }), andMore(changes));
+    return [name, step(change.before.appropriation, change.appropriation), signed(difference), step(change.before.free, change.free), newTitle(change)];
+  };
+  return element("div", {}, searched(say("budget.search.changes"), changes, ({ id, title: text }) => `${id} ${text}`,
+    (some) => growingTable(say("budget.changes"), heads, some, rowOf, { figures: [1, 2, 3] })));
+}
+
+/** The title that a budget line gets, after the one that it has, if that is another one. */
+function newTitle({ id, isNew, title: text }) {
+  const place = element("span", {}, given(text));
+  if (!isNew) {
+    titleOf(id).then((held) => held !== null && held !== text && place.replaceChildren(given(held), " → ", element("b", {}, given(text))));
+  }
+  return place;
 }
 
 /** A name for the file at the office, made from its name here. */

@@ -9,7 +9,7 @@ import { ofOpening, ofRelease, own } from "./fate.js";
 import { momentAndSpan } from "./load.js";
 import { jsonBody, sendThen } from "./send.js";
 import { caller } from "./session.js";
-import { localMilliseconds, localText, momentText } from "./values.js";
+import { localMilliseconds, localText, momentText, oddHour } from "./values.js";
 
 // Seconds between two queries for the register.
 const BETWEEN = 15;
@@ -19,10 +19,14 @@ export function momentField(label, hint, milliseconds, changed) {
   const made = field(label, { hint, kind: "datetime-local", value: localText(milliseconds), step: "1" });
   const told = element("p", { class: "quiet" });
   const valueOf = () => localMilliseconds(made.input.value);
-  const tell = () => told.replaceChildren(valueOf() === null ? "" : moment(momentText(valueOf()) ?? ""));
+  const tell = () => {
+    const odd = oddHour(made.input.value);
+    told.replaceChildren(...(valueOf() === null ? [] : [moment(momentText(valueOf()) ?? ""), odd ? element("span", { class: "wrong below" },
+      say(`warning.hour.${odd}`, { value: made.input.value.slice(11), amount: localText(valueOf()).slice(11) })) : ""]));
+  };
   made.input.addEventListener("input", () => {
     tell();
-    changed?.(valueOf());
+    changed?.(valueOf(), made.input.value);
   });
   tell();
   return { ...made, made: element("div", {}, made.made, told), milliseconds: valueOf };

@@ -1,46 +1,40 @@
 // The editor of a notice: its terms and lots, what the office would refuse, warnings, and its size.
 import { element, link, placeOf, section, title } from "../common/draw.js";
-import { DIGITS, ID, button, field, steps } from "../common/forms.js";
-import { moment } from "../common/money.js";
-import { ledger, notices, officeNow, terms as termsOf } from "../common/office.js";
+import { DIGITS, ID, button, growing, steps } from "../common/forms.js";
+import { moment, span } from "../common/money.js";
+import { ledger, notices, officeNow } from "../common/office.js";
 import { say } from "../common/texts.js";
+import { answers, warningList } from "./answers.js";
 import { momentField } from "./deadline.js";
+import { beginnings, saving } from "./drafts.js";
 import { ofNotice } from "./fate.js";
 import { bound, drawLots, drawMoney, pasting } from "./lots.js";
-import { bodyBytes, draftOf, faultsOf, newDraft, warningsOf } from "./notice.js";
+import { bodyBytes, faultsOf, newDraft, warningsOf } from "./notice.js";
 import { sendThen } from "./send.js";
-import { caller, draft as kept, keepDraft } from "./session.js";
+import { caller, draft as kept, draftSaved, keepDraft, touchDraft } from "./session.js";
 import { MOST, momentText } from "./values.js";
 
 export async function drawEditor(again) {
   const [ledgerLines, list] = await Promise.all([ledger(caller()), notices()]);
   const draft = kept() ?? newDraft();
-  keepDraft(draft);
+  if (!kept()) {
+    keepDraft(draft);
+  }
   const editor = { draft, lines: new Map(ledgerLines.map((one) => [one.line, one])), list, isChecked: false, again, inputs: new Map(),
     summary: element("div", {}), lots: element("div", {}) };
-  editor.changed = () => drawSummary(editor);
-  editor.redrawLots = () => {
-    drawLots(editor);
+  editor.changed = () => {
+    touchDraft();
     drawSummary(editor);
   };
-  const content = [title(say("page.new")), element("p", { class: "intro" }, say("editor.intro")), earlier(editor),
+  editor.redrawLots = () => {
+    drawLots(editor);
+    editor.changed();
+  };
+  const content = [title(say("page.new")), element("p", { class: "intro" }, say("editor.intro")), beginnings(editor),
     section(say("see.terms"), terms(editor)), section(say("editor.lots"), pasting(editor), editor.lots), section(say("editor.check"), editor.summary)];
-  editor.redrawLots();
+  drawLots(editor);
+  drawSummary(editor);
   return { title: say("page.new"), content };
-}
-
-/** Copies a notice that was published before. */
-function earlier({ list, again }) {
-  if (list.length === 0) {
-    return null;
-  }
-  const options = list.toSorted((one, other) => (one.published < other.published ? 1 : -1)).map(({ notice, title: text }) => [notice, `${notice}: ${text}`]);
-  const chosen = field(say("see.notice"), { kind: "choice", options, value: options[0][0] });
-  const take = button(say("editor.take"), async () => {
-    keepDraft(draftOf(await termsOf(chosen.value())));
-    again();
-  }, "second");
-  return element("details", {}, element("summary", {}, say("editor.fromearlier")), chosen.made, steps(take));
 }
 
 function terms(editor) {
@@ -53,8 +47,8 @@ function terms(editor) {
   const showWeight = () => { weight.made.hidden = draft.criteria !== "points"; };
   criteria.input.addEventListener("input", showWeight);
   showWeight();
-  const deadline = momentField(say("see.deadline"), say("editor.deadline.hint"), draft.deadline, (found) => {
-    draft.deadline = found;
+  const deadline = momentField(say("see.deadline"), say("editor.deadline.hint"), draft.deadline, (found, typed) => {
+    Object.assign(draft, { deadline: found, typed });
     editor.changed();
   });
   editor.inputs.set("deadline", deadline);
@@ -97,8 +91,8 @@ function drawSummary(editor) {
     editor.again();
   }, "second");
   const preview = faults.length === 0 ? link(say("editor.preview"), "#preview", "button second") : noPreview();
-  summary.replaceChildren(sizePart(bodyBytes(draft).length), faultList(editor, faults), ...warnings(draft, now),
-    steps(button(say("editor.publish"), () => publish(editor, faults)), preview, empty));
+  summary.replaceChildren(sizePart(bodyBytes(draft).length), faultList(editor, faults), warningList(warningTexts(draft, now)) ?? "",
+    steps(button(say("editor.publish"), () => publish(editor, faults)), preview, saving(draft), empty));
 }
 
 /** The preview button while there is no preview yet, and why. */
@@ -125,10 +119,10 @@ function faultList(editor, faults) {
     return element("p", { class: "quiet" }, say("editor.begin"));
   }
   const go = (fault) => button(placeText(editor, fault.field), () => focusOn(editor, fault), "second small");
-  const listed = faults.slice(0, MOST_FAULTS).map((fault) => element("li", {}, go(fault), " ", faultText(fault)));
-  const more = faults.length > MOST_FAULTS ? element("p", { class: "quiet" }, say("budget.more", { count: faults.length - MOST_FAULTS })) : null;
+  const lineOf = (fault) => element("li", {}, go(fault), " ", faultText(fault));
+  const list = element("ul", { class: "plain" });
   return element("div", { class: editor.isChecked ? "bad" : "look" }, element("p", {}, say("editor.faults", { count: faults.length })),
-    element("ul", { class: "plain" }, listed), more);
+    growing(list, faults, lineOf, MOST_FAULTS));
 }
 
 /** Goes to the field of a fault, if it has one. */
@@ -138,10 +132,10 @@ function focusOn(editor, fault) {
   at?.input.focus();
 }
 
-function warnings(draft, now) {
-  const found = warningsOf(draft, now).map(({ code, value = "", amount = 0, least = 0 }) => say(`warning.${code}`, { value, amount, least }));
-  return found.length === 0 ? [] : [element("div", { class: "look" }, element("p", {}, say("editor.warnings")),
-    element("ul", {}, found.map((text) => element("li", {}, text))))];
+/** The warnings as sentences. */
+function warningTexts(draft, now) {
+  return warningsOf(draft, now).map(({ code, value = "", amount = 0, least = 0 }) =>
+    say(`warning.${code}`, { value: code === "near" ? span(value) : value, amount, least, count: amount }));
 }
 
 function publish(editor, faults) {
@@ -152,19 +146,25 @@ function publish(editor, faults) {
     focusOn(editor, faults[0]);
     return null;
   }
-  return sendThen(publication(draft), () => {
+  return sendThen(publication(editor), () => {
+    draftSaved();
     keepDraft(null);
     location.hash = placeOf("notice", draft.name);
   });
 }
 
-/** The order that publishes a draft. */
-function publication(draft) {
+/** The order that publishes a draft. Its window shows all answers, and all warnings again. */
+function publication(editor) {
+  const { draft } = editor;
   const sum = draft.lots.reduce((all, { estimate }) => all + Number(estimate), 0);
   const items = draft.lots.reduce((all, lot) => all + lot.items.length, 0);
   const lines = [...new Set(draft.lots.map(({ line }) => line))].join(", ");
   return { kind: "notice", values: { notice: draft.name }, path: `/notices/${draft.name}`, body: bodyBytes(draft), isFinal: true,
     says: [[say("editor.does.deadline"), " ", moment(momentText(draft.deadline))], say("editor.does.money", { sum, lines }),
       say("editor.does.lots", { lots: draft.lots.length, items, count: draft.lots.length }), say("editor.does.stays")],
+    shows: (leave) => [warningList(warningTexts(draft, officeNow())), answers(draft, (path) => {
+      leave();
+      setTimeout(() => focusOn(editor, { field: path }));
+    })],
     again: "Exists", find: () => ofNotice(draft.name) };
 }

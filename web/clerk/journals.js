@@ -2,11 +2,12 @@
 // continues one from a file.
 import { bytesOfFile, inGroups } from "../common/digest.js";
 import { below, element, section, title } from "../common/draw.js";
-import { button, drop, note, printButton, save, steps } from "../common/forms.js";
+import { button, drop, growing, note, printButton, save, steps } from "../common/forms.js";
 import { moment } from "../common/money.js";
 import { officeNow } from "../common/office.js";
 import { say } from "../common/texts.js";
 import { fileOf, joined, readFile } from "./journal.js";
+import { FIRST } from "./many.js";
 import { journal, replaceJournal } from "./session.js";
 import { momentText, textOf } from "./values.js";
 
@@ -20,7 +21,8 @@ export function drawJournal(again) {
   });
   keep.disabled = entries.length === 0;
   const take = async (file) => told.replaceChildren(await taken(textOf(await bytesOfFile(file)), again));
-  const list = entries.length === 0 ? element("p", {}, say("journal.empty")) : element("ol", { class: "entries" }, entries.toReversed().map(entryPart));
+  const list = entries.length === 0 ? element("p", {}, say("journal.empty"))
+    : growing(element("ol", { class: "entries" }), entries.toReversed(), entryPart, FIRST);
   return { title: say("page.journal"), content: [title(say("page.journal")), element("p", { class: "intro" }, say("journal.intro")),
     savedNote(entries.length, saved), steps(keep, printButton()),
     section(say("journal.take"), drop(say("journal.drop"), say("journal.drop.hint"), take, { accept: ".jsonl,application/jsonl" }), told),

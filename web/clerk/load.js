@@ -15,13 +15,33 @@ export async function stagedOf(name) {
   return { ...seen, currency: seen.compiled.tender.value.currency, stage: stageOf(seen, officeNow()) };
 }
 
-/** The stage of an opened notice, with as few queries as possible: nginx limits them. */
-export async function stageOfOpened(name) {
+// The results of queries for an opened notice are used for a minute, unless the notice has a new release or
+// this tab sent a command. An examination by another clerk has no release.
+const KEPT = 60_000;
+let kept = new Map();
+
+/** From now on all notices are queried again. */
+export function forgetStages() {
+  kept = new Map();
+}
+
+/** The stage of an opened notice, with as few queries as possible: nginx limits them. `count` is the number of
+ * its releases in the list. */
+export async function stageOfOpened(name, count) {
+  const isWhole = caller() !== null;
+  const held = kept.get(name);
+  if (!held || held.count !== count || held.isWhole !== isWhole || Date.now() > held.since + KEPT) {
+    kept.set(name, { count, isWhole, since: Date.now(), seen: await openedOf(name) });
+  }
+  return stageOf(kept.get(name).seen, officeNow());
+}
+
+async function openedOf(name) {
   const [compiled, own, text] = await Promise.all([record(name), terms(name), evaluationText(name, caller())]);
   const evaluation = evaluationOf(text, caller() !== null);
   const tenders = [...evaluation].flatMap(([lot, shown]) => [...shown.tenders].map(([receipt, { reading, price }]) =>
     ({ lot, receipt, reading, corrected: price })));
-  return stageOf({ compiled, terms: own, tenders, evaluation }, officeNow());
+  return { compiled, terms: own, tenders, evaluation };
 }
 
 /** The performance security of a contract, or null. */

@@ -2,16 +2,29 @@
 // in node too.
 import { isId, lineFault } from "../common/csv.js";
 import { bytesOf } from "../common/digest.js";
-import { DAY, MOST, isAskable, momentText, wholeNumber } from "./values.js";
+import { DAY, MOST, isAskable, localMilliseconds, localText, momentText, oddHour, wholeNumber } from "./values.js";
 
-/** The empty draft. All its values are texts, as they are typed. */
+/** The empty draft. All its values are texts, as they are typed, except for the deadline, which is in
+ * milliseconds; `typed` is the local time that was typed for it. */
 export function newDraft() {
-  return { name: "", title: "", deadline: null, validity: "90", standstill: "10", criteria: "price", weight: "60", late: "refused", performance: "0",
+  return { name: "", title: "", deadline: null, typed: "", validity: "90", standstill: "10", criteria: "price", weight: "60", late: "refused", performance: "0",
     lots: [newLot("L1")] };
 }
 
 export function newLot(id) {
   return { id, title: "", line: "", estimate: "", security: "0", items: [{ id: "I1", title: "", quantity: "" }] };
+}
+
+/** The draft in a value, such as that of a file; null if there is none. */
+export function draftIn(told) {
+  const texts = (own, value) => Object.fromEntries(Object.keys(own).map((name) => [name, typeof value?.[name] === "string" ? value[name] : own[name]]));
+  if (!Array.isArray(told?.lots)) {
+    return null;
+  }
+  const { lots: [lot], deadline: _, ...own } = newDraft();
+  const { items: [item], ...ofLot } = lot;
+  return { ...texts(own, told), deadline: Number.isFinite(told.deadline) ? told.deadline : null,
+    lots: told.lots.map((one) => ({ ...texts(ofLot, one), items: (Array.isArray(one?.items) ? one.items : []).map((it) => texts(item, it)) })) };
 }
 
 /** A number for the body, or the unchanged text, which the faults then report. */
@@ -124,15 +137,20 @@ export function warningsOf(draft, now) {
 
 const NEAR_DAYS = 15;
 const EXAMINATION_DAYS = 14;
+// Prices are in whole units of the currency. Below this price a unit, rounding is a matter of percents.
+const LEAST_PRICE = 20;
 
-function timeWarnings({ deadline }, now) {
+function timeWarnings({ deadline, typed }, now) {
   if (deadline === null || deadline <= now) {
     return [];
   }
   const days = Math.floor((deadline - now) / DAY);
   const local = new Date(deadline);
+  const shown = localMilliseconds(typed ?? "") === deadline ? typed : localText(deadline);
+  const odd = oddHour(shown);
   const isAtWork = ![0, 6].includes(local.getDay()) && local.getHours() >= 8 && local.getHours() < 18;
-  return [...(days < NEAR_DAYS ? [{ code: "near", value: days, least: NEAR_DAYS }] : []), ...(isAtWork ? [] : [{ code: "hour" }])];
+  return [...(days < NEAR_DAYS ? [{ code: "near", value: (deadline - now) / 1000, least: NEAR_DAYS }] : []),
+    ...(isAtWork ? [] : [{ code: "hour" }]), ...(odd ? [{ code: `hour.${odd}`, value: shown.slice(11), amount: localText(deadline).slice(11) }] : [])];
 }
 
 function termWarnings(draft, validity, standstill) {
@@ -161,14 +179,22 @@ function itemWarnings(draft) {
   const odd = items.find(({ id }) => isId(id) && !/^[A-Za-z]/.test(id));
   const dear = draft.lots.find(({ estimate, security }) => wholeNumber(security, 1, MOST.amount) * 20 > (wholeNumber(estimate, 1, MOST.amount) ?? Infinity));
   const size = bodyBytes(draft).length;
-  return [...(odd ? [{ code: "item.id", value: odd.id }] : []), ...(dear ? [{ code: "security", value: dear.id }] : []),
+  const cheap = draft.lots.flatMap(({ id, estimate, items: own }) => own.filter(({ quantity }) => isCheap(estimate, quantity)).map((item) => [id, item.id]));
+  return [...(cheap.length > 0 ? [{ code: "cents", value: cheap[0].join("/"), amount: cheap.length, least: LEAST_PRICE }] : []),
+    ...(odd ? [{ code: "item.id", value: odd.id }] : []), ...(dear ? [{ code: "security", value: dear.id }] : []),
     ...(size > MOST.body * 0.9 && size <= MOST.body ? [{ code: "size", value: size }] : [])];
+}
+
+/** Whether a lot's estimate leaves less than that for each unit of an item. */
+function isCheap(estimate, quantity) {
+  const [sum, count] = [wholeNumber(estimate, 1, MOST.amount), wholeNumber(quantity, 1, MOST.quantity)];
+  return sum !== null && count !== null && sum < LEAST_PRICE * count;
 }
 
 /** A draft from the terms of an earlier notice. */
 export function draftOf({ title, validity_days: validity, standstill_days: standstill, criteria, price_weight: weight, late_withdrawal: late, ...more }) {
   const lots = more.lots.map(({ id, title: text, line, estimate, security, items }) => ({ id, title: text, line, estimate: String(estimate),
     security: String(security), items: items.map((item) => ({ ...item, quantity: String(item.quantity) })) }));
-  return { name: "", title, deadline: null, validity: String(validity), standstill: String(standstill), criteria, weight: String(weight ?? 60), late,
+  return { name: "", title, deadline: null, typed: "", validity: String(validity), standstill: String(standstill), criteria, weight: String(weight ?? 60), late,
     performance: String(more.performance), lots };
 }

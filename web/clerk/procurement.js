@@ -4,9 +4,10 @@ import { element, link, placeOf, section } from "../common/draw.js";
 import { note } from "../common/forms.js";
 import { drawProcess } from "../common/process.js";
 import { say } from "../common/texts.js";
-import { awardPart, examinations } from "./award.js";
+import { awardPart, letters } from "./award.js";
 import { contractPart } from "./contracts.js";
 import { cancelPart, movePart, openingPart, registerPart } from "./deadline.js";
+import { examinations } from "./examine.js";
 import { loadNotice, tasks } from "./load.js";
 import { STEPS, stepOf } from "./stage.js";
 
@@ -16,10 +17,13 @@ export async function drawProcurement(again, name) {
   const lotOf = ({ id }) => stage.lots.find((lot) => lot.id === id);
   // (after a command for a lot, the focus returns to the lot)
   const behind = ({ id }) => () => again("", false, `lot-${id}`);
-  const ofLot = (lot) => (stage.kind === "opened" ? [examinations, awardPart].map((part) => part(notice, lotOf(lot), behind(lot))) : null);
+  const isOpened = stage.kind === "opened";
+  // (the examination comes before the table of tenders, which can be long)
+  const firstOfLot = (lot) => (isOpened ? examinations(notice, lotOf(lot), behind(lot)) : null);
+  const ofLot = (lot) => (isOpened ? awardPart(notice, lotOf(lot), behind(lot)) : null);
   const ofContract = (one) => ({ ...notice.contracts.get(one.id), more: contractPart(notice, one, behind) });
-  const isPressing = (lot) => stage.kind === "opened" && ["undecided", "awarded"].includes(lotOf(lot).state);
-  const content = drawProcess({ ...notice, above: [path(stage), doing(stage), parts(notice, again)], ofLot, ofContract, isPressing });
+  const isPressing = (lot) => isOpened && ["undecided", "awarded"].includes(lotOf(lot).state);
+  const content = drawProcess({ ...notice, above: [path(stage), doing(stage), parts(notice, again)], firstOfLot, ofLot, ofContract, isPressing });
   return { title: `${name}: ${compiled.tender.title}`, content: [content, stage.canCancel ? cancelPart(notice, again) : null] };
 }
 
@@ -38,8 +42,14 @@ function doing(stage) {
 
 function parts(notice, again) {
   const of = { receiving: [movePart, openingPart, registerPart], due: [openingPart, registerPart], opened: [minutesPart, registerPart],
-    cancelled: [registerPart] };
+    cancelled: [lettersPart, registerPart] };
   return of[notice.stage.kind].map((part) => part(notice, again));
+}
+
+/** A notice that was cancelled before its opening: one letter for each lot, to everybody who tendered. */
+function lettersPart(notice) {
+  const { lots } = notice.stage;
+  return section(say("letters.link"), element("p", {}, lots.map((lot, at) => [at > 0 ? " · " : "", say("see.lot", { lot: lot.id }), ": ", letters(notice, lot)])));
 }
 
 function minutesPart({ name }) {

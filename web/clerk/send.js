@@ -7,6 +7,8 @@ import { moment } from "../common/money.js";
 import { Refused, command, officeNow, sentenceOf } from "../common/office.js";
 import { hasText, say } from "../common/texts.js";
 import { addEntry } from "./journal.js";
+import { touch } from "./idle.js";
+import { forgetStages } from "./load.js";
 import { caller, journal, who } from "./session.js";
 import { momentText, textOf } from "./values.js";
 
@@ -14,10 +16,11 @@ const LONGEST_SHOWN = 6000;
 
 /** Shows an order and sends it. `kind` names its texts and `values` fill them; `says` lists what it will do;
  * `path` and `body` (bytes, or null) are sent. An `isFinal` order can't be undone and is confirmed by a
- * tick; one with a `word` by typing the word. An `isSad` order isn't shown in green when it is done. `find`
- * queries whether an unanswered order was done (true, false, or null if unknown). `again` is the refusal
- * that proves it when the same request is sent again; null if that would do it twice. Returns the office's
- * answer if it is done, else null. */
+ * tick; one with a `word` by typing the word. `shows(leave)` makes more content; `leave` closes the window. An
+ * `isSad` order isn't shown in green when it is done. `find` queries whether an unanswered order was done
+ * (true, false, or null if unknown). `again` is the refusal that proves it when the same request is sent
+ * again; null if that would do it twice. An order with `orders` sends these one after another. Returns the
+ * office's answer if it is done, else null. */
 export function send(order) {
   return new Promise((finish) => {
     const dialog = element("dialog", { class: "order", "aria-labelledby": "order-title" });
@@ -29,13 +32,17 @@ export function send(order) {
       finish(state.value);
     });
     document.body.append(dialog);
-    if (caller() === null) {
-      draw(state, note("bad", say("order.nokey"), say("order.nokey.do")), [closing(state)]);
-    } else {
-      drawAsked(state);
-    }
+    drawAsked(state);
     dialog.showModal();
   });
+}
+
+/** Says that this tab holds no key, if so. */
+function hasNoKey(state) {
+  if (caller() === null) {
+    draw(state, note("bad", say("order.nokey"), say("order.nokey.do")), [closing(state)]);
+  }
+  return caller() === null;
 }
 
 /** Shows an order, and calls `behind` if it was done. */
@@ -45,11 +52,12 @@ export async function sendThen(order, behind) {
   }
 }
 
-function draw(state, content, buttons) {
+/** Shows content that is read out, and more below it that isn't. */
+function draw(state, content, buttons, more = []) {
   const { kind, values = {} } = state.order;
   const status = element("div", { role: "status" }, content);
   state.dialog.replaceChildren(element("h2", { id: "order-title", tabindex: "-1" }, say(`order.${kind}.title`, values)), status,
-    steps(buttons));
+    ...[more].flat(Infinity).filter(Boolean), steps(buttons));
 }
 
 function closing(state, text = say("order.close")) {
@@ -59,15 +67,18 @@ function closing(state, text = say("order.close")) {
 /** The request, and the button that sends it. */
 async function drawAsked(state) {
   const { order } = state;
-  const bytes = order.body ?? new Uint8Array();
-  const digest = await sha256(bytes);
+  if (hasNoKey(state)) {
+    return;
+  }
   const sure = confirmation(order);
-  const sending = button(say(`order.${order.kind}.send`), () => transmit(state), order.isFinal || order.word ? "harm" : "");
+  const sending = button(say(`order.${order.kind}.send`), () => (order.orders ? transmitAll(state) : transmit(state)), order.isFinal || order.word ? "harm" : "");
   sending.disabled = sure !== null;
   sure?.input.addEventListener("input", () => { sending.disabled = !sure.isGiven(); });
   const says = element("ul", {}, order.says.map((part) => element("li", {}, part)));
-  draw(state, [says, sure?.made ?? null, requestShown(order, bytes, digest)], [sending, closing(state, say("order.back"))]);
-  (sure?.input ?? sending).focus();
+  const request = await (order.orders ? requestsShown(order.orders) : requestShown(order));
+  draw(state, says, [sending, closing(state, say("order.back"))], [order.shows?.(() => state.dialog.close()), sure?.made, request]);
+  // (a window with much to read begins at its top)
+  (order.shows ? state.dialog.querySelector("h2") : sure?.input ?? sending).focus();
 }
 
 /** The confirmation: a tick, a word to type, or null if the order can be undone. */
@@ -84,7 +95,9 @@ function confirmation(order) {
 }
 
 /** The request without the key. It is folded, because the sentences above it say the same in plain words. */
-function requestShown(order, bytes, digest) {
+async function requestShown(order) {
+  const bytes = order.body ?? new Uint8Array();
+  const digest = await sha256(bytes);
   const text = textOf(bytes) ?? say("order.notext");
   const head = `POST ${order.path}\nOffice-Caller: clerk\nOffice-Key: ••••••\nContent-Length: ${bytes.length}`;
   const body = text.length > LONGEST_SHOWN ? `${text.slice(0, LONGEST_SHOWN)}\n${say("order.more", { count: text.length - LONGEST_SHOWN })}` : text;
@@ -92,12 +105,67 @@ function requestShown(order, bytes, digest) {
   return folded(say("order.request"), whole, element("p", { class: "quiet" }, say("order.digest"), " ", element("span", { class: "code" }, inGroups(digest))));
 }
 
+/** Several requests without the key, a line each. */
+function requestsShown(orders) {
+  return folded(say("order.request"), orders.map(({ path, body }) => `POST ${path} ${textOf(body ?? new Uint8Array())}`).join("\n"));
+}
+
+/** Sends the commands of an order one after another, each with its own entry in the journal. Stops at the
+ * first one that isn't done: the rest stays unsent. */
+async function transmitAll(state) {
+  const { orders, kind } = state.order;
+  if (hasNoKey(state)) {
+    return;
+  }
+  const parts = [];
+  let last = null;
+  state.isBusy = true;
+  while (parts.length < orders.length && (last === null || last.isDone)) {
+    draw(state, element("p", {}, say("order.sending.of", { number: parts.length + 1, count: orders.length })), []);
+    last = await transmitted(orders[parts.length]);
+    parts.push(last);
+  }
+  state.isBusy = false;
+  const done = parts.filter(({ isDone }) => isDone).length;
+  const list = element("ol", {}, parts.map((part) => element("li", {}, partText(part))));
+  const unsent = orders.length - parts.length;
+  state.value = done > 0 ? { done } : null;
+  draw(state, last.isDone ? note("good", say(`order.${kind}.done`, { count: done }), list)
+    : note("bad", say("order.stopped", { done, count: done }), list, unsent > 0 ? say("order.unsent", { count: unsent }) : "", say("order.stopped.do")), [closing(state)]);
+  focusFirst(state);
+}
+
+/** Sends one of several commands. If no answer came, queries find out what happened. */
+async function transmitted(order) {
+  const part = { order, isOpen: false, entry: null };
+  const outcome = await outcomeOf(order).finally(forgetStages);
+  await keep(part, outcome);
+  if (part.isOpen) {
+    const found = await foundOf(order);
+    part.entry.found = found === true ? "done" : found === false ? "not done" : "unknown";
+  }
+  return { ...part, fault: outcome.fault, isDone: Boolean(outcome.value) || part.entry.found === "done" };
+}
+
+/** The result of one of several commands. */
+function partText({ order, entry, fault, isDone }) {
+  const name = say(`order.${order.kind}.title`, order.values);
+  const advice = `order.${order.kind}.after.${fault?.name}`;
+  const why = isDone ? say("journal.done") : entry.found ? say(entry.found === "not done" ? "order.found.not" : "order.found.unknown")
+    : [sentenceOf(fault), hasText(advice) ? say(advice) : ""].filter(Boolean).join(" ");
+  return [name, ": ", element("b", { class: isDone ? "right" : "wrong" }, why), element("span", { class: "quiet below" },
+    say("order.kept", { number: String(entry.number) }))];
+}
+
 /** Sends the command, and keeps the answer. */
 async function transmit(state) {
   const { order } = state;
+  if (hasNoKey(state)) {
+    return;
+  }
   state.isBusy = true;
   draw(state, element("p", {}, say("order.sending")), []);
-  const outcome = await outcomeOf(order);
+  const outcome = await outcomeOf(order).finally(forgetStages);
   state.isBusy = false;
   await keep(state, outcome);
   if (outcome.value) {
@@ -111,6 +179,7 @@ async function transmit(state) {
 
 /** The office's answer and its value, or the fault. */
 async function outcomeOf({ path, body }) {
+  touch();
   try {
     const { text, value } = await command(path, caller(), body ?? undefined);
     return { answer: { status: 200, text }, value };

@@ -1,9 +1,10 @@
 // The data that only this tab has: the key, the clerk's name, the journal and a draft. Nothing of it is
-// stored.
+// stored. Only the draft is also in this tab's history, so that a reload keeps it.
 import { Refused, registerText } from "../common/office.js";
 import { newJournal } from "./journal.js";
 
-const session = { caller: null, who: "", journal: newJournal(globalThis.location?.origin ?? null), draft: null };
+const session = { caller: null, who: "", journal: newJournal(globalThis.location?.origin ?? null), draft: null, isUnsaved: false, former: null,
+  place: "" };
 
 export function journal() {
   return session.journal;
@@ -41,17 +42,75 @@ export function forgetKey() {
   session.caller = null;
 }
 
-/** The draft of a notice. It stays while other screens are shown. */
+/** Remembers the view before the key is asked for, to return to it. */
+export function keepPlace(hash) {
+  session.place = hash;
+}
+
+export function placeBefore() {
+  return session.place;
+}
+
+/** The draft of a notice. It stays while other screens are shown, and after a reload. */
 export function draft() {
   return session.draft;
 }
 
+/** Replaces the draft. One that isn't saved can be brought back. */
 export function keepDraft(other) {
+  session.former = session.isUnsaved ? session.draft : session.former;
   session.draft = other;
+  session.isUnsaved = false;
+  write();
 }
 
-addEventListener?.("beforeunload", (event) => {
-  if (session.journal.entries.length > session.journal.saved) {
+/** The draft has changed. Browsers limit how often a page may write into its history. */
+export function touchDraft() {
+  session.isUnsaved = true;
+  timer ??= setTimeout(write, BETWEEN);
+}
+
+/** The draft was saved as a file, or published. */
+export function draftSaved() {
+  session.isUnsaved = false;
+  write();
+}
+
+/** The draft that was replaced without being saved, or null. */
+export function formerDraft() {
+  return session.former;
+}
+
+/** Brings it back; null: it isn't needed any more. */
+export function keepFormer(other) {
+  if (other) {
+    [session.former, session.draft, session.isUnsaved] = [null, other, true];
+    write();
+  }
+  session.former = null;
+}
+
+// Milliseconds between two writings of the draft into the history.
+const BETWEEN = 400;
+let timer = null;
+
+/** Writes the draft into the current entry of the tab's history. */
+function write() {
+  clearTimeout(timer);
+  timer = null;
+  const { draft: own, isUnsaved } = session;
+  globalThis.history?.replaceState({ ...history.state, draft: own, isUnsaved }, "");
+}
+
+const before = globalThis.history?.state;
+if (Array.isArray(before?.draft?.lots)) {
+  [session.draft, session.isUnsaved] = [before.draft, before.isUnsaved === true];
+}
+// (each view has an entry of its own)
+globalThis.addEventListener?.("hashchange", write);
+globalThis.addEventListener?.("pagehide", () => timer !== null && write());
+globalThis.addEventListener?.("beforeunload", (event) => {
+  if (session.journal.entries.length > session.journal.saved || session.isUnsaved) {
     event.preventDefault();
   }
 });

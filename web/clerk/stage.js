@@ -94,6 +94,18 @@ export function tasksOf(stage, now) {
     .sort((one, other) => momentOf(one) - momentOf(other));
 }
 
+/** The groups of notices, the most urgent first: a date has passed; something is to be done now or within seven
+ * days; later; and only to wait. */
+export const GROUPS = ["overdue", "week", "later", "waiting"];
+const OVERDUE = ["open", "sign", "expired"], NOW = ["examine", "award", "unsigned"], RUNNING = ["contract", "end"];
+
+/** The group of a notice by its tasks. */
+export function groupOf(stage, now) {
+  const all = tasksOf(stage, now);
+  const has = (codes) => all.some(({ code }) => codes.includes(code));
+  return has(OVERDUE) ? "overdue" : has(NOW) || all.some(({ until }) => until < now + 7 * DAY) ? "week" : has(RUNNING) ? "later" : "waiting";
+}
+
 function tasksOfLot({ id, state, tenders, contract, standstillUntil, hasStandstill }, now) {
   if (state === "undecided") {
     const waiting = tenders.filter(isWaiting).length;

@@ -1,11 +1,11 @@
 // Tenderers: registration from the sheet or from the file of the tenderer's desk, and the list.
 import { bytesOfFile, inGroups } from "../common/digest.js";
 import { element, given, section, title } from "../common/draw.js";
-import { plain } from "../common/filters.js";
-import { ID, areRight, drop, field, form, lineText, note, table } from "../common/forms.js";
+import { ID, areRight, drop, field, form, lineText, note } from "../common/forms.js";
 import { tenderers } from "../common/office.js";
 import { say } from "../common/texts.js";
 import { ofRegistration } from "./fate.js";
+import { growingTable, searched } from "./many.js";
 import { jsonBody, sendThen } from "./send.js";
 import { caller } from "./session.js";
 import { isAskable, textOf } from "./values.js";
@@ -67,18 +67,13 @@ function registration(tenderer, body) {
     find: () => ofRegistration(tenderer, body), says: [say("tenderer.does", { tenderer, ...body }), digest, say("tenderer.stays")] };
 }
 
-/** The list, and a search field for it. */
+/** The list, with a search field if it is long. */
 function listed(list) {
   if (list.length === 0) {
     return element("p", {}, say("tenderer.none"));
   }
-  const rowsOf = (some) => table(say("tenderer.table", { count: some.length }), [say("tenderer.id"), say("tenderer.name"), say("tenderer.address")],
-    some.map((one) => [one.tenderer, given(one.name), given(one.address)]));
-  const found = element("div", {}, rowsOf(list));
-  const name = field(say("tenderer.search"), { kind: "search" });
-  name.input.addEventListener("input", () => {
-    const asked = plain(name.value());
-    found.replaceChildren(rowsOf(list.filter((one) => plain(`${one.tenderer} ${one.name} ${one.address}`).includes(asked))));
-  });
-  return [name.made, found];
+  const heads = [say("tenderer.id"), say("tenderer.name"), say("tenderer.address")];
+  const rowOf = (one) => [one.tenderer, given(one.name), given(one.address)];
+  return searched(say("tenderer.search"), list, ({ tenderer, name, address }) => `${tenderer} ${name} ${address}`,
+    (some) => growingTable(say("tenderer.table", { count: some.length }), heads, some, rowOf));
 }

@@ -62,3 +62,15 @@ export function localText(milliseconds) {
   const date = new Date(milliseconds);
   return new Date(milliseconds - date.getTimezoneOffset() * 60_000).toISOString().slice(0, date.getSeconds() === 0 ? 16 : 19);
 }
+
+// By so many minutes clocks go forward or back.
+const SHIFTS = [30, 60, 120];
+
+/** Whether the local time in such a field is odd: `missing` if clocks skip it, `twice` if they repeat it, else
+ * null. */
+export function oddHour(text) {
+  const at = localMilliseconds(text);
+  const typed = text.replace(/(T\d\d:\d\d):00$/, "$1");
+  const isTwice = () => SHIFTS.flatMap((minutes) => [minutes, -minutes]).some((minutes) => localText(at + minutes * 60_000) === typed);
+  return at === null ? null : localText(at) !== typed ? "missing" : isTwice() ? "twice" : null;
+}

@@ -139,7 +139,7 @@ export function growing(list, all, make, many) {
     return next;
   };
   grow();
-  more.addEventListener("click", () => grow()[0].querySelector("a").focus());
+  more.addEventListener("click", () => grow()[0].querySelector("a, button, summary").focus());
   return [list, more];
 }
 

@@ -54,7 +54,7 @@ function lotPart(notice, lot, folds) {
   const content = [
     facts([[say("see.estimate"), money(lot.value.amount, currency)], [say("see.line"), line], [say("see.security.asked"), asked(own.security, currency)]]),
     items(notice, lot), listed(4, say("see.awards", { count: made.length }), made.map((award) => awardPart(notice, lot, award)), { class: "awards" }),
-    element("h4", {}, say("see.tenders")), tenderPart(notice, lot), notice.ofLot?.(lot),
+    notice.firstOfLot?.(lot), element("h4", {}, say("see.tenders")), tenderPart(notice, lot), notice.ofLot?.(lot),
     contracts.map(([one, award]) => contractPart(one, award, lot, notice, notice.ofContract?.(one)))];
   return element("article", { id: `lot-${lot.id}`, tabindex: "-1", class: "card", "aria-label": say("see.lot", { lot: lot.id }) },
     folds ? folded(`${notice.name}/${lot.id}`, notice.isPressing?.(lot), head, content) : [element("h3", {}, head), content]);
@@ -101,8 +101,9 @@ function sources({ name, tenders }) {
 }
 
 /** The whole of a notice, which has the members that `seenOf` returns. More members: `isPreview`; `linked`,
- * if budget lines and firms are views of this page; and `above`, the content above the lots. `ofLot` and
- * `ofContract` add to each lot and contract. `isPressing` has the lots that need something now. */
+ * if budget lines and firms are views of this page; `above`, the content above the lots; `firstOfLot`,
+ * `ofLot` and `ofContract`, which add to each lot before and after its tenders, and to each contract; and
+ * `isPressing`, with the lots that need something now. */
 export function drawProcess(notice) {
   const { compiled, releases: all } = notice;
   const { tender } = compiled;

@@ -1,0 +1,133 @@
+// The letters for a lot that was awarded or has ended. The winner learns of the award, and every other
+// tenderer why it didn't win, or that the lot ended without a winner or was cancelled.
+import { cityFile, wordsOf } from "../common/city.js";
+import { element, given, title } from "../common/draw.js";
+import { outcomeOf } from "../common/findings.js";
+import { field, note, printButton, sheet, signs, steps } from "../common/forms.js";
+import { day, money, moment } from "../common/money.js";
+import { officeNow, registerText, securities } from "../common/office.js";
+import { say, sayParts } from "../common/texts.js";
+import { stagedOf } from "./load.js";
+import { backTo, letterhead } from "./printed.js";
+import { caller, who } from "./session.js";
+import { momentText } from "./values.js";
+
+// The reasons that were typed for each letter, as long as the tab is open.
+const typed = new Map();
+// Outcomes that are the tender's own, whatever became of its lot.
+const OWN = ["unreadable", "nonconforming", "unresponsive", "late", "passed", "awardended"];
+
+export async function drawLetter(again, name, lotId) {
+  const [staged, held, city] = await Promise.all([stagedOf(name), caller() ? securities(name, caller()) : [], cityFile()]);
+  const notice = { ...staged, held, city };
+  const lot = notice.stage.lots.find(({ id }) => id === lotId);
+  const head = say("letters.title", { lot: lotId });
+  const isSealed = notice.stage.kind === "cancelled";
+  const letters = !lot ? [] : isSealed ? await openLetter(notice, lot) : lettersOf(notice, lot);
+  if (letters.length === 0) {
+    return { title: head, content: [title(head), note("look", say("letters.none")), backTo(name)] };
+  }
+  return { title: head, isSheet: true, content: [title(head), element("p", {}, say("letters.what", { count: letters.length })),
+    isSealed ? note("look", say("letters.open")) : null, backTo(name), steps(printButton()), letters.map((parts) => sheet(parts))] };
+}
+
+/** A letter to each tenderer of an opened lot; none while the lot is undecided. */
+function lettersOf(notice, lot) {
+  const tell = lot.active ? (one) => (isWinner(lot, one) ? won(notice, lot) : lost(notice, lot, one)) : endingOf(notice, lot);
+  return tell === null ? [] : lot.tenders.toSorted((one, other) => isWinner(lot, other) - isWinner(lot, one))
+    .map((one) => letter(notice, lot, one, tell(one), !isWinner(lot, one)));
+}
+
+function isWinner({ active }, { tenderer }) {
+  return `T-${tenderer}` === active?.suppliers[0].id;
+}
+
+/** The sentences for the winner. */
+function won({ terms, currency }, { active, standstillUntil }) {
+  const required = terms.performance ? say("letter.performance", { amount: money(terms.performance, currency) }) : "";
+  return [sayParts("letter.won", { price: money(active.value.amount, currency), moment: moment(active.date) }), standstill(active, standstillUntil), required];
+}
+
+/** The sentences for the others. */
+function lost({ currency, stage }, { active, standstillUntil, shown }, one) {
+  const winner = sayParts("letter.winner", { name: given(active.suppliers[0].name), price: money(active.value.amount, currency), moment: moment(active.date) });
+  const why = say(`see.why.${outcomeOf(one, shown, stage.byPoints)[1]}`);
+  return [say("letter.thanks", { receipt: String(one.receipt), why }), winner, ownPrice(one, currency), standstill(active, standstillUntil)];
+}
+
+function ownPrice(one, currency) {
+  return one.reading === "priced" ? say("letter.own", { price: money(one.corrected, currency) }) : "";
+}
+
+/** Makes the sentences for a lot that ended without a winner; null if it didn't. */
+function endingOf(notice, lot) {
+  const ended = { unsuccessful: nobodyWon, cancelled }[lot.state]?.(notice, lot);
+  return ended ? (one) => {
+    const [, outcome] = outcomeOf(one, lot.shown, notice.stage.byPoints);
+    const why = OWN.includes(outcome) ? say(`see.why.${outcome}`) : "";
+    return [say("letter.thanks", { receipt: String(one.receipt), why }), ended, ownPrice(one, notice.currency)];
+  } : null;
+}
+
+function releaseOf({ releases }, tag, lot) {
+  return releases.findLast((release) => release.tag.includes(tag) && (release.tender?.lots ?? []).some(({ id }) => id === lot.id));
+}
+
+function nobodyWon(notice, lot) {
+  const { date } = releaseOf(notice, "tenderUpdate", lot) ?? {};
+  return date ? sayParts("letter.nobody", { moment: moment(date) }) : say("letter.nobody.undated");
+}
+
+function cancelled(notice, lot) {
+  const { date, tender } = releaseOf(notice, "tenderCancellation", lot);
+  return sayParts("letter.cancelled", { moment: moment(date), reason: given(tender.amendments[0].rationale) });
+}
+
+/** Until when nothing is signed, if there is a standstill. */
+function standstill({ date }, until) {
+  return until <= Date.parse(date) ? "" : sayParts("letter.standstill", { until: moment(momentText(until)) });
+}
+
+/** The state of a tender's security, if this tab may see it. */
+function secured({ held, currency }, lot, one) {
+  const own = held.findLast((it) => it.lot === lot.id && it.tenderer === one.tenderer);
+  return own ? say(`letter.security.${own.state}`, { security: own.reference, amount: money(own.amount, currency) }) : "";
+}
+
+/** One letter to all who tendered for a lot that was cancelled before the opening: the office never names
+ * them. The register has their receipts, for the clerk. */
+async function openLetter(notice, lot) {
+  const rows = caller() ? (await registerText(notice.name, caller())).split("\n").map((line) => line.split("\t")) : [];
+  const receipts = rows.filter(([, of, , , state]) => of === lot.id && state === "returned").map(([receipt]) => receipt);
+  const one = { receipt: "all", name: say("letter.everybody", { lot: lot.id }), address: "" };
+  const told = [receipts.length > 0 ? say("letter.receipts", { receipts: receipts.join(", "), count: receipts.length }) : say("letter.receipts.none"),
+    cancelled(notice, lot), say("letter.sealed")];
+  return [letter(notice, lot, one, told, true)];
+}
+
+/** A letter. For anyone who lost it has the remedy, if the city's file has one. */
+function letter(notice, lot, one, told, isLoser) {
+  const { name, compiled, city } = notice;
+  const sender = [compiled.buyer.name, who()].filter(Boolean).join(", ");
+  const [tag, remedy] = wordsOf(city.remedy);
+  const subject = sayParts("letter.subject", { notice: name, title: given(compiled.tender.title), lot: lot.id, lottitle: given(lot.title) });
+  const address = element("p", { class: "address" }, given(one.name), element("span", { class: "below" }, given(one.address)));
+  const objection = isLoser && remedy.length > 0 ? element("div", { lang: tag }, remedy.map((text) => element("p", {}, given(text)))) : "";
+  return [letterhead(city), element("p", {}, sayParts("letter.from", { sender: given(sender) })), address, element("p", {}, day(momentText(officeNow()))),
+    element("h2", {}, subject),
+    [...told, one.tenderer ? secured(notice, lot, one) : ""].filter((part) => part !== "").map((part) => element("p", {}, part)),
+    reasons(`${name}/${lot.id}/${one.receipt}`), objection,
+    element("p", {}, say("letter.look", { address: `${location.origin}/#notice/${name}` })), signs(say("letter.sign", { sender }))];
+}
+
+/** More reasons: typed on the screen, and printed in the letter. */
+function reasons(key) {
+  const more = field(say("letter.more"), { hint: say("letter.more.hint"), kind: "lines", rows: "2", spellcheck: "true", value: typed.get(key) ?? "" });
+  const printed = element("p", {}, typed.get(key) ?? "");
+  more.input.addEventListener("input", () => {
+    typed.set(key, more.input.value);
+    printed.textContent = more.input.value;
+  });
+  more.made.classList.add("noprint");
+  return [printed, more.made];
+}

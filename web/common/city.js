@@ -1,0 +1,23 @@
+// The city's own words from `city.json`: its name, letterhead, imprint and so on.
+import { file } from "./office.js";
+import { language } from "./texts.js";
+
+let city = null;
+
+/** The city's file, fetched once. A file that is missing or can't be read counts as empty. */
+export async function cityFile() {
+  try {
+    city ??= JSON.parse((await file("/city.json")) ?? "{}");
+  } catch (fault) {
+    console.warn(`city.json: ${fault.message}`);
+    city = {};
+  }
+  return city;
+}
+
+/** A part of the city's words in the spoken language, or else in another one: the language, and the
+ * paragraphs. */
+export function wordsOf(part) {
+  const told = Object.entries(part ?? {}).filter(([, words]) => words.length > 0);
+  return told.find(([tag]) => tag === language()) ?? told[0] ?? [language(), []];
+}
