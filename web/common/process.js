@@ -101,9 +101,9 @@ function sources({ name, tenders }) {
 }
 
 /** The whole of a notice, which has the members that `seenOf` returns. More members: `isPreview`; `linked`,
- * if budget lines and firms are views of this page; `above`, the content above the lots; `firstOfLot`,
- * `ofLot` and `ofContract`, which add to each lot before and after its tenders, and to each contract; and
- * `isPressing`, with the lots that need something now. */
+ * if budget lines and firms are views of this page; and `above`, the content above the lots. `firstOfLot` and
+ * `ofLot` add to each lot before and after its tenders, `ofContract` to each contract. `isPressing` has the
+ * lots that need something now. */
 export function drawProcess(notice) {
   const { compiled, releases: all } = notice;
   const { tender } = compiled;
