@@ -18,10 +18,10 @@ pub returns-in-Ok-carry_out-clause-answered : goal.returns-in-Ok-carry_out-claus
 returns-in-Ok-carry_out-clause-answered g c honest s held stands can =
     let before = c.in-Ok-carry_out.ensures.alters.before honest in
     let looks = c.in-Ok.ensures.looks in
-    let put = c.into_parts.ensures.puts in
+    let put = c.into_parts-puts.ensures.puts in
     command_done g.H.Lookups.meaning c.args.desk.now.settings c.args.desk.now.shelf c.carry_out.new.self.shelf s c.args.moment c.built.result c.keeping.ensures.reaches c.keeping.ensures.stays
     c.args.caller.now c.args.command c.in-Ok.planned (looks.1 before s held) can.1 stands
-    (c.built.ensures ∙ c.in-Ok-accepted_response.ensures ∙ ap (λ (text : List ℕ). response_of (Json text)) c.into_parts.ensures.reply)
+    (c.built.ensures ∙ c.in-Ok-accepted_response.ensures ∙ ap (λ (text : List ℕ). response_of (Json text)) c.into_parts-puts.ensures.reply)
     (subst (λ (ps : List Put). g.H.Lookups.meaning.holds c.carry_out.new.self.shelf (after_puts ps s)) put (c.in-Ok-carry_out.ensures.alters.all honest s (looks.0.same before s held)))
     (λ u left. c.in-Ok-carry_out.ensures.alters.stop_all honest s (looks.0.same before s held) u left ∙ ap (λ (ps : List Put). after_puts ps s) put)
 
@@ -38,7 +38,7 @@ returns-in-Err-carry_out-clause-answered g c honest s held stands can =
     command_undone g.H.Lookups.meaning c.args.desk.now.settings c.args.desk.now.shelf c.carry_out.new.self.shelf s c.args.moment c.constant-in-Err-carry_out.result
     c.keeping.ensures.reaches c.keeping.ensures.stays c.args.caller.now c.args.command c.in-Ok.planned (looks.1 before s held) can.1
     (c.constant-in-Err-carry_out.ensures ∙ c.unavailable-in-Err-carry_out.ensures) (c.in-Err-carry_out.ensures.alters.none honest s here, stands)
-    (λ u left. elim (c.in-Err-carry_out.ensures.alters.stop_none honest u left) [ inl was ↦ inl (looks.0.stop before u was) | inr done ↦ inr (done s here ∙ ap (λ (ps : List Put). after_puts ps s) c.into_parts.ensures.puts) ])
+    (λ u left. elim (c.in-Err-carry_out.ensures.alters.stop_none honest u left) [ inl was ↦ inl (looks.0.stop before u was) | inr done ↦ inr (done s here ∙ ap (λ (ps : List Put). after_puts ps s) c.into_parts-puts.ensures.puts) ])
 
 pub returns-in-Err-clause-told : goal.returns-in-Err-clause-told
 returns-in-Err-clause-told g c honest s held needs =
@@ -49,7 +49,7 @@ pub returns-in-Ok-carry_out-clause-told : goal.returns-in-Ok-carry_out-clause-to
 returns-in-Ok-carry_out-clause-told g c honest s held needs =
     let before = c.in-Ok-carry_out.ensures.alters.before honest in
     tells_done_command c.args.desk.now.settings s c.args.moment c.built.result _ c.args.caller.now c.args.command c.in-Ok.planned (c.in-Ok.ensures.looks.1 before s held)
-    (c.built.ensures ∙ c.in-Ok-accepted_response.ensures ∙ ap (λ (text : List ℕ). response_of (Json text)) c.into_parts.ensures.reply)
+    (c.built.ensures ∙ c.in-Ok-accepted_response.ensures ∙ ap (λ (text : List ℕ). response_of (Json text)) c.into_parts-puts.ensures.reply)
 
 pub returns-in-Err-carry_out-clause-told : goal.returns-in-Err-carry_out-clause-told
 returns-in-Err-carry_out-clause-told g c honest s held needs =
