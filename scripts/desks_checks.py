@@ -150,14 +150,15 @@ def life(scene: Scene) -> None:
         register(clerk, scene, name)
     deadline = int(time.time()) + SOON
     clerk_checks.publish_part(clerk, "N1", "Road repair", deadline)
-    # (The front keeps public answers for a second.)
+    # (The front keeps the list and the terms for a second, and counts whole seconds.)
     time.sleep(2.1)
     offers(desks, scene)
     clerk.says("Tenders in time, by lot: L1: 2, L2: 1.")
     too_late(desks["T3"], deadline)
     decide(clerk)
     pay(clerk)
-    time.sleep(2.1)
+    # (It keeps records and evaluations for three seconds.)
+    time.sleep(4.1)
     desks["T2"].at("tender/3", "Tender with receipt 3")
     for text in ("The contract was signed.", "Ended as agreed", "P1: Returned"):
         desks["T2"].says(text)

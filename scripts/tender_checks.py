@@ -330,8 +330,8 @@ def results(scene: Scene) -> None:
     award = client.award("N3", "L1")["award"]
     client.sign(award, "P1", 70)
     client.pay(award, "E1", 200)
-    # (The front keeps what is public for a second, and counts whole seconds: an answer of the last moment of one is kept to the end of the next.)
-    time.sleep(2.1)
+    # The front keeps a record and an evaluation for three seconds, and counts whole seconds: so an answer is kept for four at most.
+    time.sleep(4.1)
     desk = Desk(scene, "T2")
     desk.at("tender/2", "Tender with receipt 2")
     for text in ("The office read a price of 570 EUR.", "The file stated 550 EUR; the office corrected 1 figure.", "The contract was signed.", "370 EUR",
