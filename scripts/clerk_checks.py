@@ -34,8 +34,8 @@ def firms(scene: Scene) -> Client[Answer]:
 
 
 def budget_part(desk: Desk) -> None:
-    """A spreadsheet's file is converted, and each change is shown. A right file shows its changes, and is taken in. The desk warns of the same file under another
-    name."""
+    """A spreadsheet's file is converted, and each change is shown. A right file shows its changes, and is taken in. The desk warns of the same file under
+    another name."""
     desk.go("budget")
     desk.drop(SHEET, "budget.csv")
     desk.says("The file was converted: 5 changes.")
