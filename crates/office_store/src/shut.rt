@@ -26,8 +26,8 @@ fn tell(error: Error) -> Result<bool, ShelfFault>
     }
 }
 
-// A store that is open reads a statement, and one that was shut says that it is.
-fn ask<S: Alter>(conn: &mut Connection<S>) -> Result<bool, ShelfFault>
+/// Whether the store was shut: one that is open reads a statement, and one that was shut says that it is.
+pub(crate) fn ask<S: Alter>(conn: &mut Connection<S>) -> Result<bool, ShelfFault>
     ensures told { HasCleanDisk (state S.Store conn.new) → IsTold (state S.Store conn.old) (state S.Store conn.new) result }
     ensures kept { HasCleanDisk (state S.Store conn.new) → Refused (state S.Store conn.old) (state S.Store conn.new) }
     ensures survives { Survives (state S.Store conn.old) (state S.Store conn.new) (λ _. ⊥) }

@@ -1,9 +1,10 @@
 -- An office that was served from files goes on from what a stop leaves of them.
-use Rattle.std.proofs.Common.{◌≡◌, ◌⊎◌, inl, inr, Bool, true, false, ℕ, ◌≤◌, List, [], ◌∷◌, length, sym, subst, arith}
+use Rattle.std.proofs.Common.{◌≡◌, ◌⊎◌, inl, inr, Bool, true, false, ℕ, ◌≤◌, List, [], ◌∷◌, length, sym, subst, arith, Result, Ok, Err, IfErr}
 use Rattle.std.proofs.Math.Logic.{∥∥₁_map}
 use Rattle.sqlite_disk.specs.declared.Disk.{Ghosts}
 use Rattle.sqlite_wal.specs.Recovery.{Image}
 use Rattle.sqlite_store.specs.declared.store.FileStore.{FileStore}
+use Rattle.sqlite_trees.specs.Tree.{Trees}
 use Rattle.sqlite.specs.Held.{Held as Connected}
 use Rattle.sqlite.specs.Files.{file_state, over_files}
 use Rattle.sqlite.specs.State.{HasCleanDisk}
@@ -13,13 +14,13 @@ use Rattle.office_machine.specs.Accounts.{TablesAreInOrder}
 use Rattle.office_publications.specs.Publishing.{publishing}
 use Rattle.office_publications.specs.Standing.{IsReached}
 use Rattle.office_tables.specs.Steps.{MayLeave}
-use Rattle.office_store.specs.Reopening.{FilesHoldOffice, IsPutDown, OpensHeld}
+use Rattle.office_store.specs.Reopening.{FilesHoldOffice, IsHalfClosed, IsPutDown, OpensHeld, StandForOffice}
 use Rattle.office_store.specs.SqlMeaning.{LeavesNoOther, LeavesShown, sql_meaning}
 use Rattle.office_wire.specs.Runs.{Step, office_left}
 use Rattle.office_http.specs.Answering.{Held, IsWholeAfter, LeftAfter, is_accepted, meant_in, office_answers}
 use Rattle.office_http.specs.Stops.{LeftBySteps}
 use Rattle.procure_programs.specs.Placed.{OpensEmpty}
-use Rattle.procure_programs.specs.Serving.{StopsFiles, WasServed}
+use Rattle.procure_programs.specs.Serving.{HalfClosesFiles, StopsFiles, WasServed}
 use Rattle.procure_programs.proofs.OpenedFiles.{settings_stay, shows_files}
 use Rattle.procure_programs.proofs.ServingSteps.{left_by}
 
@@ -83,3 +84,37 @@ module _ {D : Type 0} {g : Ghosts D} (image : Image) (settings : Settings) (most
               (order (publishing k.settings.publisher) there.commands k.tables there.reaches, inl (subst (FilesHoldOffice now) whole.is found.2), there),
             )
       ])
+
+  -- ---- as a closing fails
+
+  pub closes_half : TablesAreInOrder → OpensHeld image old.0 → OpensEmpty image old.0 → (HasCleanDisk (file_state old.0) → LeavesShown (file_state old.0))
+      → (HasCleanDisk (file_state old.0) → LeavesNoOther (file_state old.0)) → WasServed (sql_meaning over_files) most settings old new → IsHalfClosed new.0 store
+      → HalfClosesFiles image settings most store
+  closes_half order held empty shown alone (before, (_, serves)) half clean trees may h are (sorted, has, stands) =
+      let honest : HasCleanDisk (file_state new.0) = half.clean clean in
+      let early : HasCleanDisk (file_state old.0) = before honest in
+      let shows = shows_files image old.0 held empty early h.tables has in
+      let (steps, few, _, stop) = serves honest h ((sym are, (sorted, shows)), stands) in
+      let left = half.left trees may in
+      let (u, (d, is, holds)) = stop.sound (shown early h.tables shows) trees left in
+      let there : MayLeave (file_state new.0) u = (d, subst (file_state new.0).may_leave is left, holds) in
+      let office : StandForOffice u trees = (d, is, inl holds) in
+      elim (left_whole steps h (λ t. MayLeave (file_state old.0) t) u (stop.left u there)) [
+        | inl was ↦ ([], omega arith, (sorted, subst (λ t. StandForOffice t trees) (alone early h.tables shows u was) office, stands))
+        | inr whole ↦
+            let k : Held = office_left office_answers h whole.done in
+            let same : k.settings ≡ h.settings = settings_stay whole.done h in
+            let reached : IsReached k.settings.publisher k.tables = subst (λ (s : Settings). IsReached s.publisher k.tables) (sym same) (subst (IsReached h.settings.publisher) whole.is whole.stands) in (
+              whole.done,
+              omega (arith, whole.few, few),
+              (order (publishing k.settings.publisher) reached.commands k.tables reached.reaches, subst (λ t. StandForOffice t trees) whole.is office, reached),
+            )
+      ]
+
+-- so of what comes back with a fault
+pub closes_half_err : {D F R : Type 0} {g : Ghosts D} (image : Image) (settings : Settings) (most : ℕ) (old new : Connected (FileStore D g) × ℕ) (result : Result R (F × FileStore D g))
+    → TablesAreInOrder → OpensHeld image old.0 → OpensEmpty image old.0 → (HasCleanDisk (file_state old.0) → LeavesShown (file_state old.0))
+    → (HasCleanDisk (file_state old.0) → LeavesNoOther (file_state old.0)) → WasServed (sql_meaning over_files) most settings old new → IfErr result (λ left. IsHalfClosed new.0 left.1)
+    → IfErr result (λ left. HalfClosesFiles image settings most left.1)
+closes_half_err image settings most old new (Ok left) order held empty shown alone served half = tt
+closes_half_err image settings most old new (Err left) order held empty shown alone served half = closes_half image settings most old new left.1 order held empty shown alone served half

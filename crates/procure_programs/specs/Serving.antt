@@ -6,7 +6,8 @@ use Rattle.sqlite_wal.specs.Files.{outcomes}
 use Rattle.sqlite_wal.specs.Reads.{AreClean}
 use Rattle.sqlite_wal.specs.Recovery.{Image}
 use Rattle.sqlite_store.specs.declared.store.FileStore.{FileStore}
-use Rattle.sqlite_store.specs.FileStore.{state, view}
+use Rattle.sqlite_store.specs.FileStore.{recovers, state, view}
+use Rattle.sqlite_trees.specs.Tree.{Trees}
 use Rattle.sqlite_trees.specs.View.{IsClean}
 use Rattle.sqlite.specs.Files.{file_state, image_of, over_files}
 use Rattle.sqlite.specs.Held.{Held as Connected}
@@ -19,7 +20,7 @@ use Rattle.office_publications.specs.Publishing.{publishing}
 use Rattle.office_publications.specs.Standing.{IsReached}
 use Rattle.office_desk.specs.Desks.{DeskOf}
 use Rattle.office_desk.specs.Steps.{OfficeIsKept}
-use Rattle.office_store.specs.Reopening.{FilesHoldOffice, OpensHeld}
+use Rattle.office_store.specs.Reopening.{FilesHoldOffice, OpensHeld, StandForOffice}
 use Rattle.office_store.specs.SqlMeaning.{LeavesNoOther, LeavesShown, sql_meaning}
 use Rattle.office_wire.specs.Runs.{Step, office_left}
 use Rattle.office_http.specs.Answering.{Held, StandsAs, office_answers}
@@ -95,6 +96,18 @@ ServesFiles g image settings most files =
 -- on in whatever the stop leaves of these files: the log and the database file together.
 abbrev pub StopsFiles : {D : Type 0} {g : Ghosts D} → Image → Settings → ℕ → FileStore D g → Type 0
 StopsFiles image settings most store = IsClean (view store) → (now : Image) → (state store).may_leave now → StopsIn image settings most now
+
+-- these trees stand for an office, as its commands left it
+abbrev pub StandsAt : Trees → Held → Type 0
+StandsAt trees h = IsSorted h.tables × StandForOffice h.tables trees × IsReached h.settings.publisher h.tables
+
+-- The office in two files was served by so many steps at most. Then its closing failed, or a stop ended that. If the disk gave back what was written, the trees
+-- that are recovered of this store are those of the office after so many steps, each of them whole.
+abbrev pub HalfClosesFiles : {D : Type 0} {g : Ghosts D} → Image → Settings → ℕ → FileStore D g → Type 0
+HalfClosesFiles image settings most store =
+    IsClean (view store) → (trees : Trees) → recovers store trees
+    → (h : Held) → h.settings ≡ settings → StandsIn image h
+    → (steps : List Step) × (length steps ≤ most) × StandsAt trees (office_left office_answers h steps)
 
 -- Where a day finds the files as another left them, both are one; and so it is of days that end by a stop, whichever of them do.
 pub record DaysFollow : Type 0 where

@@ -1,16 +1,16 @@
 //! The programs over an office in a file. Each closes it in the end, so that the file alone is the office.
-ghost use Rattle.std.specs.Prelude.{IfErr, IfOk};
+ghost use Rattle.std.specs.Prelude.{IfErr, IfOk, IfSome};
 ghost use Rattle.sqlite_wal.specs.Files.{image_at};
 ghost use Rattle.sqlite_wal.specs.Reads.{AreClean};
 ghost use Rattle.sqlite.specs.Closing.{IsCopied};
 ghost use Rattle.sqlite.specs.Files.{file_state};
 ghost use Rattle.sqlite.specs.State.{HasCleanDisk};
 ghost use Rattle.office_base.specs.Shelves.{Keeps};
-ghost use Rattle.office_store.specs.Reopening.{OpensHeld};
+ghost use Rattle.office_store.specs.Reopening.{IsHalfClosed, OpensHeld};
 ghost use Rattle.office_store.specs.SqlMeaning.{LeavesNoOther, LeavesShown, sql_meaning};
 ghost use Rattle.procure_programs.specs.FaultsTold.{IsOfStore};
 ghost use Rattle.procure_programs.specs.Placed.{OpensEmpty};
-ghost use Rattle.procure_programs.specs.Serving.{ServesFiles, ServesOpened, StopsFiles, WasServed};
+ghost use Rattle.procure_programs.specs.Serving.{HalfClosesFiles, ServesFiles, ServesOpened, StopsFiles, WasServed};
 
 use crate::faults::{of_opening, of_shelf};
 use crate::kept::{print_office, serve_office};
@@ -46,20 +46,28 @@ fn open_office<S: Start>(
     }
 }
 
-// Closes the store, and gives its files back with what the work came to. Where it can't be closed, a fault of the work is told before that.
+// Closes the store, and gives its files back with the result of the work. If it can't be closed, the store comes back with the fault of the work, or, if
+// there was none, with that of the closing.
 fn close_office<D: Disk + Drop>(
     shelf: SqlShelf<FileStore<D>>,
     worked: Result<(), ProgramFault>,
-) -> Result<(Files<D>, Result<(), ProgramFault>), ProgramFault>
-    ensures { IfOk result (λ left. AreClean D.Disk left.0.log left.0.db → IsCopied shelf.0 left.0) }
+) -> Result<(Files<D>, Result<(), ProgramFault>), (ProgramFault, FileStore<D>)>
+    ensures closed { IfOk result (λ left. AreClean D.Disk left.0.log left.0.db → IsCopied shelf.0 left.0) }
+    ensures half { IfErr result (λ left. IsHalfClosed shelf.0 left.1) }
 {
     match shelf.close_files() {
         Ok(files) => Ok((files, worked)),
-        Err((fault, store)) => {
-            drop(store.close());
-            worked?;
-            Err(of_shelf(fault))
-        }
+        Err((fault, store)) => match worked {
+            Ok(()) => Err((of_shelf(fault), store)),
+            Err(earlier) => Err((earlier, store)),
+        },
+    }
+}
+
+// Lets go of what is left of an office that couldn't be closed.
+fn let_go<D: Disk + Drop>(store: Option<FileStore<D>>) {
+    if let Some(store) = store {
+        drop(store.close());
     }
 }
 
@@ -123,7 +131,8 @@ pub fn stop_from<S: Start>(
 }
 
 /// Serves so many connections from the office in a file, whatever its two files held: `S` stands for that. Gives the files back, which are
-/// closed, and what serving came to; or tells why there are none. What a stop leaves before they are closed is told of `stop_from`.
+/// closed, and the result of serving. A fault comes alone if the office wasn't opened, and with its store if it couldn't be closed, as when the program is
+/// stopped there. What a stop leaves before that is told of `stop_from`.
 pub fn serve_from<S: Start>(
     rt: &HostRuntime,
     settings: Settings,
@@ -131,11 +140,22 @@ pub fn serve_from<S: Start>(
     start: S,
     port: u16,
     count: u32,
-) -> Result<(Files<FileFrom<S>>, Result<(), ProgramFault>), ProgramFault>
+) -> Result<
+    (Files<FileFrom<S>>, Result<(), ProgramFault>),
+    (ProgramFault, Option<FileStore<FileFrom<S>>>),
+>
     ensures serves { IfOk result (λ left. ServesFiles ⟦<FileFrom<S> as Disk>⟧ (image_at S.Start) settings count left.0) }
+    ensures half { IfErr result (λ left. IfSome left.1 (HalfClosesFiles (image_at S.Start) settings count)) }
 {
-    let (shelf, served) = serve_open(rt, settings, path, start, port, count)?;
-    close_office(shelf, served)
+    order();
+    let (shelf, served) = match serve_open(rt, settings, path, start, port, count) {
+        Ok(left) => left,
+        Err(fault) => return Err((fault, None)),
+    };
+    match close_office(shelf, served) {
+        Ok(left) => Ok(left),
+        Err((fault, store)) => Err((fault, Some(store))),
+    }
 }
 
 // Says in a line on the standard error where the office didn't stand in the file as it was opened. Where that can't be written, nothing is lost.
@@ -157,13 +177,24 @@ pub fn print_from<S: Start>(
     path: &str,
     start: S,
     printout: Printout,
-) -> Result<(Files<FileFrom<S>>, Result<(), ProgramFault>), ProgramFault>
+) -> Result<
+    (Files<FileFrom<S>>, Result<(), ProgramFault>),
+    (ProgramFault, Option<FileStore<FileFrom<S>>>),
+>
     ensures keeps { IfOk result (λ left. ServesFiles ⟦<FileFrom<S> as Disk>⟧ (image_at S.Start) settings 0 left.0) }
+    ensures half { IfErr result (λ left. IfSome left.1 (HalfClosesFiles (image_at S.Start) settings 0)) }
 {
-    let opened = open_office(rt, path, start)?;
+    order();
+    let opened = match open_office(rt, path, start) {
+        Ok(opened) => opened,
+        Err(fault) => return Err((fault, None)),
+    };
     tell_origin(rt, path, opened.origin);
     let (shelf, printed) = print_shelf(rt, settings, opened.shelf, printout);
-    close_office(shelf, printed)
+    match close_office(shelf, printed) {
+        Ok(left) => Ok(left),
+        Err((fault, store)) => Err((fault, Some(store))),
+    }
 }
 
 /// `serve_from`, for `main`: at `Unknown`, for which nothing is said of a file that isn't empty. What is proved of it is `serve_from`, whose
@@ -175,8 +206,13 @@ pub fn serve_file(
     port: u16,
     count: u32,
 ) -> Result<(), ProgramFault> {
-    let (_files, served) = serve_from(rt, settings, path, Unknown, port, count)?;
-    served
+    match serve_from(rt, settings, path, Unknown, port, count) {
+        Ok((_files, served)) => served,
+        Err((fault, store)) => {
+            let_go(store);
+            Err(fault)
+        }
+    }
 }
 
 /// `print_from`, for `main`.
@@ -186,6 +222,11 @@ pub fn print_file(
     path: &str,
     printout: Printout,
 ) -> Result<(), ProgramFault> {
-    let (_files, printed) = print_from(rt, settings, path, Unknown, printout)?;
-    printed
+    match print_from(rt, settings, path, Unknown, printout) {
+        Ok((_files, printed)) => printed,
+        Err((fault, store)) => {
+            let_go(store);
+            Err(fault)
+        }
+    }
 }

@@ -6,8 +6,8 @@ use Rattle.sqlite_schema.specs.Names.{table_named}
 use Rattle.office_tables.specs.Known.{at_tree}
 use Rattle.office_store.proofs.forms.stands.Goals as goal
 
-pub returns : goal.returns
-returns c guarded =
+pub returns-clause-alike : goal.returns-clause-alike
+returns-clause-alike c guarded =
     let item = c.index-tables-place.result in
     let there : slice_get c.args.schema.now.tables c.in-Some.place ≡ Some item = grind (arith, common_steps, gets) in
     let same : item ≡ at_tree c.args.form.now item.tree = search rules in

@@ -49,10 +49,11 @@ returns-in-Err-enter-clause-refused g c clean =
       spared = c.in-Err-enter.ensures.spared;
       none = c.in-Err-enter.ensures.none;
       known = c.in-Err-enter.ensures.known;
+      failed = c.in-Err-enter.ensures.failed;
     }) c.in-Ok.ensures.opened c.in-Ok.ensures.found c.let_go.ensures.left clean)
 
 pub returns-in-Err-enter-clause-usable : goal.returns-in-Err-enter-clause-usable
 returns-in-Err-enter-clause-usable g c why = usable_left c.enter.new.conn c.let_go.result c.let_go.ensures.left
 
 pub returns-in-Err-clause-refused : goal.returns-in-Err-clause-refused
-returns-in-Err-clause-refused g c clean = inl (c.open_fault.ensures, c.in-Err.ensures.unharmed clean)
+returns-in-Err-clause-refused g c clean = inl (c.open_fault.ensures.office, (c.in-Err.error, c.in-Err.ensures.cause clean, c.open_fault.ensures.is), c.in-Err.ensures.unharmed clean)
