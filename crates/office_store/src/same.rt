@@ -101,9 +101,7 @@ fn same_roots(a: &[Op], places: &[usize], b: &[Op], others: &[usize]) -> bool
         return false;
     }
     for at in 0..places.len() {
-        let place = &places[at];
-        let other = &others[at];
-        if !same_term(a, a.len(), *place, b, b.len(), *other) {
+        if !same_term(a, a.len(), places[at], b, b.len(), others[at]) {
             return false;
         }
     }
