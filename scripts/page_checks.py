@@ -4,6 +4,7 @@ import difflib
 import json
 import os
 import re
+import time
 from collections.abc import Callable, Iterator
 from typing import Any
 
@@ -23,6 +24,8 @@ WIDTHS, NARROWEST = {"narrow": 375, "wide": 1280}, 320
 NAMED = ("link", "button", "textbox", "image", "table", "region", "article", "navigation", "search")
 # How many looks are more than the front takes from one address at a time, whatever the machine.
 MANY = 2000
+# How often a check asks again while the front answers 429. One address may ask 10 a second, and at most 100 are counted.
+TRIES = 20
 # Moments, days, clocks and years: what is another at each run.
 MOVING = [(re.compile(r"\d{1,2} [A-Z][a-z]+ \d{4},? (at )?\d\d:\d\d:\d\d UTC \(here: [^)]*\)"), "MOMENT"), (re.compile(r"\d{1,2} [A-Z][a-z]+ \d{4}"), "DAY"),
           (re.compile(r"closes in [^\n]*"), "closes in CLOCK"), (re.compile(r"^20\d\d(?=$|:)", re.M), "YEAR")]
@@ -387,8 +390,13 @@ def office_away(scene: Scene) -> None:
     """Where the office is gone, the front says so, and so does the page."""
     scene.office.kill()
     scene.office.wait()
-    answer = scene.front.ask("GET", "/lines/78")
-    check(f"a look without an office: {answer}", answer.status == 502 and b"front" in answer.body)
+    # The checks before used up what one address may ask at once. So the front may answer 429 first, until its count has run down.
+    for _ in range(TRIES):
+        answer = scene.front.ask("GET", "/lines/78")
+        if answer.status != 429:
+            break
+        time.sleep(int(answer.head["Retry-After"]))
+    check(f"a query without an office: {answer}", answer.status == 502 and b"front" in answer.body)
     said = page_of(scene, "#notice/N78").text()
     check(f"the page says {said!r}", said == "Not shown\nThe office isn't answering at the moment. Try again in a few minutes.\nProcurements\n")
 

@@ -1,4 +1,4 @@
--- The best tender is found by one pass.
+-- The searches of the rule find the lowest price and the best tender.
 use Rattle.std.proofs.Common.{◌≡◌, ℕ, zero, suc, ◌≤◌, ◌<◌, Bool, true, false, cond, ◌&&◌, ◌||◌, List, [], ◌∷◌, length, slice_index_or, Option, Some, None, nat_lt, nat_eq, refl, sym, ◌∙◌, ap, subst, arith}
 use Rattle.std.specs.List.{AllByRecursion, Contains}
 use Rattle.std.specs.Ordering.{nat_cmp}
@@ -12,10 +12,11 @@ use Rattle.office_base.proofs.RowLaws.Starts.{all_above}
 use Rattle.award_core.specs.Rules.Award.{is_admissible, price_of, lesser, lowest_price, points, is_better, better, best_with, best_of}
 use Rattle.award_core.specs.Best.{lowest_in, IsBest, IsLowest, NoneIsAdmissible, IsAnswer, IsLowestAnswer, receipt_in, IsBestReceipt, BestIsFound}
 
--- which comes first by two numbers, and by three, of which the first counts from above where it counts at all
+-- whether the lesser p comes first, or the lesser r if both p are equal
 abbrev comes : ℕ → ℕ → ℕ → ℕ → Bool
 comes p r p' r' = nat_lt p p' || (nat_eq p p' && nat_lt r r')
 
+-- whether the greater s comes first, unless it doesn't count, and then the order of p and r decides
 abbrev beats : Bool → ℕ → ℕ → ℕ → ℕ → ℕ → ℕ → Bool
 beats none s p r s' p' r' = cond none (comes p r p' r') (nat_lt s' s || (nat_eq s s' && comes p r p' r'))
 
@@ -60,7 +61,7 @@ module _ (weight lowest : ℕ) where
       by true e = let f = not_both_better x x e in absurd cc
       by false e = refl
 
-  -- no admissible one of these is better
+  -- no admissible one of these tenders is better
   abbrev NoneBetter : List EnvelopeRow → EnvelopeRow → Type 0
   NoneBetter rows e = AllByRecursion (λ (f : EnvelopeRow). is_admissible f ≡ true → is_better weight lowest f e ≡ false) rows
 
@@ -72,7 +73,7 @@ module _ (weight lowest : ℕ) where
   none_of [] e none = tt
   none_of (f ∷ rows) e none = (λ a. let h = none.0 in absurd cc, none_of rows e none.1)
 
-  -- what the pass has found of these
+  -- the search over these tenders has found a best one
   record Found (rows : List EnvelopeRow) (e : EnvelopeRow) : Type 0 where
     among : Contains rows e
     admissible : is_admissible e ≡ true
@@ -82,7 +83,7 @@ module _ (weight lowest : ℕ) where
   IsFound rows None = NoneIsAdmissible rows
   IsFound rows (Some e) = Found rows e
 
-  -- the better of an admissible one and of what was found
+  -- the better of an admissible tender and the best of the rest is the best of all
   better_found : (e f : EnvelopeRow) (rows : List EnvelopeRow) → is_admissible e ≡ true → Found rows f → (b : Bool) → is_better weight lowest f e ≡ b → Found (e ∷ rows) (cond b f e)
   better_found e f rows a old true h = record { among = contains_tail e f rows old.among; admissible = old.admissible; none_better = (λ _. not_both_better f e h, old.none_better) }
   better_found e f rows a old false h = record { among = contains_head e rows; admissible = a; none_better = (λ _. not_itself e, beaten_too rows f e old.none_better h) }
@@ -110,7 +111,7 @@ is_found weight rows = by (best_of weight rows) (found_all weight (lowest_in row
     by None h = h
     by (Some e) h = record { among = h.among; admissible = h.admissible; none_better = h.none_better }
 
--- the receipt of what the pass finds
+-- the receipt of a best tender is the right receipt
 receipt_of : (weight : ℕ) (rows : List EnvelopeRow) (o : Option EnvelopeRow) → IsAnswer weight rows o → IsBestReceipt weight rows (receipt_in o)
 receipt_of weight rows None h = h
 receipt_of weight rows (Some e) h = (e, h, refl)
@@ -118,7 +119,7 @@ receipt_of weight rows (Some e) h = (e, h, refl)
 pub receipt_found : (weight : ℕ) (rows : List EnvelopeRow) (o : Option EnvelopeRow) → o ≡ best_of weight rows → IsBestReceipt weight rows (receipt_in o)
 receipt_found weight rows o is = receipt_of weight rows o (subst (IsAnswer weight rows) (sym is) (is_found weight rows))
 
--- the lowest price
+-- ---- the lowest price
 
 lower_too : (rows : List EnvelopeRow) (m n : ℕ) → m ≤ n → AllByRecursion (λ (f : EnvelopeRow). is_admissible f ≡ true → n ≤ price_of f) rows → AllByRecursion (λ (f : EnvelopeRow). is_admissible f ≡ true → m ≤ price_of f) rows
 lower_too [] m n le all = tt
@@ -131,7 +132,7 @@ none_lower (f ∷ rows) n none = (λ a. let h = none.0 in absurd cc, none_lower 
 abbrev IsPriceIn : List EnvelopeRow → ℕ → Type 0
 IsPriceIn rows price = (e : EnvelopeRow) × Contains rows e × (is_admissible e ≡ true) × (price_of e ≡ price)
 
--- the row that has the price, behind one more
+-- the tender with the lowest price is still there if one more tender comes before it
 one_later : (f : EnvelopeRow) (rows : List EnvelopeRow) (m : ℕ) → IsLowest rows m → IsPriceIn (f ∷ rows) m
 one_later f rows m old = (old.of_one.0, contains_tail f old.of_one.0 rows old.of_one.1, old.of_one.2, old.of_one.3)
 
@@ -155,7 +156,7 @@ is_lowest : (rows : List EnvelopeRow) → IsLowestAnswer rows (lowest_price rows
 is_lowest [] = tt
 is_lowest (e ∷ rows) = lowest_more e rows (lowest_price rows) (is_lowest rows) (is_admissible e) refl
 
--- what holds of all rows holds of one of them
+-- if all rows have a property, so has each row
 pub of_one : (P : EnvelopeRow → Type 0) (rows : List EnvelopeRow) (k : ℕ) (e : EnvelopeRow) → AllByRecursion P rows → k < length rows → slice_index_or rows k e ≡ e → P e
 of_one P [] k e all lt is = absurd (let none : k < 0 = lt in omega arith)
 of_one P (f ∷ rows) zero e all lt is = subst P is all.0
@@ -164,7 +165,7 @@ of_one P (f ∷ rows) (suc k) e all lt is = of_one P rows k e all.1 (omega arith
 not_below_itself : (m n : ℕ) → m ≡ n → nat_cmp m n ≡ Less → ⊥
 not_below_itself m n same below = let tied : Less ≡ Equal = sym below ∙ (ap (nat_cmp m) (sym same) ∙ tied_itself nat_cmp_total m) in cc
 
--- of rows whose receipts rise, two with one receipt are the same
+-- in rows whose receipts rise, two rows with one receipt are the same row
 same_row : (rows : List EnvelopeRow) (j k : ℕ) (e f : EnvelopeRow) → IsInOrder nat_cmp envelope_key rows → j < length rows → slice_index_or rows j e ≡ e → k < length rows → slice_index_or rows k f ≡ f → e.receipt ≡ f.receipt → e ≡ f
 same_row [] j k e f order lt is lt' is' same = absurd (let none : j < 0 = lt in omega arith)
 same_row (x ∷ rows) zero zero e f order lt is lt' is' same = sym is ∙ is'

@@ -21,7 +21,7 @@ use office_values::refusal::{Refusal, Thing};
 use office_values::text::TextLine;
 use std::alloc::Global;
 
-/// The rows that the amendment of a contract looks at: the contract with its entries, its notice and its lot's line, and the clock.
+/// The rows that the amendment of a contract reads: the contract, its entries, its notice, its budget line, and the clock.
 #[derive(Drop)]
 pub struct AmendContractRows {
     pub contract: Option<ContractRow>,
@@ -31,7 +31,7 @@ pub struct AmendContractRows {
     pub clock: ClockRow,
 }
 
-// Whether the contract runs and is to be raised by more than is free on its line.
+// Whether the contract hasn't ended, and the change is a raise by more than is free on its budget line.
 fn is_short(
     line: &Option<LineRow>,
     kind: ChangeKind,
@@ -43,7 +43,7 @@ fn is_short(
     contract.ended.is_none() && kind == ChangeKind::Raise && free_on(line).units() < amount.get()
 }
 
-// What the amendment enters.
+// The kind of the entry for a change.
 fn entry_kind(kind: ChangeKind) -> EntryKind
     ensures { result ≡ entry_kind kind }
 {
@@ -53,7 +53,7 @@ fn entry_kind(kind: ChangeKind) -> EntryKind
     }
 }
 
-// The line after it: a raise takes what is free, a cut gives it back. None exactly where that is above 10^15.
+// The budget line after the change: a raise takes free money of it, and a cut adds free money to it. None if that is above 10^15.
 fn line_after(kind: ChangeKind, amount: EntryAmount, line: LineRow) -> Option<LineRow>
     ensures found { IfSome result (λ row. row ≡ line_after kind amount line) }
     ensures none { IfNone result (total_limit < (line_after kind amount line).free) }
@@ -66,7 +66,7 @@ fn line_after(kind: ChangeKind, amount: EntryAmount, line: LineRow) -> Option<Li
     }
 }
 
-/// Why the amendment of a contract is refused.
+/// The refusal of the amendment, if one of its conditions is true.
 pub fn refusal(
     rows: &AmendContractRows,
     entry: &Id,
@@ -96,8 +96,8 @@ pub fn refusal(
     None
 }
 
-/// What the amendment of a contract puts. `Unavailable` where a row isn't there, more was cut and paid than
-/// signed and raised, or the line would have more free than 10^15.
+/// The changes of the amendment. `Unavailable` if a row is missing, if more was taken from the contract than was added, or if the line would have more than
+/// 10^15 free. It is also the answer if the notice has as many releases as it can have.
 pub fn puts(
     alloc: Global,
     t: Moment,
@@ -134,7 +134,7 @@ pub fn puts(
     Ok(made)
 }
 
-/// Decides the amendment of a contract: its refusal, or what it puts.
+/// Decides the amendment of a contract: the result is its refusal or its changes.
 #[tactic(auto, unfolding(office_base::specs::Deciding::Decides))]
 pub fn decide_amend_contract(
     alloc: Global,

@@ -26,10 +26,10 @@ use office_values::money::Amount;
 use office_values::refusal::{Refusal, Thing};
 use std::alloc::Global;
 
-/// The most releases of a notice.
+/// The greatest number of releases of a notice.
 const RELEASE_LIMIT: u64 = 9_999;
 
-/// The rows that an award looks at: the notice, the lot with its line, its tenders and its securities, and the clock.
+/// The rows that an award reads: the notice, the lot, its budget line, its tenders, its tender securities, and the clock.
 #[derive(Drop)]
 pub struct AwardRows {
     pub notice: Option<NoticeRow>,
@@ -40,28 +40,28 @@ pub struct AwardRows {
     pub clock: ClockRow,
 }
 
-// Whether a priced tender among these waits for its examination.
+// Whether some tender that has a price and can still win waits for its examination.
 fn some_isnt_examined(rows: &[EnvelopeRow]) -> bool
     ensures { result ≡ list_any isnt_examined rows.now }
 {
     rows.iter().any(|row| is_priced(row) && row.responsive.is_none() && !row.failed)
 }
 
-// Whether one of these tenders may win.
+// Whether some tender can win.
 fn some_is_admissible(rows: &[EnvelopeRow]) -> bool
     ensures { result ≡ list_any is_admissible rows.now }
 {
     rows.iter().any(|row| is_admissible(row))
 }
 
-// Whether the price is above what the lot has reserved and its line has free.
+// Whether the price of the winner is above the money that the lot has reserved and that is free on its budget line.
 fn is_above_funds(lot: &LotRow, line: &Option<LineRow>, winner: &EnvelopeRow) -> bool
     ensures { result ≡ is_above (lot.now.reserved + free_in line.now) winner.now }
 {
     lot.reserved.units() + free_on(line).units() < price_of(winner).units()
 }
 
-// The line with what the lot had reserved free, but for the price. None exactly where that is above 10^15.
+// The budget line after the reserved amount is free again, and the price is taken. None if that is above 10^15.
 fn line_after(line: LineRow, reserved: Amount, price: Amount) -> Option<LineRow>
     ensures found { IfSome result (λ row. row ≡ record line { free = (line.free + reserved) - price }) }
     ensures none { IfNone result (total_limit < (line.free + reserved) - price) }
@@ -70,7 +70,7 @@ fn line_after(line: LineRow, reserved: Amount, price: Amount) -> Option<LineRow>
     with_free(line, free.saturating_sub(price.units() as u128))
 }
 
-// The award of the lot to this tender, under this number.
+// The award of the lot to this tender, with this number.
 fn award_row(award: GivenNumber, t: Moment, lot: &LotRow, winner: &EnvelopeRow) -> AwardRow
     ensures { result ≡ record { award = award; notice = lot.now.notice; lot = lot.now.lot; receipt = winner.now.receipt; price = price_of winner.now; moment = t; state = award_states.Active } }
 {
@@ -85,7 +85,7 @@ fn award_row(award: GivenNumber, t: Moment, lot: &LotRow, winner: &EnvelopeRow) 
     }
 }
 
-// The lot goes to this tender: the award, the lot, its line, the notice and the clock.
+// The changes if this tender wins: the award, the lot, its budget line, the notice and the clock.
 fn won(
     alloc: Global,
     t: Moment,
@@ -120,7 +120,7 @@ fn won(
     Ok(made)
 }
 
-// The lot goes to nobody: the lot, its line, the notice, the clock and the held securities.
+// The changes if no tender wins: the lot, its budget line, the notice, the clock and the held securities.
 fn lost(
     alloc: Global,
     t: Moment,
@@ -149,7 +149,7 @@ fn lost(
     Ok(made)
 }
 
-// What the price weighs in a hundred points; 0 where the notice isn't there.
+// The points that the price can give; 0 if the notice doesn't exist.
 fn weight_in(notice: &Option<NoticeRow>) -> Weight
     ensures { result ≡ weight_in notice.now }
 {
@@ -159,14 +159,14 @@ fn weight_in(notice: &Option<NoticeRow>) -> Weight
     }
 }
 
-/// The best tender of the lot; None where none of them may win. Takes no memory.
+/// The best tender of the lot; None if no tender can win. It allocates no memory.
 pub fn best_tender(rows: &AwardRows) -> Option<&EnvelopeRow>
     ensures { option_map (λ row. row.now) result ≡ winner rows.now.notice rows.now.envelopes }
 {
     best_row(weight_in(&rows.notice), rows.envelopes.as_slice())
 }
 
-/// Why the award of a lot is refused, where this is its best tender.
+/// The refusal of the award, if one of its conditions is true. `best` must be the best tender of the lot.
 pub fn refusal(t: Moment, rows: &AwardRows, best: Option<&EnvelopeRow>) -> Option<Refusal>
     requires { option_map (λ row. row.now) best ≡ winner rows.now.notice rows.now.envelopes }
     ensures { result ≡ first_of (award_tests rows.now t) }
@@ -200,8 +200,8 @@ pub fn refusal(t: Moment, rows: &AwardRows, best: Option<&EnvelopeRow>) -> Optio
     None
 }
 
-/// What the award of a lot puts. `Unavailable` where all 10^9 numbers of awards are given out, where the notice, the lot or its line isn't
-/// there, the notice counts no more releases, or the line would have more free than 10^15.
+/// The changes of the award. `Unavailable` if the notice, the lot or its budget line doesn't exist, or if the line would have more than 10^15 free. It is also
+/// the answer if the notice has as many releases as it can have, or if all 10^9 numbers of awards are given.
 pub fn puts(alloc: Global, t: Moment, rows: AwardRows) -> Result<Vec<Put>, Refusal>
     ensures puts { IfOk result (λ made. made.items ≡ award_puts rows t) }
     ensures whole { IfOk result (λ _. award_lacks rows ≡ false) }
@@ -224,8 +224,8 @@ pub fn puts(alloc: Global, t: Moment, rows: AwardRows) -> Result<Vec<Put>, Refus
     }
 }
 
-/// Decides the award of a lot: its refusal, or what it puts. `Unavailable` where all 10^9 numbers of awards are given out, and where the
-/// office lacks the lot's line, or the line would have more free than 10^15, as in none that commands reach.
+/// Decides the award of a lot: the result is its refusal or its changes. `Unavailable` if all 10^9 numbers of awards are given. It is also the answer if the
+/// budget line is missing, or would have more than 10^15 free; neither is so in an office that its commands made.
 #[tactic(auto, unfolding(office_base::specs::Deciding::Decides))]
 pub fn decide_award(alloc: Global, t: Moment, rows: AwardRows) -> Result<Vec<Put>, Refusal>
     ensures { Decides result (first_of (award_tests rows t)) (award_lacks rows) (award_puts rows t) }

@@ -10,14 +10,14 @@ use office_commands::notice::Weight;
 use office_values::given::GivenNumber;
 use office_values::money::Amount;
 
-// No money.
+// The amount 0.
 fn nothing() -> Amount
     ensures { result ≡ 0 }
 {
     Amount::read(0).unwrap()
 }
 
-// Whether a price was read in the tender.
+// Whether the opening read a price in the tender.
 pub(crate) fn is_priced(row: &EnvelopeRow) -> bool
     ensures { result ≡ is_priced row.now.reading }
 {
@@ -27,7 +27,7 @@ pub(crate) fn is_priced(row: &EnvelopeRow) -> bool
     }
 }
 
-/// The corrected price of a tender; 0 where none was read.
+/// The corrected price of a tender; 0 if it has none.
 pub fn price_of(row: &EnvelopeRow) -> Amount
     ensures { result ≡ price_of row.now }
 {
@@ -37,8 +37,7 @@ pub fn price_of(row: &EnvelopeRow) -> Amount
     }
 }
 
-/// Whether the tender may win: it was opened, is priced, was found responsive, and is not out of the running (its tenderer neither failed
-/// to sign nor took it back after the deadline).
+/// Whether the tender can win: it was opened, has a price, was found responsive, and its tenderer neither failed to sign nor withdrew it late.
 pub fn is_admissible(row: &EnvelopeRow) -> bool
     ensures { result ≡ is_admissible row.now }
 {
@@ -58,7 +57,7 @@ fn lesser(price: Amount, other: Option<Amount>) -> Amount
     }
 }
 
-// The lowest price of the admissible tenders, which price points are measured by.
+// The lowest price of an admissible tender, by which price points are measured.
 fn lowest_price(rows: &[EnvelopeRow]) -> Option<Amount>
     ensures { result ≡ lowest_price rows.now }
 {
@@ -71,14 +70,14 @@ fn lowest_price(rows: &[EnvelopeRow]) -> Option<Amount>
     lowest
 }
 
-/// The lowest price of the tenders that may win, which price points are measured by; no money where none may.
+/// The lowest price of an admissible tender, by which price points are measured; 0 if none is admissible.
 pub fn lowest(rows: &[EnvelopeRow]) -> Amount
     ensures { result ≡ lowest_in rows.now }
 {
     lowest_price(rows).unwrap_or(nothing())
 }
 
-// The points for a price: its share of the lowest, in thousandths and rounded down.
+// The points for a price in thousandths: its share of the weight, by the lowest price and rounded down. The price 0 gets the whole weight.
 fn price_points(weight: Weight, lowest: Amount, price: Amount) -> u64
     ensures value { result ≡ price_points weight lowest price }
     ensures bound { result ≤ 10 ^ 17 }
@@ -91,7 +90,7 @@ fn price_points(weight: Weight, lowest: Amount, price: Amount) -> u64
     }
 }
 
-/// Thousandths of points, for the price, measured by this lowest one, and for quality.
+/// The points of a tender in thousandths: those for its price, measured by this lowest one, and those for its quality.
 pub fn points(weight: Weight, lowest: Amount, row: &EnvelopeRow) -> u64
     ensures { result ≡ points weight lowest row.now }
 {
@@ -102,7 +101,7 @@ pub fn points(weight: Weight, lowest: Amount, row: &EnvelopeRow) -> u64
     price_points(weight, lowest, price_of(row)) + 1000 * quality
 }
 
-// Whether the first comes before the second where the price alone decides: it is cheaper, or as cheap and received earlier.
+// Whether the first tender is cheaper, or as cheap and received before the second.
 fn is_cheaper(first: &EnvelopeRow, second: &EnvelopeRow) -> bool
     ensures { result ≡ is_cheaper first.now second.now }
 {
@@ -111,7 +110,7 @@ fn is_cheaper(first: &EnvelopeRow, second: &EnvelopeRow) -> bool
     price < other || price == other && first.receipt.get() < second.receipt.get()
 }
 
-// Whether the first is better.
+// Whether the first tender is better than the second: it has more points, or as many and is cheaper or earlier. If the weight is 0, the price alone decides.
 fn is_better(weight: Weight, lowest: Amount, first: &EnvelopeRow, second: &EnvelopeRow) -> bool
     ensures { result ≡ is_better weight lowest first.now second.now }
 {
@@ -123,7 +122,7 @@ fn is_better(weight: Weight, lowest: Amount, first: &EnvelopeRow, second: &Envel
     others < mine || mine == others && is_cheaper(first, second)
 }
 
-// The better of two, one of which may be absent.
+// The better of two tenders, of which one may be absent.
 fn better<'a>(
     weight: Weight,
     lowest: Amount,
@@ -138,7 +137,7 @@ fn better<'a>(
     }
 }
 
-// The best of the rows that may win, price points measured by this price.
+// The best of the admissible tenders, if price points are measured by this lowest price.
 fn best_with(weight: Weight, lowest: Amount, rows: &[EnvelopeRow]) -> Option<&EnvelopeRow>
     ensures { option_map (λ row. row.now) result ≡ best_with weight lowest rows.now }
 {
@@ -151,16 +150,16 @@ fn best_with(weight: Weight, lowest: Amount, rows: &[EnvelopeRow]) -> Option<&En
     held
 }
 
-/// The best tender of a lot's, with what the price weighs in a hundred points (0: it alone decides); None where none of them may win.
-/// Takes no memory.
+/// The best of a lot's tenders; None if no tender can win. The weight is the points that the price can give, and 0 if the price alone decides. It allocates no
+/// memory.
 pub fn best_row(weight: Weight, rows: &[EnvelopeRow]) -> Option<&EnvelopeRow>
     ensures { option_map (λ row. row.now) result ≡ best_of weight rows.now }
 {
     best_with(weight, lowest(rows), rows)
 }
 
-/// The receipt of the best tender of a lot's, with what the price weighs in a hundred points (0: it alone decides); None where none of
-/// them may win. Takes no memory.
+/// The receipt of the best of a lot's tenders; None if no tender can win. The weight is the points that the price can give, and 0 if the price alone decides.
+/// It allocates no memory.
 pub fn best(weight: Weight, rows: &[EnvelopeRow]) -> Option<GivenNumber>
     ensures rule { result ≡ receipt_in (best_of weight rows.now) }
     ensures best { IsBestReceipt weight rows.now result }

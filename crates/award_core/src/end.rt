@@ -22,8 +22,7 @@ use office_values::money::Total;
 use office_values::refusal::{Refusal, Thing};
 use std::alloc::{AllocError, Global};
 
-/// The rows that the end of a contract looks at: the contract with its entries, its notice, its lot's line and its performance security,
-/// and the clock.
+/// The rows that the end of a contract reads: the contract, its entries, its notice, its budget line, its performance security, and the clock.
 #[derive(Drop)]
 pub struct EndRows {
     pub contract: Option<ContractRow>,
@@ -34,14 +33,14 @@ pub struct EndRows {
     pub clock: ClockRow,
 }
 
-// Whether the notice asks for a performance security that isn't there.
+// Whether the notice requires a performance security, but its row is missing.
 fn lacks_performance(notice: &NoticeRow, performance: &Option<PerformanceRow>) -> bool
     ensures { result ≡ lacks_performance notice.now performance.now }
 {
     notice.performance.units() > 0 && performance.is_none()
 }
 
-// What becomes of the performance security where the contract ends so.
+// The final state of the performance security: returned if the contract ends as agreed, and forfeited by default.
 fn ended_state(how: How) -> SecurityState
     ensures { result ≡ ended_state how }
 {
@@ -51,7 +50,7 @@ fn ended_state(how: How) -> SecurityState
     }
 }
 
-// The contract's performance security, settled.
+// Appends the change of the performance security, if there is one.
 fn push_settled(
     made: &mut Vec<Put>,
     security: Option<PerformanceRow>,
@@ -65,7 +64,7 @@ fn push_settled(
     Ok(())
 }
 
-/// Why the end of a contract is refused.
+/// The refusal of the end, if one of its conditions is true.
 pub fn refusal(rows: &EndRows) -> Option<Refusal>
     ensures { result ≡ first_of (end_tests rows.now) }
 {
@@ -81,8 +80,8 @@ pub fn refusal(rows: &EndRows) -> Option<Refusal>
     None
 }
 
-/// What the end of a contract puts. `Unavailable` where a row isn't there, more was cut and paid than signed and raised,
-/// or a sum is above its bound.
+/// The changes of the end. `Unavailable` if a row is missing, if more was taken from the contract than was added, or if a sum is above its bound. It is also
+/// the answer if the notice has as many releases as it can have.
 pub fn puts(alloc: Global, t: Moment, rows: EndRows, how: How) -> Result<Vec<Put>, Refusal>
     ensures puts { IfOk result (λ made. made.items ≡ end_puts rows t how) }
     ensures whole { IfOk result (λ _. end_lacks rows ≡ false) }
@@ -116,8 +115,8 @@ pub fn puts(alloc: Global, t: Moment, rows: EndRows, how: How) -> Result<Vec<Put
     Ok(made)
 }
 
-/// Decides the end of a contract: its refusal, or what it puts. `Unavailable` where the office lacks the notice or the line, or holds
-/// sums above their bounds, which none has that commands reach.
+/// Decides the end of a contract: the result is its refusal or its changes. `Unavailable` if a row is missing, if more was taken from the contract than was
+/// added, or if a sum is above its bound. None of these is so in an office that its commands made.
 #[tactic(auto, unfolding(office_base::specs::Deciding::Decides))]
 pub fn decide_end(alloc: Global, t: Moment, rows: EndRows, how: How) -> Result<Vec<Put>, Refusal>
     ensures { Decides result (first_of (end_tests rows)) (end_lacks rows) (end_puts rows t how) }

@@ -1,4 +1,4 @@
-//! What the entries of a contract come to.
+//! The sums over the entries of a contract.
 ghost use Rattle.std.specs.Prelude.{◌≡◌, ◌<◌, ◌+◌, ◌-◌, ◌^◌};
 ghost use Rattle.std.specs.List.{list_any};
 ghost use Rattle.office_base.specs.EntryKinds.{is_raise, is_less};
@@ -11,17 +11,17 @@ use office_commands::amounts::EntryAmount;
 use office_values::given::GivenNumber;
 use office_values::id::Id;
 
-/// The most entries of a contract.
+/// The greatest number of entries of a contract.
 const ENTRY_LIMIT: usize = 200;
 
-/// Whether the entry is of the contract with this number.
+/// Whether the entry belongs to the contract with this number.
 pub fn is_of(entry: &EntryRow, contract: GivenNumber) -> bool
     ensures { result ≡ same_number entry.now.contract contract }
 {
     entry.contract.cmp(&contract).is_eq()
 }
 
-/// What the entries of the contract raise it by.
+/// The sum of the contract's raises.
 pub fn raised(entries: &[EntryRow], contract: GivenNumber) -> u128
     ensures sum { result ≡ entry_sum is_raise entries.now contract }
     ensures small { result < 2 ^ 110 }
@@ -35,7 +35,7 @@ pub fn raised(entries: &[EntryRow], contract: GivenNumber) -> u128
     sum
 }
 
-// What the entries of the contract cut and pay.
+// The sum of the contract's cuts and payments.
 fn lessened(entries: &[EntryRow], contract: GivenNumber) -> u128
     ensures sum { result ≡ entry_sum is_less entries.now contract }
     ensures small { result < 2 ^ 110 }
@@ -49,7 +49,7 @@ fn lessened(entries: &[EntryRow], contract: GivenNumber) -> u128
     sum
 }
 
-/// What was paid under the contract.
+/// The sum of the contract's payments.
 pub fn paid(entries: &[EntryRow], contract: &ContractRow) -> u128
     ensures sum { result ≡ paid_under entries.now contract.now }
     ensures small { result < 2 ^ 110 }
@@ -63,7 +63,7 @@ pub fn paid(entries: &[EntryRow], contract: &ContractRow) -> u128
     sum
 }
 
-/// What is outstanding of the contract once so much more has come and gone; nothing where more has gone than came.
+/// The outstanding amount of the contract if `more` were added and `less` were taken; 0 if more is taken than added.
 pub fn left_with(entries: &[EntryRow], contract: &ContractRow, more: u64, less: u128) -> u128
     requires small { less < 2 ^ 111 }
     ensures rest { result ≡ (plus entries.now contract.now + more) - (minus entries.now contract.now + less) }
@@ -74,7 +74,7 @@ pub fn left_with(entries: &[EntryRow], contract: &ContractRow, more: u64, less: 
     (came + more as u128).saturating_sub(gone + less)
 }
 
-/// What is outstanding of the contract; nothing where more has gone than came.
+/// The outstanding amount of the contract; 0 if more was taken from it than was added.
 pub fn outstanding(entries: &[EntryRow], contract: &ContractRow) -> u128
     ensures rest { result ≡ outstanding entries.now contract.now }
     ensures small { result < 2 ^ 111 }
@@ -82,7 +82,7 @@ pub fn outstanding(entries: &[EntryRow], contract: &ContractRow) -> u128
     left_with(entries, contract, 0, 0)
 }
 
-/// Whether more has gone from the contract than came.
+/// Whether more was taken from the contract than was added.
 pub fn is_overdrawn(entries: &[EntryRow], contract: &ContractRow) -> bool
     ensures { result ≡ is_overdrawn entries.now contract.now }
 {
@@ -91,21 +91,21 @@ pub fn is_overdrawn(entries: &[EntryRow], contract: &ContractRow) -> bool
     came < gone
 }
 
-// Whether the contract runs, and less than this amount is outstanding.
+// Whether the contract hasn't ended, and less than this amount is outstanding.
 pub(crate) fn is_beyond(entries: &[EntryRow], amount: EntryAmount, contract: &ContractRow) -> bool
     ensures { result ≡ is_beyond entries.now amount contract.now }
 {
     contract.ended.is_none() && outstanding(entries, contract) < amount.get() as u128
 }
 
-// Whether one of the entries has this identifier.
+// Whether some entry has this identifier.
 pub(crate) fn has_entry(entries: &[EntryRow], entry: &Id) -> bool
     ensures { result ≡ list_any (is_taken entry.now) entries.now }
 {
     entries.iter().any(|row| row.entry == *entry)
 }
 
-// Whether the contract has all the entries that it can have.
+// Whether the contract has as many entries as it can have.
 pub(crate) fn has_all_entries(entries: &[EntryRow]) -> bool
     ensures { result ≡ has_all_entries entries.now }
 {

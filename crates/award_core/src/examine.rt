@@ -16,7 +16,7 @@ use office_values::moment::Moment;
 use office_values::refusal::{BadPart, Field, Refusal, Thing};
 use std::alloc::Global;
 
-/// The rows that an examination looks at: the tender with its notice and its lot, and the clock.
+/// The rows that an examination reads: the tender, its notice, its lot, and the clock.
 #[derive(Drop)]
 pub struct ExamineRows {
     pub envelope: Option<EnvelopeRow>,
@@ -25,8 +25,8 @@ pub struct ExamineRows {
     pub clock: ClockRow,
 }
 
-// Whether quality is missing where points decide on a responsive tender, or above what the price leaves of a hundred there; or is given
-// elsewhere.
+// Whether the points for quality are wrong. They are required exactly if points decide and the tender is responsive. With those for the price they are at most
+// a hundred.
 fn is_bad_quality(responsive: bool, quality: &Option<Quality>, notice: &NoticeRow) -> bool
     ensures { result ≡ is_bad_quality responsive quality.now notice.now }
 {
@@ -39,7 +39,7 @@ fn is_bad_quality(responsive: bool, quality: &Option<Quality>, notice: &NoticeRo
     }
 }
 
-// Whether a notice that is there finds the quality bad.
+// Whether the notice exists, and the points for quality are wrong by its criteria.
 fn is_refused(responsive: bool, quality: &Option<Quality>, notice: &Option<NoticeRow>) -> bool
     ensures { result ≡ holds_of (is_bad_quality responsive quality.now) notice.now }
 {
@@ -49,7 +49,7 @@ fn is_refused(responsive: bool, quality: &Option<Quality>, notice: &Option<Notic
     }
 }
 
-// Whether nothing is left to find: the tender has no price, was examined before or is out of the running, or its lot was decided.
+// Whether it is too late to examine: the tender has no price, was examined before or can't win any more, or its lot is no longer undecided.
 fn is_decided(envelope: &EnvelopeRow, lot: &Option<LotRow>) -> bool
     ensures { result ≡ (cant_be_examined envelope.now || holds_of (λ l. not (is_undecided l.state)) lot.now) }
 {
@@ -60,7 +60,7 @@ fn is_decided(envelope: &EnvelopeRow, lot: &Option<LotRow>) -> bool
     !is_priced(envelope) || envelope.responsive.is_some() || envelope.failed || is_closed
 }
 
-// The tender with what was found: the quality that is given, or the one that it has where none is.
+// The tender with the result of its examination: the new points for quality if some are given, and otherwise the present ones.
 fn examined(responsive: bool, quality: Option<Quality>, envelope: EnvelopeRow) -> EnvelopeRow
     ensures { result ≡ examined responsive quality envelope }
 {
@@ -75,7 +75,7 @@ fn examined(responsive: bool, quality: Option<Quality>, envelope: EnvelopeRow) -
     }
 }
 
-/// Why the examination of a tender is refused.
+/// The refusal of the examination, if one of its conditions is true.
 pub fn refusal(rows: &ExamineRows, responsive: bool, quality: &Option<Quality>) -> Option<Refusal>
     ensures { result ≡ first_of (examine_tests rows.now responsive quality.now) }
 {
@@ -94,7 +94,7 @@ pub fn refusal(rows: &ExamineRows, responsive: bool, quality: &Option<Quality>) 
     None
 }
 
-/// What the examination of a tender puts. `Unavailable` where a row isn't there.
+/// The changes of the examination. `Unavailable` if a row is missing.
 pub fn puts(
     alloc: Global,
     t: Moment,
@@ -116,7 +116,7 @@ pub fn puts(
     Ok(made)
 }
 
-/// Decides the examination of a tender: its refusal, or what it puts.
+/// Decides the examination of a tender: the result is its refusal or its changes.
 #[tactic(auto, unfolding(office_base::specs::Deciding::Decides))]
 pub fn decide_examine(
     alloc: Global,

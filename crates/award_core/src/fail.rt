@@ -1,4 +1,4 @@
-//! The decision on an award whose winner doesn't sign.
+//! The decision to pass over a winner who doesn't sign.
 ghost use Rattle.std.specs.Prelude.{◌≡◌, ◌++◌, OnOk, Some, IfOk, IfErr, false};
 ghost use Rattle.office_values.specs.declared.refusal.Refusal.TheVariants.{Unavailable};
 ghost use Rattle.office_base.specs.Deciding.{Decides};
@@ -20,11 +20,10 @@ use office_values::moment::Moment;
 use office_values::refusal::{Refusal, Thing};
 use std::alloc::{AllocError, Global};
 
-/// The seconds of a day.
+/// The number of seconds in a day.
 const DAY: u64 = 86_400;
 
-/// The rows that the failing of an award looks at: the award with its notice, its lot, its tender and that tender's security, and the
-/// clock.
+/// The rows that the failing of an award reads: the award, its notice, its lot, its tender, the security of the tender, and the clock.
 #[derive(Drop)]
 pub struct FailRows {
     pub award: Option<AwardRow>,
@@ -35,14 +34,14 @@ pub struct FailRows {
     pub clock: ClockRow,
 }
 
-// Whether the standstill after the award isn't over.
+// Whether the standstill after the award hasn't ended yet.
 fn stands_still(t: Moment, notice: &NoticeRow, award: &AwardRow) -> bool
     ensures { result ≡ stands_still t notice.now award.now }
 {
     t.second() < award.moment.second() + DAY * notice.standstill.get()
 }
 
-// Why an award that is there can neither fail nor be signed.
+// The refusal of the failing or the signing of this award, if one of the conditions that both share is true.
 pub(crate) fn standing_refusal(
     t: Moment,
     award: &AwardRow,
@@ -68,7 +67,7 @@ pub(crate) fn standing_refusal(
     None
 }
 
-// The tender's security, forfeited.
+// Appends the change that forfeits the security of the tender, if it has one.
 fn push_forfeited(made: &mut Vec<Put>, security: Option<SecurityRow>) -> Result<(), AllocError>
     ensures { OnOk result (made.new.items ≡ made.old.items ++ put_if (security_settled Forfeited) security) }
 {
@@ -78,7 +77,7 @@ fn push_forfeited(made: &mut Vec<Put>, security: Option<SecurityRow>) -> Result<
     Ok(())
 }
 
-/// Why the failing of an award is refused.
+/// The refusal of the failing, if one of its conditions is true.
 pub fn refusal(t: Moment, rows: &FailRows) -> Option<Refusal>
     ensures { result ≡ first_of (fail_tests rows.now t) }
 {
@@ -88,7 +87,7 @@ pub fn refusal(t: Moment, rows: &FailRows) -> Option<Refusal>
     }
 }
 
-/// What the failing of an award puts. `Unavailable` where a row isn't there.
+/// The changes of the failing. `Unavailable` if a row is missing, or the notice has as many releases as it can have.
 pub fn puts(alloc: Global, t: Moment, rows: FailRows) -> Result<Vec<Put>, Refusal>
     ensures puts { IfOk result (λ made. made.items ≡ fail_puts rows t) }
     ensures whole { IfOk result (λ _. fail_lacks rows ≡ false) }
@@ -118,7 +117,7 @@ pub fn puts(alloc: Global, t: Moment, rows: FailRows) -> Result<Vec<Put>, Refusa
     Ok(made)
 }
 
-/// Decides the failing of an award: its refusal, or what it puts.
+/// Decides the failing of an award: the result is its refusal or its changes.
 #[tactic(auto, unfolding(office_base::specs::Deciding::Decides))]
 pub fn decide_fail(alloc: Global, t: Moment, rows: FailRows) -> Result<Vec<Put>, Refusal>
     ensures { Decides result (first_of (fail_tests rows t)) (fail_lacks rows) (fail_puts rows t) }

@@ -1,4 +1,4 @@
-//! The commands from the examination of tenders to the end of contracts: their rules, and the decisions by them.
+//! The commands from the examination of tenders to the end of contracts: their rules, and the decisions by these rules.
 #![tactic(auto)]
 
 pub mod amend_contract;

@@ -1,4 +1,4 @@
-//! What is free on a budget line.
+//! The free money of a budget line.
 ghost use Rattle.std.specs.Prelude.{◌≡◌, ◌<◌, IfSome, IfNone};
 ghost use Rattle.office_values.specs.Money.{total_limit};
 ghost use Rattle.office_base.specs.Joined.{free_in};
@@ -6,7 +6,7 @@ ghost use Rattle.office_base.specs.Joined.{free_in};
 use office_base::records::LineRow;
 use office_values::money::Total;
 
-// What is free on the line; nothing where it isn't there.
+// The free money of the line; 0 if the line doesn't exist.
 pub(crate) fn free_on(line: &Option<LineRow>) -> Total
     ensures { result ≡ free_in line.now }
 {

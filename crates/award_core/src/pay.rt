@@ -16,7 +16,7 @@ use office_values::moment::Moment;
 use office_values::refusal::{Refusal, Thing};
 use std::alloc::Global;
 
-/// The rows that a payment looks at: the contract with its entries and its notice, and the clock.
+/// The rows that a payment reads: the contract, its entries, its notice, and the clock.
 #[derive(Drop)]
 pub struct PayRows {
     pub contract: Option<ContractRow>,
@@ -25,7 +25,7 @@ pub struct PayRows {
     pub clock: ClockRow,
 }
 
-/// Why a payment under a contract is refused.
+/// The refusal of the payment, if one of its conditions is true.
 pub fn refusal(rows: &PayRows, entry: &Id, amount: EntryAmount) -> Option<Refusal>
     ensures { result ≡ first_of (pay_tests rows.now entry.now amount) }
 {
@@ -47,7 +47,7 @@ pub fn refusal(rows: &PayRows, entry: &Id, amount: EntryAmount) -> Option<Refusa
     None
 }
 
-/// What a payment puts. `Unavailable` where the contract or its notice isn't there, or the notice counts no more releases.
+/// The changes of the payment. `Unavailable` if the contract or its notice is missing, or if the notice has as many releases as it can have.
 pub fn puts(
     alloc: Global,
     t: Moment,
@@ -76,8 +76,8 @@ pub fn puts(
     Ok(made)
 }
 
-/// Decides a payment under a contract: its refusal, or what it puts. `Unavailable` where the office lacks the contract's notice, which
-/// none does that commands reach.
+/// Decides a payment under a contract: the result is its refusal or its changes. `Unavailable` if the notice of the contract is missing, which isn't so in an
+/// office that its commands made.
 #[tactic(auto, unfolding(office_base::specs::Deciding::Decides))]
 pub fn decide_pay(
     alloc: Global,

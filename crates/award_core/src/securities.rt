@@ -1,4 +1,4 @@
-//! Securities that go back.
+//! Tender securities that are returned.
 ghost use Rattle.std.specs.Prelude.{◌≡◌, ◌++◌, OnOk};
 ghost use Rattle.office_base.specs.Transitions.{returned, securities_returned};
 
@@ -6,7 +6,7 @@ use office_base::puts::Put;
 use office_base::records::{SecurityRow, SecurityState};
 use std::alloc::AllocError;
 
-// A copy of the security, gone back to its tenderer.
+// A copy of the security, returned to its tenderer.
 fn returned_copy(security: &SecurityRow) -> SecurityRow
     ensures { result ≡ returned security.now }
 {
@@ -21,7 +21,7 @@ fn returned_copy(security: &SecurityRow) -> SecurityRow
     }
 }
 
-// Puts the held ones of these securities back.
+// Appends the changes that return those of these securities that are held.
 pub(crate) fn push_returned(
     made: &mut Vec<Put>,
     securities: &[SecurityRow],

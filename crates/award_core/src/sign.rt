@@ -22,8 +22,7 @@ use office_values::money::{Amount, Total};
 use office_values::refusal::{Refusal, Thing};
 use std::alloc::{AllocError, Global};
 
-/// The rows that the signing of a contract looks at: the award with its notice, its lot, its tender and the lot's securities, and the
-/// clock.
+/// The rows that a signing reads: the award, its notice, its lot, its tender, the tender securities of the lot, and the clock.
 #[derive(Drop)]
 pub struct SignRows {
     pub award: Option<AwardRow>,
@@ -34,7 +33,7 @@ pub struct SignRows {
     pub clock: ClockRow,
 }
 
-// The contract of this award with this tenderer, at the award's price and under its number.
+// The contract of this award with this tenderer, which has the number and the price of the award.
 fn contract_row(t: Moment, award: &AwardRow, tenderer: Id) -> ContractRow
     ensures { result ≡ contract_row t award.now tenderer }
 {
@@ -51,14 +50,14 @@ fn contract_row(t: Moment, award: &AwardRow, tenderer: Id) -> ContractRow
     }
 }
 
-// Whether the notice asks for a performance security and none is named.
+// Whether the notice requires a performance security, and none is named.
 fn is_missing(notice: &NoticeRow, security: &Option<NamedSecurity>) -> bool
     ensures { result ≡ is_missing security.now notice.now }
 {
     notice.performance.units() > 0 && security.is_none()
 }
 
-// Whether the one that is named is less than the notice asks.
+// Whether the named performance security is less than the notice requires.
 fn performance_is_too_small(notice: &NoticeRow, security: &Option<NamedSecurity>) -> bool
     ensures { result ≡ performance_is_too_small security.now notice.now }
 {
@@ -68,14 +67,14 @@ fn performance_is_too_small(notice: &NoticeRow, security: &Option<NamedSecurity>
     }
 }
 
-// Whether the notice asks for none and one is named.
+// Whether a performance security is named, and the notice requires none.
 fn isnt_asked(notice: &NoticeRow, security: &Option<NamedSecurity>) -> bool
     ensures { result ≡ isnt_asked security.now notice.now }
 {
     notice.performance.units() == 0 && security.is_some()
 }
 
-/// Why the signing of a contract with this performance security, or with none, is refused.
+/// The refusal of a signing with this performance security, or with none, if one of its conditions is true.
 pub fn refusal(t: Moment, rows: &SignRows, security: &Option<NamedSecurity>) -> Option<Refusal>
     ensures { result ≡ first_of (sign_tests rows.now t security.now) }
 {
@@ -108,7 +107,7 @@ fn performance_row(award: &AwardRow, named: &NamedSecurity) -> PerformanceRow
     }
 }
 
-// The one that is named.
+// Appends the change of the performance security, if one is named.
 fn push_performance(
     made: &mut Vec<Put>,
     award: &AwardRow,
@@ -122,7 +121,7 @@ fn push_performance(
     Ok(())
 }
 
-/// What the signing of a contract puts. `Unavailable` where a row isn't there.
+/// The changes of the signing. `Unavailable` if a row is missing, or the notice has as many releases as it can have.
 pub fn puts(
     alloc: Global,
     t: Moment,
@@ -157,7 +156,7 @@ pub fn puts(
     Ok(made)
 }
 
-/// Decides the signing of a contract: its refusal, or what it puts.
+/// Decides the signing of a contract: the result is its refusal or its changes.
 #[tactic(auto, unfolding(office_base::specs::Deciding::Decides))]
 pub fn decide_sign(
     alloc: Global,

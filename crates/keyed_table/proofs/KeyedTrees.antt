@@ -1,4 +1,4 @@
--- Trees of rows by their keys are tables.
+-- A tree of rows by their keys behaves as a table.
 use Rattle.std.specs.Prelude.{◌≡◌, List, [], ◌∷◌, Bool, true, false, ◌&&◌, None, IsSome}
 use Rattle.std.proofs.Common.{refl, sym, ap, ◌∙◌, subst}
 use Rattle.std.specs.Cmp.{IsTotalOrder}
@@ -29,7 +29,7 @@ both : (a b : Bool) → a ≡ true → b ≡ true → a && b ≡ true
 both a b e h = rw e h
 
 module _ {K X : Type 0} {R : K → K → Ordering} (o : IsTotalOrder R) (key : X → K) where
-  -- a key compares with a row's place as with its own key
+  -- a key compares with an entry's key as with the key of its row
   at_own : (q : K) (e : K × X) (es : List (K × X)) → list_all (stands_at_its_key R key) (e ∷ es) ≡ true → R q e.0 ≡ R q (key e.1)
   at_own q e es own = alike_right o q e.0 (key e.1) (equal_from_test _ (both_left _ _ own))
 
@@ -41,7 +41,7 @@ module _ {K X : Type 0} {R : K → K → Ordering} (o : IsTotalOrder R) (key : X
   found_step q e es rising own ih Equal h = rw (h, sym own ∙ h) refl
   found_step q e es rising own ih Greater h = rw (h, sym own ∙ h) ih
 
-  -- a look-up finds the row of the table
+  -- a look-up in the tree finds the row of the table
   pub lookup-row_at : (q : K) (es : List (K × X)) → IsStrictlySortedBy R (keys_of es) → list_all (stands_at_its_key R key) es ≡ true
       → lookup (is_at (R q)) es ≡ row_at R key (values_of es) q
   unfolding row_at
@@ -57,7 +57,7 @@ module _ {K X : Type 0} {R : K → K → Ordering} (o : IsTotalOrder R) (key : X
   put_step v e es own ih Equal h = rw (h, sym own ∙ h) refl
   put_step v e es own ih Greater h = rw (h, sym own ∙ h) (ap (λ rows. e.1 ∷ rows) ih)
 
-  -- an entry at a row's key puts the row into the table
+  -- inserting an entry at its row's key puts the row into the table
   pub values-insert_entry : (v : X) (es : List (K × X)) → list_all (stands_at_its_key R key) es ≡ true
       → values_of (insert_entry R es (key v) v) ≡ row_put R key (values_of es) v
   unfolding row_put
@@ -72,7 +72,7 @@ module _ {K X : Type 0} {R : K → K → Ordering} (o : IsTotalOrder R) (key : X
   own_step v e es own ih Equal h = rw (h, equal_back o (key v) e.0 h) (both_right _ _ own)
   own_step v e es own ih Greater h = rw h (both _ _ (both_left _ _ own) ih)
 
-  -- then too each row stands at its own key
+  -- after an insert, each entry's key is the key of its row
   pub own-insert_entry : (v : X) (es : List (K × X)) → list_all (stands_at_its_key R key) es ≡ true
       → list_all (stands_at_its_key R key) (insert_entry R es (key v) v) ≡ true
   own-insert_entry v [] own = rw (same_key o (key v)) refl
@@ -82,7 +82,7 @@ module _ {K X : Type 0} {R : K → K → Ordering} (o : IsTotalOrder R) (key : X
   kept_step t e es ih true h out = cc
   kept_step t e es ih false h out = rw h (ap (λ rest. e ∷ rest) ih)
 
-  -- where no key passes, nothing is removed
+  -- if no key passes the test, nothing is removed
   remove_entry-none : (t : K → Bool) (es : List (K × X)) → NonePasses t es → remove_entry t es ≡ es
   remove_entry-none t [] none = refl
   remove_entry-none t (e ∷ es) none = kept_step t e es (remove_entry-none t es none.1) (t e.0) refl none.0
@@ -96,7 +96,7 @@ module _ {K X : Type 0} {R : K → K → Ordering} (o : IsTotalOrder R) (key : X
   drop_step q e es rising own ih Equal h = rw (h, sym own ∙ h) refl
   drop_step q e es rising own ih Greater h = rw (h, sym own ∙ h) (ap (λ rows. e.1 ∷ rows) ih)
 
-  -- an entry removed at a key drops the row from the table
+  -- removing the entry at a key drops the row from the table
   pub values-remove_entry : (q : K) (es : List (K × X)) → IsStrictlySortedBy R (keys_of es) → list_all (stands_at_its_key R key) es ≡ true
       → values_of (remove_entry (is_at (R q)) es) ≡ row_drop R key (values_of es) q
   unfolding row_drop
@@ -110,7 +110,7 @@ module _ {K X : Type 0} {R : K → K → Ordering} (o : IsTotalOrder R) (key : X
   gone_step t e es own ih true h = rw h (both_right _ _ own)
   gone_step t e es own ih false h = rw h (both _ _ (both_left _ _ own) ih)
 
-  -- then too each row stands at its own key
+  -- after a removal, each entry's key is the key of its row
   pub own-remove_entry : (t : K → Bool) (es : List (K × X)) → list_all (stands_at_its_key R key) es ≡ true
       → list_all (stands_at_its_key R key) (remove_entry t es) ≡ true
   own-remove_entry t [] own = refl
@@ -125,14 +125,14 @@ module _ {K X : Type 0} {R : K → K → Ordering} (o : IsTotalOrder R) (key : X
   replace_step k v e es rising found ih Equal h = rw h refl
   replace_step k v e es rising found ih Greater h = rw h (ap (λ rest. e ∷ rest) (ih (rw h at found)))
 
-  -- a value that replaces the one at a key that is there stands where an insert puts it
+  -- replacing the value at an existing key gives the tree that an insert gives
   pub replaced-insert_entry : (k : K) (v : X) (es : List (K × X)) → IsStrictlySortedBy R (keys_of es) → IsSome (lookup (is_at (R k)) es)
       → set_value (is_at (R k)) es v ≡ insert_entry R es k v
   replaced-insert_entry k v [] rising found = cc
   replaced-insert_entry k v (e ∷ es) rising found =
       replace_step k v e es rising found (replaced-insert_entry k v es (sorted_tail R e.0 (keys_of es) rising)) (R k e.0) refl
 
-  -- then the tree is keyed as before, and its row is put
+  -- after such a replacement the tree keeps its shape, and the row is put into the table
   pub replaced : (IsKnown : K → Type 0) (v : X) (es after : List (K × X)) → IsKeyed R key IsKnown es → IsKnown (key v) → IsSome (row_at R key (values_of es) (key v))
       → after ≡ set_value (is_at (R (key v))) es v → IsKeyed R key IsKnown after × (values_of after ≡ row_put R key (values_of es) v)
   replaced IsKnown v es after h known there e =
@@ -147,20 +147,20 @@ module _ {K X : Type 0} {R : K → K → Ordering} (o : IsTotalOrder R) (key : X
         rows,
       )
 
-  -- a row that is there is found
+  -- a look-up in the tree doesn't miss a row of the table
   pub not_missed : {A : Type 0} (IsKnown : K → Type 0) (k : K) (es : List (K × X)) → IsKeyed R key IsKnown es → IsSome (row_at R key (values_of es) k)
       → None ≡ lookup (is_at (R k)) es → A
   not_missed IsKnown k es h there none =
       let gone : IsSome {T = X} None = subst IsSome (sym (none ∙ lookup-row_at k es h.rising h.own)) there in cc
 
-  -- a row more
+  -- after a put, every key fulfils `IsKnown`
   pub known-put : (IsKnown : K → Type 0) (v : X) (es after : List (K × X)) → IsKeyed R key IsKnown es → IsKnown (key v) → after ≡ insert_entry R es (key v) v
       → AllByRecursion (λ x. IsKnown (key x)) (values_of after)
   known-put IsKnown v es after h known e =
       subst (AllByRecursion (λ x. IsKnown (key x))) (sym (ap values_of e ∙ values-insert_entry v es h.own))
       (all-put o key (λ x. IsKnown (key x)) (values_of es) v known h.known)
 
-  -- a row less
+  -- after a drop, every key fulfils `IsKnown`
   pub known-drop : (IsKnown : K → Type 0) (k : K) (es after : List (K × X)) → IsKeyed R key IsKnown es → after ≡ remove_entry (is_at (R k)) es
       → AllByRecursion (λ x. IsKnown (key x)) (values_of after)
   known-drop IsKnown k es after h e =

@@ -1,4 +1,4 @@
--- A row that is dropped.
+-- A row that is dropped from a table.
 use Rattle.std.specs.Prelude.{List, [], ◌∷◌}
 use Rattle.std.specs.List.{AllByRecursion}
 use Rattle.std.specs.declared.cmp.Ordering.{Ordering}
@@ -10,7 +10,7 @@ all_step P x xs dropped h ih Less = h
 all_step P x xs dropped h ih Equal = h.1
 all_step P x xs dropped h ih Greater = (h.0, ih)
 
--- what holds of all rows holds of all when one is dropped
+-- if all rows have a property, so have those that are left after a drop
 pub all-drop : {K X : Type 0} (R : K → K → Ordering) (key : X → K) (P : X → Type 0) (xs : List X) (k : K) → AllByRecursion P xs → AllByRecursion P (row_drop R key xs k)
 unfolding row_drop
 all-drop R key P [] k h = tt

@@ -1,4 +1,4 @@
--- Rows between two keys, and the order of the rows of a tree.
+-- The rows between two keys, and the order of the rows of a tree.
 use Rattle.std.specs.Prelude.{◌≡◌, Bool, true, false, cond, not, ◌&&◌, List, [], ◌∷◌, filter, Option, Some, None, ℕ, ◌≤◌, ◌++◌, length, take}
 use Rattle.std.proofs.Common.{refl, sym, ap, ◌∙◌}
 use Rattle.std.specs.Cmp.{IsTotalOrder}
@@ -24,11 +24,11 @@ and_true : (b : Bool) → b && true ≡ b
 and_true true = refl
 and_true false = refl
 
--- the front of a list, by what is left of it
+-- the first n elements of a list, given that list in two parts of which the first has n elements
 pub front_is : {X : Type 0} (xs ys zs : List X) (n : ℕ) → xs ++ ys ≡ zs → length xs ≡ n → xs ≡ take n zs
 front_is xs ys zs n all many = sym (take-append_seam xs ys) ∙ ap (λ k. take k (xs ++ ys)) many ∙ ap (take n) all
 
--- a whole list, which isn't longer
+-- a list of at most n elements is its own first n elements
 pub whole_is : {X : Type 0} (xs ys zs : List X) (n : ℕ) → xs ++ ys ≡ zs → ys ≡ [] → length xs ≤ n → xs ≡ take n zs
 whole_is xs ys zs n all none few = sym (take_all n xs few) ∙ ap (take n) (sym (append-nil xs) ∙ ap (λ l. xs ++ l) (sym none) ∙ all)
 
@@ -43,7 +43,7 @@ module _ {K X : Type 0} {R : K → K → Ordering} (o : IsTotalOrder R) (key : X
       ap (λ c. is_le c && not (is_lt (R b k))) (alike_right o a k q e)
       ∙ ap (λ c. is_le (R a q) && not (is_lt c)) (alike_right o b k q e)
 
-  -- what a tree has between two keys
+  -- the rows of the entries between two keys are the rows between them
   pub values-between : (a b : K) (es : List (K × X)) → list_all (stands_at_its_key R key) es ≡ true
       → values_of (filter (λ e. is_between R a b e.0) es) ≡ rows_between R key a b (values_of es)
   values-between a b [] own = refl
@@ -54,12 +54,12 @@ module _ {K X : Type 0} {R : K → K → Ordering} (o : IsTotalOrder R) (key : X
       ∙ ap (λ c. cond c (e.1 ∷ values_of among) (values_of among)) (is_between-alike a b e.0 (key e.1) (equal_from_test _ parts.0))
       ∙ ap (λ rows. cond (is_between R a b (key e.1)) (e.1 ∷ rows) rows) (values-between a b es parts.1)
 
-  -- keys that compare as equal are behind the same keys
+  -- keys that compare as equal come after the same keys
   is_after-alike : (after : Option K) (k q : K) → R k q ≡ Equal → range_contains R (start_of after) Unbounded k ≡ is_after R after q
   is_after-alike None k q e = refl
   is_after-alike (Some a) k q e = and_true (is_lt (R a k)) ∙ ap is_lt (alike_right o a k q e)
 
-  -- what a tree has behind a key
+  -- the rows of the entries after a key are the rows after it
   pub values-after : (after : Option K) (es : List (K × X)) → list_all (stands_at_its_key R key) es ≡ true
       → values_of (filter (λ e. range_contains R (start_of after) Unbounded e.0) es) ≡ rows_after R key after (values_of es)
   values-after after [] own = refl
@@ -80,7 +80,7 @@ module _ {K X : Type 0} {R : K → K → Ordering} (o : IsTotalOrder R) (key : X
       ∙ sym (alike_right o e.0 f.0 (key f.1) (equal_from_test _ next.0))
       ∙ below.0
 
-  -- the rows of a tree are in order
+  -- the rows of a tree are in the order of their keys
   pub in_order-values : (es : List (K × X)) → IsStrictlySortedBy R (keys_of es) → list_all (stands_at_its_key R key) es ≡ true → IsInOrder R key (values_of es)
   in_order-values [] rising own = tt
   in_order-values (e ∷ es) rising own = (
@@ -88,7 +88,7 @@ module _ {K X : Type 0} {R : K → K → Ordering} (o : IsTotalOrder R) (key : X
     in_order-values es (sorted_tail R e.0 (keys_of es) rising) (and_parts _ _ own).1,
   )
 
--- where a test tells what lies between two keys of all that is known, the rows between them are those that pass it
+-- if a test agrees with being between two keys, for every known key, the rows between the keys are those that pass the test
 pub between_is : {K X : Type 0} (R : K → K → Ordering) (key : X → K) (IsKnown : K → Type 0) (a b : K) (test : X → Bool) (rows : List X)
     → AllByRecursion (λ r. IsKnown (key r)) rows → ((r : X) → IsKnown (key r) → is_between R a b (key r) ≡ test r) → rows_between R key a b rows ≡ filter test rows
 between_is R key IsKnown a b test [] known tells = refl

@@ -1,4 +1,4 @@
--- A change of a table is undone by what it replaced.
+-- A put is undone by restoring the row that it replaced.
 use Rattle.std.specs.Prelude.{◌≡◌, List, [], ◌∷◌, Option, Some, None}
 use Rattle.std.proofs.Common.{refl, sym, ap, ◌∙◌}
 use Rattle.std.specs.Cmp.{IsTotalOrder}
@@ -17,7 +17,7 @@ module _ {K X : Type 0} {R : K → K → Ordering} (o : IsTotalOrder R) (key : X
   new_step r x xs ih Equal h none = let found : Some x ≡ None = sym (rw h refl) ∙ none in cc
   new_step r x xs ih Greater h none = rw (h, h) (ap (λ rows. x ∷ rows) (ih (sym (rw h refl) ∙ none)))
 
-  -- a row that came new is dropped again
+  -- dropping a row that a put added restores the table
   pub dropped_again : (r : X) (xs : List X) → row_at R key xs (key r) ≡ None → row_drop R key (row_put R key xs r) (key r) ≡ xs
   unfolding row_at row_put row_drop
   dropped_again r [] none = rw (same_key o (key r)) refl
@@ -36,20 +36,20 @@ module _ {K X : Type 0} {R : K → K → Ordering} (o : IsTotalOrder R) (key : X
       let past : R (key old) (key x) ≡ Greater = sym (o.congr (key r) (key old) (key x) same) ∙ h in
       rw (h, past) (ap (λ rows. x ∷ rows) (ih (sym (rw h refl) ∙ found)))
 
-  -- a row that was replaced takes its place again
+  -- putting back a row that a put replaced restores the table
   pub replaced_again : (r old : X) (xs : List X) → row_at R key xs (key r) ≡ Some old → row_put R key (row_put R key xs r) old ≡ xs
   unfolding row_at row_put
   replaced_again r old [] found = cc
   replaced_again r old (x ∷ xs) found =
       old_step r old x xs (laws.found_key (x ∷ xs) (key r) old found) (replaced_again r old xs) (R (key r) (key x)) refl found
 
-  -- keys that compare as equal find the same
+  -- keys that compare as equal find the same row
   pub alike_found : (k q : K) (xs : List X) → R k q ≡ Equal → row_at R key xs k ≡ row_at R key xs q
   unfolding row_at
   alike_found k q [] e = refl
   alike_found k q (x ∷ xs) e = rw (o.congr k q (key x) e, alike_found k q xs e) refl
 
-  -- what was replaced takes the row back
+  -- restoring the old row, if there was one, undoes the put
   pub back : (r : X) (xs : List X) (old : Option X) → old ≡ row_at R key xs (key r) → with_old R key (key r) old (row_put R key xs r) ≡ xs
   back r xs None found = dropped_again r xs (sym found)
   back r xs (Some v) found = replaced_again r v xs (sym found)

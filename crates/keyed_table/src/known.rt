@@ -1,14 +1,14 @@
-//! What is known of a value that was looked at.
+//! Facts about a key that its type guarantees, but that a type parameter doesn't carry.
 ghost use Rattle.std.specs.Prelude.{◌<◌, ◌^◌};
 ghost use Rattle.office_values.specs.Ids.{IsId};
 
 use office_values::id::Id;
 
-/// A value of whose parts something is known once they were looked at, as that an identifier is of 1 to 32 plain bytes.
+/// A type whose values have a property, such as that an identifier is 1 to 32 plain bytes. The property is known of a value after `look`.
 pub trait Known {
     ghost is_known: { Self → Type 0 };
 
-    /// Looks at it, which costs nothing.
+    /// Makes the property of this value known, at no cost.
     fn look(&self)
         ensures { is_known self.now };
 }

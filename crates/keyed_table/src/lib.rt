@@ -1,4 +1,4 @@
-//! A table of rows by their keys.
+//! A table of rows in the order of their keys, in memory.
 #![tactic(auto)]
 
 pub mod boxed;

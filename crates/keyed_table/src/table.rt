@@ -1,4 +1,4 @@
-//! A table of rows by their keys.
+//! A table of rows in the order of their keys, in memory.
 ghost use Rattle.std.specs.Prelude.{◌≡◌, ◌<◌, ◌^◌, IfOk, OnOk, OnErr, option_map, [], None, IsSome, length, take};
 ghost use Rattle.std.specs.BTreeMap.Range.{IsLeBy};
 ghost use Rattle.std.specs.List.{AllByRecursion};
@@ -19,14 +19,14 @@ use std::collections::btree_map::{Range, Values};
 use std::marker::Model;
 use std::ops::Bound;
 
-/// What a row that was put replaced: the row that had its key, or none.
+/// The key of a row that was put, and the row that it replaced, if any.
 #[derive(Drop)]
 pub struct Replaced<R: Row + Drop> {
     pub key: R::Key,
     pub old: Option<Boxed<R>>,
 }
 
-/// A table: its rows in the order of their keys. A look-up and a change cost the logarithm of the rows.
+/// A table: its rows in the order of their keys. A look-up or a change takes time logarithmic in the number of rows.
 #[derive(Drop)]
 pub struct Table<R: Row + Drop>
 where
@@ -51,7 +51,7 @@ where
     ghost invariant = { λ t. IsKeyed R.Key.cmp R.key_of R.Key.is_known t.rows.entries };
 }
 
-// Where the rows behind a key begin.
+// The bound of the rows after a key; without a key, no bound.
 fn start_of<K>(key: Option<K>) -> Bound<K>
     ensures { result ≡ start_of key }
 {
@@ -65,7 +65,7 @@ impl<R: Row + Drop> Table<R>
 where
     R::Key: Known,
 {
-    /// A table without rows. Takes no memory.
+    /// A table without rows. It allocates no memory.
     pub fn new(alloc: Global) -> Table<R>
         ensures { result ≡ [] }
     {
@@ -75,7 +75,7 @@ where
         }
     }
 
-    /// The row with this key.
+    /// The row with this key, borrowed.
     pub fn get(&self, key: &R::Key) -> Option<&R>
         ensures { option_map (λ row. row.now) result ≡ row_at R.Key.cmp R.key_of self.now key.now }
     {
@@ -85,7 +85,7 @@ where
         }
     }
 
-    /// The row with this key, copied.
+    /// A copy of the row with this key. AllocError if there is too little memory.
     pub fn copy_at(&self, key: &R::Key) -> Result<Option<R>, AllocError>
         ensures { IfOk result (λ row. row ≡ row_at R.Key.cmp R.key_of self.now key.now) }
     {
@@ -95,7 +95,7 @@ where
         }
     }
 
-    /// All rows, copied, in the order of their keys.
+    /// Copies of all rows, in the order of their keys. AllocError if there is too little memory.
     pub fn copy_all(&self, alloc: Global) -> Result<Vec<R>, AllocError>
         ensures { IfOk result (λ rows. rows.items ≡ self.now) }
     {
@@ -106,7 +106,7 @@ where
         Ok(rows)
     }
 
-    // Adds the row, or replaces the one with its key, and answers that one. Only a new row can find no memory.
+    // Adds the row, or replaces the one with its key, and returns that one. Only adding can fail for too little memory.
     fn insert(&mut self, row: Boxed<R>) -> Result<Option<Boxed<R>>, AllocError>
         ensures rows { OnOk result (self.new ≡ row_put R.Key.cmp R.key_of self.old row) }
         ensures old { IfOk result (λ old. old ≡ row_at R.Key.cmp R.key_of self.old (R.key_of row)) }
@@ -121,14 +121,14 @@ where
         }
     }
 
-    /// Drops the row with this key, if there is one. Takes no memory.
+    /// Drops the row with this key, if there is one. It allocates no memory.
     pub fn remove(&mut self, key: &R::Key)
         ensures { self.new ≡ row_drop R.Key.cmp R.key_of self.old key.now }
     {
         self.rows.remove(key);
     }
 
-    /// Adds the row, or replaces the one with its key, and tells how to take that back. Either takes memory.
+    /// Adds the row, or replaces the one with its key, and returns the data with which `take_back` undoes that. Both allocate memory.
     pub fn put(&mut self, row: R) -> Result<Replaced<R>, AllocError>
         ensures rows { OnOk result (self.new ≡ row_put R.Key.cmp R.key_of self.old row) }
         ensures back { IfOk result (λ replaced. taken_back R.Key.cmp R.key_of replaced self.new ≡ self.old) }
@@ -141,7 +141,7 @@ where
         Ok(Replaced { key, old })
     }
 
-    /// Replaces the row with this one's key, which is there. Takes no memory.
+    /// Replaces the row that has the key of this one; such a row must exist. It allocates no memory.
     pub fn replace(&mut self, row: R)
         requires { IsSome (row_at R.Key.cmp R.key_of self.old (R.key_of row)) }
         ensures { self.new ≡ row_put R.Key.cmp R.key_of self.old row }
@@ -153,7 +153,7 @@ where
         }
     }
 
-    /// Takes a row back that was put: the one that it replaced comes again, or it is dropped. Takes no memory.
+    /// Takes a put back: restores the row that it replaced, or drops the new one. It allocates no memory.
     pub fn take_back(&mut self, replaced: Replaced<R>)
         requires { CanTakeBack R.Key.cmp R.key_of replaced self.old }
         ensures { self.new ≡ taken_back R.Key.cmp R.key_of replaced self.old }
@@ -166,7 +166,7 @@ where
         }
     }
 
-    /// All rows, in the order of their keys.
+    /// All rows, borrowed, in the order of their keys.
     pub fn iter(&self) -> Values<'_, R::Key, Boxed<R>>
         ensures rows { result ≡ self.now }
         ensures runs { ShowsInOrder (deref {X = R}) }
@@ -174,7 +174,7 @@ where
         self.rows.values()
     }
 
-    /// The rows from one key to another, both included, in the order of their keys. Costs the logarithm of the rows.
+    /// The rows from one key to another, both included, in the order of their keys. It takes time logarithmic in the number of rows.
     pub fn range(&self, first: &R::Key, last: &R::Key) -> Range<'_, R::Key, Boxed<R>>
         requires { IsLeBy R.Key.cmp first.now last.now }
         ensures rows { values_of result ≡ rows_between R.Key.cmp R.key_of first.now last.now self.now }
@@ -185,7 +185,7 @@ where
         self.rows.range(first..=last)
     }
 
-    /// The rows behind a key, or all, in the order of their keys. Costs the logarithm of the rows.
+    /// The rows after a key, or all without one, in the order of their keys. It takes time logarithmic in the number of rows.
     pub fn after(&self, key: Option<R::Key>) -> Range<'_, R::Key, Boxed<R>>
         ensures rows { values_of result ≡ rows_after R.Key.cmp R.key_of key self.now }
         ensures runs { ShowsInOrder (deref_pair {K = R.Key} {X = R}) }
@@ -194,7 +194,8 @@ where
         self.rows.range((start_of(key), Bound::Unbounded))
     }
 
-    /// The first so many rows behind a key, or of all, copied, in the order of their keys. Costs what it copies, and the logarithm of the rows.
+    /// Copies of the first `most` rows after a key, or of all, in the order of their keys. It takes the time of the copies, and time logarithmic in the number
+    /// of rows.
     #[tactic(auto, using(crate::proofs::RowRanges::front_is, crate::proofs::RowRanges::whole_is))]
     pub fn copy_after(
         &self,
@@ -214,7 +215,7 @@ where
         Ok(copied)
     }
 
-    /// Its keys strictly rise.
+    /// A fact for callers: the keys of the table rise strictly.
     pub fn keys_rise(&self)
         ensures { IsInOrder R.Key.cmp R.key_of self.now }
     {

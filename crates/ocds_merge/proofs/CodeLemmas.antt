@@ -1,4 +1,4 @@
--- The code's lists and maps beside the data that they stand for.
+-- Lists and maps of the code, and the data that they mean.
 use Rattle.std.proofs.Common.{◌≡◌, ◌<◌, ◌+◌, ℕ, zero, suc, List, [], ◌∷◌, ◌++◌, map, take, drop, set, length, get_or, true, false, cond, Option, Some, None, option_map, unwrap_or, String, Global, Ordering, Less, Equal, Greater, string_bytes, string_cmp, nat_cmp, is_eq, bytes_eq, refl, sym, ap, ◌∙◌, subst, arith, rules}
 use Rattle.std.specs.List.{AllByRecursion}
 use Rattle.std.proofs.lemmas.List.{drop_more, get_or-map, length-map, set-set, map-set, map-append}
@@ -65,7 +65,7 @@ view_or (Some v) = refl
 pub dropped : (xs : List Value) (i : ℕ) (x : Value) → i < length xs → x ≡ get_or xs i x → items_view (drop i xs) ≡ item (view x) (items_view (drop (i + 1) xs))
 dropped xs i x low is = ap items_view (drop_more xs i x low) ∙ ap (λ (y : Value). item (view y) (items_view (drop (i + 1) xs))) (sym is)
 
--- what stands for an item after its turn
+-- the list after an item is merged into it
 abbrev pub turned : Data → List Data → List Data
 turned d ts = set_item (id_of d) (unwrap_or (step (find_item (id_of d) ts) d) null) ts
 

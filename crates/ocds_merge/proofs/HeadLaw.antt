@@ -1,4 +1,4 @@
--- The head of a compiled release stands over those of the releases, so these may be merged with their own.
+-- The head of a compiled release replaces those of the releases, so the releases may be merged with their heads.
 use Rattle.std.proofs.Common.{◌≡◌, ◌+◌, ℕ, zero, suc, List, [], ◌∷◌, ◌++◌, map, reverse, Bool, true, false, cond, Option, Some, None, option_to_list, unwrap_or, refl, sym, ap, ◌∙◌, subst, arith, bytes_eq, codes}
 use Rattle.std.proofs.lemmas.Slice.Eq.{bytes_eq-Decides}
 use Rattle.std.proofs.lemmas.List.{map-append, reverse-append}

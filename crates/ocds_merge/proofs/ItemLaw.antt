@@ -1,4 +1,4 @@
--- Id lists: what a merge has at an id, and one more item.
+-- Id lists: the item that a merge has for an id, and one more item.
 use Rattle.std.proofs.Common.{◌≡◌, ◌<◌, ℕ, zero, suc, List, [], ◌∷◌, ◌++◌, map, filter, Bool, true, false, cond, ◌||◌, Option, Some, None, is_some, option_to_list, option_and_then, unwrap_or, refl, sym, ap, ◌∙◌, subst, arith, bytes_eq, codes, true≢false}
 use Rattle.std.specs.List.{list_any}
 use Rattle.std.proofs.lemmas.Slice.Eq.{bytes_eq-Decides}
@@ -41,7 +41,7 @@ or_none : (b : Bool) → (b || false) ≡ b
 or_none true = refl
 or_none false = refl
 
--- ---- which ids_in there are
+-- ---- the ids of a list
 
 self_at : (d : Data) (s : List Data) (b : Bool) → among (id_of d) s ≡ b → list_any (bytes_eq (id_of d)) (cond b (ids_in s) (ids_in s ++ id_of d ∷ [])) ≡ true
 self_at d s true e = e
@@ -143,7 +143,7 @@ kept_head n j xs h =
 pub picked : (n : ℕ) (s : List Data) → HaveIds s → Below n s → (j : List ℕ) → among j s ≡ true → Kept (merge_within n (filter (has j) s)) (Some j)
 picked n s ids_in low j h = kept_head n j _ (head_of n j s ids_in low h)
 
--- ---- ids_in stand once
+-- ---- each id occurs once
 
 abbrev pub Distinct : List (List ℕ) → Type 0
 Distinct [] = Unit {0}
@@ -187,7 +187,7 @@ pub find_map : (f : List ℕ → Data) (i : List ℕ) (js : List (List ℕ)) →
 find_map f i [] h = refl
 find_map f i (j ∷ js) h = rw h.0 (find_at f i j js _ refl (find_map f i js h.1))
 
--- g is f but at i
+-- the two functions agree except at this id
 abbrev pub Changes : (List ℕ → Data) → (List ℕ → Data) → List ℕ → Type 0
 Changes f g i = (j : List ℕ) → bytes_eq i j ≡ false → g j ≡ f j
 

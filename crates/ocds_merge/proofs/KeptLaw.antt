@@ -1,4 +1,4 @@
--- Values that read back from their texts have no float, and their objects are in order.
+-- Values that are read back from their texts have no float, and their objects are in order.
 use Rattle.std.proofs.Common.{◌≡◌, ℕ, List, Bool, true, false, ◌||◌, refl, Less, Greater, pos, negsuc, ap, ◌∙◌}
 use Rattle.std.specs.Ordering.{ordering_reverse}
 use Rattle.std.proofs.lemmas.Cmp.{nat_list_cmp_total}

@@ -1,4 +1,4 @@
--- A merge of values that read back reads back.
+-- A merge of values that can be read back can be read back.
 use Rattle.std.proofs.Common.{◌≡◌, ℕ, List, [], ◌∷◌, Bool, true, false, cond, Option, Some, None, Less, Equal, Greater, Ordering, refl, unwrap_or, bytes_eq}
 use Rattle.std.specs.Ordering.{match_ordering}
 use Rattle.serde_json.specs.Data.{Data, null, boolean, number, string, array, object, Items, no_items, item, Members, no_members, member, put}
@@ -56,7 +56,7 @@ without_ordered k (member m e ms) h = go (bytes_cmp k m) (without_ordered k ms h
     go Equal rest = h.1
     go Greater rest = (without_above m k ms h.0, rest)
 
--- ---- a property of each value inside, as `TextIsKept`
+-- ---- a property of each value inside a value, such as `TextIsKept`
 
 pub put_kept : (k : List ℕ) (d : Data) (ms : Members) → TextIsKept d → AreMembersKept ms → AreMembersKept (put k d ms)
 put_kept k d no_members a h = (a, tt)
@@ -76,7 +76,7 @@ without_kept k (member m e ms) h = go (bytes_cmp k m) (without_kept k ms h.1)
     go Equal rest = h.1
     go Greater rest = (h.0, rest)
 
--- nothing, or a value that reads back
+-- nothing, or a value that can be read back
 abbrev pub IsKeptIfSome : Option Data → Type 0
 IsKeptIfSome None = Unit {0}
 IsKeptIfSome (Some d) = TextIsKept d

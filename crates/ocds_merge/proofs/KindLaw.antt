@@ -1,4 +1,4 @@
--- What the last value of a column decides, for any depth.
+-- The last value of a column decides the kind of the merge, at any depth.
 use Rattle.std.proofs.Common.{◌≡◌, ◌<◌, ℕ, suc, List, [], ◌∷◌, ◌++◌, reverse, true, false, Option, Some, unwrap_or, refl, sym, ap, ◌∙◌, arith}
 use Rattle.std.proofs.lemmas.List.{reverse-append}
 use Rattle.serde_json.specs.Data.{Data, null, array, object, Items, Members, depth}

@@ -161,7 +161,7 @@ id_at d rest inside value quote id after o f starts form plain =
     let r = plain_name s.0 id tail after plain (sym (append_assoc (escape s.0) (34 ∷ []) tail) ∙ inner) in
     ap text_id o.is ∙ id_text o.members f.old s.0 id f.found s.1 r.0
 
--- ---- items in turn
+-- ---- one item after another
 
 pub ends_before_items : (ds : Items) (rest : List ℕ) → EndsBefore (items_text true ds ++ rest)
 ends_before_items no_items rest = refl

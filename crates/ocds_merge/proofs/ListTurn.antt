@@ -1,4 +1,4 @@
--- An old item's turn in the text of an id list, and an object or a list onto one of its kind.
+-- One old item in the text of an id list is merged or copied, and an object or a list is merged into one of its kind.
 use Rattle.std.proofs.Common.{◌≡◌, ℕ, ◌<◌, List, [], ◌∷◌, ◌++◌, Bool, true, false, Option, Some, is_some, map, set, get_or, length, refl, sym, ap, ◌∙◌, subst, append_assoc, unwrap_or, arith, bytes_eq}
 use Rattle.std.proofs.lemmas.Slice.Eq.{bytes_eq-Decides}
 use Rattle.serde_json.specs.Data.{Data, null, array, object, Items, no_items, item, Members}
@@ -110,7 +110,7 @@ list_merged xs ds first out new' rest left rest' later done done' new ids distin
           ∙ append_assoc first (91 ∷ []) _,
     )
 
--- ---- an object onto an object, an id list onto an array
+-- ---- an object into an object, an id list into an array
 
 pub object_merged : (v d : Data) (ms ts : Members) (out new : List ℕ) → v ≡ object ms → d ≡ object ts → new ≡ out ++ 123 ∷ members_text false (step_members ts ms)
     → new ≡ out ++ compact_text (unwrap_or (step (Some d) v) null)

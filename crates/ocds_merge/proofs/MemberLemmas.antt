@@ -1,4 +1,4 @@
--- Members in order, seen through their look-ups.
+-- Members in order are determined by their look-ups.
 use Rattle.std.proofs.Common.{◌≡◌, ℕ, List, [], ◌∷◌, Bool, true, false, T, ◌&&◌, Option, Some, None, Ordering, Less, Equal, Greater, nat_cmp, refl, sym, ap, ◌∙◌, subst, cond}
 use Rattle.std.specs.Ordering.{match_ordering, is_eq, is_lt}
 use Rattle.std.specs.Cmp.Lexicographic.{slice_cmp}
@@ -85,7 +85,7 @@ below_step Less b x e h f = f h
 below_step Equal b x e h f = absurd h
 below_step Greater b x e h f = absurd h
 
--- a name below all is not there
+-- a name before all others isn't a member's
 pub get_below : (q : List ℕ) (ms : Members) → T (E.below_all bytes_cmp q (entries ms)) → get_member q ms ≡ None
 get_below q no_members h = refl
 get_below q (member l e ms) h = below_step (bytes_cmp q l) _ _ e h (get_below q ms)

@@ -1,4 +1,4 @@
--- A member's turn in the text of an object.
+-- One new member is merged into the text of an object.
 use Rattle.std.proofs.Common.{◌≡◌, ℕ, List, [], ◌∷◌, ◌++◌, Bool, true, false, cond, Option, Some, None, refl, sym, ap, ◌∙◌, subst, append_assoc, unwrap_or, arith}
 use Rattle.json.specs.Print.{quoted}
 use Rattle.serde_json.specs.Data.{Data, null, boolean, number, string, array, object, Members, no_members, member}
@@ -10,7 +10,7 @@ use Rattle.ocds_merge.specs.Inside.Step.{step, step_members, step_items, id_list
 use Rattle.ocds_merge.specs.Inside.Splice.{TextIsKept, AreMembersKept, IsOrdered, AllAbove, EndsBefore, no_comma, StandAt, StartsFrom, StartsWith, SameText, Passed, Merged}
 use Rattle.ocds_merge.proofs.SpliceLaw.{no_member_here, member_here, no_comma_members, after_member, above_from, with_member, turn_found, turn_absent, heads}
 
--- ---- which member comes next
+-- ---- the next member
 
 pub value_at : (name left : List ℕ) (ts : Members) (rest m whole value : List ℕ) → StandAt left ts rest → no_comma left ≡ whole → whole ≡ 34 ∷ (m ++ 34 ∷ 58 ∷ value) → IsPlain m
     → m ≡ name → StartsWith name value ts rest
@@ -50,7 +50,7 @@ others_above name value left ts rest w h = (subst IsOrdered w.is h.order).0
 pub old_kept : (name value left : List ℕ) (ts : Members) (rest : List ℕ) (w : StartsWith name value ts rest) → StandAt left ts rest → TextIsKept w.old
 old_kept name value left ts rest w h = (subst AreMembersKept w.is h.kept).0
 
--- past the old value of the name
+-- the text after the old value of the name
 pub past_old : (name value left : List ℕ) (ts : Members) (rest : List ℕ) (w : StartsWith name value ts rest) → StandAt left ts rest → (after : List ℕ) → after ≡ members_text true w.others ++ rest
     → StandAt after w.others rest
 past_old name value left ts rest w h after goes = record {

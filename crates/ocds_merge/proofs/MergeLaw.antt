@@ -1,4 +1,4 @@
--- A merge of one more value is a step from the merge of the others.
+-- The merge of one more value is a step from the merge of the others.
 use Rattle.std.proofs.Common.{◌≡◌, ◌<◌, ◌≤◌, ℕ, zero, suc, max, List, [], ◌∷◌, ◌++◌, map, filter, reverse, Bool, true, false, cond, ◌&&◌, ◌||◌, Option, Some, None, is_some, unwrap_or, refl, sym, ap, ◌∙◌, arith, bytes_eq, true≢false}
 use Rattle.std.specs.List.{list_any}
 use Rattle.std.proofs.Math.Nat.{le-max_left, le-max_right}
@@ -22,7 +22,7 @@ find_at : (n : ℕ) (i : List ℕ) (s : List Data) (b : Bool) → among i s ≡ 
 find_at n i s true e have low = sym (picked n s have low i e).is
 find_at n i s false e have low = rw (none_of i s e) (sym (empty_to n))
 
--- what stands for an id is the merge of the items with it
+-- the item with an id is the merge of the items with this id
 find_is : (n : ℕ) (i : List ℕ) (s : List Data) → HaveIds s → Below n s → find_item i (list_of n s) ≡ merge_within n (filter (has i) s)
 find_is n i s have low = find_map (merge_item (merge_within n) s) i (ids_in s) (named n s have low) ∙ find_at n i s _ refl have low
 
@@ -69,7 +69,7 @@ items_law n steps (item d ds) s all low p have below =
     ap (λ (ts : List Data). step_items ts ds) (turn n d s low_d p.0 have below steps)
     ∙ items_law n steps ds (d ∷ s) (and_right (is_some (text_id d)) (all_have_id ds) all) low_ds p.1 (id, have) (low_d, below)
 
--- ---- what the columns of id lists owe
+-- ---- the conditions on the columns of id lists
 
 pub onto_below : (n : ℕ) (ds : Items) (s : List Data) → items_depth ds < n → Below n s → Below n (items_ahead ds s)
 onto_below n no_items s h g = g
@@ -103,7 +103,7 @@ lists_have (object b ∷ vs) = tt
 lists_have (array ds ∷ vs) =
     elim (is_id_list ds) as (λ b. is_id_list ds ≡ b → HaveIds (items_in (cond b (ds ∷ id_list_run vs) []))) [ true ↦ λ e. onto_have ds _ (all_have ds e) (lists_have vs) | false ↦ λ e. tt ] refl
 
--- ---- what a merge's id list is
+-- ---- the id list of a merge
 
 pub items_list-items_of : (xs : List Data) → items_list (items_of xs) ≡ xs
 items_list-items_of [] = refl

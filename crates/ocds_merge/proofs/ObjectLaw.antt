@@ -1,4 +1,4 @@
--- Objects: what a merge has at a name, and one more object.
+-- Objects: the value that a merge has at a name, and one more object.
 use Rattle.std.proofs.Common.{◌≡◌, ◌<◌, ℕ, suc, List, [], ◌∷◌, ◌++◌, Bool, true, false, cond, ◌||◌, Option, Some, None, option_to_list, Ordering, Less, Equal, Greater, refl, sym, ap, ◌∙◌, subst, arith, bytes_eq, true≢false}
 use Rattle.std.specs.List.{list_any, AllByRecursion}
 use Rattle.std.specs.List.Sorted.{IsStrictlySortedBy}
@@ -17,7 +17,7 @@ use Rattle.ocds_merge.specs.Inside.Step.{step, step_members}
 use Rattle.ocds_merge.specs.Laws.{IsProper, AreMembersProper}
 use Rattle.ocds_merge.proofs.MemberLemmas.{bytes_cmp, IsSorted, same_members, skips, get_delete, get_delete_other, sorted_delete, sorted_put_some, get_put_some, get_put_some_other}
 
--- each value nests less than n levels
+-- each value nests less than `n` levels
 abbrev pub Below : ℕ → List Data → Type 0
 Below n [] = Unit {0}
 Below n (v ∷ vs) = (depth v < n) × Below n vs
@@ -98,7 +98,7 @@ at_any : (M : List Data → Option Data) → M [] ≡ None → (q : List ℕ) (r
 at_any M none q run true e = refl
 at_any M none q run false e = sym (ap M (no_column q run e) ∙ none)
 
--- at each name stands the merge of its column_at
+-- at each name there is the merge of its column
 pub get_objects : (M : List Data → Option Data) → M [] ≡ None → (run : List Members) (q : List ℕ) → get_member q (merge_objects M run) ≡ M (column_at q run)
 get_objects M none run q = get_names M run q (names_in run) ∙ at_any M none q run _ refl
 
@@ -141,7 +141,7 @@ sorted_step (member k d ms) ts s = sorted_step ms (put_present k (step (get_memb
 
 -- ---- one more object
 
--- what the levels below owe
+-- the law for the levels below
 abbrev pub Steps : ℕ → (List Data → Option Data) → Type 0
 Steps n M = (d : Data) (vs : List Data) → depth d < n → IsProper d → Below n vs → M (d ∷ vs) ≡ step (M vs) d
 

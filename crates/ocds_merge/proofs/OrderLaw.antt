@@ -1,4 +1,4 @@
--- The order of the releases: no later date before an earlier one, and releases of one date as they were.
+-- The order of the releases: no later date before an earlier one, and releases of one date in their previous order.
 use Rattle.std.proofs.Common.{◌≡◌, ℕ, List, [], ◌∷◌, filter, map, Bool, true, false, cond, Ordering, Less, Equal, Greater, refl, sym, ap, ◌∙◌, true≢false}
 use Rattle.std.specs.Ordering.{match_ordering, is_lt, ordering_reverse}
 use Rattle.std.proofs.lemmas.Slice.Eq.{bytes_eq-Decides}
@@ -34,7 +34,7 @@ order_stays (d ∷ ds) h = ap (insert_by_date d) (order_stays ds (tail_ordered d
 pub kept_tree_compiles : (ocid : List ℕ) (ds : List Data) → IsInDateOrder ds → compiled_release ocid ds ≡ with_head ocid (last_date ds) (merge_or_null (map body_of ds))
 kept_tree_compiles ocid ds h = ap (λ (xs : List Data). with_head ocid (last_date xs) (merge_or_null (map body_of xs))) (order_stays ds h)
 
--- ---- what goes in stays in order
+-- ---- an inserted release keeps the order
 
 abbrev Follows : Data → List Data → Type 0
 Follows e [] = Unit {0}

@@ -1,4 +1,4 @@
--- A value that a text begins with, by its first byte.
+-- The value at the front of a text, decided by its first byte.
 use Rattle.std.proofs.Common.{◌≡◌, ◌==◌, ℕ, ◌+◌, ◌-◌, ◌≤◌, suc, List, [], ◌∷◌, ◌++◌, Bool, true, false, Greater, refl, sym, ap, ◌∙◌, subst, arith, length, append_assoc}
 use Rattle.std.proofs.lemmas.List.{length-append}
 use Rattle.std.specs.Prelude.{IsTrue}
@@ -45,7 +45,7 @@ array_passed text after rest first deep e is some p = record {
     nested : (n deep : ℕ) → (deep ≡ 0 → ⊥) → n ≤ deep - 1 → suc n ≤ deep
     nested n deep some h = omega arith
 
--- the same, where what is inside may nest one level less
+-- an object is passed if its members are, which may nest one level less
 pub object_inside : (text after rest : List ℕ) (deep inside : ℕ) → text ≡ 123 ∷ after → deep ≡ inside + 1 → PassedMembers after rest inside → Passed text rest deep
 object_inside text after rest deep inside e more p =
     let less : inside ≡ deep - 1 = omega (arith, more) in
@@ -73,7 +73,7 @@ member_before later k d ms left one value after rest a b v e =
     a ∙ ap (λ (t : List ℕ). comma_if later ++ t) (b ∙ ap (λ (t : List ℕ). quoted k ++ 58 ∷ t) (v ∙ ap (λ (t : List ℕ). compact_text d ++ t) e))
     ∙ sym (group_member (comma_if later) (quoted k) (compact_text d) (members_text true ms) rest)
 
--- a name of bytes that stand for themselves is written as it is
+-- a name of bytes without escapes is written as it is
 pub name_passed : (text inside after value name : List ℕ) → text ≡ 34 ∷ inside → inside ≡ name ++ 34 ∷ after → AllStandForThemselves name → after ≡ 58 ∷ value → text ≡ quoted name ++ 58 ∷ value
 name_passed text inside after value name e f plain h =
     e ∙ ap (λ (t : List ℕ). 34 ∷ t)
@@ -85,7 +85,7 @@ pub plain_passed : (text inside after value name : List ℕ) → text ≡ 34 ∷
     → (text ≡ 34 ∷ (name ++ 34 ∷ 58 ∷ value)) × IsPlain name
 plain_passed text inside after value name e f plain h = (e ∙ ap (λ (t : List ℕ). 34 ∷ t) (f ∙ ap (λ (t : List ℕ). name ++ 34 ∷ t) h), plain_of name plain)
 
--- a member of which the name comes after the last one, with those after it
+-- a member whose name comes after the last one, with the members after it
 pub in_turn : (later : Bool) (last k : List ℕ) (d : Data) (ms : Members) → (IsTrue later → bytes_cmp k last ≡ Greater) → AllAbove k ms → AllAfter later last (member k d ms)
 in_turn false last k d ms h above = tt
 in_turn true last k d ms h above =
@@ -97,14 +97,14 @@ pub none_after : (later : Bool) (last : List ℕ) → AllAfter later last no_mem
 none_after false last = tt
 none_after true last = tt
 
--- nothing more, and the closing bracket
+-- no more items or members, but the closing bracket
 pub items_over : (text rest : List ℕ) (later : Bool) (deep : ℕ) → text ≡ 93 ∷ rest → ItemsFrom text later rest deep
 items_over text rest later deep is = record { items = no_items; kept = tt; shallow = omega arith; is = is }
 
 pub members_over : (text last rest : List ℕ) (later : Bool) (deep : ℕ) → text ≡ 125 ∷ rest → MembersFrom text later last rest deep
 members_over text last rest later deep is = record { members = no_members; after = none_after later last; kept = (tt, tt); shallow = omega arith; is = is }
 
--- an item more in front, a member more in front
+-- one more item, or one more member, at the front
 pub item_read : (text one after : List ℕ) (later : Bool) (deep : ℕ) → text ≡ comma_if later ++ one → Passed one after deep → (rest : List ℕ) → ItemsFrom after true rest deep → ItemsFrom text later rest deep
 item_read text one after later deep comma v rest m = record {
   items = item v.value m.items;
@@ -129,7 +129,7 @@ member_read text later last name value after deep n v rest m = record {
     deeper : (k : List ℕ) (d : Data) (ms : Members) (deep : ℕ) → depth d ≤ deep → members_depth ms ≤ deep → members_depth (member k d ms) ≤ deep
     deeper k d ms deep low lower = omega arith
 
--- what stands behind a comma that must be there
+-- the text after a comma that must be there
 pub no_comma_at : (later : Bool) (text whole s : List ℕ) (c : ℕ) → text ≡ comma_if later ++ whole → whole ≡ c ∷ s → (c == 44) ≡ false → no_comma text ≡ whole
 no_comma_at true text whole s c is form other = ap no_comma is
 no_comma_at false text whole s c is form other = ap no_comma (is ∙ form) ∙ led c s other ∙ sym form
@@ -137,7 +137,7 @@ no_comma_at false text whole s c is form other = ap no_comma (is ∙ form) ∙ l
     led : (c : ℕ) (s : List ℕ) → (c == 44) ≡ false → no_comma (c ∷ s) ≡ c ∷ s
     led c s other = rw other refl
 
--- ---- where what was passed ends
+-- ---- the end of a value that was passed
 
 pub passed_scans : (text rest : List ℕ) (deep : ℕ) → Passed text rest deep → EndsBefore rest → rest ≡ scan 0 between text
 passed_scans text rest deep p ends = sym (ap (scan 0 between) p.is ∙ scan-value 0 p.value rest p.kept ∙ ends)
@@ -151,7 +151,7 @@ pub members_scan : (text last rest : List ℕ) (later : Bool) (deep : ℕ) → M
 members_scan text last rest later deep m ends =
     sym (ap (λ (t : List ℕ). scan 1 between (no_comma t)) m.is ∙ ap (scan 1 between) (no_comma_members later m.members rest) ∙ scan-members 0 false m.members rest m.kept.1 ∙ ends)
 
--- from the start of an object, where no name is the last
+-- the members of an object from its start, where there is no last name
 pub members_begun : (inside text last rest : List ℕ) (later : Bool) (deep : ℕ) → text ≡ inside → later ≡ false → MembersFrom text later last rest deep → PassedMembers inside rest deep
 members_begun inside text last rest later deep is none m = record {
   members = m.members;

@@ -1,4 +1,4 @@
--- Items in turn: an old one is copied or merged with the new one of its id, and the new ones that are left come at the end.
+-- Items one after another: an old item is copied, or merged with the new one of its id; the remaining new items come at the end.
 use Rattle.std.proofs.Common.{◌≡◌, ℕ, ◌<◌, ◌+◌, zero, suc, List, [], ◌∷◌, ◌++◌, Bool, true, false, Option, Some, None, is_some, map, take, drop, set, length, get_or, replicate, refl, sym, ap, ◌∙◌, subst, arith, bytes_eq, append_assoc, unwrap_or, true≢false}
 use Rattle.std.proofs.lemmas.Slice.Eq.{bytes_eq-Decides}
 use Rattle.serde_json.specs.Data.{Data, null, array, Items, no_items, item}
@@ -37,7 +37,7 @@ distinct_pending (d ∷ ds) [] h = h
 distinct_pending (d ∷ ds) (true ∷ done) h = distinct_pending ds done h.1
 distinct_pending (d ∷ ds) (false ∷ done) h = (lacks_pending (id_of d) ds done h.0, distinct_pending ds done h.1)
 
--- each is an object with an id, which a merge keeps
+-- each is an object with an id, and a merge keeps its id
 abbrev pub KeepIds : List Data → Type 0
 KeepIds [] = Unit {0}
 KeepIds (d ∷ ds) = (IsProper d × (is_some (text_id d) ≡ true)) × KeepIds ds
@@ -70,7 +70,7 @@ stays t ts [] h = refl
 stays t ts (p ∷ ps) h =
     ap (λ (x : List Data). step_list x ps) (apart_with t p ts (flipped (id_of p) (id_of t) h.0)) ∙ stays t (with_item p ts) ps h.1
 
--- ---- one that is merged
+-- ---- an old item that is merged
 
 abbrev pub merged_with : Data → Data → Data
 merged_with t d = unwrap_or (step (Some t) d) null
@@ -155,7 +155,7 @@ pub old_list : (ds : Items) → all_have_id ds ≡ true → id_list_of (Some (ar
 old_list no_items e = refl
 old_list (item d ds) e = rw e refl
 
--- ---- the pending items as they are written
+-- ---- the text of the pending items
 
 pending_item : (d : Data) (ds : List Data) (is_done : Bool) (done : List Bool) → items_of (map alone (pending (d ∷ ds) (is_done ∷ done))) ≡ unless is_done (alone d) (items_of (map alone (pending ds done)))
 pending_item d ds true done = refl

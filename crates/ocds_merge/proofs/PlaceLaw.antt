@@ -1,4 +1,4 @@
--- Places by id: what an index of a list is after a change of the list.
+-- Places by id: the index of a list after a change of the list.
 use Rattle.std.proofs.Common.{◌≡◌, ◌<◌, ℕ, zero, suc, List, [], ◌∷◌, ◌++◌, map, set, length, get_or, Bool, true, false, cond, Option, Some, None, is_some, option_map, String, Global, refl, sym, ap, ◌∙◌, subst, arith, bytes_eq, true≢false}
 use Rattle.std.proofs.lemmas.List.{length-map, set-set, map-set, map-append}
 use Rattle.std.specs.BTreeMap.{BTreeMap, get_by_text}
@@ -33,7 +33,7 @@ lacks_at (Some p) i ds h e = absurd (true≢false e)
 pub lacks_from : (i : List ℕ) (ds : List Data) → is_some (place_in i ds) ≡ false → Lacks i ds
 lacks_from i ds e = lacks_at (place_in i ds) i ds (stands i ds) e
 
--- an item in the place of one with the same id
+-- the places after an item replaces one with the same id
 pub place_set : (i : List ℕ) (ds : List Data) (p : ℕ) (x : Data) → p < length ds → id_of x ≡ id_of (get_or ds p null) → place_in i (set ds p x) ≡ place_in i ds
 place_set i [] p x low e = absurd (omega arith)
 place_set i (d ∷ ds) zero x low e = ap (λ (j : List ℕ). cond (bytes_eq j i) (Some 0) (option_map suc (place_in i ds))) e
@@ -85,7 +85,7 @@ pub index_known : (m : BTreeMap (String Global) ℕ) (ds : List Data) (d : Data)
     → IsIndexOf m (ds ++ d ∷ [])
 index_known m ds d h known = λ i. h i ∙ sym (pushed i ds d ∙ known_at _ i ds d refl known)
 
--- what serves a list serves it after an item is put in the place of one with the same id
+-- an index of a list is an index of the list in which an item replaced one with the same id
 pub serves_set : (kept : Option (BTreeMap (String Global) ℕ)) (ds : List Data) (p : ℕ) (x : Data) → IndexServes kept ds → p < length ds
     → id_of x ≡ id_of (get_or ds p null) → IndexServes kept (set ds p x)
 serves_set None ds p x h low e = tt

@@ -1,4 +1,4 @@
--- Bytes of strings that stand for themselves.
+-- Bytes of strings that need no escape.
 use Rattle.std.proofs.Common.{◌≡◌, ℕ, List, [], ◌∷◌, ◌++◌, refl, sym, ap, ◌∙◌, append_assoc}
 use Rattle.std.proofs.lemmas.Bool.{ne_eqb}
 use Rattle.std.proofs.lemmas.Grind.{flat_map-append}
@@ -25,7 +25,7 @@ pub plain_escape : (s : List ℕ) → AllStandForThemselves s → escape s ≡ s
 plain_escape [] h = refl
 plain_escape (c ∷ s) h = ap (λ (t : List ℕ). t ++ escape s) (escape_byte_plain c h.0.1 h.0.2 h.0.0) ∙ ap (λ (t : List ℕ). c ∷ t) (plain_escape s h.1)
 
--- more of a string: bytes that stand for themselves, perhaps after an escape
+-- a longer part of a string: more bytes without escapes, perhaps after an escape
 pub escape_more : (s p text left rest : List ℕ) → AllStandForThemselves p → text ≡ escape s ++ left → left ≡ p ++ rest → text ≡ escape (s ++ p) ++ rest
 escape_more s p text left rest h e f =
     e ∙ ap (λ (t : List ℕ). escape s ++ t) (f ∙ ap (λ (t : List ℕ). t ++ rest) (sym (plain_escape p h)))

@@ -1,4 +1,4 @@
--- What was read is in order, and what is in order reads back.
+-- A value that was read is in order, and a value in order is read back.
 use Rattle.std.proofs.Common.{◌≡◌, ℕ, ◌^◌, ◌<◌, ◌≤◌, zero, suc, max, pos, negsuc, neg_ℤ, List, [], Bool, true, false, cond, ◌&&◌, ◌==◌, Option, Some, None, option_map, option_and_then, Ordering, Less, Equal, Greater, refl, sym, ap, ap₂, ◌∙◌, subst, arith, get_or, nat_lt, nat_le, drop, append-nil, true≢false}
 use Rattle.std.specs.Prelude.{⊤}
 use Rattle.std.specs.Float.{binary64, float_is_finite}
@@ -24,7 +24,7 @@ use Rattle.ocds_merge.proofs.IdLaw.{first_id, other_ids}
 use Rattle.ocds_merge.proofs.KeptStep.{put_ordered}
 use Rattle.ocds_merge.proofs.ReadLaw.{whole_read, item_converts, member_converts}
 
--- ---- what a reader may give: `TextIsKept`, but for floats
+-- ---- the values that a reader may return: `TextIsKept`, or floats
 
 abbrev IsReadNumber : Num → Type 0
 IsReadNumber (unsigned n) = n < 2 ^ 64
@@ -153,7 +153,7 @@ pub read_kept : (text : List ℕ) (d : Data) → read text ≡ Some d → has_fl
 read_kept text d e plain =
     was_kept d (subst (Holds WasRead) e (holds_and_then (λ (j : json.Json). ⊤) WasRead of_json (λ j x. json_read j) (option_and_then (λ p. json.if_last p.0 p.1) (json.value max_depth (tokens text))) (anything _))) plain
 
--- ---- the other way
+-- ---- the other direction
 
 join : Members → Members → Members
 join no_members ms = ms

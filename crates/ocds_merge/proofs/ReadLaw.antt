@@ -1,4 +1,4 @@
--- What reads as a value, by its parts.
+-- Reading a text as a value, by its parts.
 use Rattle.std.proofs.Common.{◌≡◌, ℕ, List, [], ◌∷◌, Option, Some, None, refl, sym, ap, ◌∙◌, length, option_map, option_and_then}
 use Rattle.json.specs.Token.{Token}
 use Rattle.json.specs.Lex.{tokens, lex, punctuate, between, fresh}
@@ -27,7 +27,7 @@ pub nothing_read : (merge : Data) → read [] ≡ Some merge → ⊥
 unfolding serde_json_on_literals
 nothing_read merge is = cc is
 
--- ---- what begins with an opening bracket
+-- ---- texts that begin with an opening bracket
 
 converted : (o : Option Members) (d : Data) → option_map object o ≡ Some d → (ms : Members) × (d ≡ object ms)
 converted None d is = absurd cc
@@ -39,7 +39,7 @@ object_whole None d is = absurd cc
 object_whole (Some (ms, [])) d is = converted (of_members ms no_members) d is
 object_whole (Some (ms, t ∷ ts)) d is = absurd cc
 
--- the members that follow the bracket, as they are parsed
+-- the members after the bracket, as they are parsed
 members_after : List ℕ → Option (json.Members × List Token)
 members_after rest = let ts = punctuate fresh (lex between rest) in json.members (json.value 126) (length ts) ts
 
@@ -70,7 +70,7 @@ pub read_past_tab : (rest : List ℕ) → read (9 ∷ rest) ≡ read rest
 unfolding serde_json_on_literals
 read_past_tab rest = refl
 
--- ---- behind spaces, where a text reads as what is left of it
+-- ---- a text with spaces in front reads as the text after them
 
 pub past_space : (text left rest : List ℕ) (first : ℕ) → read text ≡ read left → left ≡ first ∷ rest → ((r : List ℕ) → read (first ∷ r) ≡ read r) → read text ≡ read rest
 past_space text left rest first same is space = same ∙ ap read is ∙ space rest

@@ -19,7 +19,7 @@ use Rattle.ocds_merge.proofs.StorableLaw.{OptBelow, merge_below}
 
 -- ---- the ids of a list with one item for each id
 
--- none of these ids is known
+-- none of these ids is among the known ones
 abbrev Apart : List (List ℕ) → List (List ℕ) → Type 0
 Apart [] known = Unit {0}
 Apart (j ∷ js) known = (list_any (bytes_eq j) known ≡ false) × Apart js known
@@ -152,6 +152,6 @@ settled vs =
     let n = suc (deepest_of (reverse vs)) in
     settled_at n (merge_of vs) (merge_below n n (reverse vs) (below_deepest (reverse vs))) (settled_within n (reverse vs) (below_deepest (reverse vs)))
 
--- the merge of some values and one more is the merge of the former's merge and that one
+-- the merge of some values and one more is the merge of the former's merge and the new one
 pub one_more : (vs : List Data) (v : Data) → IsProper v → merge_of (vs ++ v ∷ []) ≡ merge_of (merge_or_null vs ∷ v ∷ [])
 one_more vs v p = merged_law vs v p ∙ ap (λ (t : Option Data). step t v) (sym (settled vs)) ∙ sym (merged_law (merge_or_null vs ∷ []) v p)

@@ -1,4 +1,4 @@
--- A stable sort by the dates gives the order of the releases: only one list is in order and has the same releases of each date.
+-- A stable sort by dates gives the order of the releases: only one list is in order and has the same releases of each date.
 use Rattle.std.proofs.Common.{◌≡◌, ◌+◌, ℕ, suc, List, [], ◌∷◌, map, filter, get_or, Bool, true, false, cond, not, ◌&&◌, Ordering, Less, Equal, Greater, ◌⊎◌, inl, inr, refl, sym, ap, ◌∙◌, subst, arith, true≢false}
 use Rattle.std.specs.Cmp.{IsStrictWeakOrder}
 use Rattle.std.specs.Ordering.{is_lt, is_eq, ordering_reverse}
@@ -82,7 +82,7 @@ only_order (d ∷ ds) (e ∷ es) left right same =
     ] in
     ap (λ (w : Data). w ∷ ds) head ∙ ap (λ (l : List Data). e ∷ l) (only_order ds es (tail_ordered d ds left) (tail_ordered e es right) tails)
 
--- ---- what a stable sort gives
+-- ---- the result of a stable sort
 
 module _ {A : Type 0} (seen : A → Data) where
   abbrev pub earlier : A → A → Bool

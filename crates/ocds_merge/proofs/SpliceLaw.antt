@@ -1,4 +1,4 @@
--- The members and items of a merge, in the order in which a text is gone through.
+-- The members and items of a merge, in the order in which a text is read.
 use Rattle.std.proofs.Common.{◌≡◌, ◌≢◌, ℕ, ◌+◌, ◌-◌, ◌<◌, List, [], ◌∷◌, ◌++◌, Bool, true, false, Option, Some, None, Less, Equal, Greater, refl, sym, ap, ◌∙◌, subst, append_assoc, decimal, arith, length, cond, ◌==◌, pos, negsuc, suc, ◌⊎◌, inl, inr, ◌≤◌, Ordering, MatchOption, unwrap_or}
 use Rattle.std.specs.Ordering.{ordering_reverse}
 use Rattle.std.proofs.lemmas.List.{length-append}
@@ -93,13 +93,13 @@ mutual
       ap (scan (n + 1) between) (group_member (comma_if later) (quoted k) (compact_text d) (members_text true ms) r)
       ∙ scan-comma later n _ ∙ scan-quoted (n + 1) k _ ∙ scan-value (n + 1) d (members_text true ms ++ r) h.0 ∙ scan-members n true ms r h.1
 
--- ---- members in turn
+-- ---- members one after another
 
 put_past : (k l : List ℕ) (o : Option Data) (e : Data) (ms : Members) → bytes_cmp k l ≡ Greater → put_present k o (member l e ms) ≡ member l e (put_present k o ms)
 put_past k l None e ms h = refl
 put_past k l (Some d) e ms h = rw h refl
 
--- a member below all names of the other object stays as it is
+-- a member that comes before all names of the other object stays as it is
 pub passes_over : (l : List ℕ) (e : Data) (ms ts : Members) → AllAbove l ms → step_members (member l e ts) ms ≡ member l e (step_members ts ms)
 passes_over l e no_members ts h = refl
 passes_over l e (member k d ms) ts h =
@@ -183,7 +183,7 @@ plain_name (x ∷ k) name a b p h = plain_at x k name a b p (sym (append_assoc (
 
 -- ---- the next member
 
--- where a member is read, there is one, and this is what comes of it
+-- if a member is read, there is one: its name, and the text from its value on
 pub no_member_here : (rest s : List ℕ) {A : Type 0} → members_text false no_members ++ rest ≡ 34 ∷ s → A
 no_member_here rest s h = absurd (let e : 125 ≡ 34 = heads 125 34 rest s h in omega (arith, e))
 
@@ -196,7 +196,7 @@ member_here k name value rest d ts p h =
     let r = plain_name k name (58 ∷ (compact_text d ++ (members_text true ts ++ rest))) (58 ∷ value) p (sym (append_assoc (escape k) (34 ∷ []) _) ∙ inside) in
     (r.0, sym (tails 58 58 _ _ r.1))
 
--- after a member: the text of the others, which ends a value
+-- the text of the members after one, which ends a value
 pub ends_before_members : (ts : Members) (rest : List ℕ) → EndsBefore (members_text true ts ++ rest)
 ends_before_members no_members rest = refl
 ends_before_members (member k d ts) rest = refl
@@ -266,12 +266,12 @@ pub pass_one : (name m : List ℕ) (d : Data) (ms ts : Members) (rest old : List
     → Passed name d ms ts rest old later left' new' true
 pass_one name m d ms ts rest old later left new more whole value left' new' p = pass_at name m d ms ts rest old later left new more whole value left' new' p.others p.stand p.same
 
--- none is left
+-- no member is left
 pub none_left : (name left : List ℕ) (ts : Members) (rest s : List ℕ) → StandAt left ts rest → no_comma left ≡ 125 ∷ s → StartsFrom name ts
 none_left name left no_members rest s h e = tt
 none_left name left (member k d ts) rest s h e = absurd (let z : 34 ≡ 125 = heads 34 125 _ s (sym h.stands ∙ e) in omega (arith, z))
 
--- the next one is not below
+-- the next member doesn't come before this name
 pub not_below : (name left : List ℕ) (ts : Members) (rest m whole value : List ℕ) → StandAt left ts rest → no_comma left ≡ whole → whole ≡ 34 ∷ (m ++ 34 ∷ 58 ∷ value) → IsPlain m
     → bytes_cmp name m ≢ Greater → StartsFrom name ts
 not_below name left no_members rest m whole value h is form plain other = tt
@@ -285,7 +285,7 @@ some_case {A} N S o x e h = subst (λ (r : Option A). MatchOption r N S) e h
 pub none_case : {A : Type 0} (N : Type 0) (S : A → Type 0) (o : Option A) → o ≡ None → MatchOption o N S → N
 none_case {A} N S o e h = subst (λ (r : Option A). MatchOption r N S) e h
 
--- ---- what is left gets shorter
+-- ---- the remaining text gets shorter
 
 shorter_at : (b : Bool) (c : ℕ) (r : List ℕ) → length (cond b r (c ∷ r)) ≤ suc (length r)
 shorter_at true c r = omega arith
@@ -302,7 +302,7 @@ after_shorter left whole m value after is form low =
     let e : length (m ++ 34 ∷ 58 ∷ value) ≡ length m + suc (suc (length value)) = length-append m (34 ∷ 58 ∷ value) in
     omega (arith, a, b, e, low)
 
--- ---- the members that are left
+-- ---- the remaining members
 
 pub rest_at : (later : Bool) (ts : Members) (rest left whole after new old : List ℕ) (comma : Bool) → StandAt left ts rest → EndsBefore rest → whole ≡ no_comma left → after ≡ scan 1 between whole
     → ((s : List ℕ) → whole ≡ 125 ∷ s → comma ≡ false) → ((c : ℕ) (s : List ℕ) → whole ≡ c ∷ s → c ≢ 125 → comma ≡ later)
@@ -319,7 +319,7 @@ rest_at later (member k d ts) rest left whole after new old comma h ends is scan
     let same : comma ≡ later = on 34 _ all (λ z. omega (arith, z)) in
     (goes, copied (members_text false ms) (all ∙ ap (λ (s : List ℕ). members_text false ms ++ s) (sym goes)) ∙ ap (λ (b : Bool). old ++ (comma_if b ++ members_text false ms)) same)
 
--- ---- a member's turn
+-- ---- one member is merged
 
 abbrev pub with_member : List ℕ → Option Data → Members → Members
 with_member k None ms = ms
@@ -338,7 +338,7 @@ turn_found name e d ts ms a b =
     ∙ ap (λ (r : Members). step_members (put_present name (step (Some e) d) r) ms) out
     ∙ present name (step (Some e) d) ts ms a b
 
--- the old object lacks it
+-- the old object doesn't have the name
 pub turn_absent : (name : List ℕ) (d : Data) (ts ms : Members) → AllAbove name ts → AllAbove name ms
     → step_members ts (member name d ms) ≡ with_member name (step None d) (step_members ts ms)
 turn_absent name d ts ms a b =
@@ -351,7 +351,7 @@ less_from Less g e = refl
 less_from Equal g e = absurd (e refl)
 less_from Greater g e = absurd (g refl)
 
--- no name before this one, and the next isn't this one
+-- no name comes before this one, and the next isn't this one
 pub above_from : (name l : List ℕ) (e : Data) (ts : Members) → IsOrdered (member l e ts) → bytes_cmp name l ≢ Greater → (name ≡ l → ⊥) → AllAbove name (member l e ts)
 above_from name l e ts h start other =
     let less : bytes_cmp name l ≡ Less = less_from (bytes_cmp name l) start (λ q. other (exact_bytes name l q)) in
@@ -359,6 +359,6 @@ above_from name l e ts h start other =
 
 -- ---- a new value
 
--- what it merges to has no float where it has none
+-- the merge of a value without floats has no float
 pub new_plain : (v : Data) → IsProper v → has_float v ≡ false → has_float (unwrap_or (step None v) null) ≡ false
 new_plain v p h = or_null_plain (step None v) (subst OptPlain (merged_law [] v p) (merged_plain (v ∷ []) (h, tt)))

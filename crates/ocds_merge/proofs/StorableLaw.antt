@@ -1,4 +1,4 @@
--- A merge nests no deeper than its values, and has a float only where one of them has.
+-- A merge nests no deeper than its values, and has a float only if one of them has.
 use Rattle.std.proofs.Common.{◌≡◌, ◌<◌, ◌≤◌, ℕ, zero, suc, max, List, All, [], ◌∷◌, ◌++◌, map, filter, reverse, Bool, true, false, cond, ◌||◌, Option, Some, None, option_to_list, unwrap_or, Ordering, Less, Equal, Greater, refl, sym, subst, arith, codes}
 use Rattle.std.specs.Ordering.{match_ordering}
 use Rattle.std.proofs.lemmas.List.{reverse-append}

@@ -1,4 +1,4 @@
--- The text that comes of a stored one.
+-- The text after a merge into a stored text.
 use Rattle.std.proofs.Common.{◌≡◌, List, ℕ, [], ◌∷◌, ◌++◌, Option, Some, None, refl, sym, ap, ◌∙◌, subst, unwrap_or, All, arith}
 use Rattle.std.proofs.lemmas.List.{get_or_append_left, length-append}
 use Rattle.serde_json.specs.Data.{Data, null, boolean, number, string, array, object}
@@ -15,7 +15,7 @@ use Rattle.ocds_merge.proofs.KeptLaw.{kept_proper}
 use Rattle.ocds_merge.proofs.KeptStep.{step_kept, or_null_kept}
 use Rattle.ocds_merge.proofs.ReadKept.{read_kept, kept_reads}
 
--- onto `null` a value merges as onto nothing
+-- a value merges into `null` as into nothing
 onto_null : (v : Data) → step (Some null) v ≡ step None v
 onto_null null = refl
 onto_null (boolean b) = refl
@@ -40,7 +40,7 @@ one_more vs v kept =
 all_before : (vs : List Data) (v : Data) → All IsStorable (vs ++ v ∷ []) → All IsStorable vs
 all_before vs v h = λ k d low. subst IsStorable (get_or_append_left vs (v ∷ []) d k low) (h k d (omega (arith, length-append vs (v ∷ []))))
 
--- a text that reads as a value, and is the compact text of what it reads as, is that of this value
+-- a text that is read as a value, and is the compact text of the value that it is read as, is the text of this value
 pub text_of_read : (text : List ℕ) (d : Data) → Reads text → read text ≡ Some d → text ≡ compact_text d
 text_of_read text d p reads = p.is ∙ ap (λ (o : Option Data). compact_text (unwrap_or o null)) (sym p.reads ∙ reads)
 

@@ -8,11 +8,11 @@ use Rattle.ocds_merge.specs.Merge.{merge_or_null}
 
 -- ---- the order of the releases
 
--- the text of a release's `date`; empty where it has none
+-- the text of a release's `date`, or an empty text if it has none
 abbrev pub date_of : Data → List ℕ
 date_of d = unwrap_or (option_and_then as_str (get (codes "date") d)) []
 
--- before the first release that isn't earlier
+-- inserts a release before the first one that isn't earlier
 abbrev pub insert_by_date : Data → List Data → List Data
 insert_by_date d [] = d ∷ []
 insert_by_date d (e ∷ es) = match_ordering (slice_cmp nat_cmp (date_of e) (date_of d)) (e ∷ insert_by_date d es) (d ∷ e ∷ es) (d ∷ e ∷ es)
@@ -28,7 +28,7 @@ last_date ds = date_of (get_or ds (length ds - 1) null)
 
 -- ---- the head of a release: `id`, `date`, `tag`
 
--- the members but the one under this name
+-- the members without the one of this name
 abbrev pub members_without : List ℕ → Members → Members
 members_without k no_members = no_members
 members_without k (member l e ms) = match_ordering (slice_cmp nat_cmp k l) (member l e (members_without k ms)) ms (member l e (members_without k ms))
@@ -42,7 +42,7 @@ body_of (string s) = string s
 body_of (array ds) = array ds
 body_of (object ms) = object (members_without (codes "id") (members_without (codes "date") (members_without (codes "tag") ms)))
 
--- `["compiled"]`
+-- the tag of a compiled release, `["compiled"]`
 abbrev pub compiled_tag : Data
 compiled_tag = array (item (string (codes "compiled")) no_items)
 
@@ -51,7 +51,7 @@ abbrev pub put_head : List ℕ → List ℕ → Members → Members
 put_head ocid date ms =
     put (codes "id") (string (ocid ++ 45 ∷ date)) (put (codes "date") (string date) (put (codes "tag") compiled_tag ms))
 
--- a merge with the head of a compiled release; what is no object has no head. Example: `head`.
+-- A merge with the head of a compiled release. A value that is no object stays as it is. Example: `head`.
 abbrev pub with_head : List ℕ → List ℕ → Data → Data
 with_head ocid date null = null
 with_head ocid date (boolean b) = boolean b
@@ -60,7 +60,7 @@ with_head ocid date (string s) = string s
 with_head ocid date (array ds) = array ds
 with_head ocid date (object ms) = object (put_head ocid date ms)
 
--- ---- the whole
+-- ---- the compiled release
 
 -- "The compiled release is the merge of the releases, in order of date, without their own heads, with a head of its own." Example: `compiled`.
 abbrev pub compiled_release : List ℕ → List Data → Data

@@ -1,4 +1,4 @@
--- The definitions on JSON texts, for the worked examples of `src/examples.rt`. Runs and items stand newest first, as in the definitions.
+-- The definitions applied to JSON texts, for the worked examples of `src/examples.rt`. Runs and items are listed newest first, as in the definitions.
 use Rattle.std.specs.Prelude.{ℕ, List, map, reverse, Bool, unwrap_or}
 use Rattle.serde_json.specs.Data.{Data, null, boolean, number, string, array, object, Items, no_items, Members}
 use Rattle.serde_json.specs.Read.{read}

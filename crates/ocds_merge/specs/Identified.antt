@@ -1,14 +1,14 @@
--- Id lists: which arrays name their items by id, as `parties`, `tender/lots` and `awards` do. OCDS 1.1, "Merging", names these by the schema;
--- this profile goes by what stands in the array.
+-- Id lists: the arrays whose items are known by their ids, such as `parties`, `tender/lots` and `awards`. OCDS 1.1, "Merging", names these arrays by the
+-- schema; this profile decides by the content of the array.
 use Rattle.std.specs.Prelude.{ℕ, List, [], codes, Bool, true, false, ◌&&◌, Option, is_some, option_and_then, unwrap_or}
 use Rattle.serde_json.specs.Data.{Data, Items, no_items, item}
 use Rattle.serde_json.specs.Find.{get, as_str}
 
--- the text `id` of an object; any other value has none
+-- the text `id` of an object; other values have none
 abbrev pub text_id : Data → Option (List ℕ)
 text_id d = option_and_then as_str (get (codes "id") d)
 
--- the id that an item goes by
+-- the id by which an item is known, or an empty text
 abbrev pub id_of : Data → List ℕ
 id_of d = unwrap_or (text_id d) []
 

@@ -1,4 +1,4 @@
--- Words of private clauses: no public clause speaks of them.
+-- Definitions for private clauses. No public clause uses them.
 pub mod Step
 pub mod Places
 pub mod Scan

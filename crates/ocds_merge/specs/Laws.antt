@@ -1,4 +1,4 @@
--- Laws of the merge, which the functions of `src/laws.rt` carry in their contracts.
+-- Definitions for the laws of the merge, which are the contracts of the functions in `src/laws.rt`.
 use Rattle.std.specs.Prelude.{◌≡◌, ℕ, List, [], ◌∷◌, Bool, true, false, bytes_eq}
 use Rattle.std.specs.Ordering.{nat_cmp, is_lt}
 use Rattle.std.specs.Cmp.Lexicographic.{slice_cmp}
@@ -8,8 +8,7 @@ use Rattle.ocds_merge.specs.Identified.{is_id_list}
 use Rattle.ocds_merge.specs.Merge.{names_of}
 use Rattle.ocds_merge.specs.Compile.{date_of}
 
--- Of each object that a merge looks into, the members stand in the order of their names, each name once. A `Value` has no other objects; the data
--- that the definitions speak of could.
+-- In each object that a merge reads, the names are in order and each occurs once. This is so in every `Value`, but not in all data of the definitions.
 abbrev mutual
   pub IsProper : Data → Type 0
   IsProper null = Unit {0}

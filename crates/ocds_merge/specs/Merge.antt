@@ -1,8 +1,8 @@
--- The merge. The values that the releases, in order of date, give for one place of the tree (such as `tender/title`) are the column of that place;
--- a release that lacks the place gives none. `merge_of` says what stands at the place afterwards: a value, or nothing.
+-- The merge. A place of the tree is for example `tender/title`. Its column is the list of the values that the releases give for it, in the order of their
+-- dates. A release without the place gives no value. `merge_of` is the value of the place after these releases, or `None`.
 --
--- Every definition below speaks of whole columns; none goes from one release to the next. Inside, a column stands newest first, so that the run at
--- its end, which alone counts, is the run at the head of the list. `src/examples.rt` has a worked example of each, named below.
+-- Each definition is about whole columns; none goes from one release to the next. In most of them a column is listed newest first, so that the run at its
+-- end, which alone counts, is at the head of the list. `src/examples.rt` has a worked example of each, named below.
 use Rattle.std.specs.Prelude.{ℕ, zero, suc, max, List, [], ◌∷◌, ◌++◌, map, filter, reverse, if◌then◌else◌, Option, Some, None, option_to_list, unwrap_or, bytes_eq}
 use Rattle.std.specs.List.{list_any}
 use Rattle.serde_json.specs.Data.{Data, null, boolean, number, string, array, object, Items, no_items, item, Members, no_members, member, put, depth}
@@ -36,12 +36,12 @@ abbrev pub names_in : List Members → List (List ℕ)
 names_in [] = []
 names_in (ms ∷ run) = names_of ms ++ names_in run
 
--- a member where there is a value, nothing where there is none: "null is absent". Example: `null_member`.
+-- A member with this value, or none without a value: "null is absent". Example: `null_member`.
 abbrev pub put_present : List ℕ → Option Data → Members → Members
 put_present k None ms = ms
 put_present k (Some d) ms = put k d ms
 
--- these names, each with the merge of its column; `put` keeps an object's names in order
+-- a member for each of these names, with the merge of its column; `put` keeps an object's names in order
 abbrev pub merge_names : (List Data → Option Data) → List Members → List (List ℕ) → Members
 merge_names merge run [] = no_members
 merge_names merge run (k ∷ ks) = put_present k (merge (column_at k run)) (merge_names merge run ks)
@@ -62,7 +62,7 @@ id_list_run (string s ∷ vs) = []
 id_list_run (array ds ∷ vs) = if is_id_list ds then ds ∷ id_list_run vs else []
 id_list_run (object ms ∷ vs) = []
 
--- the items of one list, the last of them first, ahead of older items
+-- the items of one list in front of older items, its last item first
 abbrev pub items_ahead : Items → List Data → List Data
 items_ahead no_items older = older
 items_ahead (item d ds) older = items_ahead ds (d ∷ older)
@@ -72,24 +72,24 @@ abbrev pub items_in : List Items → List Data
 items_in [] = []
 items_in (ds ∷ run) = items_ahead ds (items_in run)
 
--- "Ids in order of first appearance": an id is named after those of older items, and only where none of them has it. Example: `ids_by_first_appearance`.
+-- "Ids in order of first appearance": an id comes after those of older items, and only if none of them has it. Example: `ids_by_first_appearance`.
 abbrev pub ids_in : List Data → List (List ℕ)
 ids_in [] = []
 ids_in (d ∷ older) = if list_any (bytes_eq (id_of d)) (ids_in older) then ids_in older else ids_in older ++ id_of d ∷ []
 
--- "Each item is the merge of the items with that id" (these are objects, so the merge is one).
+-- "Each item is the merge of the items with that id" (these are objects, so the merge is an object).
 abbrev pub merge_item : (List Data → Option Data) → List Data → List ℕ → Data
 merge_item merge items id = unwrap_or (merge (filter (λ d. bytes_eq (id_of d) id) items)) null
 
--- An item for each id. Example: `by_id`.
+-- One item for each id. Example: `by_id`.
 abbrev pub merge_items : (List Data → Option Data) → List Data → List Data
 merge_items merge items = map (merge_item merge items) (ids_in items)
 
 -- ---- any column
 
--- The last value decides the kind. "If it is null, the place is absent. If it is a literal, or an array that is no id list, it is the last. If it is
--- an object, or an id list, the run of these at the column's end is merged." `merge` is the merge of what lies one level deeper.
--- Examples: `last_literal`, `last_plain_array`.
+-- The last value decides the kind. "If it is null, the place is absent. If it is a literal, or an array that is no id list, it is the last. If it is an
+-- object, or an id list, the run of these at the column's end is merged." `merge` is the merge of values one level deeper. Examples: `last_literal`,
+-- `last_plain_array`.
 abbrev pub merge_level : (List Data → Option Data) → List Data → Option Data
 merge_level merge [] = None
 merge_level merge (null ∷ vs) = None
@@ -100,7 +100,7 @@ merge_level merge (array ds ∷ vs) =
     if is_id_list ds then Some (array (items_of (merge_items merge (items_in (id_list_run (array ds ∷ vs)))))) else Some (array ds)
 merge_level merge (object ms ∷ vs) = Some (object (merge_objects merge (ms ∷ object_run vs)))
 
--- the merge of values that nest less than n levels
+-- the merge of values that nest less than `n` levels
 abbrev pub merge_within : ℕ → List Data → Option Data
 merge_within zero vs = None
 merge_within (suc n) vs = merge_level (merge_within n) vs
@@ -109,13 +109,14 @@ abbrev pub deepest_of : List Data → ℕ
 deepest_of [] = 0
 deepest_of (v ∷ vs) = max (depth v) (deepest_of vs)
 
+-- the merge of a column that is listed newest first, to any depth
 abbrev pub merge_newest_first : List Data → Option Data
 merge_newest_first vs = merge_within (suc (deepest_of vs)) vs
 
--- The merge of a column in the order of the releases; `None` is absent. Example: `by_id_after_null`.
+-- The merge of a column in the order of the releases; `None` means absent. Example: `by_id_after_null`.
 abbrev pub merge_of : List Data → Option Data
 merge_of vs = merge_newest_first (reverse vs)
 
--- The same as one JSON value, with `null` for absent. Example: `no_values`.
+-- The merge of a column as one JSON value; `null` means absent. Example: `no_values`.
 abbrev pub merge_or_null : List Data → Data
 merge_or_null vs = unwrap_or (merge_of vs) null

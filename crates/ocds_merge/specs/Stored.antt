@@ -1,20 +1,20 @@
--- A merge that is kept as text, and carried on from there.
+-- A merge that is stored as text, and changed there.
 use Rattle.std.specs.Prelude.{ℕ, ◌≡◌, ◌≤◌, List, Some, false}
 use Rattle.serde_json.specs.Data.{Data, Members, object, depth}
 use Rattle.serde_json.specs.Read.{read, max_depth}
 use Rattle.serde_json.specs.Written.{compact_text, has_float}
 use Rattle.ocds_merge.specs.Merge.{merge_or_null}
 
--- the text is the compact text of the merge of these values, and reads as that merge
+-- the text is the compact text of the merge of these values, and is read as that merge
 pub record KeepsMerge (text : List ℕ) (vs : List Data) : Type 0 where
   pub is : text ≡ compact_text (merge_or_null vs)
   pub reads : read text ≡ Some (merge_or_null vs)
 
--- the text reads as a JSON object
+-- the text is read as a JSON object
 abbrev pub IsObjectText : List ℕ → Type 0
 IsObjectText text = (members : Members) × (read text ≡ Some (object members))
 
--- no float, and nested no deeper than a JSON text may be (127 levels)
+-- the value has no float, and nests no deeper than a JSON text may (127 levels)
 pub record IsStorable (v : Data) : Type 0 where
   pub no_float : has_float v ≡ false
   pub shallow : depth v ≤ max_depth

@@ -12,20 +12,19 @@ use std::alloc::Global;
 
 /// The compiled release of a contracting process from its releases, in any order.
 ///
-/// It is meant for a list that isn't empty, of objects that each have a text `date`. What it
-/// answers elsewhere is stated too: a release without such a date counts as one with an empty date,
-/// and a merge that is no object gets no head.
+/// It is meant for a list that isn't empty, of objects that each have a text `date`. Its contract covers other lists too: a release without such a date has
+/// an empty date, and a merge that is no object gets no head.
 pub fn compile(alloc: Global, ocid: &str, releases: &[Value]) -> Result<Value, NoMemory>
     ensures { IfOk result (λ release. view release
         ≡ compiled_release ocid.now (map view releases.now)) }
 {
     let order = in_date_order(alloc, releases)?;
-    // With the heads of the releases: the head that goes on stands over theirs.
+    // The releases keep their heads here: the head of the compiled release replaces them.
     let merge = merge_in_order(alloc, &order)?;
     with_compiled_head(alloc, ocid, last_date(&order), merge)
 }
 
-// The merge of releases that stand in order.
+// The merge of releases that are in order.
 fn merge_in_order(alloc: Global, order: &[&Value]) -> Result<Value, NoMemory>
     ensures { IfOk result (λ merge. view merge
         ≡ merge_or_null (map (λ r. view r.now) order.now)) }

@@ -3,8 +3,7 @@
 ghost use Rattle.std.specs.Prelude.{◌≡◌, [], ◌∷◌, true, false, codes};
 ghost use Rattle.ocds_merge.specs.Examples.{is_text_of_id_list, object_run_texts, column_texts, id_list_run_texts, item_texts, id_texts, merge_text, date_order_texts, body_text, headed_text, compiled_text};
 
-/// What a merge looks at, from `specs/Identified.antt` and `specs/Merge.antt`: id lists, runs,
-/// columns, items, ids.
+/// Id lists, runs, columns, items and ids, from `specs/Identified.antt` and `specs/Merge.antt`.
 pub fn worked_columns()
     ensures id_list { is_text_of_id_list (codes "[{\"id\":\"A\"},{\"id\":\"B\"}]") ≡ true }
     ensures empty_array_is_none { is_text_of_id_list (codes "[]") ≡ false }
@@ -14,11 +13,11 @@ pub fn worked_columns()
     ensures run_of_objects { object_run_texts (codes "{\"a\":1}" ∷ codes "5" ∷ codes "{\"b\":2}"
         ∷ codes "{\"c\":3}" ∷ [])
         ≡ codes "{\"c\":3}" ∷ codes "{\"b\":2}" ∷ [] }
-    // A release that lacks the place gives no value; one that has null there gives null.
+    // A release without the place gives no value; one that has null there gives null.
     ensures column_of_a_name { column_texts (codes "b") (codes "{\"b\":1}" ∷ codes "{\"c\":2}"
         ∷ codes "{\"b\":null}" ∷ codes "{\"b\":3}" ∷ [])
         ≡ codes "3" ∷ codes "null" ∷ codes "1" ∷ [] }
-    // The array [1] is no id list and ends the run.
+    // The array [1] is no id list, and ends the run.
     ensures run_of_id_lists { id_list_run_texts (codes "[{\"id\":\"A\"}]" ∷ codes "[1]"
         ∷ codes "[{\"id\":\"B\"}]" ∷ codes "[{\"id\":\"C\"}]" ∷ [])
         ≡ codes "[{\"id\":\"C\"}]" ∷ codes "[{\"id\":\"B\"}]" ∷ [] }

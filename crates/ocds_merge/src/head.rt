@@ -8,8 +8,7 @@ use crate::merging::NoMemory;
 use serde_json::{Map, Value, json};
 use std::alloc::{AllocError, Global};
 
-/// The release without its own `id`, `date` and `tag`: what a compiled release takes from it. It
-/// takes no memory.
+/// The release without its own `id`, `date` and `tag`, as a compiled release needs it. It takes no memory.
 pub fn without_head(release: Value) -> Value
     ensures { view result ≡ body_of (view release) }
 {
@@ -29,9 +28,8 @@ fn members_without_head(mut members: Map<String, Value>) -> Map<String, Value>
     members
 }
 
-/// The merge of releases without heads, with the head of the compiled release: `date` as given,
-/// `id` made of `ocid` and that date, and `tag` `["compiled"]`. A value that is no object has no
-/// head and stays as it is.
+/// The merge of releases without heads, with the head of a compiled release: `date` as given, `id` made of `ocid` and that date, and `tag` `["compiled"]`. A
+/// value that is no object stays as it is.
 pub fn with_compiled_head(
     alloc: Global,
     ocid: &str,

@@ -1,4 +1,4 @@
-//! Values that read back from their texts.
+//! Values that are read back from their texts.
 ghost use Rattle.std.specs.Prelude.{IsTrue};
 ghost use Rattle.serde_json.specs.Data.{object, array, number};
 ghost use Rattle.serde_json.specs.View.{view, items_view, members_view, number_view};

@@ -1,5 +1,4 @@
-//! Laws of the definitions in `specs/`, for the crates above: each function does nothing, and its
-//! contract is the law.
+//! Laws of the definitions in `specs/`, for proofs in the crates above. Each function has an empty body, and its contract is the law.
 
 ghost use Rattle.std.specs.Prelude.{◌≡◌, ℕ, List, [], ◌∷◌, ◌++◌, filter, map, reverse, Bool, true, false, None, Some, All};
 ghost use Rattle.serde_json.specs.Data.{Data, Num, Items, Members, null, boolean, number, string, array, object};
@@ -11,11 +10,10 @@ ghost use Rattle.ocds_merge.specs.Compile.{body_of, date_order, last_date, with_
 ghost use Rattle.ocds_merge.specs.Stored.{IsStorable};
 ghost use Rattle.ocds_merge.specs.Laws.{IsProper, IsInDateOrder, is_dated};
 
-/// The rule of the merge, sentence by sentence and whatever the depth: the last value of a column
-/// decides the kind.
+/// The rule of the merge, sentence by sentence, at any depth: the last value of a column decides the kind.
 ///
-/// Where it is an object, at each name stands the merge of the name's column in the run of objects;
-/// where it is an id list, each item is the merge of the items with its id in the run of id lists.
+/// If it is an object, the merge has at each name the merge of the name's column in the run of objects. If it is an id list, each item is the merge of the
+/// items with its id in the run of id lists.
 pub fn last_value_decides()
     ensures null_is_absent { (vs : List Data) → merge_of (vs ++ null ∷ []) ≡ None }
     ensures boolean_stands { (vs : List Data) (b : Bool)
@@ -35,18 +33,16 @@ pub fn last_value_decides()
         (merge_items merge_newest_first (items_in (ds ∷ id_list_run (reverse vs)))))) }
 {}
 
-/// A merge can be carried on: the merge of some values and one more is the merge of two, of the
-/// former's merge and that one. So a tree that is kept and changed release by release is the merge
-/// of all of them.
+/// The merge of some values and one more is the merge of two values: the merge of the former, and the new one. So a tree that is kept and changed release by
+/// release is the merge of all of them.
 pub fn merge_carries_on()
     ensures alone { (vs : List Data) → merge_of (merge_or_null vs ∷ []) ≡ merge_of vs }
     ensures one_more { (vs : List Data) (v : Data) → IsProper v
         → merge_of (vs ++ v ∷ []) ≡ merge_of (merge_or_null vs ∷ v ∷ []) }
 {}
 
-/// What the order of the releases is, and that it leaves releases alone which are in order already:
-/// of these the compiled release is the merge of their bodies, perhaps one that was kept and carried
-/// on, with its head.
+/// The order of the releases is by date, and releases that are in order stay as they are. Then the compiled release is the merge of their bodies with its
+/// head, even if the merge was kept and changed release by release.
 pub fn dates_order_releases()
     ensures ordered { (releases : List Data) → IsInDateOrder (date_order releases) }
     ensures same_dates_stay { (releases : List Data) (date : List ℕ)
@@ -58,8 +54,7 @@ pub fn dates_order_releases()
         ≡ with_head ocid (last_date releases) (merge_or_null (map body_of releases)) }
 {}
 
-/// Merging and taking the head off keep what a text needs to be read back: no float, and at most
-/// 127 levels.
+/// A merge, and a release without its head, can be stored as a text and read back if the values can: no float, and at most 127 levels.
 pub fn merge_stays_storable()
     ensures merge { (vs : List Data) → All IsStorable vs → IsStorable (merge_or_null vs) }
     ensures body { (release : Data) → IsStorable release → IsStorable (body_of release) }

@@ -1,4 +1,4 @@
-//! The items of an id list, in turn, in the list's text.
+//! Reads and writes the items of an id list in the list's text, one after another.
 ghost use Rattle.std.specs.Prelude.{◌≡◌, ◌<◌, ℕ, List, [], ◌∷◌, ◌++◌, codes, true, false, length, map, take, set, get_or, replicate, MatchOption, IfOk, OnOk, IsTrue, Some, ⊤};
 ghost use Rattle.serde_json.specs.Data.{Data, Items, Members};
 ghost use Rattle.serde_json.specs.Find.{get_member};
@@ -21,7 +21,7 @@ use crate::writes::{write_byte, write_comma, write_new};
 use serde_json::Value;
 use std::alloc::{AllocError, Global};
 
-/// The next item of an array of objects, behind a comma if another is before it; `None` at the array's end.
+/// The next item of an array of objects, or `None` at the array's end. A comma must come first if another item is before it.
 pub(crate) fn next_item(later: bool, text: &[u8]) -> Result<Option<&[u8]>, Unspliced>
     ensures finds { IfOk result (λ found. MatchOption found ((rest : List ℕ) × (no_comma text.now ≡ 93 ∷ rest))
         (λ item. (no_comma text.now ≡ item.now) × (rest : List ℕ) × (item.now ≡ 123 ∷ rest))) }
@@ -39,7 +39,7 @@ pub(crate) fn next_item(later: bool, text: &[u8]) -> Result<Option<&[u8]>, Unspl
     }
 }
 
-/// The value of the member `id`, from where it begins, among the members of an object. What is before it may be anything.
+/// The text from the value of the member `id` on, in the members of an object. The members before it aren't checked.
 fn id_value(text: &[u8]) -> Result<&[u8], Unspliced>
     ensures { IfOk result (λ value. (ts : Members) (rest : List ℕ) → StandAt text.now ts rest
         → FoundAt (codes "id") ts rest value.now) }
@@ -54,7 +54,7 @@ fn id_value(text: &[u8]) -> Result<&[u8], Unspliced>
     Err(Unspliced::Unfit)
 }
 
-/// The text id of the object that begins a text. It is only looked for: what is before it isn't checked, as whoever walks over the object does that.
+/// The text id of the object that begins a text. The text before it isn't checked, since the caller walks over the object anyway.
 pub(crate) fn id_in(text: &[u8]) -> Result<&[u8], Unspliced>
     ensures { IfOk result (λ id. (d : Data) (rest : List ℕ) → TextIsKept d → EndsBefore rest → text.now ≡ compact_text d ++ rest
         → text_id d ≡ Some id.now) }
@@ -82,7 +82,7 @@ fn is_new(places: &Places, items: &[Value], id: &str, place: usize) -> bool
     }
 }
 
-/// Where the items stand by id, of which no two may have one id.
+/// The places of these items by id. Two items with the same id are `Unfit`.
 pub(crate) fn distinct_places(alloc: Global, items: &[Value]) -> Result<Places, Unspliced>
     ensures serves { IfOk result (λ places. IndexServes places.by_id (map view items.now)) }
     ensures distinct { OnOk result (HaveDistinctIds (map view items.now)) }
@@ -96,7 +96,7 @@ pub(crate) fn distinct_places(alloc: Global, items: &[Value]) -> Result<Places, 
     Ok(places)
 }
 
-/// The item with an id that stands in a text.
+/// The place of the item whose id is these bytes of a text.
 pub(crate) fn place_in(
     places: &Places,
     items: &[Value],
@@ -111,14 +111,14 @@ pub(crate) fn place_in(
     }
 }
 
-/// For each item, whether it is merged into an old one: none is yet.
+/// For each new item, whether it is merged into an old one; at first none is.
 pub(crate) fn none_done(alloc: Global, count: usize) -> Result<Vec<bool>, AllocError>
     ensures { IfOk result (λ done. done.items ≡ replicate count false) }
 {
     vec![in alloc; false; count]
 }
 
-/// Notes that an item is merged into an old one, which must be the first.
+/// Notes that a new item is merged into an old one. If it was already merged into another old one, the text is `Unfit`.
 pub(crate) fn note_done(done: &mut Vec<bool>, place: usize) -> Result<(), Unspliced>
     requires { place < length done.old.items }
     ensures was { OnOk result (get_or done.old.items place true ≡ false) }
@@ -131,7 +131,7 @@ pub(crate) fn note_done(done: &mut Vec<bool>, place: usize) -> Result<(), Unspli
     Ok(())
 }
 
-/// Writes an item's merge alone, unless it is done; whether anything stands before what follows.
+/// Writes an item's merge alone, unless it is done. It returns whether the next item needs a comma.
 fn write_unless(
     alloc: Global,
     item: &Value,
@@ -150,7 +150,7 @@ fn write_unless(
     Ok(true)
 }
 
-/// Writes the items that are merged into no old one, and closes the array.
+/// Writes the items that aren't merged into an old one, and closes the array.
 fn write_pending(
     alloc: Global,
     items: &[Value],
@@ -170,7 +170,7 @@ fn write_pending(
     Ok(())
 }
 
-/// The same, where the old items end: what comes after them.
+/// Writes the items that aren't merged into an old one, closes the array, and returns the text after the old array.
 pub(crate) fn close_list<'a>(
     alloc: Global,
     items: &[Value],

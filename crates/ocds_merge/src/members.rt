@@ -7,7 +7,7 @@ ghost use Rattle.ocds_merge.specs.Compile.{members_without};
 use serde_json::{Map, Value};
 use std::alloc::{AllocError, Global};
 
-/// Takes out the member with this name.
+/// Removes and returns the member with this name.
 pub(crate) fn take_member(target: &mut Map<String, Value>, name: &str) -> Option<Value>
     ensures found { option_map view result ≡ get_member name.now (members_view target.old.entries) }
     ensures left { members_view target.new.entries
@@ -16,7 +16,7 @@ pub(crate) fn take_member(target: &mut Map<String, Value>, name: &str) -> Option
     target.remove(name)
 }
 
-/// Puts a member in where there is a value.
+/// Adds the member if there is a value.
 pub(crate) fn put_present(
     alloc: Global,
     target: &mut Map<String, Value>,

@@ -9,7 +9,7 @@ use crate::step::merge_value;
 use serde_json::Value;
 use std::alloc::{AllocError, Global};
 
-/// No memory was to be had; nothing was changed.
+/// Too little memory; nothing was changed.
 #[derive(Clone, Copy, Debug, PartialEq, Eq, thiserror::Error)]
 #[error("no memory")]
 pub struct NoMemory;
@@ -20,8 +20,7 @@ impl From<AllocError> for NoMemory {
     }
 }
 
-/// The merge of the values that the releases, oldest first, give for one place; `Null` where they
-/// leave it absent.
+/// The merge of the values that the releases, oldest first, give for one place. `Null` means that the place is absent.
 pub fn merge_all(alloc: Global, values: &[Value]) -> Result<Value, NoMemory>
     ensures { IfOk result (λ merge. view merge ≡ merge_or_null (map view values.now)) }
 {
@@ -34,23 +33,22 @@ pub fn merge_all(alloc: Global, values: &[Value]) -> Result<Value, NoMemory>
 
 /// The merge of some values becomes the merge of these and one more.
 ///
-/// A `Null` target is the merge of no values. Where the target is no merge of any values the call
-/// returns as well, and what it leaves is not stated. It works on a copy of the target, so its time
-/// and memory grow with the target and the value, and not with how many values were merged before.
+/// A `Null` target is the merge of no values. If the target is no merge of any values, the call also returns, and no clause says with which result. It works
+/// on a copy of the target. So its time and memory grow with the target and the value, and not with the number of values that were merged before.
 pub fn merge_into(alloc: Global, target: &mut Value, value: &Value) -> Result<(), NoMemory>
     ensures merges { OnOk result ((vs : List Data) → view target.old ≡ merge_or_null vs
         → view target.new ≡ merge_or_null (vs ++ view value.now ∷ [])) }
     ensures err { OnErr result (target.new ≡ target.old) }
-    // Each `Value` is; the law of `merge_carries_on` asks for it.
+    // Each `Value` is proper; the law `merge_carries_on` requires it.
     ensures proper { OnOk result (IsProper (view value.now)) }
 {
-    // All memory is taken on a copy, so that a refusal leaves the target alone.
+    // All memory is taken for a copy, so that a failure leaves the target as it was.
     let copy = target.clone()?;
     *target = carried_on(alloc, copy, value)?;
     Ok(())
 }
 
-/// The merge of some values and one more, from the former's merge, which it uses up.
+/// The merge of some values and one more, from the merge of the former, which is consumed.
 pub(crate) fn carried_on(alloc: Global, merge: Value, value: &Value) -> Result<Value, NoMemory>
     ensures merges { IfOk result (λ after. (vs : List Data) → view merge ≡ merge_or_null vs
         → view after ≡ merge_or_null (vs ++ view value.now ∷ [])) }
@@ -60,7 +58,7 @@ pub(crate) fn carried_on(alloc: Global, merge: Value, value: &Value) -> Result<V
     Ok(after.unwrap_or(Value::Null))
 }
 
-// `Null` stands for absent.
+// `Null` means absent.
 fn present(value: Value) -> Option<Value>
     ensures { option_map view result ≡ not_null (view value) }
 {

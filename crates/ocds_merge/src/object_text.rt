@@ -1,4 +1,4 @@
-//! The members of an object, in turn, in the object's text.
+//! Reads and writes the members of an object in the object's text, one after another.
 ghost use Rattle.std.specs.Prelude.{◌≡◌, ◌≢◌, ℕ, List, [], ◌∷◌, ◌++◌, true, false, MatchOption, MatchBool, IfOk, ⊤};
 ghost use Rattle.serde_json.specs.Data.{Data, Members};
 ghost use Rattle.serde_json.specs.Written.{members_text};
@@ -16,17 +16,17 @@ use crate::unspliced::Unspliced;
 use crate::writes::copy_span;
 use std::cmp::Ordering;
 
-/// A member of an object.
+/// A member in the text of an object.
 #[derive(Clone, Copy)]
 pub(crate) struct Member<'a> {
     pub(crate) name: &'a [u8],
-    // From the opening quote of the name on.
+    // The text from the opening quote of the name on.
     whole: &'a [u8],
-    // From the value on.
+    // The text from the value on.
     pub(crate) value: &'a [u8],
 }
 
-/// The text without the comma that may stand first.
+/// The text without a comma at its front.
 pub(crate) fn after_comma(text: &[u8]) -> &[u8]
     ensures { result.now ≡ no_comma text.now }
 {
@@ -36,7 +36,7 @@ pub(crate) fn after_comma(text: &[u8]) -> &[u8]
     }
 }
 
-/// The next member, `None` at the object's end. What is before it may be anything.
+/// The next member, or `None` at the object's end. The text before it isn't checked.
 pub(crate) fn next_member(text: &[u8]) -> Result<Option<Member<'_>>, Unspliced>
     ensures { IfOk result (λ found. MatchOption found ((rest : List ℕ) × (no_comma text.now ≡ 125 ∷ rest))
         (λ m. (no_comma text.now ≡ m.whole.now) × (m.whole.now ≡ 34 ∷ (m.name.now ++ 34 ∷ 58 ∷ m.value.now)) × IsPlain m.name.now)) }
@@ -51,7 +51,7 @@ pub(crate) fn next_member(text: &[u8]) -> Result<Option<Member<'_>>, Unspliced>
     }
 }
 
-/// The next member where it stands as it must: behind a comma if another is before it, and above that one's name.
+/// The next member, or `None` at the object's end. A comma must come first if another member is before it, and the names must rise.
 pub(crate) fn next_in_turn<'a>(left: Remaining<'a>) -> Result<Option<Member<'a>>, Unspliced>
     ensures finds { IfOk result (λ found. MatchOption found ((rest : List ℕ) × (no_comma left.entry.text.now ≡ 125 ∷ rest))
         (λ m. (no_comma left.entry.text.now ≡ m.whole.now) × (m.whole.now ≡ 34 ∷ (m.name.now ++ 34 ∷ 58 ∷ m.value.now)) × IsPlain m.name.now)) }
@@ -84,7 +84,7 @@ fn is_above(name: &str, other: &[u8]) -> bool
     }
 }
 
-/// Copies the members with names below this one.
+/// Copies the old members whose names come before this one.
 pub(crate) fn copy_below<'a>(
     name: &str,
     from: Remaining<'a>,
@@ -114,7 +114,7 @@ pub(crate) fn copy_below<'a>(
     Ok((left, later))
 }
 
-/// Whether a comma goes before what is left of an object.
+/// Whether a comma goes before the rest of an object.
 fn has_comma(later: bool, text: &[u8]) -> bool
     ensures ends { (rest : List ℕ) → text.now ≡ 125 ∷ rest → result ≡ false }
     ensures goes_on { (c : ℕ) (rest : List ℕ) → text.now ≡ c ∷ rest → c ≢ 125 → result ≡ later }
@@ -125,7 +125,7 @@ fn has_comma(later: bool, text: &[u8]) -> bool
     }
 }
 
-/// Copies the members that are left, and closes the object.
+/// Copies the remaining members, and closes the object.
 pub(crate) fn copy_rest<'a>(
     left: Remaining<'a>,
     later: bool,
@@ -142,7 +142,7 @@ pub(crate) fn copy_rest<'a>(
     Ok(rest)
 }
 
-/// The old member of this name, among members of which none comes before it.
+/// The old member of this name, if there is one. The members before it must be copied already.
 pub(crate) fn old_member<'a>(
     left: Remaining<'a>,
     name: &str,

@@ -1,4 +1,4 @@
-//! Where the items of one list stand, by id.
+//! The places of the items of one list, by id.
 ghost use Rattle.std.specs.Prelude.{◌≡◌, ◌++◌, ◌∷◌, ℕ, List, [], map, length, Some, cond, bytes_eq, IfOk, OnOk};
 ghost use Rattle.std.specs.BTreeMap.{get_by_text};
 ghost use Rattle.serde_json.specs.Data.{Data};
@@ -12,18 +12,18 @@ use serde_json::Value;
 use std::alloc::{AllocError, Global};
 use std::collections::BTreeMap;
 
-/// Up to so many items are looked for in turn: an index would cost more than it saves.
+/// Up to this number of items, each is searched for in turn: an index would cost more than it saves.
 const FEW: usize = 16;
 
 /// Finds the items of one list, to which items are added at the end.
 #[derive(Drop)]
 pub(crate) struct Places {
-    // The place of the first item with each id, where many items are looked for.
+    // The place of the first item with each id, if many items are searched for.
     by_id: Option<BTreeMap<String, usize>>,
 }
 
 impl Places {
-    /// For this list, in which so many items are to be looked for.
+    /// Places in this list, for a search of `count` items.
     pub(crate) fn new(alloc: Global, items: &[Value], count: usize) -> Result<Places, AllocError>
         ensures { IfOk result (λ places. IndexServes places.by_id (map view items.now)) }
     {
@@ -46,7 +46,7 @@ impl Places {
         }
     }
 
-    /// Takes note of an item with this id, of which there was none, at the list's end.
+    /// Notes a new item at the list's end. No item had its id.
     pub(crate) fn add(&mut self, alloc: Global, id: &str, place: usize) -> Result<(), AllocError>
         ensures { OnOk result ((items : List Data) (item : Data)
             → IndexServes self.old.by_id items → length items ≡ place → Lacks id.now items → id_named item ≡ id.now

@@ -1,4 +1,4 @@
-//! Whether a text is the compact text of a value that reads back from it, without a tree of it.
+//! Checks that a text is the compact text of a value that is read back from it, without making a tree.
 ghost use Rattle.std.specs.Prelude.{◌≡◌, ◌≤◌, ◌<◌, ◌^◌, ℕ, List, ◌∷◌, ◌++◌, [], false, length, take, slice_index, decimal, IsTrue, IfOk, MatchBool, MatchOption, Some, ⊤};
 ghost use Rattle.std.specs.Ordering.{nat_cmp};
 ghost use Rattle.std.specs.Cmp.Lexicographic.{slice_cmp};
@@ -16,23 +16,23 @@ use crate::scan::{after_byte, after_plain, plain_string};
 use crate::unspliced::Unspliced;
 use std::cmp::Ordering;
 
-/// How deep a text may nest, in levels: no deeper than `Value::from_str` reads.
+/// The deepest nesting of a text, in levels; `Value::from_str` reads no deeper.
 pub(crate) const MAX_DEPTH: usize = 127;
 
-/// The most digits that surely fit 64 bits.
+/// The largest number of digits that always fits 64 bits.
 const MAX_DIGITS: usize = 19;
 
-/// What is left of an object's members, up to its closing bracket and past it.
+/// The remaining members of an object and its closing bracket, at the front of a text.
 #[derive(Clone, Copy)]
 pub(crate) struct Remaining<'a> {
     pub(crate) text: &'a [u8],
-    // Whether a member stands before, so that a comma must come first.
+    // Whether there is a member before, so that a comma must come first.
     pub(crate) later: bool,
-    // The name of that member: the next one comes after it.
+    // The name of that member. The next name must come after it.
     pub(crate) last: &'a [u8],
 }
 
-/// All members of an object, of which the text begins after the opening bracket.
+/// All members of an object; the text begins after its opening bracket.
 pub(crate) fn all_members(text: &[u8]) -> Remaining<'_>
     ensures from { result.text.now ≡ text.now }
     ensures first { result.later ≡ false }
@@ -44,7 +44,7 @@ pub(crate) fn all_members(text: &[u8]) -> Remaining<'_>
     }
 }
 
-/// Whether a backslash and this byte are how a byte is written.
+/// Whether a backslash and this byte are the escape of some byte.
 fn is_escape(letter: u8) -> bool
     ensures { IsTrue result → (x : ℕ) × (escape_byte x ≡ 92 ∷ letter ∷ []) }
 {
@@ -60,7 +60,7 @@ fn is_escape(letter: u8) -> bool
     }
 }
 
-/// What comes after a string without code points by number; the text begins after the opening quote.
+/// The text after a string without numeric escapes; the given text begins after the opening quote.
 fn passed_string(text: &[u8]) -> Option<&[u8]>
     ensures { MatchOption result ⊤ (λ rest. (s : List ℕ) × (text.now ≡ escape s ++ 34 ∷ rest.now)) }
 {
@@ -90,7 +90,7 @@ fn is_digit(byte: u8) -> bool
     byte <= b'9'
 }
 
-/// How many digits a text begins with.
+/// The number of digits at the front of a text.
 fn digit_count(text: &[u8]) -> usize
     ensures within { result ≤ length text.now }
     ensures digits { AllDigits 10 (take result text.now) }
@@ -103,7 +103,7 @@ fn digit_count(text: &[u8]) -> usize
     text.len()
 }
 
-/// Whether a numeral of so many digits begins with a zero before others.
+/// Whether a numeral of this many digits begins with a zero and has others.
 fn has_leading_zero(text: &[u8], count: usize) -> bool
     requires some { 0 < count }
     requires within { count ≤ length text.now }
@@ -115,7 +115,7 @@ fn has_leading_zero(text: &[u8], count: usize) -> bool
     count > 1
 }
 
-/// What comes after an integer that surely fits 64 bits, with no zero before its other digits.
+/// The text after an integer that surely fits 64 bits and has no leading zero.
 fn passed_number(text: &[u8]) -> Option<&[u8]>
     ensures { MatchOption result ⊤ (λ rest. (n : ℕ) × (n < 2 ^ 64) × (text.now ≡ decimal n ++ rest.now)) }
 {
@@ -139,7 +139,7 @@ fn after_word<'a>(text: &'a [u8], word: &str) -> Option<&'a [u8]>
     Some(rest)
 }
 
-/// What comes after a value; arrays and objects may nest `depth` deep. Strings come first, since most values are.
+/// The text after a value whose arrays and objects nest at most `depth` deep. Strings come first, since most values are strings.
 #[cycle(passing)]
 fn passed_value(text: &[u8], depth: usize) -> Option<&[u8]>
     ensures { MatchOption result ⊤ (λ rest. Passed text.now rest.now depth) }
@@ -150,7 +150,7 @@ fn passed_value(text: &[u8], depth: usize) -> Option<&[u8]>
     }
 }
 
-/// What comes after a value that is no string.
+/// The text after a value that is no string.
 #[cycle(passing)]
 fn passed_other(text: &[u8], depth: usize) -> Option<&[u8]>
     ensures { MatchOption result ⊤ (λ rest. Passed text.now rest.now depth) }
@@ -176,7 +176,7 @@ fn passed_other(text: &[u8], depth: usize) -> Option<&[u8]>
     }
 }
 
-/// What comes after an array, from after its opening bracket.
+/// The text after an array; the given text begins after its opening bracket.
 #[cycle(passing)]
 fn passed_items(text: &[u8], depth: usize) -> Option<&[u8]>
     ensures { MatchOption result ⊤ (λ rest. PassedItems text.now rest.now depth) }
@@ -195,7 +195,7 @@ fn passed_items(text: &[u8], depth: usize) -> Option<&[u8]>
     None
 }
 
-/// What comes after an object, from among its members on.
+/// The text after an object, from some of its members on.
 #[cycle(passing)]
 pub(crate) fn passed_members<'a>(from: Remaining<'a>, depth: usize) -> Option<&'a [u8]>
     ensures { MatchOption result ⊤ (λ rest. MembersFrom from.entry.text.now from.entry.later from.entry.last.now rest.now depth) }
@@ -219,7 +219,7 @@ pub(crate) fn passed_members<'a>(from: Remaining<'a>, depth: usize) -> Option<&'
     None
 }
 
-/// The text after a comma, which stands where something is before it.
+/// The text after a comma, which must be there if something is before it.
 pub(crate) fn after_comma_if(later: bool, text: &[u8]) -> Option<&[u8]>
     ensures { MatchOption result ⊤ (λ rest. text.now ≡ comma_if later ++ rest.now) }
 {
@@ -230,7 +230,7 @@ pub(crate) fn after_comma_if(later: bool, text: &[u8]) -> Option<&[u8]>
     }
 }
 
-/// A name without escapes, and what comes after its colon.
+/// A name without escapes, and the text after its colon.
 pub(crate) fn passed_name(text: &[u8]) -> Option<(&[u8], &[u8])>
     ensures written { MatchOption result ⊤ (λ p. text.now ≡ quoted p.0.now ++ 58 ∷ p.1.now) }
     ensures plain { MatchOption result ⊤ (λ p. (text.now ≡ 34 ∷ (p.0.now ++ 34 ∷ 58 ∷ p.1.now)) × IsPlain p.0.now) }
@@ -241,7 +241,7 @@ pub(crate) fn passed_name(text: &[u8]) -> Option<(&[u8], &[u8])>
     Some((name, value))
 }
 
-/// Whether a name comes after the last one, where there is a last one.
+/// Whether a name comes after the last one, if there is a last one.
 pub(crate) fn is_in_turn(later: bool, last: &[u8], name: &[u8]) -> bool
     ensures { MatchBool result (IsTrue later → slice_cmp nat_cmp name.now last.now ≡ Ordering.Greater) ⊤ }
 {
@@ -255,7 +255,7 @@ pub(crate) fn is_in_turn(later: bool, last: &[u8], name: &[u8]) -> bool
     }
 }
 
-/// Whether a byte may stand between the values of a text, and before them.
+/// Whether a byte may be between the values of a text, and before them.
 pub(crate) fn is_space(byte: u8) -> bool
     ensures { IsTrue result → (rest : List ℕ) → read (byte ∷ rest) ≡ read rest }
 {
@@ -285,7 +285,7 @@ fn ends_value(text: &[u8]) -> bool
     }
 }
 
-/// What comes after the value that begins a text, if the value ends there.
+/// The text after the value that begins a text, if the value ends there.
 pub(crate) fn skipped(text: &[u8], depth: usize) -> Result<&[u8], Unspliced>
     ensures reads { IfOk result (λ rest. Passed text.now rest.now depth) }
     ensures scans { IfOk result (λ rest. rest.now ≡ scan 0 between text.now) }
@@ -300,7 +300,7 @@ pub(crate) fn skipped(text: &[u8], depth: usize) -> Result<&[u8], Unspliced>
     Ok(rest)
 }
 
-/// What comes after an object, from among its members on, if it ends there.
+/// The text after an object, from some of its members on, if the object ends there.
 pub(crate) fn skipped_members<'a>(from: Remaining<'a>, depth: usize) -> Result<&'a [u8], Unspliced>
     ensures reads { IfOk result (λ rest. MembersFrom from.entry.text.now from.entry.later from.entry.last.now rest.now depth) }
     ensures ends { IfOk result (λ rest. EndsBefore rest.now) }
@@ -314,8 +314,8 @@ pub(crate) fn skipped_members<'a>(from: Remaining<'a>, depth: usize) -> Result<&
     Ok(rest)
 }
 
-/// Whether a text is the compact text of an object with natural numbers alone, whose names have no escape and stand in order: where it isn't it may
-/// still be one.
+/// Whether a text is surely the compact text of an object: its numbers are natural numbers, and its names are in order and have no escapes. Other texts may
+/// be objects too.
 pub(crate) fn is_plain_object(text: &[u8]) -> bool
     ensures { IsTrue result → IsObjectText text.now }
 {

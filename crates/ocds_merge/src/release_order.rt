@@ -50,7 +50,7 @@ fn borrowed<'a>(alloc: Global, releases: &'a [Value]) -> Result<Vec<&'a Value>, 
 
 /// The releases in order of their dates, equal dates in list order.
 ///
-/// Of releases that are in order already it compares each with the next alone.
+/// If the releases are already in order, it only compares each with the next one.
 pub(crate) fn in_date_order<'a>(
     alloc: Global,
     releases: &'a [Value],

@@ -1,8 +1,8 @@
-//! Where values end in a JSON text.
+//! Finds the ends of values in a JSON text.
 ghost use Rattle.std.specs.Prelude.{◌≡◌, ◌≢◌, ℕ, List, ◌≤◌, ◌∷◌, ◌++◌, length, MatchOption, MatchBool, ⊤};
 ghost use Rattle.ocds_merge.specs.Inside.Scan.{scan, between, in_string, escaped, IsPlain, StandsForItself, AllStandForThemselves};
 
-/// Whether a byte stands for itself in a string. Letters come first, since most bytes are.
+/// Whether a byte of a string needs no escape. Letters come first, since most bytes are letters.
 fn is_plain(byte: u8) -> bool
     ensures { MatchBool result (StandsForItself byte) ⊤ }
 {
@@ -21,7 +21,7 @@ fn is_plain(byte: u8) -> bool
     byte >= b' '
 }
 
-/// The rest of a string, from the first byte on that doesn't stand for itself.
+/// The rest of a string, from the first quote, backslash or control character on.
 pub(crate) fn after_plain(text: &[u8]) -> &[u8]
     ensures passes { (s : List ℕ) × (text.now ≡ s ++ result.now) × AllStandForThemselves s }
     ensures shorter { length result.now ≤ length text.now }
@@ -34,7 +34,7 @@ pub(crate) fn after_plain(text: &[u8]) -> &[u8]
     &text[text.len()..]
 }
 
-/// What a text has before the rest of it.
+/// The part of a text before this rest of it.
 pub(crate) fn span_before<'a>(text: &'a [u8], rest: &[u8]) -> &'a [u8]
     ensures { (span : List ℕ) → text.now ≡ span ++ rest.now → result.now ≡ span }
 {
@@ -53,7 +53,7 @@ fn after_one(text: &[u8]) -> &[u8]
     }
 }
 
-/// What comes after a byte that doesn't stand for itself, and the byte that a backslash takes with it.
+/// The text after a byte that ends the plain part of a string, and after the byte that a backslash escapes.
 fn after_stop(stop: u8, rest: &[u8]) -> &[u8]
     ensures passes { stop ≢ 34 → (n : ℕ) → scan n in_string (stop ∷ rest.now) ≡ scan n in_string result.now }
     ensures shorter { length result.now ≤ length rest.now }
@@ -61,7 +61,7 @@ fn after_stop(stop: u8, rest: &[u8]) -> &[u8]
     if stop == b'\\' { after_one(rest) } else { rest }
 }
 
-/// What comes after a string; the text begins after the opening quote.
+/// The text after a string; the given text begins after the opening quote.
 pub(crate) fn after_string(text: &[u8]) -> &[u8]
     ensures scans { (n : ℕ) → scan n in_string text.now ≡ scan n between result.now }
     ensures shorter { length result.now ≤ length text.now }
@@ -76,7 +76,7 @@ pub(crate) fn after_string(text: &[u8]) -> &[u8]
     left
 }
 
-/// What comes after a value: the next comma or closing bracket. What doesn't begin with a value is scanned all the same.
+/// The text after a value: the next comma or closing bracket. A text that doesn't begin with a value is scanned in the same way.
 pub(crate) fn after_value(text: &[u8]) -> &[u8]
     ensures scans { result.now ≡ scan 0 between text.now }
     ensures shorter { length result.now ≤ length text.now }
@@ -109,7 +109,7 @@ pub(crate) fn after_value(text: &[u8]) -> &[u8]
     left
 }
 
-/// A string of bytes that stand for themselves, and what comes after it; the text begins after the opening quote.
+/// A string without escapes, and the text after it; the given text begins after the opening quote.
 pub(crate) fn plain_string(text: &[u8]) -> Option<(&[u8], &[u8])>
     ensures { MatchOption result ⊤ (λ p. (text.now ≡ p.0.now ++ 34 ∷ p.1.now) × AllStandForThemselves p.0.now) }
 {
@@ -118,7 +118,7 @@ pub(crate) fn plain_string(text: &[u8]) -> Option<(&[u8], &[u8])>
     Some((span_before(text, end), rest))
 }
 
-/// What comes after this byte, where a text begins with it.
+/// The text after this byte, if a text begins with it.
 pub(crate) fn after_byte(text: &[u8], byte: u8) -> Option<&[u8]>
     ensures { MatchOption result ((rest : List ℕ) → text.now ≡ byte ∷ rest → ⊥)
         (λ rest. text.now ≡ byte ∷ rest.now) }

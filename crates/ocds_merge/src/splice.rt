@@ -1,4 +1,4 @@
-//! The merge of a text and one more value: what the value doesn't touch is copied as it stands.
+//! Merges a text and a value: the parts that the value doesn't touch are copied as they are.
 ghost use Rattle.std.specs.Prelude.{◌≡◌, ◌<◌, ◌+◌, ℕ, List, [], ◌∷◌, ◌++◌, Bool, true, false, length, map, is_some, MatchBool, IfOk, OnOk, unwrap_or, Some};
 ghost use Rattle.serde_json.specs.Data.{Data, null, Members, member, Items, array, object};
 ghost use Rattle.serde_json.specs.View.{view, items_of, items_view, members_view};
@@ -32,7 +32,7 @@ fn is_null(value: &Value) -> bool
     }
 }
 
-/// How deep may nest what is inside an array or object, where that may nest `depth` deep.
+/// The deepest nesting inside an array or object that may nest `depth` deep.
 fn depth_inside(depth: usize) -> Result<usize, Unspliced>
     ensures { IfOk result (λ inside. depth ≡ inside + 1) }
 {
@@ -42,7 +42,8 @@ fn depth_inside(depth: usize) -> Result<usize, Unspliced>
     Ok(depth - 1)
 }
 
-/// Writes the merge of the value that begins a text and one more, which isn't null; the text after the old value, which may nest `depth` deep.
+/// Writes the merge of the value that begins a text and a new one, which isn't null. It returns the text after the old value, which nests at most `depth`
+/// deep.
 #[cycle(splicing)]
 pub(crate) fn splice_value<'a>(
     alloc: Global,
@@ -74,7 +75,7 @@ pub(crate) fn splice_value<'a>(
     }
 }
 
-/// Writes the merge of an object, whose text begins after its opening bracket, and one more.
+/// Writes the merge of an object, whose text begins after its opening bracket, and a new one.
 #[cycle(splicing)]
 fn splice_members<'a>(
     alloc: Global,
@@ -90,7 +91,7 @@ fn splice_members<'a>(
 {
     write_byte(b'{', out)?;
     let mut left = all_members(text);
-    // Whether anything is written: of the old members some may be gone.
+    // Whether a member is written: the merge may have removed old members.
     let mut later = false;
     for (name, value) in members.iter() {
         let name = name.as_str();
@@ -100,7 +101,7 @@ fn splice_members<'a>(
     copy_rest(left, later, depth, out)
 }
 
-/// Merges this member into the rest of an object, which has no names below its own.
+/// Merges this member into the rest of an object, whose names are this one or come after it.
 #[cycle(splicing)]
 fn splice_member<'a>(
     alloc: Global,
@@ -154,7 +155,7 @@ fn splice_member<'a>(
     }
 }
 
-/// Writes the merge of an id list, whose text begins after its opening bracket, and one more.
+/// Writes the merge of an id list, whose text begins after its opening bracket, and a new one.
 #[cycle(splicing)]
 fn splice_items<'a>(
     alloc: Global,
@@ -178,7 +179,8 @@ fn splice_items<'a>(
     close_list(alloc, items, &done, left, later, out)
 }
 
-/// Goes through the old items, and notes which of the new ones are merged into them: what is left at the closing bracket, and whether anything stands before it.
+/// Goes through the old items, and notes the new ones that are merged into them. It returns the text at the closing bracket, and whether an item is before
+/// it.
 #[cycle(splicing)]
 fn splice_old_items<'a>(
     alloc: Global,
@@ -214,7 +216,7 @@ fn splice_old_items<'a>(
     Err(Unspliced::Unfit)
 }
 
-/// Merges an old item, which begins a text, with the new one of its id, or copies it; the text after it.
+/// Merges the old item that begins a text with the new one of its id, or copies it, and returns the text after it.
 #[cycle(splicing)]
 fn splice_item<'a>(
     alloc: Global,

@@ -12,7 +12,7 @@ use serde_json::{Map, Value};
 use std::alloc::{AllocError, Global};
 use std::mem;
 
-// The members that an object is merged into: none where another kind stood, or nothing.
+// The members into which an object is merged: none if the old value is absent or no object.
 fn object_of(alloc: Global, value: Option<Value>) -> Map<String, Value>
     ensures { members_view result.entries ≡ members_in (option_map view value) }
 {
@@ -25,7 +25,7 @@ fn object_of(alloc: Global, value: Option<Value>) -> Map<String, Value>
     }
 }
 
-// The items that an id list is merged into: none where another kind stood, or nothing.
+// The items into which an id list is merged: none if the old value is absent or no id list.
 fn id_list_of(alloc: Global, value: Option<Value>) -> Vec<Value>
     ensures { map view result.items ≡ items_in (option_map view value) }
 {
@@ -44,8 +44,7 @@ fn id_list_of(alloc: Global, value: Option<Value>) -> Vec<Value>
     }
 }
 
-/// The merge of some values and one more; `target` is the merge of the former, `None` where it is
-/// absent.
+/// The merge of some values and one more; `target` is the merge of the former, or `None` if it is absent.
 #[cycle(merging)]
 pub(crate) fn merge_value(
     alloc: Global,

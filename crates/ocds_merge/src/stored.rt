@@ -18,12 +18,12 @@ use crate::unspliced::Unspliced;
 use serde_json::Value;
 use std::alloc::Global;
 
-/// Why a merge that is kept as text can't be carried on.
+/// Why a merge that is stored as text can't be continued.
 #[derive(Clone, Copy, Debug, PartialEq, Eq, thiserror::Error)]
 pub enum StoredFault {
     #[error("no memory")]
     NoMemory,
-    /// The text is no JSON, so it keeps no merge.
+    /// The text is no JSON, so it holds no merge.
     #[error("the stored text is no JSON")]
     Unreadable,
 }
@@ -36,8 +36,7 @@ impl From<NoMemory> for StoredFault {
     }
 }
 
-/// The compact text of a merge, from which `merge_from_text` gives that merge again. `Null`, the
-/// merge of no values, is the text `null`.
+/// The compact text of a merge; `merge_from_text` reads it as the same merge. `Null`, the merge of no values, is the text `null`.
 pub fn merge_to_text(alloc: Global, merge: &Value) -> Result<String, NoMemory>
     ensures keeps { IfOk result (λ text. (vs : List Data) → view merge.now ≡ merge_or_null vs
         → All IsStorable vs → KeepsMerge (string_bytes text) vs) }
@@ -45,8 +44,7 @@ pub fn merge_to_text(alloc: Global, merge: &Value) -> Result<String, NoMemory>
     Ok(merge.to_string(alloc)?)
 }
 
-/// The merge that a stored text keeps. `Unreadable` comes only where the text is no JSON, or nests
-/// deeper than 127 levels.
+/// The merge in a stored text. `Unreadable` comes only if the text is no JSON, or nests deeper than 127 levels.
 pub fn merge_from_text(alloc: Global, stored: &str) -> Result<Value, StoredFault>
     ensures reads { IfOk result (λ merge. read stored.now ≡ Some (view merge)) }
     ensures memory { IfErr result (λ fault. (merge : Data) → read stored.now ≡ Some merge
@@ -64,7 +62,7 @@ pub fn merge_from_text(alloc: Global, stored: &str) -> Result<Value, StoredFault
     }
 }
 
-/// Whether a text is a JSON object of at most 127 levels, so that it can be merged. No tree is made of it where its numbers are digits alone.
+/// Whether a text is a JSON object of at most 127 levels, so that it can be merged. If its numbers are digits alone, no tree of it is made.
 pub fn is_object(alloc: Global, text: &str) -> Result<bool, NoMemory>
     ensures { IfOk result (λ is. IsTrue is ↔ IsObjectText text.now) }
 {
@@ -78,7 +76,7 @@ pub fn is_object(alloc: Global, text: &str) -> Result<bool, NoMemory>
     }
 }
 
-/// Whether a text begins as an object does, perhaps behind spaces: what reads and begins so is one. Only its first bytes are looked at.
+/// Whether a text begins like an object, perhaps after spaces. A text that begins so and can be read is an object. Only its first bytes are read.
 pub fn begins_object(text: &str) -> bool
     ensures { MatchBool result ((d : Data) → read text.now ≡ Some d → IsObjectText text.now) ⊤ }
 {
@@ -95,12 +93,11 @@ pub fn begins_object(text: &str) -> bool
     false
 }
 
-/// The text that keeps the merge of some values, after one value more, whatever the form of the stored text that reads as their merge. A text
-/// that is no JSON keeps no merge, not even that of no values, which is `null`. Where the text reads as no merge of any values, as where it has a
-/// member that is null or an id twice in one list, what comes of it isn't stated.
+/// The text of the merge after one more value. The stored text may have any form that reads as the merge of the values before. A text that is no JSON holds
+/// no merge; the merge of no values is `null`. If the text reads as no merge of any values, for example with a null member or an id twice in one list, no
+/// clause says the result.
 ///
-/// What the value doesn't touch is copied as it stands, and no tree is made of it, where the stored text is compact, its names without escapes and
-/// in their order.
+/// If the stored text is compact, with names in order and without escapes, the parts that the value doesn't touch are copied, and no tree of them is made.
 pub fn merge_into_text(alloc: Global, stored: &str, value: &Value) -> Result<String, StoredFault>
     ensures keeps { IfOk result (λ text. (vs : List Data) → read stored.now ≡ Some (merge_or_null vs)
         → All IsStorable (vs ++ view value.now ∷ [])
@@ -117,7 +114,7 @@ pub fn merge_into_text(alloc: Global, stored: &str, value: &Value) -> Result<Str
     }
 }
 
-/// The same by a tree of the stored merge, whatever the form of its text.
+/// The text after one more value, by a tree of the stored merge, whatever the form of its text.
 fn merged_anew(alloc: Global, stored: &str, value: &Value) -> Result<String, StoredFault>
     ensures keeps { IfOk result (λ text. (vs : List Data) → read stored.now ≡ Some (merge_or_null vs)
         → All IsStorable (vs ++ view value.now ∷ [])
@@ -132,7 +129,7 @@ fn merged_anew(alloc: Global, stored: &str, value: &Value) -> Result<String, Sto
     Ok(merge_to_text(alloc, &after)?)
 }
 
-/// The same by the stored text itself.
+/// The text after one more value, from the stored text itself.
 fn spliced(alloc: Global, stored: &str, value: &Value) -> Result<String, Unspliced>
     ensures keeps { IfOk result (λ text. (vs : List Data) → read stored.now ≡ Some (merge_or_null vs)
         → All IsStorable (vs ++ view value.now ∷ [])
@@ -155,7 +152,7 @@ fn spliced(alloc: Global, stored: &str, value: &Value) -> Result<String, Unsplic
     }
 }
 
-/// The bytes of that text.
+/// The bytes of the text after one more value.
 fn spliced_bytes(alloc: Global, stored: &[u8], value: &Value) -> Result<Vec<u8>, Unspliced>
     ensures readable { OnOk result (Reads stored.now) }
     ensures splices { IfOk result (λ bytes. TextIsKept (view value.now) → (merge : Data) → TextIsKept merge → stored.now ≡ compact_text merge

@@ -1,11 +1,11 @@
-//! Why a text wasn't merged as it stands.
+//! Why a value can't be merged into a text directly.
 use std::alloc::AllocError;
 
-/// Why no text came.
+/// Why there is no merged text.
 #[derive(Clone, Copy)]
 pub(crate) enum Unspliced {
     NoMemory,
-    /// The text isn't of the form that is spliced, as where a name has an escape.
+    /// The text doesn't have the form that can be merged directly; for example, a name has an escape.
     Unfit,
 }
 

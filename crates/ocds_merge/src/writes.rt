@@ -1,4 +1,4 @@
-//! What a merge on the text writes.
+//! Writes the parts of a merged text.
 ghost use Rattle.std.specs.Prelude.{◌≡◌, List, ℕ, ◌++◌, ◌∷◌, [], false, OnOk, IfOk, unwrap_or, None};
 ghost use Rattle.serde_json.specs.Data.{Data, null};
 ghost use Rattle.serde_json.specs.View.{view};
@@ -30,7 +30,7 @@ pub(crate) fn write_comma(later: bool, out: &mut Vec<u8>) -> Result<(), AllocErr
     Ok(())
 }
 
-/// Writes what stands from `text` on to where `rest` begins.
+/// Copies the part of `text` before `rest`.
 pub(crate) fn copy_span(
     text: &[u8],
     rest: &[u8],
@@ -52,7 +52,7 @@ pub(crate) fn write_value(alloc: Global, value: &Value, out: &mut Vec<u8>) -> Re
     Ok(out.extend_from_slice(text.as_bytes())?)
 }
 
-/// Writes the merge of this value alone; it isn't null.
+/// Writes the merge of this value alone, which isn't null.
 pub(crate) fn write_new(alloc: Global, value: &Value, out: &mut Vec<u8>) -> Result<(), AllocError>
     ensures { OnOk result (TextIsKept (view value.now)
         → out.new.items ≡ out.old.items ++ compact_text (unwrap_or (step None (view value.now)) null)) }
@@ -75,7 +75,7 @@ pub(crate) fn write_name(
     write_byte(b':', out)
 }
 
-/// Writes the merge of this value alone in the place of the value that begins a text, of which it takes nothing; the text after that.
+/// Writes the merge of this value alone in place of the value that begins a text, and returns the text after that. The old value is dropped.
 pub(crate) fn replace_value<'a>(
     alloc: Global,
     value: &Value,

@@ -1,4 +1,4 @@
--- The release of each event can be kept.
+-- The release of each event can be stored as text and read back.
 use Rattle.std.proofs.Common.{◌≡◌, ℕ, refl, arith}
 use Rattle.office_values.specs.Moments.{moment_text}
 use Rattle.office_values.specs.declared.settings.Publisher.{Publisher}
@@ -10,7 +10,7 @@ use Rattle.ocds_release.specs.declared.event.Event.TheVariants.{Publish, Open, C
 use Rattle.ocds_release.proofs.Keepable.{IsKeepable, storable}
 use Rattle.ocds_release.proofs.ListedEvents.{publish_keepable, open_keepable, cancel_keepable}
 
--- a release that tells no lists of its event is computed
+-- a release without lists of its event is computed
 keepable : (publisher : Publisher) (seq t : ℕ) (event : Event) → IsKeepable t (release_of_event publisher seq t event)
 keepable publisher seq t (Publish e) = publish_keepable publisher seq t e
 keepable publisher seq t (Open e) = open_keepable publisher seq t e

@@ -1,4 +1,4 @@
--- What stands under a name stays there while other names are put.
+-- The member of a name stays as it is while members of other names are put.
 use Rattle.std.proofs.Common.{◌≡◌, ℕ, List, [], ◌∷◌, Bool, true, false, ◌||◌, refl, sym, ◌∙◌, true≢false, cond, bytes_eq}
 use Rattle.std.proofs.lemmas.Slice.Eq.{bytes_eq-Decides}
 use Rattle.serde_json.specs.Data.{Data, Members, put}

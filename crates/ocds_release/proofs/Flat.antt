@@ -1,4 +1,4 @@
--- Values without floats that nest at most so many levels: what releases are made of, builder by builder.
+-- Values without floats that nest at most `n` levels: the values of which releases are made, builder by builder.
 use Rattle.std.proofs.Common.{◌≡◌, ◌≤◌, ℕ, suc, List, [], ◌∷◌, ◌++◌, map, Bool, true, false, ◌||◌, Ordering, Less, Equal, Greater, nat_cmp, refl, arith, true≢false, cond}
 use Rattle.std.specs.Ordering.{match_ordering}
 use Rattle.std.specs.Cmp.Lexicographic.{slice_cmp}
@@ -8,7 +8,7 @@ use Rattle.serde_json.specs.View.{items_of}
 use Rattle.serde_json.specs.Written.{has_float, items_have_float, members_have_float}
 use Rattle.ocds_release.specs.Objects.{Entry, is_empty_list, put_unless_empty, with_entries, object_of, text, array_of, texts, money, reference}
 
--- no float, and at most n levels
+-- the value has no float, and nests at most `n` levels
 pub record IsFlat (n : ℕ) (v : Data) : Type 0 where
   pub no_float : has_float v ≡ false
   pub shallow : depth v ≤ n
@@ -21,7 +21,7 @@ pub record AreMembersFlat (n : ℕ) (ms : Members) : Type 0 where
   pub no_float : members_have_float ms ≡ false
   pub shallow : members_depth ms ≤ n
 
--- each value of these, and of these entries
+-- each of these values, or of these entries, is flat
 abbrev pub AreFlat : ℕ → List Data → Type 0
 AreFlat n [] = Unit {0}
 AreFlat n (d ∷ ds) = IsFlat n d × AreFlat n ds
@@ -30,7 +30,7 @@ abbrev pub AreEntriesFlat : ℕ → List Entry → Type 0
 AreEntriesFlat n [] = Unit {0}
 AreEntriesFlat n (e ∷ es) = IsFlat n e.1 × AreEntriesFlat n es
 
--- ---- neither, either
+-- ---- neither of two values has a float, or either has
 
 neither : (a b : Bool) → a ≡ false → b ≡ false → (a || b) ≡ false
 neither true b e f = e
@@ -102,7 +102,7 @@ text_flat n s = record { no_float = refl; shallow = omega arith }
 pub number_flat : (n k : ℕ) → IsFlat n (number (unsigned k))
 number_flat n k = record { no_float = refl; shallow = omega arith }
 
--- money, and who is meant
+-- money, and a reference to a person or body
 pub money_flat : (n amount : ℕ) (currency : List ℕ) → IsFlat (suc n) (money amount currency)
 money_flat n amount currency =
     inside_flat n _ (member_flat n _ _ _ (number_flat n amount) (member_flat n _ _ _ (text_flat n currency) (none_flat n)))

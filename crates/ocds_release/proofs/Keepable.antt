@@ -1,4 +1,4 @@
--- Each release can be kept: it has no float, nests at most seven levels, and is dated by the moment of its event.
+-- Each release can be stored as text: it has no float, nests at most seven levels, and has the date of its event's moment.
 use Rattle.std.proofs.Common.{◌≡◌, ℕ, List, [], codes, false, ap, arith}
 use Rattle.std.specs.Prelude.{unwrap_or, option_and_then}
 use Rattle.serde_json.specs.Data.{Data}
@@ -21,7 +21,7 @@ head_flat publisher seq t notice =
     members_flat 6 (head_of publisher seq t notice)
     (reference_flat 5 _ _, (text_flat 6 _, (text_flat 6 _, (text_flat 6 _, (text_flat 6 _, (text_flat 6 _, tt))))))
 
--- a release whose event says nothing under `date`, and nothing that nests more than six levels
+-- a release whose event has no member `date`, and no value that nests more than six levels
 pub release_keepable : (publisher : Publisher) (seq t : ℕ) (notice : List ℕ) (event : List Entry) → AreEntriesFlat 6 event
     → has_name (codes "date") event ≡ false
     → IsKeepable t (release publisher seq t notice event)

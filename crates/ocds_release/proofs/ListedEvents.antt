@@ -1,4 +1,4 @@
--- The releases that tell lists of their events: publications, openings and cancellations. Each can be kept.
+-- The releases with lists of their events: publications, openings and cancellations. Each can be stored as text.
 use Rattle.std.proofs.Common.{ℕ, List, [], ◌∷◌, codes, map, length, refl, arith}
 use Rattle.serde_json.specs.Data.{number, unsigned}
 use Rattle.office_values.specs.declared.settings.Publisher.{Publisher}

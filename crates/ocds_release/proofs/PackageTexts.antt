@@ -40,7 +40,7 @@ pushed new old later k d ms e =
     ∙ append_assoc old (member_text later k (compact_text d)) (members_text true ms)
     ∙ ap (λ (r : List ℕ). old ++ r) (joins later k d ms)
 
--- ---- a list that is opened, and what stands in it
+-- ---- a list that is opened, and its elements
 
 pub opened : (new old : List ℕ) (later : Bool) (k : List ℕ) (d : Data) (items : List ℕ) (ms : Members) → new ≡ old ++ member_text later k (91 ∷ [])
     → compact_text d ≡ 91 ∷ items → new ++ (items ++ members_text true ms) ≡ old ++ members_text later (member k d ms)
@@ -57,7 +57,7 @@ opened new old later k d items ms e list =
     ∙ sym (append_assoc text (quoted k ++ 58 ∷ compact_text d) rest)
     ∙ joins later k d ms)
 
--- an object's text that is closed, with more behind it
+-- the text of an object that is closed, with more text after it
 pub before_rest : (new items old start members rest : List ℕ) → new ++ (items ++ 125 ∷ []) ≡ start ++ members → start ≡ old ++ 123 ∷ []
     → new ++ (items ++ 125 ∷ rest) ≡ old ++ ((123 ∷ members) ++ rest)
 before_rest new items old start members rest body opens =
@@ -82,7 +82,7 @@ pub extensions_some : (ls : List (List ℕ)) (ms : Members) → 0 < length ls �
 extensions_some [] ms e = absurd (omega arith)
 extensions_some (l ∷ ls) ms e = refl
 
--- ---- rows that keep releases
+-- ---- rows that store releases
 
 pub kept_list : (later : Bool) (rs : List ReleaseRow) (ds : List Data) → AreKept rs ds → spliced later rs ++ 93 ∷ [] ≡ items_text later (items_of ds)
 kept_list later [] [] h = refl

@@ -4,7 +4,7 @@ use Rattle.serde_json.specs.Data.{Data}
 use Rattle.office_values.specs.Moments.{moment_text}
 use Rattle.ocds_release.specs.Objects.{text, object_of}
 
--- an amendment: its id, when it was made, why, and what it did
+-- an amendment: its id, its date, its rationale, and a description of the change
 abbrev pub amendment : Data → ℕ → List ℕ → Data → Data
 amendment id t rationale description = object_of (
     (codes "date", text (moment_text t))

@@ -1,4 +1,4 @@
--- The release of each event. Commands that are none of these publish nothing.
+-- The release of each event. A command without such an event publishes nothing.
 pub mod Publish
 pub mod Amend
 pub mod Open
@@ -28,7 +28,7 @@ use Rattle.ocds_release.specs.Events.End.{end_body}
 use Rattle.ocds_release.specs.declared.event.Event.{Event}
 use Rattle.ocds_release.specs.declared.event.Event.TheVariants as events
 
--- the release of an event under this number, at this moment: its head, and what it says after it
+-- the release of an event with this number and moment: the head, then the members of the event
 abbrev pub release_of_event : Publisher → ℕ → ℕ → Event → Data
 release_of_event publisher seq t (events.Publish e) = release publisher seq t e.notice (publish_body publisher t e)
 release_of_event publisher seq t (events.Amend e) = release publisher seq t e.notice (amend_body seq t e)

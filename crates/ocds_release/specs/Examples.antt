@@ -1,4 +1,4 @@
--- Worked events of the notice N1 of the City Office, with one lot of one item, and the texts of their releases. `src/examples.rt` states the texts.
+-- Worked events of the notice N1 of the City Office, which has one lot with one item, and the texts of their releases. `src/examples.rt` states the texts.
 use Rattle.std.specs.Prelude.{ℕ, List, [], ◌∷◌, codes, unwrap_or}
 use Rattle.serde_json.specs.Data.{Data, null}
 use Rattle.serde_json.specs.Read.{read}
@@ -13,7 +13,7 @@ use Rattle.ocds_release.specs.declared.event.Event.TheVariants.{Publish, Amend, 
 use Rattle.ocds_release.specs.Events.{release_of_event}
 use Rattle.ocds_release.specs.Packages.{release_package, record_package}
 
--- who publishes
+-- the publisher of the examples
 abbrev pub city : Publisher
 city = record {
   prefix = codes "ocds-a1b2c3";
@@ -35,7 +35,7 @@ n1 = codes "N1"
 abbrev pub l1 : List ℕ
 l1 = codes "L1"
 
--- its lot; 2026-03-01T12:00:00Z is the deadline
+-- the lot of N1; its deadline is 2026-03-01T12:00:00Z
 abbrev pub north : NewLot
 north = record {
   id = l1;
@@ -59,7 +59,7 @@ two_tenderers = Open (record {
       ∷ record { id = codes "T2"; name = codes "Beta"; address = codes "Low Street 2" } ∷ [];
 })
 
--- a notice without tenders
+-- an opening without tenders
 abbrev pub no_tenderers : Event
 no_tenderers = Open (record { notice = n1; tenderers = [] })
 
@@ -72,11 +72,11 @@ nobody_wins = NoAward (record { notice = n1; lot = l1; status = statuses.Unsucce
 abbrev pub alpha_fails : Event
 alpha_fails = Fail (record { notice = n1; award = 1 })
 
--- a notice that was receiving tenders
+-- a cancellation while the notice was receiving tenders
 abbrev pub no_need : Event
 no_need = Cancel (record { notice = n1; lots = l1 ∷ []; awards = []; rationale = codes "No need"; status = statuses.Cancelled })
 
--- two lots of a notice, one of them awarded, while a third has its contract
+-- a cancellation of two lots, one of which was awarded; a third lot has its contract
 abbrev pub no_need_after_award : Event
 no_need_after_award = Cancel (record {
   notice = n1;
@@ -106,19 +106,19 @@ first_payment = Pay (record { notice = n1; contract = 1; entry = codes "P1"; amo
 abbrev pub all_done : Event
 all_done = End (record { notice = n1; contract = 1 })
 
--- what a text of JSON reads as
+-- the value of a JSON text
 abbrev pub read_value : List ℕ → Data
 read_value text = unwrap_or (read text) null
 
--- the same, with an extension
+-- the City Office with an extension
 abbrev pub city_with_lots : Publisher
 city_with_lots = record city { extensions = codes "https://example.org/lots" ∷ [] }
 
--- the package of the notice's first release alone
+-- the package of the first release alone
 abbrev pub first_package : List ℕ
 first_package = compact_text (release_package city n1 (release_of_event city 1 1769936400 road_repair ∷ []))
 
--- two releases, of which the packages look at the date alone
+-- two releases; the packages read only their dates
 abbrev pub earlier_release : Data
 earlier_release = read_value (codes "{\"date\":\"2026-02-01T09:00:00Z\"}")
 

@@ -1,4 +1,4 @@
--- Values of JSON, as releases have them.
+-- Values of JSON in releases.
 use Rattle.std.specs.Prelude.{ℕ, Bool, true, false, if◌then◌else◌, List, [], ◌∷◌, codes, map, decimal}
 use Rattle.std.specs.List.{concat}
 use Rattle.serde_json.specs.Data.{Data, null, boolean, number, unsigned, string, array, item, no_items, object, Members, member, no_members, put}
@@ -9,7 +9,7 @@ use Rattle.ocds_release.specs.Texts.{four_digits, buyer_id, tenderer_id}
 abbrev pub Entry : Type 0
 Entry = List ℕ × Data
 
--- a list of nothing
+-- whether a value is an empty list
 abbrev pub is_empty_list : Data → Bool
 is_empty_list null = false
 is_empty_list (boolean b) = false
@@ -19,11 +19,11 @@ is_empty_list (array no_items) = true
 is_empty_list (array (item d ds)) = false
 is_empty_list (object ms) = false
 
--- the member is put, but for an empty list, which would replace what is there in a merge of releases
+-- Puts the member, but leaves an empty list out: in a merge of releases it would replace the list before.
 abbrev pub put_unless_empty : List ℕ → Data → Members → Members
 put_unless_empty k d ms = if is_empty_list d then ms else put k d ms
 
--- the members with these entries put, one after another
+-- puts these entries into the members, one after another
 abbrev pub with_entries : List Entry → Members → Members
 with_entries [] ms = ms
 with_entries (e ∷ es) ms = with_entries es (put_unless_empty e.0 e.1 ms)
@@ -54,7 +54,7 @@ four_digit_id n = text (concat (four_digits n ∷ []))
 abbrev pub money : ℕ → List ℕ → Data
 money amount currency = object (member (codes "amount") (number (unsigned amount)) (member (codes "currency") (string currency) no_members))
 
--- who is meant, by identifier and name (OCDS 1.1, OrganizationReference)
+-- a person or body, by identifier and name (OCDS 1.1, OrganizationReference)
 abbrev pub reference : List ℕ → List ℕ → Data
 reference id name = object (member (codes "id") (string id) (member (codes "name") (string name) no_members))
 

@@ -1,4 +1,4 @@
--- What every release has (OCDS 1.1, release schema).
+-- The members that every release has (OCDS 1.1, release schema).
 use Rattle.std.specs.Prelude.{ℕ, List, [], ◌∷◌, codes}
 use Rattle.serde_json.specs.Data.{Data, Members, object, no_members}
 use Rattle.office_values.specs.Moments.{moment_text}
@@ -24,10 +24,10 @@ head_of publisher seq t notice =
 abbrev pub head_members : Publisher → ℕ → ℕ → List ℕ → Members
 head_members publisher seq t notice = with_entries (head_of publisher seq t notice) no_members
 
--- the release of a notice with this number, at this moment: its head, and what the event says
+-- the release of a notice with this number and moment: the head, then the members of the event
 abbrev pub release : Publisher → ℕ → ℕ → List ℕ → List Entry → Data
 release publisher seq t notice event = object (with_entries event (head_members publisher seq t notice))
 
--- the release's tags (OCDS 1.1, codelist releaseTag)
+-- the tags of a release (OCDS 1.1, codelist releaseTag)
 abbrev pub tags : List (List ℕ) → Entry
 tags ts = (codes "tag", texts ts)

@@ -37,10 +37,10 @@ abbrev pub tender_status_of : List LotState → TenderStatus
 tender_status_of states =
     cond (list_any is_open states) Active (cond (list_any is_contracted states) Complete (cond (list_any is_cancelled_lot states) Cancelled Unsuccessful))
 
--- the state of a lot after this lot has come to a state
+-- the state of a lot after the lot of this identifier gets this state
 abbrev pub state_with : List ℕ → LotState → LotRow → LotState
 state_with lot state row = cond (same_id row.lot lot) state row.state
 
--- the state of a lot after those that were open have been cancelled
+-- the state of a lot after all open lots are cancelled
 abbrev pub state_cancelled : LotRow → LotState
 state_cancelled row = cond (is_open row.state) lot_states.Cancelled row.state

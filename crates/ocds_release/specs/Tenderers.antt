@@ -2,7 +2,7 @@
 use Rattle.std.specs.Prelude.{ℕ, List}
 use Rattle.office_base.specs.declared.records.TendererRow.{TendererRow}
 
--- what is announced of a tenderer (Model Law, article 42): the name and the address
+-- the data of a tenderer that an opening announces (Model Law, article 42): name and address
 pub record Tenderer : Type 0 where
   pub id : List ℕ
   pub name : List ℕ

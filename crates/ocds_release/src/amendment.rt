@@ -9,7 +9,7 @@ use office_values::moment::Moment;
 use serde_json::Value;
 use std::alloc::{AllocError, Global};
 
-/// An amendment, from its id and its description: when it was made, and why.
+/// An amendment with this id and description: its date and its rationale.
 pub(crate) fn amendment_of(
     alloc: Global,
     id: Value,

@@ -1,4 +1,4 @@
-//! What an event borrows of the rows that it is told from. Contracts see lists alone.
+//! Lists and texts that an event borrows from the rows of the office. Contracts see only plain lists.
 ghost use Rattle.std.specs.Prelude.{◌≡◌, ◌≤◌, ℕ, List, length, map, IfSome, IfNone};
 ghost use Rattle.ocds_release.specs.Tenderers.{Tenderer, tenderer_shown};
 
@@ -37,7 +37,7 @@ impl<'a> BorrowedLine<'a> {
     }
 }
 
-/// Things in order, borrowed.
+/// A list of things, borrowed.
 #[derive(Drop)]
 pub struct Listed<'a, T> {
     things: &'a [T],
@@ -67,10 +67,10 @@ impl<'a, T> Listed<'a, T> {
     }
 }
 
-/// The most lots of a notice that is published.
+/// The largest number of lots of a notice.
 pub const LOT_LIMIT: usize = 20;
 
-/// The lots of a notice that was published, in the order in which they were given: at most 20.
+/// The lots of a published notice, at most 20, in the order in which they were given.
 #[derive(Drop)]
 pub struct PublishedLots<'a> {
     lots: &'a [NewLot],
@@ -88,7 +88,7 @@ impl<'a> Model for PublishedLots<'a> {
 }
 
 impl<'a> PublishedLots<'a> {
-    /// These lots; None where there are more than 20. Takes no memory.
+    /// These lots, or `None` if there are more than 20. Takes no memory.
     pub fn read(lots: &'a [NewLot]) -> Option<PublishedLots<'a>>
         ensures found { IfSome result (λ all. all ≡ lots.now) }
         ensures few { IfSome result (λ _. length lots.now ≤ 20) }
@@ -109,7 +109,7 @@ impl<'a> PublishedLots<'a> {
     }
 }
 
-/// The tenderers of an opening, by their rows; contracts see of them what is announced, and so not their keys.
+/// The tenderers of an opening, by their rows. Contracts see only the data that is announced, and so not their keys.
 #[derive(Drop)]
 pub struct Tenderers<'a> {
     rows: &'a [TendererRow],
@@ -132,7 +132,7 @@ impl<'a> Tenderers<'a> {
         Tenderers { rows }
     }
 
-    /// How many they are.
+    /// The number of tenderers.
     pub fn count(&self) -> u64
         ensures { result ≡ length self.now }
     {

@@ -1,4 +1,4 @@
-//! What happened to a notice, as far as a release speaks of it. Contracts see an event as plain values, without references.
+//! Events of a notice, with the data that their releases need. Contracts see an event as plain values, without references.
 ghost use Rattle.std.specs.Prelude.{◌≡◌};
 ghost use Rattle.ocds_release.specs.Inside.Notices.{notice_of_event};
 
@@ -12,14 +12,14 @@ use office_values::id::Id;
 use office_values::moment::Moment;
 use office_values::money::{Amount, Total};
 
-/// Who is meant, by identifier and name.
+/// A person or body, by identifier and name.
 #[derive(Drop)]
 pub struct Party<'a> {
     pub id: Id,
     pub name: BorrowedLine<'a>,
 }
 
-/// A notice was published, with lots that are in any order.
+/// A notice was published, with lots in any order.
 #[derive(Drop)]
 pub struct Published<'a> {
     pub notice: Id,
@@ -38,7 +38,7 @@ pub struct NoticeAmended<'a> {
     pub rationale: BorrowedLine<'a>,
 }
 
-/// The tenders of a notice were opened: those of these tenderers, each once, by their identifiers.
+/// The tenders of a notice were opened. The tenderers come each once, in the order of their identifiers.
 #[derive(Drop)]
 pub struct Opened<'a> {
     pub notice: Id,
@@ -55,7 +55,7 @@ pub struct Awarded<'a> {
     pub price: Amount,
 }
 
-/// A lot was found to have no admissible tender; the status is that of the tender after it.
+/// A lot has no admissible tender. `status` is that of the tender after this.
 #[derive(Drop)]
 pub struct NotAwarded {
     pub notice: Id,
@@ -70,8 +70,7 @@ pub struct AwardFailed {
     pub award: GivenNumber,
 }
 
-/// What was open of a notice was cancelled: these lots by their identifiers, and these awards, which were active, by their numbers.
-/// The status is that of the tender after it.
+/// All open lots of a notice were cancelled: these lots, and these awards, which were active. `status` is that of the tender after this.
 #[derive(Drop)]
 pub struct NoticeCancelled<'a> {
     pub notice: Id,
@@ -81,7 +80,7 @@ pub struct NoticeCancelled<'a> {
     pub status: TenderStatus,
 }
 
-/// A contract was signed, whose number is that of its award; the status is that of the tender after it.
+/// A contract was signed, which has the number of its award. `status` is that of the tender after this.
 #[derive(Drop)]
 pub struct Signed {
     pub notice: Id,
@@ -91,7 +90,7 @@ pub struct Signed {
     pub status: TenderStatus,
 }
 
-/// A contract was raised or cut: by how much, and what it is worth after it.
+/// A contract was raised or cut by an amount; `value` is its value after this.
 #[derive(Drop)]
 pub struct ContractAmended<'a> {
     pub notice: Id,
@@ -120,7 +119,7 @@ pub struct ContractEnded {
     pub contract: GivenNumber,
 }
 
-/// What happened to a notice: each event has a release of its own.
+/// An event of a notice. Each event has a release of its own.
 #[derive(Drop)]
 pub enum Event<'a> {
     Publish(Published<'a>),
@@ -137,7 +136,7 @@ pub enum Event<'a> {
 }
 
 impl Event<'_> {
-    /// The notice to which it happened.
+    /// The notice of the event.
     pub fn notice(&self) -> Id
         ensures { result ≡ notice_of_event self.now }
     {

@@ -23,7 +23,7 @@ use office_values::settings::Publisher;
 use serde_json::Value;
 use std::alloc::{AllocError, Global};
 
-/// The release of an event of a notice at a moment, under its number among the notice's releases.
+/// The release of an event of a notice, with its moment and its number in the list of the notice's releases.
 pub(crate) fn made<'a>(
     alloc: Global,
     publisher: &'a Publisher,

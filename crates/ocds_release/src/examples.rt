@@ -16,13 +16,13 @@ pub fn worked_notice_releases()
     ensures failed { text_of 4 1773309600 alpha_fails ≡ codes "{\"awards\":[{\"id\":\"1\",\"status\":\"cancelled\"}],\"buyer\":{\"id\":\"B-city\",\"name\":\"City Office\"},\"date\":\"2026-03-12T10:00:00Z\",\"id\":\"ocds-a1b2c3-N1-0004\",\"initiationType\":\"tender\",\"language\":\"en\",\"ocid\":\"ocds-a1b2c3-N1\",\"tag\":[\"awardCancellation\"]}" }
 {}
 
-/// The releases of its cancellation, before the opening and after an award.
+/// The releases of a cancellation before the opening, and of one after an award.
 pub fn worked_cancellations()
     ensures cancelled { text_of 2 1770714000 no_need ≡ codes "{\"buyer\":{\"id\":\"B-city\",\"name\":\"City Office\"},\"date\":\"2026-02-10T09:00:00Z\",\"id\":\"ocds-a1b2c3-N1-0002\",\"initiationType\":\"tender\",\"language\":\"en\",\"ocid\":\"ocds-a1b2c3-N1\",\"tag\":[\"tenderCancellation\"],\"tender\":{\"amendments\":[{\"date\":\"2026-02-10T09:00:00Z\",\"description\":\"Cancelled\",\"id\":\"0002\",\"rationale\":\"No need\"}],\"id\":\"N1\",\"lots\":[{\"id\":\"L1\",\"status\":\"cancelled\"}],\"status\":\"cancelled\"}}" }
     ensures cancelled_with_award { text_of 4 1773309600 no_need_after_award ≡ codes "{\"awards\":[{\"id\":\"1\",\"status\":\"cancelled\"}],\"buyer\":{\"id\":\"B-city\",\"name\":\"City Office\"},\"date\":\"2026-03-12T10:00:00Z\",\"id\":\"ocds-a1b2c3-N1-0004\",\"initiationType\":\"tender\",\"language\":\"en\",\"ocid\":\"ocds-a1b2c3-N1\",\"tag\":[\"tenderCancellation\",\"awardCancellation\"],\"tender\":{\"amendments\":[{\"date\":\"2026-03-12T10:00:00Z\",\"description\":\"Cancelled\",\"id\":\"0004\",\"rationale\":\"No need\"}],\"id\":\"N1\",\"lots\":[{\"id\":\"L1\",\"status\":\"cancelled\"},{\"id\":\"L2\",\"status\":\"cancelled\"}],\"status\":\"complete\"}}" }
 {}
 
-/// The releases of its contract, from its signing to its end.
+/// The releases of a contract, from its signing to its end.
 pub fn worked_contract_releases()
     ensures signed { text_of 4 1773309600 alpha_signs ≡ codes "{\"buyer\":{\"id\":\"B-city\",\"name\":\"City Office\"},\"contracts\":[{\"awardID\":\"1\",\"dateSigned\":\"2026-03-12T10:00:00Z\",\"id\":\"1\",\"status\":\"active\",\"value\":{\"amount\":500,\"currency\":\"EUR\"}}],\"date\":\"2026-03-12T10:00:00Z\",\"id\":\"ocds-a1b2c3-N1-0004\",\"initiationType\":\"tender\",\"language\":\"en\",\"ocid\":\"ocds-a1b2c3-N1\",\"tag\":[\"contract\"],\"tender\":{\"id\":\"N1\",\"lots\":[{\"id\":\"L1\",\"status\":\"complete\"}],\"status\":\"complete\"}}" }
     ensures raised { text_of 5 1774000800 more_paving ≡ codes "{\"buyer\":{\"id\":\"B-city\",\"name\":\"City Office\"},\"contracts\":[{\"amendments\":[{\"date\":\"2026-03-20T10:00:00Z\",\"description\":\"Raised by 50\",\"id\":\"A1\",\"rationale\":\"More paving\"}],\"awardID\":\"1\",\"id\":\"1\",\"value\":{\"amount\":550,\"currency\":\"EUR\"}}],\"date\":\"2026-03-20T10:00:00Z\",\"id\":\"ocds-a1b2c3-N1-0005\",\"initiationType\":\"tender\",\"language\":\"en\",\"ocid\":\"ocds-a1b2c3-N1\",\"tag\":[\"contractAmendment\"]}" }

@@ -1,6 +1,6 @@
-//! Releases: what an office publishes of a notice, as OCDS 1.1 has it.
+//! Releases: the documents that an office publishes about a notice, in the form of OCDS 1.1.
 //!
-//! `specs/Events.antt` has the release of each event, `specs/Events` what it says, a file each, and `specs/Packages.antt` the packages of
+//! `specs/Events.antt` has the release of each event, and `specs/Events` the members of each in a file of its own. `specs/Packages.antt` has the packages of
 //! releases and of records.
 #![tactic(auto)]
 

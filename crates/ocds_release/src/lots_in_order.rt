@@ -10,14 +10,14 @@ use office_values::id::Id;
 use std::alloc::{AllocError, Global};
 use std::cmp::Ordering;
 
-// Whether the lot's identifier is less.
+// Whether the lot's identifier comes before this one.
 fn is_before(lot: &NewLot, id: Id) -> bool
     ensures { result ≡ is_lt (id_cmp lot.now.id id) }
 {
     lot.id.cmp(&id) == Ordering::Less
 }
 
-// The first place whose identifier isn't less.
+// The place before the first lot whose identifier isn't less.
 fn place_for(order: &[&NewLot], id: Id) -> usize
     ensures within { result ≤ length order.now }
     ensures before { AreEarlier id (take result (map (λ r. r.now.id) order.now)) }
@@ -31,8 +31,7 @@ fn place_for(order: &[&NewLot], id: Id) -> usize
     order.len()
 }
 
-/// The lots in the order of their identifiers. They go in from the last to the first, so that lots which are in order already take one
-/// comparison each.
+/// The lots, sorted by their identifiers. They are inserted from the last to the first, so that lots that are already in order take one comparison each.
 pub(crate) fn in_order<'a>(alloc: Global, lots: &'a [NewLot]) -> Result<Vec<&'a NewLot>, AllocError>
     ensures { IfOk result (λ order. map (λ r. r.now) order.items ≡ lots_in_order lots.now) }
 {

@@ -1,4 +1,4 @@
-//! Objects of JSON, built member by member.
+//! JSON objects that are built member by member.
 ghost use Rattle.std.specs.Prelude.{◌≡◌, ◌∷◌, [], IfOk, OnOk, map};
 ghost use Rattle.serde_json.specs.Data.{object, no_members};
 ghost use Rattle.serde_json.specs.View.{view};
@@ -10,7 +10,7 @@ use crate::part::{Part, value_of};
 use serde_json::{Map, Value, put};
 use std::alloc::{AllocError, Global};
 
-// Whether the value is a list of nothing.
+// Whether the value is an empty list.
 fn is_empty_list(value: &Value) -> bool
     ensures { result ≡ is_empty_list (view value.now) }
 {
@@ -20,7 +20,7 @@ fn is_empty_list(value: &Value) -> bool
     }
 }
 
-/// An object that is being built. A member that is a list of nothing is left out: in a merge of releases it would replace what is there.
+/// An object that is being built. An empty list is left out: in a merge of releases it would replace the list before.
 #[derive(Drop)]
 pub(crate) struct Object {
     members: Map<String, Value>,
@@ -36,7 +36,7 @@ impl Object {
         }
     }
 
-    /// Puts a member.
+    /// Puts a member, unless it is an empty list.
     pub(crate) fn put_value(
         &mut self,
         alloc: Global,
@@ -51,7 +51,7 @@ impl Object {
         put(&mut self.members, alloc, name, value)
     }
 
-    /// Puts the members that are described.
+    /// Puts the members with these names and parts.
     pub(crate) fn put(&mut self, alloc: Global, members: &[(&str, Part)]) -> Result<(), AllocError>
         ensures { OnOk result (members_in self.new ≡ with_entries (map entry_of members.now) (members_in self.old)) }
     {
@@ -70,7 +70,7 @@ impl Object {
     }
 }
 
-/// The object with the members that are described.
+/// An object with the members with these names and parts.
 pub(crate) fn object_with(alloc: Global, members: &[(&str, Part)]) -> Result<Value, AllocError>
     ensures { IfOk result (λ v. view v ≡ object_of (map entry_of members.now)) }
 {
@@ -79,7 +79,7 @@ pub(crate) fn object_with(alloc: Global, members: &[(&str, Part)]) -> Result<Val
     Ok(object.into_value())
 }
 
-/// The list of this value alone.
+/// A list of this one value.
 pub(crate) fn list_of_one(alloc: Global, value: Value) -> Result<Value, AllocError>
     ensures { IfOk result (λ list. view list ≡ array_of (view value ∷ [])) }
 {

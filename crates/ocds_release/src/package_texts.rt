@@ -1,4 +1,4 @@
-//! Packages as texts, put together from the texts of releases as they are kept: no release is read or written again.
+//! Packages as texts, put together from the stored texts of releases: no release is read or written again.
 ghost use Rattle.std.specs.Prelude.{◌≡◌, ◌∷◌, ◌++◌, [], List, ℕ, true, false, IfOk, OnOk};
 ghost use Rattle.serde_json.specs.Data.{Data, Members};
 ghost use Rattle.serde_json.specs.View.{view};
@@ -24,11 +24,11 @@ use serde_json::Value;
 use std::alloc::{AllocError, Global};
 use std::marker::Model;
 
-// What is left free behind a package's text, so that a response's head finds room beside it.
+// Free bytes at the end of a package's text, so that the head of a response has place there.
 const SPARE: usize = 256;
 
-/// The text of a package into which the releases of a notice are put, one after another. It stands in one buffer, which takes no more memory
-/// while they, with a comma each, come to as many bytes as it was opened for.
+/// The text of a package, to which the releases of a notice are added one after another. It is one buffer. It takes no more memory while the releases, with a
+/// comma each, have at most as many bytes as it was opened for.
 #[derive(Drop)]
 pub struct PackageText {
     text: Vec<u8>,
@@ -45,7 +45,7 @@ impl Model for PackageText {
 }
 
 impl PackageText {
-    /// Puts a release behind those that are there.
+    /// Adds a release after the ones that were added.
     pub fn put(&mut self, release: &ReleaseRow) -> Result<(), NoMemory>
         ensures { OnOk result ((rows : List Kept) → completed self.new rows ≡ completed self.old (release.now ∷ rows)) }
     {
@@ -56,7 +56,7 @@ impl PackageText {
         Ok(())
     }
 
-    /// The text, closed behind the releases that are there.
+    /// Closes the package after these releases, and returns its text.
     pub fn close(self) -> Result<Vec<u8>, NoMemory>
         ensures { IfOk result (λ text. text.items ≡ completed self []) }
     {
@@ -83,7 +83,7 @@ fn quoted_text(alloc: Global, text: &str) -> Result<Vec<u8>, AllocError>
     Ok(bytes)
 }
 
-// Pushes a member, after others or as the first, whose value has this text.
+// Pushes a member whose value has this text, as the first one or after others.
 fn push_member(
     alloc: Global,
     text: &mut Vec<u8>,
@@ -130,7 +130,7 @@ fn push_part(
     Ok(())
 }
 
-// Pushes the extensions, where there are any, and the moment of the package.
+// Pushes the extensions, if there are any, and the date of the package.
 fn push_first(
     alloc: Global,
     text: &mut Vec<u8>,
@@ -165,7 +165,7 @@ fn push_head(
     Ok(())
 }
 
-// Pushes the members behind the list.
+// Pushes the members after the list.
 fn push_tail<'a>(
     alloc: Global,
     text: &mut Vec<u8>,
@@ -182,7 +182,7 @@ fn push_tail<'a>(
     Ok(())
 }
 
-// A package's text before what stands in its list.
+// The text of a package before the elements of its list.
 fn before_list(
     alloc: Global,
     publisher: &Publisher,
@@ -199,7 +199,7 @@ fn before_list(
     Ok(text)
 }
 
-// A package's text behind what stands in its list, with what closes the list.
+// The text of a package after the elements of its list, with the end of the list.
 fn behind_list<'a>(
     alloc: Global,
     publisher: &'a Publisher,
@@ -215,7 +215,7 @@ fn behind_list<'a>(
     Ok(text)
 }
 
-// Pushes a record up to what stands in its list of releases.
+// Pushes a record up to the elements of its list of releases.
 fn push_record(
     alloc: Global,
     text: &mut Vec<u8>,
@@ -239,7 +239,7 @@ fn push_record(
     Ok(())
 }
 
-// A package's text whose releases come to so many bytes.
+// The text of a package whose releases have this number of bytes.
 fn with_room(text: Vec<u8>, behind: Vec<u8>, room: usize) -> Result<PackageText, AllocError>
     ensures { IfOk result (λ pack. pack ≡ record { written = text.items; behind = behind.items; later = false }) }
 {
@@ -268,8 +268,8 @@ fn opened_releases(
     Ok(package)
 }
 
-/// Opens the text of the release package of a notice, the last of whose releases is of this moment. Its releases are put into it as they are
-/// kept, in sequence: at least one. There is room for so many bytes of them.
+/// Opens the text of the release package of a notice; `published` is the moment of its last release. The caller then adds the stored releases in sequence, at
+/// least one. There is memory for the given number of their bytes.
 pub fn open_releases(
     alloc: Global,
     publisher: &Publisher,
@@ -301,7 +301,7 @@ fn opened_record(
     Ok(package)
 }
 
-/// Opens the text of the record package of a notice, with the compiled release. The same holds of its releases as of those of
+/// Opens the text of the record package of a notice, with its compiled release. The caller then adds the stored releases in sequence, at least one, as in
 /// `open_releases`.
 pub fn open_record(
     alloc: Global,

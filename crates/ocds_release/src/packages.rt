@@ -63,14 +63,14 @@ pub(crate) fn extensions_of(alloc: Global, publisher: &Publisher) -> Result<Valu
     Ok(Value::Array(lines_of(alloc, publisher.extensions.as_slice())?))
 }
 
-/// Which package of a notice: under which name its list stands, and by which route it is had.
+/// A kind of package: the name of its list, and the route by which it is asked for.
 #[derive(Clone, Copy)]
 struct Kind<'a> {
     name: &'a str,
     route: &'a str,
 }
 
-// A package that was published at a date, with its list.
+// A package with its date and its list.
 fn package_of<'a>(
     alloc: Global,
     publisher: &'a Publisher,
@@ -100,9 +100,8 @@ fn package_of<'a>(
     Ok(package.into_value())
 }
 
-/// The release package of a notice (OCDS 1.1, release package), with its releases in sequence. It is meant for a list that isn't empty,
-/// of objects that each have a text `date`; a last release without one counts as one with an empty date, and an empty list of releases
-/// is left out.
+/// The release package of a notice (OCDS 1.1, release package), with its releases in sequence. It is meant for a list that isn't empty, of objects that each
+/// have a text `date`. A last release without one counts as one with an empty date, and an empty list of releases is left out.
 pub fn release_package(
     alloc: Global,
     settings: &Settings,
@@ -126,7 +125,7 @@ pub fn release_package(
     )?)
 }
 
-// The record of a notice: its releases, and what they compile to.
+// The record of a notice: its releases, and the compiled release.
 fn record_of(
     alloc: Global,
     publisher: &Publisher,
@@ -143,8 +142,8 @@ fn record_of(
     Ok(record.into_value())
 }
 
-/// The record package of a notice (OCDS 1.1, record package), with its releases in sequence and the compiled release. The same holds of
-/// its list as of that of `release_package`.
+/// The record package of a notice (OCDS 1.1, record package), with its releases in sequence and the compiled release. An empty list, and a last release
+/// without a date, have the effect described at `release_package`.
 pub fn record_package(
     alloc: Global,
     settings: &Settings,

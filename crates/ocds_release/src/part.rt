@@ -1,4 +1,4 @@
-//! Values of JSON, described by what they are made of.
+//! JSON values, described by their parts.
 ghost use Rattle.std.specs.Prelude.{◌≡◌, ◌∷◌, [], IfOk};
 ghost use Rattle.std.specs.List.{concat};
 ghost use Rattle.serde_json.specs.View.{view};
@@ -14,7 +14,7 @@ use office_values::settings::{Currency, Language, Prefix};
 use serde_json::{Value, json};
 use std::alloc::{AllocError, Global};
 
-/// A value of JSON that borrows what it is made of.
+/// A JSON value that borrows its parts.
 #[derive(Clone, Copy)]
 pub(crate) enum Part<'p> {
     Text(&'p str),
@@ -33,7 +33,7 @@ pub(crate) enum Part<'p> {
     Ocid(Prefix, Id),
     ReleaseId(Prefix, Id, u64),
     ItemId(Id, Id),
-    /// What an amendment did: a deadline moved, a contract raised or cut by so much.
+    /// The description of an amendment: a deadline was moved, or a contract was raised or cut by an amount.
     Moved(Moment, Moment),
     Raised(u64),
     Cut(u64),
@@ -50,7 +50,7 @@ fn money_of(alloc: Global, amount: u64, currency: Currency) -> Result<Value, All
     json!(in alloc; {"amount": amount, "currency": currency.as_str()})
 }
 
-// Who is meant; the letter of the kind stands before the identifier.
+// A person or body by identifier and name; the letter of its kind comes before the identifier.
 fn reference_of(alloc: Global, kind: &str, id: Id, name: &str) -> Result<Value, AllocError>
     ensures { IfOk result (λ v. view v ≡ reference (concat (kind.now ∷ id ∷ [])) name.now) }
 {
@@ -58,7 +58,7 @@ fn reference_of(alloc: Global, kind: &str, id: Id, name: &str) -> Result<Value, 
     json!(in alloc; {"id": id, "name": name})
 }
 
-// The words as one text.
+// One text that consists of these words.
 fn text(alloc: Global, words: &[Word]) -> Result<Value, AllocError>
     ensures { IfOk result (λ v. view v ≡ text (joined_words words.now)) }
 {

@@ -1,4 +1,4 @@
-//! What every release has.
+//! The members that every release has.
 ghost use Rattle.std.specs.Prelude.{◌≡◌, IfOk};
 ghost use Rattle.ocds_release.specs.Inside.Built.{members_in};
 ghost use Rattle.ocds_release.specs.Releases.{head_members};
@@ -11,7 +11,7 @@ use office_values::moment::Moment;
 use office_values::settings::Publisher;
 use std::alloc::{AllocError, Global};
 
-/// Of which notice a release is, under which number, and when.
+/// The notice of a release, its number, and its moment.
 #[derive(Clone, Copy)]
 pub(crate) struct Head {
     pub(crate) notice: Id,
@@ -19,7 +19,7 @@ pub(crate) struct Head {
     pub(crate) t: Moment,
 }
 
-/// A release of which the head alone is said.
+/// A release that has only its head.
 pub(crate) fn release_head(
     alloc: Global,
     publisher: &Publisher,

@@ -12,8 +12,8 @@ use office_values::settings::{Publisher, Settings};
 use serde_json::Value;
 use std::alloc::Global;
 
-/// The release of an event of a notice at a moment, under its number among the notice's releases (OCDS 1.1, release schema). Time and
-/// memory grow with what the event holds.
+/// The release of an event of a notice, with its moment and its number in the list of the notice's releases (OCDS 1.1, release schema). Time and memory grow
+/// with the size of the event.
 pub fn release_of_event<'a>(
     alloc: Global,
     publisher: &'a Publisher,
@@ -26,7 +26,7 @@ pub fn release_of_event<'a>(
     Ok(made(alloc, publisher, seq, t, event)?)
 }
 
-/// `release_of_event` of an office by its settings, for callers that have these at hand. The office itself hands on its publisher.
+/// `release_of_event` for callers that have the settings of an office instead of its publisher.
 pub fn release_of<'a>(
     alloc: Global,
     settings: &'a Settings,

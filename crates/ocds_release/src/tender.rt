@@ -1,4 +1,4 @@
-//! A tender whose lots have come to a state.
+//! A tender with lots that changed their status.
 ghost use Rattle.std.specs.Prelude.{◌≡◌, ◌∷◌, [], IfOk, map};
 ghost use Rattle.serde_json.specs.View.{view};
 ghost use Rattle.ocds_release.specs.Inside.Built.{members_in};
@@ -42,7 +42,7 @@ pub(crate) fn tender_with_lots(
     Ok(tender)
 }
 
-/// A tender with its status, and the one lot that has come to a status.
+/// A tender with its status, and the one lot that changed its status.
 pub(crate) fn tender_with_lot(
     alloc: Global,
     notice: Id,

@@ -18,7 +18,7 @@ pub enum TenderStatus {
 }
 
 impl TenderStatus {
-    /// Its code.
+    /// The status as a code of OCDS.
     pub fn as_str(self) -> &'static str
         ensures { result.now ≡ status_code self }
     {
@@ -83,14 +83,14 @@ pub fn status_of(states: &[LotState]) -> TenderStatus
     }
 }
 
-// The state of a lot after one lot has come to a state.
+// The state of a lot after the lot of this identifier gets this state.
 fn state_with(row: &LotRow, lot: Id, state: LotState) -> LotState
     ensures { result ≡ state_with lot state row.now }
 {
     if row.lot == lot { state } else { row.state }
 }
 
-/// The states of lots after one of them has come to a state.
+/// The states of lots after one of them gets this state.
 pub fn states_with(
     alloc: Global,
     lots: &[LotRow],
@@ -116,7 +116,7 @@ fn state_cancelled(row: &LotRow) -> LotState
     }
 }
 
-/// The states of lots after those that were open have been cancelled.
+/// The states of lots after all open ones are cancelled.
 pub fn states_cancelled(alloc: Global, lots: &[LotRow]) -> Result<Vec<LotState>, AllocError>
     ensures { IfOk result (λ states. states.items ≡ map state_cancelled lots.now) }
 {

@@ -1,4 +1,4 @@
-//! Texts made of words.
+//! Texts that are put together from words.
 ghost use Rattle.std.specs.Prelude.{◌≡◌, ◌++◌, IfOk, OnOk, string_bytes, decimal};
 ghost use Rattle.ocds_release.specs.Inside.Words.{word_text, joined};
 ghost use Rattle.ocds_release.specs.Texts.{four_digits};

@@ -1,4 +1,4 @@
--- A table that is read page by page is read whole.
+-- A table that is read page by page is read completely, each row once.
 use Rattle.std.specs.Prelude.{◌≡◌, ◌≤◌, ◌<◌, ◌+◌, ◌-◌, ℕ, zero, suc, Bool, true, false, cond, not, nat_lt, List, [], ◌∷◌, ◌++◌, length, take, drop, filter, slice_get, Option, Some, None, option_map}
 use Rattle.std.proofs.Common.{inl, inr, refl, sym, ap, subst, ◌∙◌, arith}
 use Rattle.std.proofs.lemmas.Bool.{cases_Bool, ltb-true, ltb-false}
@@ -27,7 +27,7 @@ module _ {K X : Type 0} {R : K → K → Ordering} (o : IsTotalOrder R) (key : X
   abbrev Above : K → List X → Type 0
   Above k xs = AllByRecursion (λ x. R k (key x) ≡ Less) xs
 
-  -- all rows stand above a key, where the first does
+  -- if the first row has a key above this one, so have all rows
   above : (k : K) (xs : List X) → StartsAbove R key k xs → IsInOrder R key xs → Above k xs
   above k [] s h = tt
   above k (x ∷ xs) s h = (s, above k xs (from xs h.0) h.1)
@@ -36,12 +36,12 @@ module _ {K X : Type 0} {R : K → K → Ordering} (o : IsTotalOrder R) (key : X
       from [] t = tt
       from (y ∷ ys) t = o.trans k (key x) (key y) s t
 
-  -- those above a key are all behind it
+  -- all rows above a key come after it
   all_behind : (k : K) (xs : List X) → Above k xs → filter (λ x. is_after R (Some k) (key x)) xs ≡ xs
   all_behind k [] a = refl
   all_behind k (x ∷ xs) a = ap (λ b. cond b (x ∷ filter (λ x. is_after R (Some k) (key x)) xs) (filter (λ x. is_after R (Some k) (key x)) xs)) (lt_is (R k (key x)) a.0) ∙ ap (λ ys. x ∷ ys) (all_behind k xs a.1)
 
-  -- where a key is behind another, so is all that is above it
+  -- if a key comes after another one, every key above it does too
   behind_too : (after : Option K) (k q : K) → is_after R after k ≡ true → R k q ≡ Less → is_after R after q ≡ true
   behind_too None k q e l = refl
   behind_too (Some a) k q e l = lt_is (R a q) (o.trans a k q (is_less (R a k) e) l)
@@ -58,7 +58,7 @@ module _ {K X : Type 0} {R : K → K → Ordering} (o : IsTotalOrder R) (key : X
   itself_not : (k : K) → is_after R (Some k) k ≡ false
   itself_not k = ap is_lt (same_key o k)
 
-  -- a row of a list that stands above a key does so
+  -- each row of a list whose rows are above a key is above it
   found_above : (k : K) (xs : List X) (i : ℕ) (x : X) → Above k xs → slice_get xs i ≡ Some x → R k (key x) ≡ Less
   found_above k [] i x a h = absurd (cc)
   found_above k (y ∷ ys) zero x a h = let same : y ≡ x = cc in subst (λ z. R k (key z) ≡ Less) same a.0
@@ -71,7 +71,7 @@ module _ {K X : Type 0} {R : K → K → Ordering} (o : IsTotalOrder R) (key : X
   abbrev kept_of : Option K → List X → List X
   kept_of after ys = filter (λ z. is_after R after (key z)) ys
 
-  -- what stands behind a row is what follows it
+  -- the rows after row i are those that follow it in the list
   pub behind_row : (after : Option K) (xs : List X) → IsInOrder R key xs → (i : ℕ) (x : X) → slice_get (rows_after R key after xs) i ≡ Some x
       → rows_after R key (Some (key x)) xs ≡ drop (suc i) (rows_after R key after xs)
   behind_row after [] h i x at = absurd (cc)
@@ -80,7 +80,7 @@ module _ {K X : Type 0} {R : K → K → Ordering} (o : IsTotalOrder R) (key : X
       up : Above (key y) ys
       up = above (key y) ys h.0 h.1
 
-      -- the first is not behind a row that follows it
+      -- the first row doesn't come after a row that follows it
       passed : (i : ℕ) → slice_get (kept_of after ys) i ≡ Some x → rows_after R key (Some (key x)) (y ∷ ys) ≡ rows_after R key (Some (key x)) ys
       passed i there = ap (λ b. cond b (y ∷ rows_after R key (Some (key x)) ys) (rows_after R key (Some (key x)) ys))
           (before_not (key x) (key y) (found_above (key y) (kept_of after ys) i x (above_filter (λ z. is_after R after (key z)) (key y) ys up) there))
@@ -115,7 +115,7 @@ module _ {K X : Type 0} {R : K → K → Ordering} (o : IsTotalOrder R) (key : X
     abbrev rest : Option K → List X
     rest after = rows_after R key after rows
 
-    -- the last page
+    -- the last page: no page follows
     ends : (after : Option K) (go : K → List X) → nat_lt most (length (take (most + 1) (rest after))) ≡ false
         → take most (rest after) ++ followed (next_after key most (take (most + 1) (rest after))) go ≡ rest after
     ends after go e =
@@ -123,7 +123,7 @@ module _ {K X : Type 0} {R : K → K → Ordering} (o : IsTotalOrder R) (key : X
         ∙ append-nil (take most (rest after))
         ∙ take_all most (rest after) (omega (arith, ltb-false most (length (take (most + 1) (rest after))) e, length-take (most + 1) (rest after)))
 
-    -- a page that another follows
+    -- a page that another one follows
     goes_on : (after : Option K) (go : K → List X) → nat_lt most (length (take (most + 1) (rest after))) ≡ true
         → ((k : K) → rest (Some k) ≡ drop most (rest after) → go k ≡ rest (Some k))
         → take most (rest after) ++ followed (next_after key most (take (most + 1) (rest after))) go ≡ rest after

@@ -1,4 +1,4 @@
--- The entries of a contract, one after another, make its sums.
+-- The sums that are added up entry by entry are the sums of the contract.
 use Rattle.std.specs.Prelude.{◌≡◌, ℕ, ◌+◌, Bool, true, false, cond, ◌&&◌, List, [], ◌∷◌, filter}
 use Rattle.std.proofs.Common.{refl, sym, ap, ◌∙◌, arith}
 use Rattle.office_base.specs.EntryKinds.{is_raise, is_payment, is_less}
@@ -12,7 +12,7 @@ use Rattle.office_base.specs.declared.records.EntryKind.{EntryKind}
 use Rattle.office_base.specs.declared.records.EntryKind.TheVariants.{Raise, Cut, Payment}
 use Rattle.office_base.specs.declared.records.EntryRow.{EntryRow}
 
--- the amounts of entries of some kinds
+-- the sum of the entries of certain kinds
 abbrev amounts : (EntryKind → Bool) → List EntryRow → ℕ
 amounts kind es = sum_over (λ (e : EntryRow). cond (kind e.kind) e.amount 0) es
 
@@ -26,7 +26,7 @@ amounts_cond : (kind : EntryKind → Bool) (c : Bool) (e : EntryRow) (es : List 
 amounts_cond kind true e es = refl
 amounts_cond kind false e es = refl
 
--- those of a contract
+-- the sum of a contract's entries is that of the entries with its number
 entry_amounts : (kind : EntryKind → Bool) (entries : List EntryRow) (contract : ℕ)
     → entry_sum kind entries contract ≡ amounts kind (filter (λ (e : EntryRow). same_number e.contract contract) entries)
 entry_amounts kind [] contract = refl
@@ -55,7 +55,7 @@ with_entries_are sums (e ∷ es) =
     with_entries_are (sums_with_entry e.kind e.amount sums) es
     ∙ kind_step e.kind e.amount (amounts is_raise es) (amounts is_less es) (amounts is_payment es) sums
 
--- the entries of a contract make its sums
+-- adding up a contract's entries one after another gives its sums
 pub sums_are : (entries : List EntryRow) (c : ContractRow) → sums_with_entries (bare_sums c) (filter (λ (e : EntryRow). same_number e.contract c.contract) entries) ≡ sums_of entries c
 sums_are entries c =
     with_entries_are (bare_sums c) (filter (λ (e : EntryRow). same_number e.contract c.contract) entries)

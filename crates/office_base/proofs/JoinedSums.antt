@@ -1,4 +1,4 @@
--- The sums of a line's contracts, lot by lot, are those of its joined rows.
+-- The sums of a line's contracts, collected lot by lot, are those of its joined rows.
 use Rattle.std.specs.Prelude.{◌≡◌, ℕ, ◌+◌, ◌-◌, ◌≤◌, Bool, true, false, cond, ◌&&◌, List, [], ◌∷◌, map, filter, Option, Some, None}
 use Rattle.std.proofs.Common.{refl, sym, ap, ◌∙◌, arith}
 use Rattle.std.specs.List.{AllByRecursion}
@@ -30,7 +30,7 @@ then_eq Less b = refl
 then_eq Equal b = refl
 then_eq Greater b = refl
 
--- whether a contract is of the lot with this key
+-- whether a contract belongs to the lot with this key
 abbrev is_of : List ℕ × List ℕ → ContractRow → Bool
 is_of k c = same_id c.notice k.0 && same_id c.lot k.1
 
@@ -41,7 +41,7 @@ is_of-compares k c =
     ∙ sym (then_eq (id_cmp c.notice k.0) (id_cmp c.lot k.1))
 
 module _ (w : ContractRow → ℕ) (q : List ℕ) (lots : List LotRow) (order : IsInOrder lot_cmp lot_key lots) where
-  -- what a contract weighs at the lots of the line that it is of
+  -- the amount of a contract, counted once for each of these lots to which it belongs
   abbrev at_lots : ContractRow → List LotRow → ℕ
   at_lots c ls = sum_over (λ (lot : LotRow). cond (is_of (lot_key lot) c) (w c) 0) ls
 
@@ -58,7 +58,7 @@ module _ (w : ContractRow → ℕ) (q : List ℕ) (lots : List LotRow) (order : 
       ∙ sum_over-one lots_total lot_key (λ (lot : LotRow). cond (of_line q lot) (w c) 0) (c.notice, c.lot) lots order
       ∙ found_weight c (find_lot lots (c.notice, c.lot))
 
-  -- sums over lots of sums over contracts, the other way round
+  -- the order of the two sums, over lots and over contracts, may be exchanged
   turned : (ls : List LotRow) (cs : List ContractRow) → sum_over (λ (lot : LotRow). sum_over (λ c. cond (is_of (lot_key lot) c) (w c) 0) cs) ls ≡ sum_over (λ c. at_lots c ls) cs
   turned [] cs = sym (sum_over-zero cs)
   turned (lot ∷ ls) cs = omega (arith, turned ls cs, sum_over-plus (λ c. cond (is_of (lot_key lot) c) (w c) 0) (λ c. at_lots c ls) cs)
@@ -66,7 +66,7 @@ module _ (w : ContractRow → ℕ) (q : List ℕ) (lots : List LotRow) (order : 
   joined : (cs : List ContractRow) → sum_over (λ (lot : LotRow). sum_over (λ c. cond (is_of (lot_key lot) c) (w c) 0) cs) (filter (of_line q) lots) ≡ sum_over (λ c. cond (is_on_line lots q c) (w c) 0) cs
   joined cs = turned (filter (of_line q) lots) cs ∙ sum_over-ext (λ c. at_lots c (filter (of_line q) lots)) (λ c. cond (is_on_line lots q c) (w c) 0) cs lot_of
 
--- what the sums of contracts weigh, lot by lot
+-- a sum over contracts collected lot by lot is a double sum over lots and contracts
 under : (t : Tables) (f : ContractSums → ℕ) (ls : List LotRow)
     → sum_over f (sums_under t ls) ≡ sum_over (λ (lot : LotRow). sum_over (λ c. cond (is_of (lot_key lot) c) (f (sums_of t.entries c)) 0) t.contracts) ls
 under t f [] = refl
@@ -89,7 +89,7 @@ module _ (t : Tables) (sorted : IsSorted t) (q : List ℕ) where
   amounts_sum : (f : ContractSums → ℕ) → sum_over f (sums_of_line q t) ≡ sum_over (λ m. m) (map (λ c. f (sums_of t.entries c)) (contracts_of_line q t))
   amounts_sum f = joined_sum f ∙ sym (sum_over-map (λ m. m) (λ c. f (sums_of t.entries c)) (contracts_of_line q t))
 
--- nothing too much in each is nothing too much in all
+-- if no excess is left in total, no contract has an excess
 all_from_zero : {X : Type 0} (f g : X → ℕ) (xs : List X) → sum_over (λ x. f x - g x) xs ≡ 0 → AllByRecursion (λ x. f x ≤ g x) xs
 all_from_zero f g [] h = tt
 all_from_zero f g (x ∷ xs) h = (omega (arith, h), all_from_zero f g xs (omega (arith, h)))

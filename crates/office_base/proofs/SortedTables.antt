@@ -1,4 +1,4 @@
--- The tables stay in the order of their keys.
+-- Changes keep the rows of each table in the order of their keys.
 use Rattle.std.specs.Prelude.{List, [], ◌∷◌}
 use Rattle.std.specs.Cmp.Lexicographic.{nat_list_cmp_total}
 use Rattle.std.proofs.lemmas.Cmp.{nat_cmp_total}

@@ -1,4 +1,4 @@
--- The test that nothing was taken from contracts that wasn't put in.
+-- The test that no contract lost more than it gained agrees with that property.
 use Rattle.std.specs.Prelude.{◌≡◌, ◌≤◌, true, List, [], ◌∷◌}
 use Rattle.std.specs.List.{AllByRecursion, list_all}
 use Rattle.std.proofs.Common.{refl}

@@ -1,4 +1,4 @@
--- What entries do to their contract.
+-- The kinds of entries of a contract: raises, cuts and payments.
 use Rattle.std.specs.Prelude.{Bool, true, false}
 use Rattle.office_base.specs.declared.records.EntryKind.{EntryKind}
 use Rattle.office_base.specs.declared.records.EntryKind.TheVariants.{Raise, Cut, Payment}
@@ -13,7 +13,7 @@ is_payment Raise = false
 is_payment Cut = false
 is_payment Payment = true
 
--- cut or paid: less is outstanding
+-- whether an entry lessens the outstanding amount: a cut or a payment
 abbrev pub is_less : EntryKind → Bool
 is_less Raise = false
 is_less Cut = true

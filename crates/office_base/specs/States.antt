@@ -1,4 +1,4 @@
--- Tests of states.
+-- Tests of the states of notices, lots, tenders, securities and awards.
 use Rattle.std.specs.Prelude.{Bool, true, false}
 use Rattle.office_base.specs.declared.records.NoticeState.{NoticeState}
 use Rattle.office_base.specs.declared.records.NoticeState.TheVariants as notice_states
@@ -33,7 +33,7 @@ is_undecided lot_states.Contracted = false
 is_undecided lot_states.Unsuccessful = false
 is_undecided lot_states.Cancelled = false
 
--- undecided or awarded: money is reserved for it
+-- whether money is reserved for a lot: it is undecided or awarded
 abbrev pub is_open : LotState → Bool
 is_open lot_states.Undecided = true
 is_open lot_states.Awarded = true
@@ -47,7 +47,7 @@ is_sealed envelope_states.Withdrawn = false
 is_sealed envelope_states.Returned = false
 is_sealed envelope_states.Opened = false
 
--- the tender was opened
+-- whether a tender was opened
 abbrev pub is_read : EnvelopeState → Bool
 is_read envelope_states.Sealed = false
 is_read envelope_states.Withdrawn = false

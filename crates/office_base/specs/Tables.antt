@@ -1,4 +1,4 @@
--- The content of an office: a finite map by key for each record, and the clock.
+-- The content of an office: a table for each kind of record, and the clock.
 use Rattle.std.specs.Prelude.{ℕ, Bool, ◌&&◌, List, [], ◌∷◌, Option, filter}
 use Rattle.std.specs.Ordering.{nat_cmp, ordering_then, eq_by_cmp}
 use Rattle.std.specs.declared.cmp.Ordering.{Ordering}
@@ -23,6 +23,7 @@ use Rattle.office_base.specs.declared.records.ClockRow.{ClockRow}
 use Rattle.office_base.specs.declared.puts.Put.{Put}
 use Rattle.office_base.specs.declared.puts.Put.TheVariants as puts
 
+-- the tables of an office, each a list of rows in the order of their keys, and its clock
 pub record Tables : Type 0 where
   pub lines : List LineRow
   pub batches : List BatchRow
@@ -41,7 +42,7 @@ pub record Tables : Type 0 where
   pub performances : List PerformanceRow
   pub clock : ClockRow
 
--- the clock of an office where nothing was accepted
+-- the clock of an office that has accepted no command
 abbrev pub first_clock : ClockRow
 first_clock = record { moment = 0; receipts = 0; awards = 0 }
 
@@ -49,22 +50,23 @@ first_clock = record { moment = 0; receipts = 0; awards = 0 }
 abbrev pub no_tables : Tables
 no_tables = record { lines = []; batches = []; tenderers = []; notices = []; lots = []; envelopes = []; seals = []; securities = []; awards = []; contracts = []; entries = []; releases = []; compiled = []; late_rules = []; performances = []; clock = first_clock }
 
--- lots in the order of their notices, and in a notice in that of their own identifiers
+-- the order of lots: by their notices, then by their identifiers
 abbrev pub lot_cmp : List ℕ × List ℕ → List ℕ × List ℕ → Ordering
 lot_cmp a b = ordering_then (id_cmp a.0 b.0) (id_cmp a.1 b.1)
 
--- entries by contract and identifier, releases by notice and number
+-- the order of entries: by their contracts, then by their identifiers
 abbrev pub entry_cmp : ℕ × List ℕ → ℕ × List ℕ → Ordering
 entry_cmp a b = ordering_then (nat_cmp a.0 b.0) (id_cmp a.1 b.1)
 
+-- the order of releases: by their notices, then by their numbers
 abbrev pub release_cmp : List ℕ × ℕ → List ℕ × ℕ → Ordering
 release_cmp a b = ordering_then (id_cmp a.0 b.0) (nat_cmp a.1 b.1)
 
--- numbers of receipts, securities, awards and contracts
+-- whether two numbers of receipts, securities, awards or contracts are equal
 abbrev pub same_number : ℕ → ℕ → Bool
 same_number a b = eq_by_cmp nat_cmp a b
 
--- the key of each record
+-- the key of a row, for each kind of record
 abbrev pub line_key : LineRow → List ℕ
 line_key r = r.line
 
@@ -110,7 +112,7 @@ late_key r = r.notice
 abbrev pub performance_key : PerformanceRow → ℕ
 performance_key r = r.contract
 
--- the row of a key among rows, and the rows with one row put
+-- `find_` is the row with a key among rows, and `put_` is the rows with one added or replaced, for each kind of record
 abbrev pub find_line : List LineRow → List ℕ → Option LineRow
 find_line rows key = row_at id_cmp line_key rows key
 
@@ -201,10 +203,11 @@ find_performance rows key = row_at nat_cmp performance_key rows key
 abbrev pub put_performance : List PerformanceRow → PerformanceRow → List PerformanceRow
 put_performance rows row = row_put nat_cmp performance_key rows row
 
+-- the rows of sealed bytes without that of this receipt
 abbrev pub drop_seal : List SealRow → ℕ → List SealRow
 drop_seal rows receipt = row_drop nat_cmp seal_key rows receipt
 
--- the row of a key in the office
+-- the row of an office that has this key, for each kind of record
 abbrev pub line_at : List ℕ → Tables → Option LineRow
 line_at key t = find_line t.lines key
 
@@ -250,46 +253,55 @@ late_at key t = find_late t.late_rules key
 abbrev pub performance_at : ℕ → Tables → Option PerformanceRow
 performance_at key t = find_performance t.performances key
 
--- the lots of a notice, and those of a line
+-- whether a lot belongs to a notice
 abbrev pub of_notice : List ℕ → LotRow → Bool
 of_notice notice r = same_id r.notice notice
 
+-- whether a lot is on a budget line
 abbrev pub of_line : List ℕ → LotRow → Bool
 of_line line r = same_id r.line line
 
+-- the lots of a notice
 abbrev pub lots_of_notice : List ℕ → Tables → List LotRow
 lots_of_notice notice t = filter (of_notice notice) t.lots
 
+-- the lots of a budget line
 abbrev pub lots_of_line : List ℕ → Tables → List LotRow
 lots_of_line line t = filter (of_line line) t.lots
 
--- the envelopes, securities, awards and contracts of a notice
+-- the tenders of a notice
 abbrev pub envelopes_of_notice : List ℕ → Tables → List EnvelopeRow
 envelopes_of_notice notice t = filter (λ (e : EnvelopeRow). same_id e.notice notice) t.envelopes
 
+-- the tender securities of a notice
 abbrev pub securities_of_notice : List ℕ → Tables → List SecurityRow
 securities_of_notice notice t = filter (λ (s : SecurityRow). same_id s.notice notice) t.securities
 
+-- the awards of a notice
 abbrev pub awards_of_notice : List ℕ → Tables → List AwardRow
 awards_of_notice notice t = filter (λ (a : AwardRow). same_id a.notice notice) t.awards
 
+-- the contracts of a notice
 abbrev pub contracts_of_notice : List ℕ → Tables → List ContractRow
 contracts_of_notice notice t = filter (λ (c : ContractRow). same_id c.notice notice) t.contracts
 
--- the envelopes, securities and contracts of a lot
+-- the tenders of a lot
 abbrev pub envelopes_of_lot : List ℕ → List ℕ → Tables → List EnvelopeRow
 envelopes_of_lot notice lot t = filter (λ (e : EnvelopeRow). same_id e.notice notice && same_id e.lot lot) t.envelopes
 
+-- the tender securities of a lot
 abbrev pub securities_of_lot : List ℕ → List ℕ → Tables → List SecurityRow
 securities_of_lot notice lot t = filter (λ (s : SecurityRow). same_id s.notice notice && same_id s.lot lot) t.securities
 
+-- the contracts of a lot
 abbrev pub contracts_of_lot : List ℕ × List ℕ → Tables → List ContractRow
 contracts_of_lot lot t = filter (λ (c : ContractRow). same_id c.notice lot.0 && same_id c.lot lot.1) t.contracts
 
--- a tenderer's own envelopes of a lot: of this notice, this lot and this tenderer
+-- whether a tender is for this lot of this notice and from this tenderer
 abbrev pub of_tenderer : List ℕ → List ℕ → List ℕ → EnvelopeRow → Bool
 of_tenderer notice lot tenderer e = same_id e.notice notice && same_id e.lot lot && same_id e.tenderer tenderer
 
+-- the tenders of a tenderer for a lot
 abbrev pub envelopes_of_tenderer : List ℕ → List ℕ → List ℕ → Tables → List EnvelopeRow
 envelopes_of_tenderer notice lot tenderer t = filter (of_tenderer notice lot tenderer) t.envelopes
 
@@ -321,12 +333,12 @@ after_put (puts.Late r) t = record t { late_rules = put_late t.late_rules r }
 after_put (puts.Performance r) t = record t { performances = put_performance t.performances r }
 after_put (puts.Clock r) t = record t { clock = r }
 
--- the office after changes, one after another
+-- the office after several changes, one after another
 abbrev pub after_puts : List Put → Tables → Tables
 after_puts [] t = t
 after_puts (p ∷ ps) t = after_puts ps (after_put p t)
 
--- the rows of each record are in the order of their keys
+-- the rows of each table are in the order of their keys
 pub record IsSorted (t : Tables) : Type 0 where
   pub lines : IsInOrder id_cmp line_key t.lines
   pub batches : IsInOrder id_cmp batch_key t.batches
@@ -344,6 +356,6 @@ pub record IsSorted (t : Tables) : Type 0 where
   pub late_rules : IsInOrder id_cmp late_key t.late_rules
   pub performances : IsInOrder nat_cmp performance_key t.performances
 
--- changes keep the tables in the order of their keys
+-- changes keep the rows of each table in the order of their keys
 abbrev pub ChangesKeepOrder : Type 0
 ChangesKeepOrder = (ps : List Put) (t : Tables) → IsSorted t → IsSorted (after_puts ps t)

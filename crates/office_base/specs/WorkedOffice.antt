@@ -1,4 +1,4 @@
--- A worked example of pots: a line with three lots, two of them under contract, and a line without lots.
+-- An example of balances: a line with three lots, of which two have contracts, and a line without lots.
 use Rattle.std.specs.Prelude.{ℕ, List, [], ◌∷◌, None, codes}
 use Rattle.office_base.specs.Tables.{Tables, first_clock}
 use Rattle.office_base.specs.declared.ledger.LedgerRow.{LedgerRow}
@@ -42,7 +42,7 @@ worked_contract number lot signed = record {
 abbrev pub worked_payment : List ℕ → EntryRow
 worked_payment entry = record { contract = 1; entry = entry; kind = Payment; amount = 10; moment = 0; rationale = None }
 
--- lot A has a contract of 100 with two payments of 10, lot B one of 50 without entries, and lot C has reserved 30
+-- an office in which lot A has a contract of 100 with two payments of 10, lot B a contract of 50 without entries, and lot C reserves 30
 abbrev pub worked_office : Tables
 worked_office = record {
   lines = worked_line (codes "1000") 1000 820 ∷ worked_line (codes "2000") 50 50 ∷ [];
@@ -63,7 +63,7 @@ worked_office = record {
   clock = first_clock;
 }
 
--- its ledger: 80 and 50 are contracted and 20 was paid
+-- the ledger of that office: on line 1000 130 are contracted, which is 80 and 50, and 20 are paid
 abbrev pub worked_ledger : List LedgerRow
 worked_ledger =
     record { line = codes "1000"; pots = record { appropriation = 1000; free = 820; reserved = 30; contracted = 130; paid = 20 } }

@@ -1,10 +1,10 @@
-//! Texts of JSON, as an office stores them.
+//! JSON texts, as an office stores them.
 ghost use Rattle.std.specs.Prelude.{◌≡◌, string_bytes};
 
 use std::alloc::AllocError;
 use std::marker::Model;
 
-/// A text of JSON: what it says is for those to state who write and read it.
+/// A JSON text. This type doesn't promise its form: the crates that write and read it do.
 #[derive(Drop)]
 pub struct JsonText {
     text: String,
@@ -19,7 +19,7 @@ impl Model for JsonText {
 }
 
 impl JsonText {
-    /// This text. Takes no memory.
+    /// The value of this text. It allocates no memory.
     pub fn from_string(text: String) -> JsonText
         ensures { result ≡ string_bytes text }
     {

@@ -1,4 +1,4 @@
-//! The keys of the records.
+//! The key of each kind of record.
 ghost use Rattle.std.proofs.Common.{rules};
 
 use crate::records::{

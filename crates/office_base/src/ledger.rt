@@ -1,4 +1,4 @@
-//! What the rows of an office add up to.
+//! The sums over the rows of an office: balances, and the sums of contracts.
 ghost use Rattle.std.specs.Prelude.{◌≡◌, ◌+◌, ◌^◌, ◌<◌, ◌≤◌};
 ghost use Rattle.office_base.specs.EntrySums.{sums_with_entry};
 
@@ -8,7 +8,7 @@ use office_commands::amounts::EntryAmount;
 use office_values::id::Id;
 use office_values::money::{Amount, Total};
 
-/// Where the money of a budget line is.
+/// The balances of a budget line.
 #[derive(Clone, Copy)]
 pub struct Pots {
     pub appropriation: Total,
@@ -18,14 +18,14 @@ pub struct Pots {
     pub paid: Total,
 }
 
-/// A row of the ledger: a budget line and its pots.
+/// A row of the ledger: a budget line and its balances.
 #[derive(Clone, Copy)]
 pub struct LedgerRow {
     pub line: Id,
     pub pots: Pots,
 }
 
-/// What a contract comes to, in units: what was signed and raised, what was cut, paid and released, and what of that was paid.
+/// The sums of a contract in units: the amount signed and raised, the amount cut, paid and released, and the amount paid.
 #[derive(Clone, Copy)]
 pub struct ContractSums {
     pub gained: u128,
@@ -34,7 +34,7 @@ pub struct ContractSums {
 }
 
 impl ContractSums {
-    /// The sums with one entry more, of this kind and amount.
+    /// The sums after one more entry of this kind and amount.
     pub fn with_entry(self, kind: EntryKind, amount: EntryAmount) -> ContractSums
         requires gained { self.gained + 2 ^ 50 < 2 ^ 128 }
         requires lost { self.lost + 2 ^ 50 < 2 ^ 128 }
@@ -61,7 +61,7 @@ impl ContractSums {
     }
 }
 
-/// What the pots of a budget line are made of: what each of its lots has reserved, and what each contract of these lots comes to.
+/// The amounts that add up to the balances of a line: one for each lot, and the sums of each contract.
 #[derive(Drop)]
 pub struct LineAmounts {
     pub reserved: Rows<Amount>,
@@ -69,7 +69,7 @@ pub struct LineAmounts {
 }
 
 impl LineAmounts {
-    /// These amounts, one for each lot, and the sums of these contracts. Takes no memory.
+    /// The value of these amounts, one for each lot, and of the sums of these contracts. It allocates no memory.
     pub fn from_vecs(reserved: Vec<Amount>, contracts: Vec<ContractSums>) -> LineAmounts
         ensures { result ≡ record { reserved = reserved.items; contracts = contracts.items } }
     {

@@ -1,4 +1,4 @@
-//! The records of a procurement office, what keeps them, and what they add up to.
+//! The records of a procurement office, the traits of its store, and the sums over its rows.
 #![tactic(auto)]
 
 pub mod counts;

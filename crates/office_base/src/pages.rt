@@ -1,4 +1,4 @@
-//! Pages of rows: of those that are looked up, one more than a page has, the rows of the page, and the last of them where one more is there.
+//! Pages of rows: a store looks up one row more than a page has, so that the last row shows whether another page follows.
 ghost use Rattle.std.specs.Prelude.{◌≡◌, take};
 ghost use Rattle.office_base.specs.Limits.{page_limit};
 ghost use Rattle.office_base.specs.Pages.{next_after};
@@ -6,13 +6,13 @@ ghost use Rattle.office_base.specs.Pages.{next_after};
 use crate::row::Row;
 use office_values::id::Id;
 
-/// As many rows as a page has.
+/// The number of rows of a full page.
 pub const PAGE_ROWS: usize = 100;
 
-/// As many rows as are looked up for a page.
+/// The number of rows that are looked up for a page.
 pub const ASKED_ROWS: u32 = 101;
 
-/// The rows of a page.
+/// The rows of the page, at most 100.
 pub fn page_of<R>(rows: &[R]) -> &[R]
     ensures { result.now ≡ take page_limit rows.now }
 {
@@ -23,7 +23,7 @@ pub fn page_of<R>(rows: &[R]) -> &[R]
     }
 }
 
-/// The key of the last row of a page, where one more is there.
+/// The key of the last row of the page, if another page follows.
 pub fn next_after<R: Row<Key = Id>>(rows: &[R]) -> Option<Id>
     ensures { result ≡ next_after R.key_of page_limit rows.now }
 {

@@ -1,4 +1,4 @@
-//! Changes of one record each.
+//! Changes of an office, each of one record.
 ghost use Rattle.std.specs.Prelude.{◌≡◌};
 
 use crate::records::{
@@ -9,7 +9,7 @@ use crate::row::copy_of;
 use office_values::given::GivenNumber;
 use std::alloc::AllocError;
 
-/// A change of one record: it is added, or replaces the one with its key. A seal alone can also be dropped, by its receipt.
+/// A change of one record: a row is added, or replaces the row with its key. The bytes of a tender can also be dropped, by its receipt.
 #[derive(Drop)]
 pub enum Put {
     Line(LineRow),

@@ -1,10 +1,9 @@
-//! What the file of a tender was found to say.
+//! The result of reading a tender at its opening.
 use crate::counts::CorrectionCount;
 use office_values::money::{Amount, Total};
 
-/// What the file of a tender was found to say when it was opened (UNCITRAL Model Law 2011, articles 42 and 43): it can't be read; or it
-/// doesn't offer what the lot asks for; or it has a price, as it was stated and as corrected, with the count of figures that were
-/// corrected.
+/// The result of reading a tender at its opening (UNCITRAL Model Law 2011, articles 42 and 43). It is unreadable, or it doesn't offer the items of the lot, or
+/// it has a price, as stated and as corrected, and a number of corrected figures.
 #[derive(Clone, Copy)]
 pub enum Reading {
     Unreadable,

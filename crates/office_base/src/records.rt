@@ -1,4 +1,4 @@
-//! The records of an office.
+//! The records of an office: one type for each table.
 use crate::counts::{AmendmentCount, ReleaseCount, RowCount, Sequence, TenderLength};
 use crate::json_text::JsonText;
 use crate::reading::Reading;
@@ -14,7 +14,7 @@ use office_values::moment::Moment;
 use office_values::money::{Amount, Total};
 use office_values::text::TextLine;
 
-/// A budget line: its appropriation, and how much of it is free.
+/// A budget line: its appropriation, and the part of it that is free.
 #[derive(Clone, Drop)]
 pub struct LineRow {
     pub line: Id,
@@ -23,7 +23,7 @@ pub struct LineRow {
     pub free: Total,
 }
 
-/// A budget file that was taken in: when, and how many rows it had.
+/// A budget file that was accepted: its moment, and its number of rows.
 #[derive(Clone, Drop)]
 pub struct BatchRow {
     pub batch: Id,
@@ -40,7 +40,7 @@ pub struct TendererRow {
     pub key: [u8; 32],
 }
 
-/// How far a notice has come.
+/// The state of a notice.
 #[derive(Clone, Copy, Debug, PartialEq, Eq)]
 pub enum NoticeState {
     Receiving,
@@ -48,8 +48,8 @@ pub enum NoticeState {
     Cancelled,
 }
 
-/// A tender notice: what was published, what the price weighs in a hundred points (0: it alone decides), what the performance security of
-/// each of its contracts must come to (0: none is asked), when its tenders were opened, and how many amendments and releases it has.
+/// A notice with its terms. `weight` is the points that the price can give, and 0 if the price alone decides. `performance` is the least performance security
+/// of each contract, and 0 if none is required.
 #[derive(Clone, Drop)]
 pub struct NoticeRow {
     pub notice: Id,
@@ -66,7 +66,7 @@ pub struct NoticeRow {
     pub releases: ReleaseCount,
 }
 
-/// How far a lot has come.
+/// The state of a lot.
 #[derive(Clone, Copy, Debug, PartialEq, Eq)]
 pub enum LotState {
     Undecided,
@@ -76,8 +76,7 @@ pub enum LotState {
     Cancelled,
 }
 
-/// A lot of a notice: its budget line, the security that its tenders must carry (0: none), and what of the line it has
-/// reserved.
+/// A lot of a notice: its budget line, the least security of a tender (0: none is required), and the amount that it has reserved on the line.
 #[derive(Clone, Drop)]
 pub struct LotRow {
     pub notice: Id,
@@ -91,7 +90,7 @@ pub struct LotRow {
     pub reserved: Amount,
 }
 
-/// Where a tender is: kept shut, taken back by its tenderer, given back unopened, or opened.
+/// The state of a tender: sealed, withdrawn by its tenderer, returned unopened, or opened.
 #[derive(Clone, Copy, Debug, PartialEq, Eq)]
 pub enum EnvelopeState {
     Sealed,
@@ -100,9 +99,8 @@ pub enum EnvelopeState {
     Opened,
 }
 
-/// A tender that was received: the length and the SHA-256 of its bytes, and the security that came with it; what its opening read in it,
-/// whether its examination found it responsive and of which quality, and whether it is out of the running: its tenderer failed to sign, or
-/// took it back after the deadline.
+/// A tender that was received: the length and the SHA-256 of its bytes, its security, what its opening read, and the result of its examination. `failed` is
+/// true if it can't win any more, because its tenderer failed to sign or withdrew it after the deadline.
 #[derive(Clone, Drop)]
 pub struct EnvelopeRow {
     pub receipt: GivenNumber,
@@ -127,7 +125,7 @@ pub struct SealRow {
     pub bytes: SealedBytes,
 }
 
-/// Where a security is.
+/// The state of a security.
 #[derive(Clone, Copy, Debug, PartialEq, Eq)]
 pub enum SecurityState {
     Held,
@@ -135,7 +133,7 @@ pub enum SecurityState {
     Forfeited,
 }
 
-/// A security that came with a tender: its number is that of the receipt that it came with.
+/// A tender security. Its number is that of the receipt with which it came.
 #[derive(Clone, Drop)]
 pub struct SecurityRow {
     pub security: GivenNumber,
@@ -147,7 +145,7 @@ pub struct SecurityRow {
     pub state: SecurityState,
 }
 
-/// How far an award has come.
+/// The state of an award.
 #[derive(Clone, Copy, Debug, PartialEq, Eq)]
 pub enum AwardState {
     Active,
@@ -156,7 +154,7 @@ pub enum AwardState {
     Signed,
 }
 
-/// The award of a lot to a tender, at its corrected price.
+/// The award of a lot to a tender, at the tender's corrected price.
 #[derive(Clone, Drop)]
 pub struct AwardRow {
     pub award: GivenNumber,
@@ -168,8 +166,7 @@ pub struct AwardRow {
     pub state: AwardState,
 }
 
-/// A contract on a lot, whose number is that of its award: what was signed for, and, where it has ended, when, how, and what of it was
-/// released then.
+/// The contract of a lot, which has the number of its award: the signed value and, if it has ended, the moment, the way and the amount that was released.
 #[derive(Clone, Drop)]
 pub struct ContractRow {
     pub contract: GivenNumber,
@@ -183,7 +180,7 @@ pub struct ContractRow {
     pub released: Total,
 }
 
-/// What an entry does to its contract.
+/// The kind of an entry.
 #[derive(Clone, Copy, Debug, PartialEq, Eq)]
 pub enum EntryKind {
     Raise,
@@ -191,7 +188,7 @@ pub enum EntryKind {
     Payment,
 }
 
-/// An entry of a contract: it was raised, it was cut, or something was paid under it.
+/// An entry of a contract: a raise, a cut or a payment.
 #[derive(Clone, Drop)]
 pub struct EntryRow {
     pub contract: GivenNumber,
@@ -211,20 +208,20 @@ pub struct ReleaseRow {
     pub text: JsonText,
 }
 
-/// The merge of a notice's releases without their heads: compact JSON without floats, an object.
+/// The compiled release of a notice without its head: compact JSON without floats, an object.
 #[derive(Clone, Drop)]
 pub struct CompiledRow {
     pub notice: Id,
     pub text: JsonText,
 }
 
-/// A notice whose tenders may be withdrawn after the deadline, at the price of their securities (Model Law, article 17).
+/// A row for each notice whose tenders may be withdrawn after the deadline, with the loss of their securities (Model Law, article 17).
 #[derive(Clone, Drop)]
 pub struct LateRow {
     pub notice: Id,
 }
 
-/// The performance security of a contract (Model Law, article 22): it goes by the contract's number.
+/// The performance security of a contract (Model Law, article 22). Its key is the contract's number.
 #[derive(Clone, Drop)]
 pub struct PerformanceRow {
     pub contract: GivenNumber,
@@ -233,7 +230,7 @@ pub struct PerformanceRow {
     pub state: SecurityState,
 }
 
-/// The moment of the last accepted command, and the last numbers given to receipts and awards.
+/// The moment of the last accepted command, and the last numbers that were given to receipts and awards.
 #[derive(Clone, Copy)]
 pub struct ClockRow {
     pub moment: Moment,

@@ -1,23 +1,23 @@
-//! Rows of tables.
+//! Rows of tables, which contain their keys.
 ghost use Rattle.std.specs.Prelude.{◌≡◌, IfOk};
 
 use std::alloc::AllocError;
 
-/// A row that has its key in it.
+/// A row that contains its key.
 pub trait Row: Clone {
     type Key: Ord + Copy;
 
     ghost key_of: { Self → Self.Key };
 
-    /// Its key.
+    /// The key of the row.
     fn key(&self) -> Self::Key
         ensures { result ≡ key_of self.now };
 
-    // A copy of a row is that row.
+    // A law of the type: a copy of a row equals the row.
     ghost clone_same: { (a b : Self) → Self.is_clone a b → b ≡ a };
 }
 
-/// A copy of the row.
+/// A copy of the row. AllocError if there is too little memory.
 pub fn copy_of<R: Row>(row: &R) -> Result<R, AllocError>
     ensures { IfOk result (λ copy. copy ≡ row.now) }
 {

@@ -1,9 +1,9 @@
-//! Rows that were looked up.
+//! Lists of rows that were looked up.
 ghost use Rattle.std.specs.Prelude.{◌≡◌};
 
 use std::marker::Model;
 
-/// Rows that were looked up, in order. Contracts see them as a list, so that what was loaded is an equation about the office.
+/// Rows that were looked up, in order. Contracts see a list, so the loaded rows can equal a table of the office.
 #[derive(Drop)]
 pub struct Rows<R: Drop> {
     rows: Vec<R>,
@@ -18,7 +18,7 @@ impl<R: Drop> Model for Rows<R> {
 }
 
 impl<R: Drop> Rows<R> {
-    /// These rows. Takes no memory.
+    /// The value of these rows. It allocates no memory.
     pub fn from_vec(rows: Vec<R>) -> Rows<R>
         ensures { result ≡ rows.items }
     {

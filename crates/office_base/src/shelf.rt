@@ -1,4 +1,4 @@
-//! What keeps an office's tables.
+//! The traits of a store: it looks up the rows of an office, and makes changes.
 ghost use Rattle.std.specs.Prelude.{◌≡◌};
 ghost use Rattle.office_values.specs.declared.refusal.Refusal.TheVariants.{Unavailable};
 ghost use Rattle.office_base.specs.Tables.{Tables, IsSorted};
@@ -18,12 +18,12 @@ use office_values::given::AskedNumber;
 use office_values::id::Id;
 use office_values::refusal::Refusal;
 
-/// Why a shelf did not answer. Its content is as before.
+/// The reason for which a store didn't answer. Its content is as before.
 #[derive(Clone, Copy, Debug, PartialEq, Eq)]
 pub enum ShelfFault {
-    /// Memory was refused.
+    /// There was too little memory.
     NoMemory,
-    /// The store failed, or holds what no office writes.
+    /// The store failed, or it contains something that no office writes.
     Store,
 }
 
@@ -35,51 +35,51 @@ impl From<ShelfFault> for Refusal {
     }
 }
 
-/// What can be asked of an office's tables. No call but `Shelf::apply` changes them.
+/// The look-ups in the tables of an office. They change nothing; only `Shelf::apply` does.
 pub trait Lookups {
     ghost meaning: { Meaning Self };
 
-    /// The budget line of this identifier.
+    /// The budget line with this identifier.
     fn get_line(&mut self, line: &Id) -> Result<Option<LineRow>, ShelfFault>
         ensures { LooksUp meaning self.old self.new result (λ t row. row ≡ line_at line.now t) };
 
-    /// The batch of this identifier.
+    /// The budget file with this identifier.
     fn get_batch(&mut self, batch: &Id) -> Result<Option<BatchRow>, ShelfFault>
         ensures { LooksUp meaning self.old self.new result (λ t row. row ≡ batch_at batch.now t) };
 
-    /// The tenderer of this identifier.
+    /// The tenderer with this identifier.
     fn get_tenderer(&mut self, tenderer: &Id) -> Result<Option<TendererRow>, ShelfFault>
         ensures { LooksUp meaning self.old self.new result (λ t row. row ≡ tenderer_at tenderer.now t) };
 
-    /// The notice of this identifier.
+    /// The notice with this identifier.
     fn get_notice(&mut self, notice: &Id) -> Result<Option<NoticeRow>, ShelfFault>
         ensures { LooksUp meaning self.old self.new result (λ t row. row ≡ notice_at notice.now t) };
 
-    /// The lot of this notice and this identifier.
+    /// The lot of this notice with this identifier.
     fn get_lot(&mut self, notice: &Id, lot: &Id) -> Result<Option<LotRow>, ShelfFault>
         ensures { LooksUp meaning self.old self.new result (λ t row. row ≡ lot_at (notice.now, lot.now) t) };
 
-    /// The tender of this receipt.
+    /// The tender with this receipt.
     fn get_envelope(&mut self, receipt: AskedNumber) -> Result<Option<EnvelopeRow>, ShelfFault>
         ensures { LooksUp meaning self.old self.new result (λ t row. row ≡ envelope_at receipt t) };
 
-    /// The bytes of the tender of this receipt.
+    /// The bytes of the tender with this receipt.
     fn get_seal(&mut self, receipt: AskedNumber) -> Result<Option<SealRow>, ShelfFault>
         ensures { LooksUp meaning self.old self.new result (λ t row. row ≡ seal_at receipt t) };
 
-    /// The security of this number.
+    /// The tender security with this number.
     fn get_security(&mut self, security: AskedNumber) -> Result<Option<SecurityRow>, ShelfFault>
         ensures { LooksUp meaning self.old self.new result (λ t row. row ≡ security_at security t) };
 
-    /// The award of this number.
+    /// The award with this number.
     fn get_award(&mut self, award: AskedNumber) -> Result<Option<AwardRow>, ShelfFault>
         ensures { LooksUp meaning self.old self.new result (λ t row. row ≡ award_at award t) };
 
-    /// The contract of this number.
+    /// The contract with this number.
     fn get_contract(&mut self, contract: AskedNumber) -> Result<Option<ContractRow>, ShelfFault>
         ensures { LooksUp meaning self.old self.new result (λ t row. row ≡ contract_at contract t) };
 
-    /// The entry of this contract and this identifier.
+    /// The entry of this contract with this identifier.
     fn get_entry(
         &mut self,
         contract: AskedNumber,
@@ -87,15 +87,15 @@ pub trait Lookups {
     ) -> Result<Option<EntryRow>, ShelfFault>
         ensures { LooksUp meaning self.old self.new result (λ t row. row ≡ entry_at (contract, entry.now) t) };
 
-    /// The release of this notice at this place.
+    /// The release of this notice with this number.
     fn get_release(&mut self, notice: &Id, seq: Sequence) -> Result<Option<ReleaseRow>, ShelfFault>
         ensures { LooksUp meaning self.old self.new result (λ t row. row ≡ release_at (notice.now, seq) t) };
 
-    /// The merge of the releases of this notice, where it is kept.
+    /// The compiled release of this notice, if it is stored.
     fn get_compiled(&mut self, notice: &Id) -> Result<Option<CompiledRow>, ShelfFault>
         ensures { LooksUp meaning self.old self.new result (λ t row. row ≡ compiled_at notice.now t) };
 
-    /// The row that lets tenders of this notice be withdrawn late.
+    /// The row that allows late withdrawals, if this notice allows them.
     fn get_late(&mut self, notice: &Id) -> Result<Option<LateRow>, ShelfFault>
         ensures { LooksUp meaning self.old self.new result (λ t row. row ≡ late_at notice.now t) };
 
@@ -106,7 +106,7 @@ pub trait Lookups {
     ) -> Result<Option<PerformanceRow>, ShelfFault>
         ensures { LooksUp meaning self.old self.new result (λ t row. row ≡ performance_at contract t) };
 
-    /// The clock; moment 0 and no numbers where nothing was accepted yet.
+    /// The clock. It has moment 0 and the numbers 0 if the office has accepted no command.
     fn get_clock(&mut self) -> Result<ClockRow, ShelfFault>
         ensures { LooksUp meaning self.old self.new result (λ t row. row ≡ t.clock) };
 
@@ -114,7 +114,7 @@ pub trait Lookups {
     fn list_lines(&mut self) -> Result<Vec<LineRow>, ShelfFault>
         ensures { LooksUp meaning self.old self.new result (λ t rows. rows.items ≡ t.lines) };
 
-    /// The first so many notices behind this one, or of all, in the order of their identifiers.
+    /// The first `most` notices after the given one, or of all, in the order of their identifiers.
     fn list_notices_after(
         &mut self,
         after: Option<Id>,
@@ -122,7 +122,7 @@ pub trait Lookups {
     ) -> Result<Vec<NoticeRow>, ShelfFault>
         ensures { LooksUp meaning self.old self.new result (λ t rows. rows.items ≡ notices_after after most t) };
 
-    /// The first so many tenderers behind this one, or of all, in the order of their identifiers.
+    /// The first `most` tenderers after the given one, or of all, in the order of their identifiers.
     fn list_tenderers_after(
         &mut self,
         after: Option<Id>,
@@ -150,7 +150,7 @@ pub trait Lookups {
     ) -> Result<Vec<EnvelopeRow>, ShelfFault>
         ensures { LooksUp meaning self.old self.new result (λ t rows. rows.items ≡ envelopes_of_lot notice.now lot.now t) };
 
-    /// The tenders of a lot that this tenderer presented, in the order of their receipts.
+    /// The tenders of a lot from this tenderer, in the order of their receipts.
     fn list_envelopes_of_tenderer(
         &mut self,
         notice: &Id,
@@ -159,11 +159,11 @@ pub trait Lookups {
     ) -> Result<Vec<EnvelopeRow>, ShelfFault>
         ensures { LooksUp meaning self.old self.new result (λ t rows. rows.items ≡ envelopes_of_tenderer notice.now lot.now tenderer.now t) };
 
-    /// The securities of a notice, in the order of their numbers.
+    /// The tender securities of a notice, in the order of their numbers.
     fn list_securities_of_notice(&mut self, notice: &Id) -> Result<Vec<SecurityRow>, ShelfFault>
         ensures { LooksUp meaning self.old self.new result (λ t rows. rows.items ≡ securities_of_notice notice.now t) };
 
-    /// The securities of a lot, in the order of their numbers.
+    /// The tender securities of a lot, in the order of their numbers.
     fn list_securities_of_lot(
         &mut self,
         notice: &Id,
@@ -186,31 +186,30 @@ pub trait Lookups {
     ) -> Result<Vec<EntryRow>, ShelfFault>
         ensures { LooksUp meaning self.old self.new result (λ t rows. rows.items ≡ entries_of_contract contract t) };
 
-    /// The releases of a notice, in their sequence.
+    /// The releases of a notice, in the order of their numbers.
     fn list_releases_of_notice(&mut self, notice: &Id) -> Result<Vec<ReleaseRow>, ShelfFault>
         ensures { LooksUp meaning self.old self.new result (λ t rows. rows.items ≡ releases_of_notice notice.now t) };
 
-    /// What each lot of a budget line has reserved, in the order of their notices and identifiers, and what each contract of these lots
-    /// comes to, lot by lot, in the order of their numbers.
+    /// The amount that each lot of a line has reserved, in the order of notices and identifiers. The sums of each contract of these lots, lot by lot, in the
+    /// order of their numbers.
     fn list_amounts_of_line(&mut self, line: &Id) -> Result<LineAmounts, ShelfFault>
         ensures { LooksUp meaning self.old self.new result (λ t amounts. amounts ≡ amounts_of_line line.now t) };
 
-    /// The pots of each budget line, in the order of their identifiers. Where a sum over joined rows is out of its range that is a fault
-    /// of the store, and counted as one.
+    /// The balances of each budget line, in the order of their identifiers. A sum outside its range is a fault of the store, and is counted.
     fn ledger(&mut self) -> Result<Vec<LedgerRow>, ShelfFault>
         ensures { AddsUp meaning self.old self.new result (λ t rows. rows.items ≡ ledger_of t) LinesFit };
 
-    /// How many calls were answered with a fault: from 0, one more for each, up to 2^64 - 1.
+    /// The number of calls that were answered with a fault, from 0 up to 2^64 - 1.
     fn faults(&mut self) -> u64
         ensures number { result ≡ meaning.fault_count self.old }
         ensures counted { meaning.fault_count self.new ≡ meaning.fault_count self.old }
         ensures keeps { Keeps meaning self.old self.new };
 
-    // What is held is in the order of its keys.
+    // A law of the type: the tables that a store holds are in the order of their keys.
     ghost held_sorted: { (shelf : Self) (t : Tables) → meaning.holds shelf t → IsSorted t };
 }
 
-/// What keeps an office's tables.
+/// A store of an office: its look-ups, and the one call that changes it.
 pub trait Shelf: Lookups {
     /// Makes all changes, in order, or none.
     fn apply(&mut self, puts: Vec<Put>) -> Result<(), ShelfFault>

@@ -1,4 +1,4 @@
-//! What the decisions on several commands share.
+//! Tests and changes that the decisions on several commands share.
 ghost use Rattle.std.specs.Prelude.{◌≡◌, IfSome, IfNone, Some, true};
 ghost use Rattle.office_base.specs.Transitions.{has_all_releases, is_expired, is_in_time, is_past_deadline, with_next_release, at_moment, returned, settled, settled_performance, lacks_security, passed_over};
 
@@ -8,32 +8,31 @@ use crate::records::{
 };
 use office_values::moment::Moment;
 
-/// The seconds of a day.
+/// The number of seconds in a day.
 const DAY: u64 = 86_400;
 
-/// Whether a tender that comes at this moment is in time: not after the deadline, and before the opening (UNCITRAL Model Law 2011,
-/// article 40).
+/// Whether a tender that comes now is in time: not after the deadline, and before the opening (UNCITRAL Model Law 2011, article 40).
 pub fn is_in_time(t: Moment, notice: &NoticeRow) -> bool
     ensures { result ≡ is_in_time t notice.now }
 {
     t.second() <= notice.deadline.second() && notice.state != NoticeState::Opened
 }
 
-/// Whether it is too late to modify or withdraw a tender, or to amend its notice (articles 14 and 41).
+/// Whether the deadline has come, so that it is too late to modify a tender, to withdraw it freely, or to amend its notice (articles 14 and 41).
 pub fn is_past_deadline(t: Moment, notice: &NoticeRow) -> bool
     ensures { result ≡ is_past_deadline t notice.now }
 {
     notice.deadline.second() <= t.second()
 }
 
-/// Whether tenders for the notice are no longer in effect (article 41).
+/// Whether the validity of the notice's tenders has ended (article 41).
 pub fn is_expired(t: Moment, notice: &NoticeRow) -> bool
     ensures { result ≡ is_expired t notice.now }
 {
     notice.deadline.second() + DAY * notice.validity.get() <= t.second()
 }
 
-/// Whether the notice is there and has all the releases that it can have.
+/// Whether the notice exists and has as many releases as it can have.
 pub fn has_all_releases(notice: &Option<NoticeRow>) -> bool
     ensures { result ≡ has_all_releases notice.now }
 {
@@ -43,7 +42,7 @@ pub fn has_all_releases(notice: &Option<NoticeRow>) -> bool
     }
 }
 
-/// The notice with one release more; None exactly where it has all that it can have.
+/// The notice with one more release; None if it has as many as it can have.
 pub fn with_next_release(notice: NoticeRow) -> Option<NoticeRow>
     ensures found { IfSome result (λ row. row ≡ with_next_release notice) }
     ensures none { IfNone result (has_all_releases (Some notice) ≡ true) }
@@ -52,14 +51,14 @@ pub fn with_next_release(notice: NoticeRow) -> Option<NoticeRow>
     Some(NoticeRow { releases, ..notice })
 }
 
-/// The clock at the moment of an accepted command.
+/// The clock, set to the moment of an accepted command.
 pub fn at_moment(clock: ClockRow, t: Moment) -> ClockRow
     ensures { result ≡ at_moment clock t }
 {
     ClockRow { moment: t, ..clock }
 }
 
-/// The security, gone back to its tenderer.
+/// The security, returned to its tenderer.
 pub fn returned(security: SecurityRow) -> SecurityRow
     ensures { result ≡ returned security }
 {
@@ -69,7 +68,7 @@ pub fn returned(security: SecurityRow) -> SecurityRow
     }
 }
 
-/// The security with what becomes of it, which is decided once: where it isn't held it stays as it is.
+/// The security in this final state if it was held; otherwise it stays as it is.
 pub fn settled(security: SecurityRow, state: SecurityState) -> SecurityRow
     ensures { result ≡ settled state security }
 {
@@ -79,7 +78,7 @@ pub fn settled(security: SecurityRow, state: SecurityState) -> SecurityRow
     SecurityRow { state, ..security }
 }
 
-/// The same of a performance security.
+/// The performance security in this final state if it was held; otherwise it stays as it is.
 pub fn settled_performance(security: PerformanceRow, state: SecurityState) -> PerformanceRow
     ensures { result ≡ settled_performance state security }
 {
@@ -89,14 +88,14 @@ pub fn settled_performance(security: PerformanceRow, state: SecurityState) -> Pe
     PerformanceRow { state, ..security }
 }
 
-/// Whether the tender names a security that isn't there.
+/// Whether the row of the security that a tender names is missing.
 pub fn lacks_security(envelope: &EnvelopeRow, security: &Option<SecurityRow>) -> bool
     ensures { result ≡ lacks_security envelope.now security.now }
 {
     envelope.security.is_some() && security.is_none()
 }
 
-/// The tender, out of the running.
+/// The tender, marked so that it can't win any more.
 pub fn passed_over(envelope: EnvelopeRow) -> EnvelopeRow
     ensures { result ≡ passed_over envelope }
 {

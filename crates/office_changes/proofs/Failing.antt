@@ -1,4 +1,4 @@
--- Why changes one after another were not made.
+-- The reasons why a list of changes wasn't made.
 use Rattle.std.proofs.Common.{◌≡◌, inl, inr, ◌≤◌, ℕ, true, false, List, [], ◌∷◌, ◌++◌, Option, Result, Ok, Err, refl, sym, ap, subst, ◌∙◌, IsTrue, true≢false, arith}
 use Rattle.std.specs.Prelude.{IsErrAnd, IfErr}
 use Rattle.std.proofs.lemmas.Bool.{cases_Bool}
@@ -24,7 +24,7 @@ pub if_err_with : {A E : Type 0} (r : Result A E) (P Q : E → Type 0) → IfErr
 if_err_with (Ok a) P Q h f = tt
 if_err_with (Err e) P Q h f = f e h
 
--- what the exit of a `?` answers
+-- a `?` returns the error of the call
 pub same_err : {T E : Type 0} (r : Result T E) (e : E) (P : E → Type 0) → IsErrAnd r (λ y. y ≡ e) → P e → IfErr r P
 same_err (Ok a) e P same h = tt
 same_err (Err y) e P same h = subst P (sym same) h
@@ -35,7 +35,7 @@ after_both : (xs ys : List Put) (t : Tables) → after_puts (xs ++ ys) t ≡ aft
 after_both [] ys t = refl
 after_both (x ∷ xs) ys t = after_both xs ys (after_put x t)
 
--- a put that is declined among the later ones, or the earlier ones, is so among all
+-- if one of the later or of the earlier puts is rejected, one of all puts is rejected
 declined_later : (limit : Option ℕ) (start mid : Database) (xs ys : List Put) → MakeAll limit xs start mid → ((t : Tables) → Holds start t → Holds mid (after_puts xs t)) → OneIsDeclined limit mid ys
     → OneIsDeclined limit start (xs ++ ys)
 declined_later limit start mid xs ys made holds d = record {
@@ -79,7 +79,7 @@ fails_later old mid new xs ys t was done up limit (inr (inr d)) =
 
 -- ---- the whole transaction
 
--- the puts failed, and what they did was undone
+-- the puts failed, and their changes were undone
 pub undone_fails : (old mid end : State) (puts : List Put) (e : Error) → (IsTrue old.is_open → old.now ≡ old.committed) → mid.faults ≤ end.faults → (t : Tables) → ShowsTables old t
     → (Holds old.now t → IsExcused (StoreFails (record old { in_transaction = true }) mid old.now puts) e) → IsExcused (ChangeFails old end puts) e
 undone_fails old mid end puts e settled up t shows failed = elim (cases_Bool old.is_open) [

@@ -1,4 +1,4 @@
--- The notices that stood in `notices`, put one after another, are those that the office had there; what others have beside them stays.
+-- The notices that were in `notices` are put one after another. Then the office has the notices that it had before, and tables apart keep their rows.
 use Rattle.std.proofs.Common.{◌≡◌, ℕ, Option, Bool, true, false, List, [], ◌∷◌, ◌++◌, map, append-nil, refl, sym, ap, subst, subst₂, ◌∙◌, IsTrue, Ordering, Less, Greater}
 use Rattle.std.proofs.lemmas.List.{append_assoc}
 use Rattle.std.specs.Cmp.{IsTotalOrder}
@@ -31,7 +31,7 @@ use Rattle.office_tables.proofs.PutsApart.{notice_apart}
 use Rattle.office_changes.specs.Migration.{HoldsThese, Becomes, Migrates, LeavesCurrent}
 use Rattle.office_changes.proofs.Steps.{goes_then}
 
--- ---- a row above all others goes to the end
+-- ---- a row whose key is above all others is added at the end
 
 module _ {K X : Type 0} {R : K → K → Ordering} (o : IsTotalOrder R) (key : X → K) where
   above_next : (d : X) (xs : List X) (x : X) (more : List X) → StartsAbove R key (key d) (xs ++ x ∷ more) × IsInOrder R key (xs ++ x ∷ more) → R (key d) (key x) ≡ Less
@@ -45,7 +45,7 @@ module _ {K X : Type 0} {R : K → K → Ordering} (o : IsTotalOrder R) (key : X
       let above : R (key x) (key d) ≡ Greater = o.antisymm (key x) (key d) ∙ ap ordering_reverse (above_next d xs x more h) in
       ap (λ c. by_order c (x ∷ d ∷ xs) (x ∷ xs) (d ∷ row_put R key xs x)) above ∙ ap (λ rest. d ∷ rest) (put_last xs x more h.1)
 
--- ---- so all of them come to stand in their order
+-- ---- so the notices are in the order of their keys
 
 abbrev row_of : FormerNotice → NoticeRow
 row_of r = r.row
@@ -62,7 +62,7 @@ refilled done (x ∷ more) t h =
     ∙ refilled (done ++ x.row ∷ []) more t (subst (IsInOrder id_cmp notice_key) (sym moved) h)
     ∙ ap (λ l. record t { notices = l }) moved
 
--- where an edition had its notices there; else there are none to put
+-- if an edition had its notices in `notices`, they are put; else there are none to put
 refilled_where : (had : Bool) (notices : List FormerNotice) (t : Tables) → map row_of notices ≡ former_part had t.notices → IsInOrder id_cmp notice_key (former_part had t.notices)
     → after_puts (map put_of notices) (record t { notices = other_part had t.notices }) ≡ t
 refilled_where true notices t same h = refilled [] notices t (subst (IsInOrder id_cmp notice_key) (sym same) h) ∙ ap (λ l. record t { notices = l }) same

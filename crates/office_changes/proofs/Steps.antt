@@ -1,4 +1,4 @@
--- Changes one after another.
+-- Changes that are made one after another.
 use Rattle.std.proofs.Common.{◌≡◌, Err, Ok, true, false, ℕ, Option, Result, List, [], ◌∷◌, ◌++◌, refl, sym, subst, ◌∙◌, IsTrue}
 use Rattle.std.specs.Prelude.{OnErr, OnOk}
 use Rattle.sqlite_trees.specs.Tree.{Trees}
@@ -30,7 +30,7 @@ on_err_with (Err e) P Q h f = f h
 pub goes_then : (a b c : State) → Goes a b → Goes b c → Goes a c
 goes_then a b c first second = record { mode = second.mode; was_open = first.was_open; is_open = second.is_open; committed = second.committed ∙ first.committed }
 
--- what some puts make, and then others
+-- the database after some puts, and then others
 pub made_then : (limit : Option ℕ) (xs ys : List Put) (a b c : Database) → MakeAll limit xs a b → MakeAll limit ys b c → MakeAll limit (xs ++ ys) a c
 made_then limit [] ys a b c same more = subst (λ d. MakeAll limit ys d c) same more
 made_then limit (x ∷ xs) ys a b c (mid, one, rest) more = (mid, one, made_then limit xs ys mid b c rest more)

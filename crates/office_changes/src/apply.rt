@@ -1,4 +1,4 @@
-//! Changes of an office: all of them in one transaction.
+//! Applies all changes of a command in one transaction.
 ghost use Rattle.std.specs.Prelude.{◌≡◌, IsTrue, OnOk, OnErr};
 ghost use Rattle.sqlite.specs.Held.{state};
 ghost use Rattle.sqlite.specs.State.{HasCleanDisk, Survives};
@@ -10,7 +10,7 @@ use office_tables::tables::{begin, put_one};
 use sqlite::{Alter, Connection, Error, Transaction};
 use std::alloc::Global;
 
-// A put says itself whether the store is open; where there is none, it is asked for.
+// Makes all puts in turn. The first put fails if the store is shut; without any put, `begin` checks that.
 fn put_all<S: Alter>(alloc: Global, tx: &mut Transaction<'_, S>, puts: &[Put]) -> Result<(), Error>
     requires inside { IsTrue (state S.Store tx.old.conn.now).in_transaction }
     ensures same_reference { tx.new.conn.ghost_name ≡ tx.old.conn.ghost_name }
@@ -29,7 +29,7 @@ fn put_all<S: Alter>(alloc: Global, tx: &mut Transaction<'_, S>, puts: &[Put]) -
     Ok(())
 }
 
-/// All changes in turn in one transaction, or none. No changes are a transaction too. `InvalidQuery` where a transaction is under way.
+/// Makes all changes in turn in one transaction, or none. An empty list is a transaction too. It returns `InvalidQuery` if a transaction is already running.
 pub fn apply_all<S: Alter>(
     alloc: Global,
     conn: &mut Connection<S>,

@@ -1,4 +1,4 @@
-//! The changes of an office in SQL: all of a command in one transaction, and all of a migration.
+//! The changes of an office in SQL: those of a command in one transaction, and a whole migration in one.
 #![tactic(auto)]
 
 pub mod apply;

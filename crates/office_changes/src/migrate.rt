@@ -1,4 +1,4 @@
-//! An office of an earlier edition becomes one as this program makes it: all of it in one transaction.
+//! Turns an office of an earlier edition into one of this program, in one transaction.
 ghost use Rattle.std.specs.Prelude.{◌≡◌, IsTrue, OnOk, OnErr, map};
 ghost use Rattle.sqlite.specs.Held.{state};
 ghost use Rattle.sqlite.specs.State.{HasCleanDisk, Survives};
@@ -13,7 +13,7 @@ use office_tables::tables::begin;
 use office_tables::tables::notices::{FormerNotice, put_notice};
 use sqlite::{Alter, Connection, Error, Transaction};
 
-// Puts the notices that stood in `notices`, where this program keeps them.
+// Puts the notices that were in `notices` into the table that this program uses.
 fn put_notices<S: Alter>(tx: &mut Transaction<'_, S>, notices: &[FormerNotice]) -> Result<(), Error>
     ensures same_reference { tx.new.conn.ghost_name ≡ tx.old.conn.ghost_name }
     ensures puts { HasCleanDisk (state S.Store tx.new.conn.now) → IsTrue (state S.Store tx.old.conn.now).in_transaction → OnOk result (Puts (state S.Store tx.old.conn.now) (state S.Store tx.new.conn.now) (map (λ (r : FormerNotice). Put.Notice r.row) notices.now)) }
@@ -42,8 +42,8 @@ fn make_current<S: Alter>(
     put_notices(tx, notices)
 }
 
-/// Of an office of this edition with this clock, and with these notices in `notices`, makes one as this program does, in one transaction: it is made, or
-/// nothing is committed.
+/// Turns an office of this edition, with this clock and these notices in `notices`, into one of this program. It is one transaction: all of it, or nothing is
+/// committed.
 pub fn migrate<S: Alter>(
     conn: &mut Connection<S>,
     edition: u64,

@@ -1,4 +1,4 @@
--- The kind of each command, and which commands can be given.
+-- The kind of each command, and the rule that every command fulfils by its type.
 use Rattle.std.specs.Prelude.{◌≡◌, false}
 use Rattle.office_commands.specs.Identified.{repeats_id}
 use Rattle.office_commands.specs.Lots.{lot_id}
@@ -7,6 +7,7 @@ use Rattle.office_commands.specs.declared.commands.Command.TheVariants as comman
 use Rattle.office_commands.specs.declared.command.CommandKind.{CommandKind}
 use Rattle.office_commands.specs.declared.command.CommandKind.TheVariants as kinds
 
+-- the kind of a command, which is its route without parameters and content
 abbrev pub kind_of : Command → CommandKind
 kind_of (commands.Import batch rows) = kinds.Import
 kind_of (commands.Register tenderer name address key) = kinds.Register
@@ -25,7 +26,7 @@ kind_of (commands.AmendContract contract entry kind amount rationale) = kinds.Am
 kind_of (commands.Pay contract entry amount) = kinds.Pay
 kind_of (commands.End contract how) = kinds.End
 
--- a command that can be given: each lot of a new notice has an identifier of its own
+-- the lots of a notice to be published have different identifiers; other commands have no such rule
 abbrev pub IsCommand : Command → Type 0
 IsCommand (commands.Publish notice content) = repeats_id lot_id content.lots ≡ false
 IsCommand command = Unit {0}

@@ -1,4 +1,4 @@
--- The items of a lot.
+-- The items of a lot: the identifier of each.
 use Rattle.std.specs.Prelude.{ℕ, List}
 use Rattle.office_commands.specs.declared.item.Item.{Item}
 

@@ -1,4 +1,4 @@
--- The lots of a notice.
+-- The lots of a notice to be published: the identifier of each.
 use Rattle.std.specs.Prelude.{ℕ, List}
 use Rattle.office_commands.specs.declared.lot.NewLot.{NewLot}
 

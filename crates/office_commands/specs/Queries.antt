@@ -4,6 +4,7 @@ use Rattle.office_commands.specs.declared.queries.Query.TheVariants as queries
 use Rattle.office_commands.specs.declared.command.QueryKind.{QueryKind}
 use Rattle.office_commands.specs.declared.command.QueryKind.TheVariants as kinds
 
+-- the kind of a query, which is its route without parameters
 abbrev pub query_kind_of : Query → QueryKind
 query_kind_of (queries.Line line) = kinds.Line
 query_kind_of queries.Ledger = kinds.Ledger

@@ -1,4 +1,4 @@
--- Who may give a command and who may ask a query, as the table of both says.
+-- Rights: which callers may send which commands and queries. The table of commands and queries lists them.
 use Rattle.std.specs.Prelude.{Bool, true, false, not}
 use Rattle.office_commands.specs.Table.{command_row, query_row}
 use Rattle.office_commands.specs.declared.command.Caller.{Caller}
@@ -23,17 +23,17 @@ is_tenderer Public = false
 is_tenderer Clerk = false
 is_tenderer (Tenderer id) = true
 
--- the caller has this right
+-- whether a right includes this caller
 abbrev pub has_right : Right → Caller → Bool
 has_right rights.Anybody caller = true
 has_right rights.Clerk caller = is_clerk caller
 has_right rights.Tenderers caller = is_tenderer caller
 has_right rights.ClerkAndTenderers caller = not (is_public caller)
 
--- the caller may give a command of this kind
+-- whether the caller may send a command of this kind
 abbrev pub may : Caller → CommandKind → Bool
 may caller kind = has_right (command_row kind).right caller
 
--- the caller may ask a query of this kind
+-- whether the caller may ask a query of this kind; if it is about one tenderer's matter, the office tests later whose it is
 abbrev pub may_look : Caller → QueryKind → Bool
 may_look caller kind = has_right (query_row kind).right caller

@@ -1,4 +1,5 @@
--- The commands and the queries, one row each: who may ask, the pattern of its path, the parameters in the path, and what else of the request is read.
+-- The table of commands and queries. A row has the right, the pattern of the path, the parameters in the path, and the other parts of the request that are
+-- read.
 use Rattle.std.specs.Prelude.{ℕ, List, [], ◌∷◌, codes}
 use Rattle.office_commands.specs.declared.command.CommandKind.{CommandKind}
 use Rattle.office_commands.specs.declared.command.CommandKind.TheVariants as commands
@@ -9,13 +10,14 @@ use Rattle.office_commands.specs.declared.table.Right.TheVariants.{Anybody, Cler
 use Rattle.office_commands.specs.declared.table.Shape.{Shape}
 use Rattle.office_commands.specs.declared.table.Shape.TheVariants.{Plain, OneId, TwoIds, Number}
 
--- the parts of a request that are read, beside its path
+-- the parts of a request that the office reads beside the path
 pub data Reads : Type 0 where
   Nothing : Reads
   Query : Reads
   Body : Reads
   QueryAndBody : Reads
 
+-- a row of the table: the right to send the request, the pattern of its path, the parameters in the path, and the other parts that are read
 pub record TableRow : Type 0 where
   pub right : Right
   pub pattern : List ℕ
@@ -25,7 +27,7 @@ pub record TableRow : Type 0 where
 abbrev row : Right → List ℕ → Shape → Reads → TableRow
 row right pattern shape reads = record { right = right; pattern = pattern; shape = shape; reads = reads }
 
--- the clerk keeps the budget, the notices and the contracts; tenderers present, modify and withdraw tenders
+-- the row of a command: the clerk keeps the budget, the notices and the contracts, and tenderers submit, modify and withdraw tenders
 abbrev pub command_row : CommandKind → TableRow
 command_row commands.Import = row Clerk (codes "/budget/{batch}") OneId Body
 command_row commands.Register = row Clerk (codes "/tenderers/{id}") OneId Body
@@ -44,8 +46,8 @@ command_row commands.AmendContract = row Clerk (codes "/contracts/{c}/amend") Nu
 command_row commands.Pay = row Clerk (codes "/contracts/{c}/pay") Number Body
 command_row commands.End = row Clerk (codes "/contracts/{c}/end") Number Body
 
--- the books, the notices and how awards came about are open to anybody; the register of tenders, all securities of a notice and all tenderers to the clerk;
--- tenders to tenderers; a security and a contract to both
+-- the row of a query. Anybody may ask for the books, the notices and the evaluation. Tenderers ask for their tenders. The clerk asks for the register of
+-- tenders, the securities of a notice and the tenderers. Both ask for a single security or contract.
 abbrev pub query_row : QueryKind → TableRow
 query_row queries.Line = row Anybody (codes "/lines/{b}") OneId Nothing
 query_row queries.Ledger = row Anybody (codes "/ledger") Plain Nothing
@@ -64,13 +66,13 @@ query_row queries.Securities = row Clerk (codes "/notices/{n}/securities") OneId
 query_row queries.Tenderers = row Clerk (codes "/tenderers") Plain Query
 query_row queries.Contract = row ClerkAndTenderers (codes "/contracts/{c}") Number Nothing
 
--- the commands, in the order of their routes
+-- all kinds of commands, in the order of their routes
 abbrev pub all_commands : List CommandKind
 all_commands =
     commands.Import ∷ commands.Register ∷ commands.Publish ∷ commands.AmendNotice ∷ commands.Cancel ∷ commands.Open ∷ commands.Present ∷ commands.Modify
     ∷ commands.Withdraw ∷ commands.Examine ∷ commands.Award ∷ commands.Fail ∷ commands.Sign ∷ commands.AmendContract ∷ commands.Pay ∷ commands.End ∷ []
 
--- the queries, in the order of their routes
+-- all kinds of queries, in the order of their routes
 abbrev pub all_queries : List QueryKind
 all_queries =
     queries.Line ∷ queries.Ledger ∷ queries.Minutes ∷ queries.Register ∷ queries.Releases ∷ queries.Record ∷ queries.Tender ∷ queries.Security

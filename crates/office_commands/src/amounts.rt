@@ -1,19 +1,19 @@
-//! Amounts of money that are asked for or moved, and so are never nothing.
+//! Amounts of money that can't be 0.
 ghost use Rattle.std.specs.Prelude.{◌≡◌};
 
 use office_values::bounded::Bounded;
 use office_values::money::Amount;
 
-/// What a lot is estimated to cost: 1 to 10^12 units.
+/// The estimated cost of a lot: 1 to 10^12 units.
 pub type Estimate = Bounded<1, 1_000_000_000_000>;
 
-/// The amount of a tender security: 1 to 10^12 units.
+/// The amount of a tender security or a performance security: 1 to 10^12 units.
 pub type SecurityAmount = Bounded<1, 1_000_000_000_000>;
 
-/// The amount of an entry of a contract, a raise, a cut or a payment: 1 to 10^12 units.
+/// The amount of an entry of a contract, which is a raise, a cut or a payment: 1 to 10^12 units.
 pub type EntryAmount = Bounded<1, 1_000_000_000_000>;
 
-/// The estimate as an amount of money.
+/// The estimate, as an amount of money.
 pub fn amount_of(estimate: Estimate) -> Amount
     ensures { result ≡ estimate }
 {

@@ -1,4 +1,4 @@
-//! Rows of budget files.
+//! The rows of a budget file.
 ghost use Rattle.std.specs.Prelude.{◌≡◌, ◌≤◌};
 
 use office_values::id::Id;
@@ -6,14 +6,14 @@ use office_values::money::Total;
 use office_values::text::TextLine;
 use std::marker::Model;
 
-/// Whether a row adds to a line or takes from it.
+/// Whether a row adds money to its budget line or cuts free money from it.
 #[derive(Clone, Copy, Debug, PartialEq, Eq)]
 pub enum BudgetKind {
     Add,
     Cut,
 }
 
-/// A row of a budget file: an amount of at least 1 that is added to a budget line or cut from it, and the line's title.
+/// A row of a budget file: its budget line, the amount of at least 1 that is added or cut, and the line's title.
 #[derive(Drop)]
 pub struct BudgetRow {
     pub line: Id,
@@ -23,7 +23,7 @@ pub struct BudgetRow {
     ghost some: { 1 ≤ amount },
 }
 
-/// The rows of a budget file, in order.
+/// The rows of a budget file, in the order of the file.
 #[derive(Drop)]
 pub struct BudgetRows {
     rows: Vec<BudgetRow>,
@@ -39,14 +39,14 @@ impl Model for BudgetRows {
 }
 
 impl BudgetRows {
-    /// These rows. Takes no memory.
+    /// The value of these rows. It allocates no memory.
     pub fn from_vec(rows: Vec<BudgetRow>) -> BudgetRows
         ensures { result ≡ rows.items }
     {
         BudgetRows { rows }
     }
 
-    /// The rows, borrowed.
+    /// The rows, borrowed, in the order of the file.
     pub fn as_slice(&self) -> &[BudgetRow]
         ensures { result.now ≡ self.now }
     {

@@ -1,11 +1,11 @@
-//! Who asks of an office, and which kinds of commands and queries each may give.
+//! The callers of an office, the kinds of commands and queries, and which caller may send which.
 ghost use Rattle.std.specs.Prelude.{◌≡◌};
 ghost use Rattle.office_commands.specs.Rights.{has_right, may, may_look};
 
 use crate::table::{Right, command_row, query_row};
 use office_values::id::Id;
 
-/// Who asks: anybody, the office's clerk, or a registered tenderer.
+/// The person or program that sends a request: the public, the clerk, or a registered tenderer.
 #[derive(Clone, Copy)]
 pub enum Caller {
     Public,
@@ -13,7 +13,7 @@ pub enum Caller {
     Tenderer(Id),
 }
 
-/// The kinds of commands, one for each route that changes the office.
+/// The kinds of commands, one for each route that can change the office.
 #[derive(Clone, Copy, Debug, PartialEq, Eq)]
 pub enum CommandKind {
     Import,
@@ -34,7 +34,7 @@ pub enum CommandKind {
     End,
 }
 
-/// The kinds of queries, one for each route that only looks.
+/// The kinds of queries, one for each route that only reads.
 #[derive(Clone, Copy, Debug, PartialEq, Eq)]
 pub enum QueryKind {
     Line,
@@ -55,7 +55,7 @@ pub enum QueryKind {
     Contract,
 }
 
-// Whether the caller has this right.
+// Whether a right includes this caller.
 fn has_right(caller: &Caller, right: Right) -> bool
     ensures { result ≡ has_right right caller.now }
 {
@@ -67,14 +67,14 @@ fn has_right(caller: &Caller, right: Right) -> bool
     }
 }
 
-/// Whether the caller may give a command of this kind.
+/// Whether the caller may send a command of this kind. For a tender that the command names, the office tests later whose it is.
 pub fn may(caller: &Caller, kind: CommandKind) -> bool
     ensures { result ≡ may caller.now kind }
 {
     has_right(caller, command_row(kind).right)
 }
 
-/// Whether the caller may ask a query of this kind. Whose tender, security or contract it is, is tested later.
+/// Whether the caller may ask a query of this kind. For a tender, a security or a contract, the office tests later whose it is.
 pub fn may_look(caller: &Caller, kind: QueryKind) -> bool
     ensures { result ≡ may_look caller.now kind }
 {

@@ -1,4 +1,4 @@
-//! All commands of an office: what changes it where it is accepted.
+//! All commands of an office: the requests that can change it.
 ghost use Rattle.std.specs.Prelude.{◌≡◌};
 ghost use Rattle.office_commands.specs.Commands.{kind_of};
 
@@ -14,49 +14,49 @@ use office_values::id::Id;
 use office_values::moment::Moment;
 use office_values::text::TextLine;
 
-/// A command. Sealed bytes are a slice of the request that carried them.
+/// A command with its content. A sealed tender in it is a slice of the request.
 #[derive(Drop)]
 pub enum Command<'a> {
-    /// Takes in a budget file under the name of its batch.
+    /// Adds a budget file under the name `batch`: its rows add money to budget lines or cut free money.
     Import {
         batch: Id,
         rows: BudgetRows,
     },
-    /// Registers a tenderer, with the SHA-256 of the key that the tenderer will show.
+    /// Registers a tenderer, with the SHA-256 of the tenderer's key.
     Register {
         tenderer: Id,
         name: TextLine,
         address: TextLine,
         key: [u8; 32],
     },
-    /// Publishes a tender notice, whose lots reserve their estimates.
+    /// Publishes a notice. Each of its lots reserves its estimate on a budget line.
     Publish {
         notice: Id,
         content: NewNotice,
     },
-    /// Moves the deadline of a notice.
+    /// Moves the deadline of a notice to a later moment.
     AmendNotice {
         notice: Id,
         deadline: Moment,
         rationale: TextLine,
     },
-    /// Cancels what of a notice is not yet contracted.
+    /// Cancels all lots of a notice that have no contract yet.
     Cancel {
         notice: Id,
         rationale: TextLine,
     },
-    /// Opens the tenders of a notice.
+    /// Opens and reads all sealed tenders of a notice.
     Open {
         notice: Id,
     },
-    /// Presents a sealed tender for a lot, perhaps with a security.
+    /// Submits a sealed tender for a lot, with a security if the lot requires one.
     Present {
         notice: Id,
         lot: Id,
         security: Option<NamedSecurity>,
         sealed: Sealed<'a>,
     },
-    /// Puts another sealed tender in the place of one.
+    /// Replaces a sealed tender by another one.
     Modify {
         receipt: AskedNumber,
         sealed: Sealed<'a>,
@@ -65,27 +65,27 @@ pub enum Command<'a> {
     Withdraw {
         receipt: AskedNumber,
     },
-    /// Says whether an opened tender is responsive, and perhaps of which quality.
+    /// States whether an opened tender is responsive, and its points for quality if the notice weighs quality.
     Examine {
         receipt: AskedNumber,
         responsive: bool,
         quality: Option<Quality>,
     },
-    /// Awards a lot to its best tender, or to nobody.
+    /// Awards a lot to its best admissible tender. If there is none, the lot ends unsuccessful.
     Award {
         notice: Id,
         lot: Id,
     },
-    /// Passes over a winner who does not sign.
+    /// Passes over a winner who doesn't sign.
     Fail {
         award: AskedNumber,
     },
-    /// Signs the contract of an award, perhaps with a performance security.
+    /// Signs the contract of an award, with a performance security if the notice requires one.
     Sign {
         award: AskedNumber,
         security: Option<NamedSecurity>,
     },
-    /// Raises or cuts what a contract is worth.
+    /// Raises or cuts the value of a contract.
     AmendContract {
         contract: AskedNumber,
         entry: Id,
@@ -93,13 +93,13 @@ pub enum Command<'a> {
         amount: EntryAmount,
         rationale: TextLine,
     },
-    /// Pays under a contract.
+    /// Pays an amount under a contract.
     Pay {
         contract: AskedNumber,
         entry: Id,
         amount: EntryAmount,
     },
-    /// Ends a contract, whose rest is free again.
+    /// Ends a contract. Money that is still outstanding is free again.
     End {
         contract: AskedNumber,
         how: How,
@@ -107,7 +107,7 @@ pub enum Command<'a> {
 }
 
 impl Command<'_> {
-    /// Its kind.
+    /// The kind of the command.
     pub fn kind(&self) -> CommandKind
         ensures { result ≡ kind_of self.now }
     {

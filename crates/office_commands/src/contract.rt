@@ -1,13 +1,13 @@
-//! How a contract changes and ends.
+//! The ways in which a contract changes and ends.
 
-/// Whether a contract comes to be worth more or less.
+/// Whether a change raises or cuts the value of a contract.
 #[derive(Clone, Copy, Debug, PartialEq, Eq)]
 pub enum ChangeKind {
     Raise,
     Cut,
 }
 
-/// How a contract ends: as it was agreed, or because its contractor defaulted.
+/// How a contract ends: as agreed, or because the contractor defaulted.
 #[derive(Clone, Copy, Debug, PartialEq, Eq)]
 pub enum How {
     Regular,

@@ -1,4 +1,4 @@
-//! Things with identifiers of their own.
+//! Lists of things that have identifiers.
 ghost use Rattle.std.specs.Prelude.{◌≡◌, ℕ, List};
 ghost use Rattle.std.specs.List.{list_any};
 ghost use Rattle.office_values.specs.Ids.{same_id};
@@ -6,11 +6,11 @@ ghost use Rattle.office_commands.specs.Identified.{repeats_id};
 
 use office_values::id::Id;
 
-/// A thing that has an identifier.
+/// A type whose values have an identifier.
 pub trait Identified {
     ghost id_of: { Self → List ℕ };
 
-    /// Its identifier.
+    /// The identifier of this value.
     fn id(&self) -> Id
         ensures { result ≡ id_of self.now };
 }
@@ -22,7 +22,7 @@ fn has_id<T: Identified>(things: &[T], id: Id) -> bool
     things.iter().any(|thing| thing.id() == id)
 }
 
-/// Whether two of the things have the same identifier. Takes no memory.
+/// Whether two of the things have the same identifier. It allocates no memory.
 pub fn repeats_id<T: Identified>(things: &[T]) -> bool
     ensures { result ≡ repeats_id T.id_of things.now }
 {

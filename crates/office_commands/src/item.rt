@@ -1,4 +1,4 @@
-//! What a lot asks for.
+//! The items of a lot: the things to be bought.
 ghost use Rattle.std.specs.Prelude.{◌≡◌, ◌≤◌, ◌⊎◌, false, true, IfSome, IfNone, length};
 ghost use Rattle.office_commands.specs.Identified.{repeats_id};
 ghost use Rattle.office_commands.specs.Items.{item_id};
@@ -10,10 +10,10 @@ use office_values::text::TextLine;
 use std::alloc::AllocError;
 use std::marker::Model;
 
-/// How many of an item are asked for: 1 to 10^6.
+/// The quantity of an item: 1 to 10^6.
 pub type Quantity = Bounded<1, 1_000_000>;
 
-/// A thing that a lot asks for.
+/// A thing to be bought in a lot, with its title and its quantity.
 #[derive(Clone, Drop)]
 pub struct Item {
     pub id: Id,
@@ -29,7 +29,7 @@ impl Identified for Item {
     }
 }
 
-/// The items of a lot, in the order in which they were given: at least one, each with an identifier of its own.
+/// The items of a lot, in the order of the request: at least one, with different identifiers.
 #[derive(Drop)]
 pub struct Items {
     items: Vec<Item>,
@@ -49,7 +49,7 @@ impl Model for Items {
 }
 
 impl Items {
-    /// These items; None where there are none, or two have the same identifier. Takes no memory.
+    /// The value of these items; None if there are none, or if two have the same identifier. It allocates no memory.
     pub fn read(items: Vec<Item>) -> Option<Items>
         ensures found { IfSome result (λ all. all ≡ items.items) }
         ensures some { IfSome result (λ _. 1 ≤ length items.items) }
@@ -62,7 +62,7 @@ impl Items {
         Some(Items { items })
     }
 
-    /// The items, borrowed.
+    /// The items, borrowed, in the order of the request.
     pub fn as_slice(&self) -> &[Item]
         ensures value { result.now ≡ self.now }
         ensures some { 1 ≤ length self.now }

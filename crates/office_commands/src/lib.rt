@@ -1,4 +1,4 @@
-//! What is asked of a procurement office, by whom, and what its commands carry.
+//! The commands and queries that callers send to a procurement office, their parts, and the rights of the callers.
 #![tactic(auto)]
 
 pub mod amounts;

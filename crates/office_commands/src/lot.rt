@@ -11,8 +11,7 @@ use office_values::money::Amount;
 use office_values::text::TextLine;
 use std::marker::Model;
 
-/// A lot of a notice that is to be published: its budget line, its estimate, and the security that its tenders must carry
-/// (0: none).
+/// A lot of a notice to be published: its budget line, its estimate, its items, and the least security that each tender must have (0: none is required).
 #[derive(Drop)]
 pub struct NewLot {
     pub id: Id,
@@ -31,7 +30,7 @@ impl Identified for NewLot {
     }
 }
 
-/// The lots of a notice that is to be published: at least one, each with an identifier of its own.
+/// The lots of a notice to be published: at least one, with different identifiers.
 #[derive(Drop)]
 pub struct NewLots {
     lots: Vec<NewLot>,
@@ -51,7 +50,7 @@ impl Model for NewLots {
 }
 
 impl NewLots {
-    /// These lots; None where there are none, or two have the same identifier. Takes no memory.
+    /// The value of these lots; None if there are none, or if two have the same identifier. It allocates no memory.
     pub fn read(lots: Vec<NewLot>) -> Option<NewLots>
         ensures found { IfSome result (λ all. all ≡ lots.items) }
         ensures some { IfSome result (λ _. 1 ≤ length lots.items) }
@@ -64,7 +63,7 @@ impl NewLots {
         Some(NewLots { lots })
     }
 
-    /// The lots, borrowed.
+    /// The lots, borrowed, in the order of the request.
     pub fn as_slice(&self) -> &[NewLot]
         ensures value { result.now ≡ self.now }
         ensures some { 1 ≤ length self.now }
@@ -73,7 +72,7 @@ impl NewLots {
         self.lots.as_slice()
     }
 
-    /// The lots, given back. Takes no memory.
+    /// The lots, moved out. It allocates no memory.
     pub fn into_vec(self) -> Vec<NewLot>
         ensures { result.items ≡ self }
     {

@@ -1,4 +1,4 @@
-//! Tender notices that are to be published.
+//! Notices that are to be published, and their terms.
 ghost use Rattle.std.specs.Prelude.{◌≡◌};
 ghost use Rattle.office_commands.specs.Notices.{weight_of};
 
@@ -8,19 +8,19 @@ use office_values::moment::Moment;
 use office_values::money::Amount;
 use office_values::text::TextLine;
 
-/// For how many days after the deadline tenders stay in effect: 1 to 365.
+/// The days after the deadline in which tenders bind their tenderers: 1 to 365.
 pub type Validity = Bounded<1, 365>;
 
-/// For how many days a contract waits for its signing after an award: 0 to 90.
+/// The days after an award in which its contract can't be signed: 0 to 90.
 pub type Standstill = Bounded<0, 90>;
 
-/// What the price weighs in a hundred points: 0 to 100, where 0 says that the price alone decides.
+/// The points out of a hundred that the price can give: 0 to 100. It is 0 if the price alone decides.
 pub type Weight = Bounded<0, 100>;
 
-/// What the price weighs where points decide: 1 to 100.
+/// The points out of a hundred that the price can give if points decide: 1 to 100.
 pub type PriceWeight = Bounded<1, 100>;
 
-/// What decides between tenders: the price alone, or points for the price and for quality.
+/// The rule by which tenders are compared: the price alone, or points for price and quality.
 #[derive(Clone, Copy)]
 pub enum Criteria {
     Price,
@@ -28,7 +28,7 @@ pub enum Criteria {
 }
 
 impl Criteria {
-    /// What the price weighs; 0 where it alone decides.
+    /// The points that the price can give; 0 if the price alone decides.
     pub fn weight(self) -> Weight
         ensures { result ≡ weight_of self }
     {
@@ -39,15 +39,14 @@ impl Criteria {
     }
 }
 
-/// What becomes of a tender whose tenderer would take it back after the deadline: it can't be, or it is out of the running and its
-/// security is forfeited.
+/// The rule for a withdrawal after the deadline. The office refuses it, or the tender can't win any more and its security is forfeited.
 #[derive(Clone, Copy, Debug, PartialEq, Eq)]
 pub enum LateWithdrawal {
     Refused,
     Forfeits,
 }
 
-/// A notice that is to be published.
+/// A notice that is to be published: title, terms and lots.
 #[derive(Drop)]
 pub struct NewNotice {
     pub title: TextLine,
@@ -56,7 +55,7 @@ pub struct NewNotice {
     pub standstill: Standstill,
     pub criteria: Criteria,
     pub late_withdrawal: LateWithdrawal,
-    /// What the performance security of each of its contracts must come to; 0: none is asked.
+    /// The least performance security that each contract must have; 0: none is required.
     pub performance: Amount,
     pub lots: NewLots,
 }

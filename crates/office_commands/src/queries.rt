@@ -1,4 +1,4 @@
-//! All queries of an office: what only looks.
+//! All queries of an office: the requests that only read.
 ghost use Rattle.std.specs.Prelude.{◌≡◌};
 ghost use Rattle.office_commands.specs.Queries.{query_kind_of};
 
@@ -6,45 +6,45 @@ use crate::command::QueryKind;
 use office_values::given::AskedNumber;
 use office_values::id::Id;
 
-/// A query.
+/// A query with its parameters.
 #[derive(Clone, Copy)]
 pub enum Query {
-    /// The pots of a budget line.
+    /// The balances of a budget line.
     Line { line: Id },
-    /// The pots of all budget lines.
+    /// The balances of all budget lines.
     Ledger,
-    /// The minutes of an opening.
+    /// The minutes of the opening of a notice's tenders.
     Minutes { notice: Id },
-    /// The register of the tenders that came for a notice.
+    /// The register of the tenders that came for a notice, for the clerk.
     Register { notice: Id },
-    /// The releases of a notice, as a package.
+    /// The releases of a notice, as an OCDS package.
     Releases { notice: Id },
-    /// The record of a notice: its compiled release, as a package.
+    /// The record of a notice, which has its compiled release, as an OCDS package.
     Record { notice: Id },
-    /// A tender, for whoever presented it.
+    /// A tender, for its tenderer.
     Tender { receipt: AskedNumber },
-    /// A security, for whoever named it and for the clerk.
+    /// A tender security, for its tenderer and the clerk.
     Security { security: AskedNumber },
-    /// The performance security of a contract, for the contract's tenderer and for the clerk.
+    /// The performance security of a contract, for its tenderer and the clerk.
     Performance { contract: AskedNumber },
-    /// A page of the notices: those behind this one, or the first.
+    /// A page of the notices, in the order of their identifiers: those after `after`, or the first page.
     Notices { after: Option<Id> },
-    /// The terms of a notice, and its lots.
+    /// The terms and the lots of a notice.
     Terms { notice: Id },
-    /// The caller's own tenders of a notice.
+    /// The caller's own tenders for a notice.
     OwnTenders { notice: Id },
-    /// How the awards of a notice came about.
+    /// The evaluation of a notice: its opened tenders with prices, examinations and points, and its awards.
     Evaluation { notice: Id },
     /// The tender securities of a notice, for the clerk.
     Securities { notice: Id },
-    /// A page of the tenderers: those behind this one, or the first. For the clerk.
+    /// A page of the tenderers, in the order of their identifiers: those after `after`, or the first page. For the clerk.
     Tenderers { after: Option<Id> },
-    /// A contract, for its tenderer and for the clerk.
+    /// A contract, for its tenderer and the clerk.
     Contract { contract: AskedNumber },
 }
 
 impl Query {
-    /// Its kind.
+    /// The kind of the query.
     pub fn kind(&self) -> QueryKind
         ensures { result ≡ query_kind_of self.now }
     {

@@ -1,4 +1,4 @@
-//! Sealed bytes.
+//! The bytes of a tender, borrowed from a request or owned.
 ghost use Rattle.std.specs.Prelude.{◌≡◌, IfOk, IfSome, IfNone};
 ghost use Rattle.sha2.specs.Sha256.{sha256};
 ghost use Rattle.office_commands.specs.SealedBytes.{IsSealed};
@@ -7,10 +7,10 @@ use sha2::{Digest, Sha256};
 use std::alloc::{AllocError, Global};
 use std::marker::Model;
 
-/// The most sealed bytes.
+/// The greatest length of a tender, in bytes.
 pub const SEALED_LIMIT: usize = 32_768;
 
-/// Sealed bytes, 1 to 32,768 of them, with their SHA-256 (FIPS 180-4). They stay a slice of the request.
+/// A tender of 1 to 32,768 bytes with its SHA-256 (FIPS 180-4). It borrows the bytes from the request.
 #[derive(Drop)]
 pub struct Sealed<'a> {
     bytes: &'a [u8],
@@ -30,7 +30,7 @@ impl<'a> Model for Sealed<'a> {
 }
 
 impl<'a> Sealed<'a> {
-    /// These bytes with their SHA-256; None exactly where there are none, or more than 32,768.
+    /// The tender with these bytes; None if there are none, or more than 32,768.
     pub fn read(bytes: &'a [u8]) -> Option<Sealed<'a>>
         ensures found { IfSome result (λ sealed. sealed ≡ bytes.now) }
         ensures right { IfSome result (λ _. IsSealed bytes.now) }
@@ -43,7 +43,7 @@ impl<'a> Sealed<'a> {
         Some(Sealed { bytes, digest })
     }
 
-    /// The bytes, borrowed.
+    /// The bytes of the tender, borrowed.
     pub fn as_slice(&self) -> &'a [u8]
         ensures value { result.now ≡ self.now }
         ensures right { IsSealed self.now }
@@ -51,7 +51,7 @@ impl<'a> Sealed<'a> {
         self.bytes
     }
 
-    /// Their SHA-256.
+    /// The SHA-256 of the bytes.
     pub fn digest(&self) -> [u8; 32]
         ensures { result ≡ sha256 self.now }
     {
@@ -59,7 +59,7 @@ impl<'a> Sealed<'a> {
     }
 }
 
-/// Sealed bytes of its own, 1 to 32,768 of them, as an office keeps them until the opening.
+/// A tender of 1 to 32,768 bytes that owns its bytes, as the office keeps it until the opening.
 #[derive(Drop)]
 pub struct SealedBytes {
     bytes: Vec<u8>,
@@ -77,7 +77,7 @@ impl Model for SealedBytes {
 }
 
 impl SealedBytes {
-    /// These bytes; None exactly where there are none, or more than 32,768. Takes no memory.
+    /// The tender with these bytes; None if there are none, or more than 32,768. It allocates no memory.
     pub fn from_vec(bytes: Vec<u8>) -> Option<SealedBytes>
         ensures found { IfSome result (λ sealed. sealed ≡ bytes.items) }
         ensures right { IfSome result (λ _. IsSealed bytes.items) }
@@ -89,7 +89,7 @@ impl SealedBytes {
         Some(SealedBytes { bytes })
     }
 
-    /// A copy of sealed bytes.
+    /// A copy of a tender that borrows its bytes. AllocError if there is too little memory.
     pub fn copy_of(alloc: Global, sealed: &Sealed<'_>) -> Result<SealedBytes, AllocError>
         ensures { IfOk result (λ copy. copy ≡ sealed.now) }
     {
@@ -98,7 +98,7 @@ impl SealedBytes {
         })
     }
 
-    /// The bytes, borrowed.
+    /// The bytes of the tender, borrowed.
     pub fn as_slice(&self) -> &[u8]
         ensures value { result.now ≡ self.now }
         ensures right { IsSealed self.now }

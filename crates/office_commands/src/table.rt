@@ -1,10 +1,10 @@
-//! The commands and the queries, one row each: who may ask, the pattern of its path, and the parameters in the path.
+//! The table of commands and queries. A row has the right, the pattern of the path, and the parameters in the path.
 ghost use Rattle.std.specs.Prelude.{◌≡◌};
 ghost use Rattle.office_commands.specs.Table.{command_row, query_row};
 
 use crate::command::{CommandKind, QueryKind};
 
-/// Who may ask.
+/// The callers that may send a request.
 #[derive(Clone, Copy, Debug, PartialEq, Eq)]
 pub enum Right {
     Anybody,
@@ -13,10 +13,10 @@ pub enum Right {
     ClerkAndTenderers,
 }
 
-/// Which parameters a path has, and in which of its segments.
+/// The parameters that a path has, and the segments in which they are.
 #[derive(Clone, Copy)]
 pub enum Shape {
-    /// None.
+    /// No parameters.
     Plain,
     /// An identifier in segment 2.
     OneId,
@@ -26,11 +26,11 @@ pub enum Shape {
     Number,
 }
 
-/// A row of the table.
+/// A row of the table: right, pattern of the path and parameters.
 #[derive(Clone, Copy)]
 pub struct RouteRow {
     pub right: Right,
-    /// As `matchit` reads it: a parameter is a name in braces.
+    /// The pattern in the syntax of `matchit`: a parameter is a name in braces.
     pub pattern: &'static str,
     pub shape: Shape,
 }
@@ -87,7 +87,7 @@ pub const QUERIES: [QueryKind; 16] = [
     QueryKind::Contract,
 ];
 
-/// The row of a command.
+/// The row of a kind of command.
 pub fn command_row(kind: CommandKind) -> RouteRow
     ensures right { result.right ≡ (command_row kind).right }
     ensures pattern { result.pattern.now ≡ (command_row kind).pattern }
@@ -115,7 +115,7 @@ pub fn command_row(kind: CommandKind) -> RouteRow
     }
 }
 
-/// The row of a query.
+/// The row of a kind of query.
 pub fn query_row(kind: QueryKind) -> RouteRow
     ensures right { result.right ≡ (query_row kind).right }
     ensures pattern { result.pattern.now ≡ (query_row kind).pattern }

@@ -1,4 +1,4 @@
--- A command that was asked for is done, or nothing is.
+-- A command that was asked for is done as a whole, or nothing is done.
 use Rattle.std.specs.Prelude.{◌≡◌, ℕ, ◌⊎◌, List, Result, Ok, Err, IsErr, IfErr}
 use Rattle.std.proofs.Common.{ap, ◌∙◌, subst, inl, inr}
 use Rattle.office_commands.specs.declared.command.Caller.{Caller}
@@ -16,7 +16,7 @@ use Rattle.office_plans.specs.Published.{IsPlan}
 use Rattle.office_desk.specs.Steps.{Does, IsOfficeAfter}
 
 module _ {S : Type 0} (M : Meaning S) (publisher : Publisher) (moment : ℕ) (caller : Caller) (command : Command) where
-  -- it was refused
+  -- The command was refused.
   pub does_nothing : {T : Type 0} (old new : S) (result : Result T Refusal) → IsErr result → Keeps M old new
       → Does M publisher old new result (λ s. given s moment caller command)
   does_nothing old new (Ok done) err kept = cc
@@ -29,7 +29,7 @@ module _ {S : Type 0} (M : Meaning S) (publisher : Publisher) (moment : ℕ) (ca
     sound = λ honest was. kept.sound honest was;
   }
 
-  -- it was planned, and then done or not
+  -- The command was planned, and then carried out or not.
   module _ (old mid new : S) (planned : Plan) (kept : Keeps M old mid)
       (plan : M.honest mid → (t : Tables) → M.holds old t → IsPlan publisher (given t moment caller command) planned) where
     next_is : (t : Tables) → IsPlan publisher (given t moment caller command) planned → KeepsItsReleases (given t moment caller command)

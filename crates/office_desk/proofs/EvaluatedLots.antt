@@ -1,4 +1,4 @@
--- The lines of a lot of an evaluation.
+-- The lines of a lot in an evaluation.
 use Rattle.std.specs.Prelude.{◌≡◌, ℕ, Bool, true, false, cond, ◌||◌, List, [], ◌++◌, map}
 use Rattle.std.specs.List.{flat_map}
 use Rattle.std.proofs.Common.{sym, ap, ◌∙◌}
@@ -13,19 +13,19 @@ use Rattle.office_machine.specs.Evaluation.{awards_of_lot, evaluated_lot, evalua
 use Rattle.office_plans.specs.Replies.{evaluated_lines, finding_of}
 use Rattle.office_desk.proofs.Listed.{with_both, with_none}
 
--- the lines of tenders, and those of a lot's awards
+-- The lines of tenders, and those of a lot's awards.
 abbrev pub tender_lines : ℕ → List EnvelopeRow → List ℕ
 tender_lines weight rows = flat_map finding_line (map finding_of (evaluated_tenders weight rows))
 
 abbrev pub award_lines : List ℕ → List AwardRow → List ℕ
 award_lines lot awards = flat_map award_line (awards_of_lot lot awards)
 
--- what is told of a lot, by whether it is shown
+-- The lines of a lot, with or without its tenders and awards.
 abbrev lines_told : Bool → ℕ → List AwardRow → Tables → LotRow → List ℕ
 lines_told shown weight awards s l =
     evaluated_lines (cond shown (lot_told (evaluated_tenders weight (envelopes_of_lot l.notice l.lot s)) (awards_of_lot l.lot awards) l) (lot_told [] [] l))
 
--- a lot that is shown has a line of its own, one for each of its tenders, and one for each of its awards
+-- A lot whose tenders are shown has its own line, one for each of its tenders, and one for each of its awards.
 pub shown_lot : (caller : Caller) (weight : ℕ) (awards : List AwardRow) (s : Tables) (l : LotRow) (rows : List EnvelopeRow) (front one two three : List ℕ)
     → (is_clerk caller || has_outcome awards l) ≡ true → rows ≡ envelopes_of_lot l.notice l.lot s → one ≡ front ++ lot_state_line l.lot l.state
     → two ≡ one ++ tender_lines weight rows → three ≡ two ++ award_lines l.lot awards → three ≡ front ++ evaluated_lines (evaluated_lot caller weight awards s l)
@@ -37,7 +37,7 @@ shown_lot caller weight awards s l rows front one two three shown are first seco
     ∙ with_both front head (tender_lines weight (envelopes_of_lot l.notice l.lot s)) (award_lines l.lot awards)
     ∙ ap (λ b. front ++ lines_told b weight awards s l) (sym shown)
 
--- one that isn't has its line alone
+-- A lot whose tenders aren't shown has its own line alone.
 pub hidden_lot : (caller : Caller) (weight : ℕ) (awards : List AwardRow) (s : Tables) (l : LotRow) (front one : List ℕ)
     → (is_clerk caller || has_outcome awards l) ≡ false → one ≡ front ++ lot_state_line l.lot l.state → one ≡ front ++ evaluated_lines (evaluated_lot caller weight awards s l)
 hidden_lot caller weight awards s l front one hidden first =

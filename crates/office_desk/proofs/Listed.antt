@@ -1,17 +1,17 @@
--- Lists that are put together element by element.
+-- Lists that are built element by element.
 use Rattle.std.specs.Prelude.{◌≡◌, ℕ, ◌+◌, ◌<◌, List, [], ◌∷◌, ◌++◌, get_or, length, take}
 use Rattle.std.proofs.Common.{sym, ap, append_assoc, append-nil, ◌∙◌}
 use Rattle.std.specs.List.{flat_map}
 use Rattle.std.proofs.lemmas.List.{flat_map_more, take_more}
 
--- what stands for one element more
+-- The list after one more element is written.
 pub one_more : {X A : Type 0} (f : X → List A) (front : List A) (xs : List X) (i : ℕ) (x : X) (old new here : List A) → i < length xs → x ≡ get_or xs i x
     → old ≡ front ++ flat_map f (take i xs) → here ≡ f x → new ≡ old ++ here → new ≡ front ++ flat_map f (take (i + 1) xs)
 one_more f front xs i x old new here within is so_far this more =
     more ∙ ap (λ l. l ++ here) so_far ∙ ap (λ l. (front ++ flat_map f (take i xs)) ++ l) this ∙ flat_map_more f front (take i xs) x
     ∙ ap (λ l. front ++ flat_map f l) (sym (take_more xs i x within ∙ ap (λ y. take i xs ++ y ∷ []) (sym is)))
 
--- a line with two lists of lines behind it, and one with none
+-- A line followed by two lists of lines, and a line followed by none.
 pub with_both : {A : Type 0} (front head xs ys : List A) → ((front ++ head) ++ xs) ++ ys ≡ front ++ ((head ++ xs) ++ ys)
 with_both front head xs ys = ap (λ l. l ++ ys) (append_assoc front head xs) ∙ append_assoc front (head ++ xs) ys
 

@@ -1,4 +1,4 @@
--- What minutes say of tenders, one after another.
+-- The tenders in the minutes, one after another.
 use Rattle.std.specs.Prelude.{◌≡◌, ℕ, ◌+◌, ◌<◌, List, [], ◌∷◌, ◌++◌, get_or, length, map, take}
 use Rattle.std.proofs.Common.{sym, ap, ◌∙◌}
 use Rattle.std.proofs.lemmas.List.{map-append, take_more}
@@ -8,11 +8,11 @@ use Rattle.office_machine.specs.Sights.{minuted}
 use Rattle.office_plans.specs.Replies.{minuted_tender}
 use Rattle.tender_papers.specs.declared.minutes.OpenedTender.{OpenedTender}
 
--- what minutes say of these tenders
+-- These tenders as the minutes show them.
 abbrev pub opened_tenders : List TendererRow → List EnvelopeRow → List OpenedTender
 opened_tenders tenderers rows = map minuted_tender (map (minuted tenderers) rows)
 
--- one tender more
+-- One more tender.
 pub next_opened : (tenderers : List TendererRow) (rows : List EnvelopeRow) (i : ℕ) (row : EnvelopeRow) (old new : List OpenedTender) (tender : OpenedTender)
     → i < length rows → row ≡ get_or rows i row → old ≡ opened_tenders tenderers (take i rows) → tender ≡ minuted_tender (minuted tenderers row)
     → new ≡ old ++ tender ∷ [] → new ≡ opened_tenders tenderers (take (i + 1) rows)

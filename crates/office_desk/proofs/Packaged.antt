@@ -1,11 +1,11 @@
--- A package of what is kept is that of what is told.
+-- A package of stored releases is the package of the releases themselves.
 use Rattle.std.specs.Prelude.{◌<◌, List, [], ◌∷◌, length}
 use Rattle.std.proofs.Common.{arith}
 use Rattle.serde_json.specs.Data.{Data}
 use Rattle.ocds_release.specs.KeptReleases.{AreKept}
 use Rattle.office_base.specs.declared.records.ReleaseRow.{ReleaseRow}
 
--- what is so of releases that aren't none is so of those that rows keep
+-- A property of every nonempty list of releases is a property of the releases that these rows store.
 pub filled : (P : List Data → Type 0) (rows : List ReleaseRow) (ds : List Data) → AreKept rows ds → 0 < length rows
     → ((e : Data) (es : List Data) → AreKept rows (e ∷ es) → P (e ∷ es)) → P ds
 filled P [] [] kept some each = absurd (omega arith)

@@ -1,4 +1,4 @@
--- Releases taken one after another by their places.
+-- Releases that are taken one after another by their places.
 use Rattle.std.specs.Prelude.{◌≡◌, ◌<◌, ◌-◌, ◌⊎◌, ℕ, zero, suc, ◌+◌, List, [], ◌∷◌, Option, Some, None, IfSome, drop, length, map, get_or, slice_get}
 use Rattle.std.proofs.Common.{refl, sym, ap, ◌∙◌, subst, arith, add-one, inl, inr}
 use Rattle.std.specs.List.{AllByRecursion}
@@ -19,12 +19,12 @@ from_place (q ∷ rows) (suc k) r is = from_place rows k r is
 pub next_is : (rows : List ReleaseRow) (k : ℕ) (r : ReleaseRow) → slice_get rows k ≡ Some r → drop k rows ≡ r ∷ drop (k + 1) rows
 next_is rows k r is = rw add-one (from_place rows k r is)
 
--- the moment of the last of these rows, behind others whose last is of this moment
+-- The moment of the last of these rows, which follow others whose last one has this moment.
 abbrev pub last_after : Option ℕ → List ReleaseRow → Option ℕ
 last_after last [] = last
 last_after last (r ∷ rows) = last_after (Some r.moment) rows
 
--- with the rest it comes to what all come to
+-- The extent so far, together with the rest, is the extent of all releases.
 pub record Measures (last : Option ℕ) (rest all : List ReleaseRow) : Type 0 where
   pub moment : last_after last rest ≡ last_after None all
   pub range : AllByRecursion IsInRange rest → AllByRecursion IsInRange all
@@ -61,7 +61,7 @@ measured extent rows rest none so_far =
       read = All-from_recursion ReadsAsObject rows (all.read tt);
     }
 
--- ---- releases that are there
+-- ---- the releases that exist
 
 below_or_at : (k n : ℕ) → k < n + 1 → (k < n) ⊎ (k ≡ n)
 below_or_at k n low = elim (cases_lt k n) [

@@ -3,6 +3,6 @@ use Rattle.std.specs.Prelude.{◌≡◌, ℕ}
 use Rattle.std.proofs.Common.{arith}
 use Rattle.office_base.specs.Faults.{HasRisen, one_fault_more}
 
--- one fault more is a higher count, or the last one
+-- The count after one more fault is higher, or it was already the highest.
 pub has_risen : (old new : ℕ) → new ≡ one_fault_more old → HasRisen old new
 has_risen old new counted = grind (arith, counted)

@@ -1,4 +1,4 @@
--- What the package of a notice's record shows is there.
+-- The rows that the package of a notice's record shows exist.
 use Rattle.std.specs.Prelude.{◌≡◌, ℕ, List, Option, Some, Result, Ok, Err, IfOk, OnOk}
 use Rattle.std.proofs.Common.{ap, ◌∙◌, subst}
 use Rattle.serde_json.specs.Data.{Data}
@@ -10,13 +10,13 @@ use Rattle.office_machine.specs.Counted.{releases_in}
 use Rattle.office_publications.specs.Merges.{HasMerge}
 use Rattle.office_publications.specs.Told.{AreAllThere, HasReleases}
 
--- what is made of a merge is made of the one that it is
+-- A release that is made of a merge is made of the merge that it equals.
 pub made_of : {E : Type 0} (result : Result Value E) (Stands : Type 0) (make : Data → Data) (merge told : Data) → IfOk result (λ release. view release ≡ make merge)
     → (Stands → merge ≡ told) → IfOk result (λ release. Stands → view release ≡ make told)
 made_of (Ok release) Stands make merge told is same = λ stands. is ∙ ap make (same stands)
 made_of (Err why) Stands make merge told is same = tt
 
--- a record is shown where the releases that the row counts are there, and the merge that is kept is an object
+-- A record is shown only if all releases that the notice's row counts exist and the stored merge is an object.
 pub record_shown : {T E : Type 0} (notice : List ℕ) (s : Tables) (row : NoticeRow) (result : Result T E) → Some row ≡ notice_at notice s
     → OnOk result (AreAllThere notice row.releases s) → OnOk result (HasMerge notice s) → OnOk result (HasReleases notice s × HasMerge notice s)
 record_shown notice s row (Ok text) is there merge = (subst (λ (o : Option NoticeRow). AreAllThere notice (releases_in o) s) is there, merge)

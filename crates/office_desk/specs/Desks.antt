@@ -1,7 +1,7 @@
--- What a desk is.
+-- A desk as a value.
 use Rattle.office_values.specs.declared.settings.Settings.{Settings}
 
--- the shelf and the settings
+-- A store and the settings.
 pub record DeskOf (H : Type 0) : Type 0 where
   pub shelf : H
   pub settings : Settings

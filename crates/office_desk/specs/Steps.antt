@@ -1,4 +1,4 @@
--- What a desk answers: the machine's step, or want of memory or of the store.
+-- The answers of a desk: the specification's step, or `Unavailable` if memory is too small or the store fails.
 use Rattle.std.specs.Prelude.{◌≡◌, ℕ, false, ◌⊎◌, List, Option, ◌∷◌, Some, None, Result, Ok, Err, IfErr, OnOk, OnErr, Vec}
 use Rattle.std.specs.declared.alloc.Global.{Global}
 use Rattle.office_commands.specs.declared.command.Caller.{Caller}
@@ -26,23 +26,23 @@ use Rattle.office_publications.specs.Told.{HasReleases}
 use Rattle.office_plans.specs.Published.{accepted_reply}
 use Rattle.office_plans.specs.Replies.{reply_text, text_of}
 
--- a text as the list of its bytes
+-- The text as the list of its bytes.
 abbrev pub read_text : Result (Vec ℕ Global) Refusal → Result (List ℕ) Refusal
 read_text (Ok text) = Ok text.items
 read_text (Err why) = Err why
 
--- the reply, or the command's refusal, or Unavailable
+-- The answer is the reply, the command's refusal, or `Unavailable`.
 abbrev pub IsReplyOrRefusal : Publisher → Given → Result (List ℕ) Refusal → Type 0
 IsReplyOrRefusal publisher x (Ok reply) = (refusal_of x ≡ None) × (reply ≡ reply_text (accepted_reply x))
 IsReplyOrRefusal publisher x (Err why) = (refusal_of x ≡ Some why) ⊎ (why ≡ Unavailable)
 
--- these are the tables after the whole command, which isn't refused, of each office that was held where the notice that it publishes for keeps its
--- releases
+-- These are the tables after the whole command, which isn't refused. This is so for each office that the store held and whose notice keeps its releases.
 abbrev pub IsOfficeAfter : {S : Type 0} → Meaning S → Publisher → S → (Tables → Given) → Tables → Type 0
 IsOfficeAfter M publisher old x u = (t : Tables) → M.holds old t → KeepsItsReleases (x t) → (refusal_of (x t) ≡ None) × (u ≡ next_with_merges publisher (x t))
 
--- a command that was asked for: it is done where the answer is Ok and the notice that it publishes for keeps its releases, and else nothing is. A stop
--- leaves the one or the other whole: after a refusal what it could leave before, and the whole command perhaps where the answer is Unavailable
+-- The effect of a command that was asked for. After Ok the command is done, if the notice for which it publishes keeps its releases. After a refusal nothing
+-- has changed. A stop leaves the tables without the command or with all of it. After a refusal it leaves only what it could leave before, and after
+-- `Unavailable` perhaps the tables with the command.
 pub record Does {S T : Type 0} (M : Meaning S) (publisher : Publisher) (old new : S) (result : Result T Refusal) (x : Tables → Given) : Type 0 where
   pub before : M.honest new → M.honest old
   pub all : M.honest new → (t : Tables) → M.holds old t → KeepsItsReleases (x t) → OnOk result (M.holds new (next_with_merges publisher (x t)))
@@ -52,44 +52,44 @@ pub record Does {S T : Type 0} (M : Meaning S) (publisher : Publisher) (old new 
   pub stop_none : M.honest new → IfErr result (λ why. (u : Tables) → M.may_leave new u → M.may_leave old u ⊎ ((why ≡ Unavailable) × IsOfficeAfter M publisher old x u))
   pub sound : M.honest new → M.leaves_sound old → M.leaves_sound new
 
--- a look at a package needs an office that commands led to, with its releases kept; any other look needs nothing
+-- A query for a package needs a reached office with its releases. Any other query needs nothing.
 abbrev pub Needs : Publisher → Query → Tables → Type 0
 Needs publisher (queries.Releases notice) s = IsReached publisher s
 Needs publisher (queries.Record notice) s = IsReached publisher s
 Needs publisher query s = Unit {0}
 
--- what is seen, or the query's refusal, or Unavailable
+-- The answer is the text that the specification shows, the query's refusal, or `Unavailable`.
 abbrev pub IsSeen : Publisher → Caller → Query → Tables → Result (List ℕ) Refusal → Type 0
 IsSeen publisher caller query s result =
     Needs publisher query s → (result ≡ text_of (told (packages publisher) s caller query)) ⊎ (result ≡ Err Unavailable)
 
--- no more went from a contract, by these entries, than came
+-- By these entries, no more money went out of the contract than came in.
 abbrev pub IsNotOverdrawn : Option ContractRow → List EntryRow → Type 0
 IsNotOverdrawn None entries = Unit {0}
 IsNotOverdrawn (Some c) entries = is_overdrawn entries c ≡ false
 
--- what is shown is there, be the office one that no commands lead to: of a package each release that the notice's row counts, and for a record the merge
--- that is kept, an object; of a contract what is outstanding
+-- The facts that an answer shows hold, even if no commands lead to this office. For the releases, each release that the notice's row counts exists and can be
+-- merged. For the record, its merge is also an object. A contract isn't overdrawn.
 abbrev pub HasShown : Query → Tables → Type 0
 HasShown (queries.Releases notice) s = HasReleases notice s
 HasShown (queries.Record notice) s = HasReleases notice s × HasMerge notice s
 HasShown (queries.Contract contract) s = IsNotOverdrawn (contract_at contract s) (entries_of_contract contract s)
 HasShown query s = Unit {0}
 
--- what is seen where no packages are asked for
+-- The answer to a query that isn't for a package; packages are empty here.
 abbrev pub no_packages : Packages
 no_packages query s = Rattle.std.specs.Prelude.[]
 
 abbrev pub IsShown : Caller → Query → Tables → Result (List ℕ) Refusal → Type 0
 IsShown caller query s result = (result ≡ text_of (told no_packages s caller query)) ⊎ (result ≡ Err Unavailable)
 
--- a query that is to be refused is told its refusal, or the store's count of faults rose
+-- If the specification refuses the query, the result is this refusal, or the store has counted another fault.
 abbrev pub TellsQuery : {S T : Type 0} → Meaning S → S → S → Caller → Query → Result T Refusal → Type 0
 TellsQuery M old new caller query result =
     M.honest new → (s : Tables) → M.holds old s → (why : Refusal) → text_of (told no_packages s caller query) ≡ Err why
     → (result ≡ Err why) ⊎ HasRisen (M.fault_count old) (M.fault_count new)
 
--- the office after the answer, and the accepted commands
+-- The office after the answer, and the commands that are accepted by then.
 abbrev pub office_after_answer : Publisher → Given → Result (List ℕ) Refusal → Tables
 office_after_answer publisher x (Ok reply) = next_with_merges publisher x
 office_after_answer publisher x (Err why) = x.before
@@ -98,8 +98,8 @@ abbrev pub accepted_after : Given → Result (List ℕ) Refusal → List Given �
 accepted_after x (Ok reply) xs = x ∷ xs
 accepted_after x (Err why) xs = xs
 
--- where accepted commands lead to an office, its accounts are what they moved, and each tender and each security, a tender's or a contract's,
--- has the fate that they gave it
+-- These accepted commands lead to the office. Its accounts are the sums that they moved. Each tender and each security, of a tender or of a contract, has the
+-- fate that they gave it.
 pub record OfficeIsKept (publisher : Publisher) (xs : List Given) (s : Tables) : Type 0 where
   pub reaches : Reaches (publishing publisher) xs s
   pub accounts : AccountsHold xs s
@@ -107,8 +107,8 @@ pub record OfficeIsKept (publisher : Publisher) (xs : List Given) (s : Tables) :
   pub securities : SecuritiesHaveFates xs s
   pub performances : PerformancesHaveFates xs s
 
--- the shelf holds the office after the answer, which keeps its releases; the commands accepted so far, with this one, lead to it; and so it
--- is kept
+-- After the answer, the store holds the office that the specification says, and this office keeps its releases. The commands that were accepted so far, with
+-- this one, lead to it.
 pub record Joins {S : Type 0} (M : Meaning S) (publisher : Publisher) (new : S) (x : Given) (result : Result (List ℕ) Refusal) (xs : List Given) : Type 0 where
   pub holds : M.holds new (office_after_answer publisher x result)
   pub kept : OfficeIsKept publisher (accepted_after x result xs) (office_after_answer publisher x result)

@@ -1,4 +1,4 @@
-//! The desk.
+//! The desk: it plans commands, carries them out, and answers queries.
 ghost use Rattle.std.specs.Prelude.{◌≡◌, ◌⊎◌, IfOk, OnOk, IfErr, Some, None, Ok, Err, true, false, List, option_map, IsSome, IsNone};
 ghost use Rattle.office_commands.specs.Commands as commands;
 ghost use Rattle.office_commands.specs.Queries as queries;
@@ -34,14 +34,14 @@ use std::alloc::Global;
 use std::marker::Model;
 use tender_core::asking::Asking;
 
-/// A desk: it answers commands and queries from what a shelf holds.
+/// A desk answers commands and queries from the content of a store.
 pub struct Desk<H: Shelf + Drop> {
     alloc: Global,
     settings: Settings,
     shelf: H,
 }
 
-// By hand, so that a program that lets a desk go proves no drop of what is in it.
+// Written by hand, so that a program that drops a desk proves no drop of its parts.
 impl<H: Shelf + Drop> Drop for Desk<H> {
     fn drop(self) {
         let Desk {
@@ -61,7 +61,7 @@ impl<H: Shelf + Drop> Model for Desk<H> {
 }
 
 impl<H: Shelf + Drop> Desk<H> {
-    /// A desk over this shelf. Takes no memory.
+    /// A desk over this store. Takes no memory.
     pub fn new(alloc: Global, settings: Settings, shelf: H) -> Desk<H>
         ensures { result ≡ record { shelf = shelf; settings = settings } }
     {
@@ -72,7 +72,7 @@ impl<H: Shelf + Drop> Desk<H> {
         }
     }
 
-    /// The shelf. Takes no memory.
+    /// The store; the desk is used up. Takes no memory.
     pub fn into_shelf(self) -> H
         ensures { result ≡ self.shelf }
     {
@@ -84,8 +84,9 @@ impl<H: Shelf + Drop> Desk<H> {
         shelf
     }
 
-    /// Who asks, by the name and the key of a request, each perhaps absent: the public with neither, the clerk with the clerk's key, a
-    /// registered tenderer with that tenderer's key, and else `BadKey`. Only a look-up of a tenderer, by an identifier, can be answered `Unavailable`.
+    /// The caller, by the name and the key of a request, each of which may be absent. Without both it is the public. With the clerk's key it is the clerk, and
+    /// with a registered tenderer's key that tenderer. Anything else is `BadKey`. Only an identifier other than `clerk` is looked up, so only then can the
+    /// answer be `Unavailable`.
     pub fn caller(&mut self, name: Option<&[u8]>, key: Option<&[u8]>) -> Result<Caller, Refusal>
         ensures looks { Looks H.meaning self.old.shelf self.new.shelf (λ s.
             (result ≡ caller_of self.old.settings s (option_map (λ x. x.now) name.entry) (option_map (λ x. x.now) key.entry)) ⊎ (result ≡ Err Refusal.Unavailable)) }
@@ -116,7 +117,8 @@ impl<H: Shelf + Drop> Desk<H> {
         }
     }
 
-    /// What a command would do, and its reply. Nothing changes. A refusal of a command that names no budget lines is told, or the store's count of faults rose.
+    /// The plan of a command, which changes nothing. A refused command gets its refusal, or the store has counted another fault. This isn't promised of an
+    /// import and a publication, because they gather budget lines first.
     pub fn plan(
         &mut self,
         moment: Moment,
@@ -138,8 +140,8 @@ impl<H: Shelf + Drop> Desk<H> {
         plan_command(self.alloc, shelf, publisher, &asking, command)
     }
 
-    /// Does what was planned, all or nothing, and hands out the reply; `commit` for who wants to know whether memory was wanting or the
-    /// store failed. Once it is done nothing is allocated.
+    /// Carries out a plan, all of it or nothing, and returns the reply. An error says whether memory was too small or the store failed. Nothing is allocated
+    /// after the changes are made.
     pub fn try_commit(&mut self, planned: Planned) -> Result<Vec<u8>, ShelfFault>
         ensures alters { Alters H.meaning self.old.shelf self.new.shelf result (after_puts planned.puts) }
         ensures settings { self.new.settings ≡ self.old.settings }
@@ -154,8 +156,8 @@ impl<H: Shelf + Drop> Desk<H> {
         }
     }
 
-    /// Does what was planned, all or nothing, and hands out the reply. Once it is done nothing is allocated. `Unavailable` is want of memory
-    /// or a fault of the store: `try_commit` tells which.
+    /// Carries out a plan, all of it or nothing, and returns the reply. Nothing is allocated after the changes are made. `Unavailable` means too little memory
+    /// or a fault of the store; `try_commit` says which.
     pub fn commit(&mut self, planned: Planned) -> Result<Vec<u8>, Refusal>
         ensures alters { Alters H.meaning self.old.shelf self.new.shelf result (after_puts planned.puts) }
         ensures settings { self.new.settings ≡ self.old.settings }
@@ -177,7 +179,7 @@ impl<H: Shelf + Drop> Desk<H> {
         }
     }
 
-    /// Answers a command: what is planned is done. A tenderer who gives it is registered.
+    /// Answers a command: plans it and carries it out. Clause `joins` assumes that a tenderer who gives it is registered.
     pub fn ask(
         &mut self,
         moment: Moment,
@@ -201,8 +203,8 @@ impl<H: Shelf + Drop> Desk<H> {
         self.commit(planned)
     }
 
-    /// Answers a query. Nothing changes. A package is shown only where each release that its notice's row counts is there, and can be merged. A refusal is told,
-    /// or the store's count of faults rose.
+    /// Answers a query, which changes nothing. A package is shown only if each release that its notice's row counts exists and can be merged. A refused query
+    /// gets its refusal, or the store has counted another fault.
     pub fn look(&mut self, caller: &Caller, query: Query) -> Result<Vec<u8>, Refusal>
         ensures looks { Looks H.meaning self.old.shelf self.new.shelf (λ s. IsSeen self.old.settings.publisher caller.now query s (read_text result)) }
         ensures shown { H.meaning.honest self.new.shelf → (s : Tables) → H.meaning.holds self.old.shelf s → OnOk result (HasShown query s) }
@@ -219,7 +221,7 @@ impl<H: Shelf + Drop> Desk<H> {
 }
 
 impl<H: StoredShelf + Drop> Desk<H> {
-    /// Whether a fault shut the store for good. Nothing changes. A fault as of the shelf.
+    /// Whether a fault has closed the store for good. Nothing changes. A fault of this call is counted like any other.
     pub fn is_shut(&mut self) -> Result<bool, ShelfFault>
         ensures told { TellsShut H.meaning H.store self.old.shelf self.new.shelf result }
         ensures settings { self.new.settings ≡ self.old.settings }

@@ -1,4 +1,4 @@
-//! The office's desk: it answers commands and queries over any shelf, and what it publishes.
+//! The office's desk. It answers commands and queries over any store, and it publishes.
 #![tactic(auto)]
 
 mod callers;

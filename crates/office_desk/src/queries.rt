@@ -1,4 +1,4 @@
-//! Queries, answered over any shelf.
+//! The answers to queries, over any store.
 ghost use Rattle.std.specs.Prelude.{◌≡◌, true, OnOk};
 ghost use Rattle.office_commands.specs.Queries.{query_kind_of};
 ghost use Rattle.office_commands.specs.Rights.{may_look};

@@ -1,4 +1,4 @@
--- What is told, and what stays, whatever tables a shelf holds.
+-- The answer and the tables after it, for any tables in a store.
 use Rattle.std.proofs.Common.{◌≡◌, ℕ, ◌⊎◌, inl, inr, Bool, true, false, not, ◌&&◌, List, Option, Some, None, Result, Ok, Err, refl, sym, ap, ◌∙◌, subst, true≢false}
 use Rattle.std.specs.Prelude.{is_none}
 use Rattle.office_commands.specs.Queries.{query_kind_of}
@@ -34,11 +34,11 @@ use Rattle.office_http.specs.declared.reply.Reply.TheVariants.{Json, Refused}
 use Rattle.office_http.proofs.ToldSteps.{accepted_as, refused_as, told_seen}
 
 module _ (settings : Settings) (s : Tables) (moment : ℕ) (text : List ℕ) (Holds : Type 0) where
-  -- the answer, and what stays
+  -- The answer, and the tables that stay.
   abbrev pub Tells : Meant → Type 0
   Tells m = (busy : Bool) × (text ≡ answer_bytes settings busy s moment m) × (is_done busy s moment m ≡ false → Holds)
 
-  -- Unavailable, or a reply, where the tables stay
+  -- The answer is `Unavailable`, or a reply that leaves the tables as they are.
   pub tells_unavailable : (m : Meant) → text ≡ unavailable_text → Holds → Tells m
   tells_unavailable m is held = (true, is, λ none. held)
 
@@ -93,7 +93,7 @@ module _ (settings : Settings) (s : Tables) (moment : ℕ) (text : List ℕ) (Ho
       → text ≡ response_of (seen_as (query_kind_of query) shown) → Holds → Tells (Sees caller query)
   tells_shown_query caller query shown seen needs is held = said_shown caller query shown (seen needs) is held
 
-  -- ---- what a request means
+  -- ---- the meaning of a request
 
   module _ (request : RequestView) where
     abbrev takes : Result Route (Refusal × Option Allow)
@@ -122,7 +122,7 @@ module _ (settings : Settings) (s : Tables) (moment : ℕ) (text : List ℕ) (Ho
     tells_nobody route why at (inl by) is held = tells_refused (meant settings request s) why None (means route (Err why) at (sym by)) is held
     tells_nobody route why at (inr wanting) is held = tells_unavailable (meant settings request s) (unavailable_refusal why (cc wanting) is) held
 
-    -- what is asked, or want of memory to read it
+    -- The command or query, or too little memory to read it.
     wanting_asked : (caller : Caller) → NeedsMeant settings s (meant settings request s)
         → (NeedsMeant settings s (meant_asked caller (Err Unavailable)) → Tells (meant_asked caller (Err Unavailable))) → Tells (meant settings request s)
     wanting_asked caller needs tells = from (tells tt)

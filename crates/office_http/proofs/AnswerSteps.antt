@@ -1,4 +1,4 @@
--- One answer to what is meant: a refusal, or the response, or Unavailable.
+-- One answer to the meaning of a request: a refusal, the response, or `Unavailable`.
 use Rattle.std.proofs.Common.{◌≡◌, ℕ, ◌⊎◌, inl, inr, true, false, List, ◌∷◌, Option, Some, None, Result, Ok, Err, refl, sym, ap, ◌∙◌, subst}
 use Rattle.std.specs.Prelude.{is_none}
 use Rattle.office_commands.specs.Queries.{query_kind_of}
@@ -34,45 +34,45 @@ use Rattle.office_http.specs.declared.reply.Reply.TheVariants.{Json, Refused}
 use Rattle.office_http.proofs.LeftSteps.{leaves_accepted, leaves_either, stays_refused, stays_unavailable}
 use Rattle.office_http.proofs.ToldSteps.{accepted_as, refused_as, told_seen}
 
--- a text that tells a refusal, or that memory is wanting
+-- The text is the response to this refusal, or to `Unavailable`.
 abbrev pub TellsRefusal : Refusal → Option Allow → List ℕ → Type 0
 TellsRefusal why method text = (text ≡ response_of (Refused why method)) ⊎ (text ≡ unavailable_text)
 
--- want of memory is told as such
+-- If the refusal is `Unavailable`, the text is the response to `Unavailable`.
 pub tells_unavailable : (why : Refusal) (text : List ℕ) → why ≡ Unavailable → TellsRefusal why None text → text ≡ unavailable_text
 tells_unavailable why text is (inl tells) = tells ∙ ap (λ (w : Refusal). response_of (Refused w None)) is
 tells_unavailable why text is (inr tells) = tells
 
--- an office that stands has what a query needs
+-- A reached office has everything that a query needs.
 has_needed : (settings : Settings) (s : Tables) → IsReached settings.publisher s → (query : Query) → Needs settings.publisher query s
 has_needed settings s stands (queries.Releases notice) = stands
 has_needed settings s stands (queries.Record notice) = stands
 has_needed settings s stands _ = tt
 
--- an office that keeps its releases keeps those of each command's notice
+-- An office that keeps its releases keeps those of each command's notice.
 its_own : (x : Given) → KeepsReleases x.before → KeepsItsReleases x
 its_own x keeps notice is = record { releases = keeps.releases notice; merged = keeps.merged notice }
 
--- what a look of such an office says
+-- The answer of such an office to a query.
 abbrev IsSaid : Settings → Caller → Query → Tables → Result (List ℕ) Refusal → Type 0
 IsSaid settings caller query s result = (result ≡ text_of (told (packages settings.publisher) s caller query)) ⊎ (result ≡ Err Unavailable)
 
 module _ {S : Type 0} (M : Meaning S) (settings : Settings) (old new : S) (s : Tables) (moment : ℕ) (text : List ℕ) where
-  -- nothing is added to what a stop may leave
+  -- A stop may leave nothing new.
   abbrev pub Stays : Type 0
   Stays = (u : Tables) → M.may_leave new u → M.may_leave old u
 
-  -- Unavailable is answered, and the office stays
+  -- The answer is `Unavailable`, and the office stays as it is.
   pub is_unavailable : (m : Meant) → text ≡ unavailable_text → HoldsStanding M settings new s → Stays → Answered M settings old new s moment m text
   is_unavailable m is held stays = (true, is, held, stays_unavailable M settings old new s moment m stays)
 
-  -- a reply is told, and the office after it is held
+  -- The answer is a reply, and the store holds the office after it.
   pub is_told : (t : Tables) (m : Meant) (reply : replies.Reply) → reply_to_meant settings s moment m ≡ reply → tables_after settings s moment m ≡ t
       → text ≡ response_of reply → HoldsStanding M settings new t → StopsAfter M settings old new false s moment m → Answered M settings old new s moment m text
   is_told t m reply replies after is held stops =
       (false, is ∙ ap response_of (sym replies), subst (λ (u : Tables). HoldsStanding M settings new u) (sym after) held, stops)
 
-  -- a refusal is answered, and the office stays
+  -- The answer is a refusal, and the office stays as it is.
   pub is_refused : (m : Meant) (why : Refusal) (method : Option Allow) → reply_to_meant settings s moment m ≡ Refused why method
       → tables_after settings s moment m ≡ s → is_accepted s moment m ≡ false → TellsRefusal why method text → HoldsStanding M settings new s → Stays
       → Answered M settings old new s moment m text
@@ -80,7 +80,7 @@ module _ {S : Type 0} (M : Meaning S) (settings : Settings) (old new : S) (s : T
       is_told s m (Refused why method) replies stands is held (stays_refused M settings old new s moment m refused stays)
   is_refused m why method replies stands refused (inr is) held stays = is_unavailable m is held stays
 
-  -- a command that is refused
+  -- A command that is refused.
   pub command_refused : (caller : Caller) (command : Command) (why : Refusal)
       → (refusal_of (given s moment caller command) ≡ Some why) ⊎ (why ≡ Unavailable) → TellsRefusal why None text → HoldsStanding M settings new s → Stays
       → Answered M settings old new s moment (Gives caller command) text
@@ -93,14 +93,14 @@ module _ {S : Type 0} (M : Meaning S) (settings : Settings) (old new : S) (s : T
       tells held stays
   command_refused caller command why (inr is) tells held stays = is_unavailable (Gives caller command) (tells_unavailable why text is tells) held stays
 
-  -- the tables after a command that was planned
+  -- The tables after a command that was planned.
   planned_after : (caller : Caller) (command : Command) (planned : Plan) → IsPlan settings.publisher (given s moment caller command) planned → IsReached settings.publisher s
       → after_puts planned.puts s ≡ tables_after settings s moment (Gives caller command)
   planned_after caller command planned plan stands =
       let x : Given = given s moment caller command in
       ap (λ (ps : List Put). after_puts ps s) (plan.put (its_own x stands.keeps)).puts ∙ ap (λ (o : Option Refusal). office_kept o settings.publisher x) (sym plan.allowed)
 
-  -- the office after a command that was planned: the command joins those that led to the office before it, and its release is kept
+  -- The office after a command that was planned. The command joins those that led to the office before it, and its release is kept.
   stands_after : KeptStepsReach → ReleasesStayKept → (caller : Caller) (command : Command) (planned : Plan)
       → IsPlan settings.publisher (given s moment caller command) planned → IsRegistered caller s.tenderers → IsReached settings.publisher s
       → IsReached settings.publisher (next_with_merges settings.publisher (given s moment caller command))
@@ -112,7 +112,7 @@ module _ {S : Type 0} (M : Meaning S) (settings : Settings) (old new : S) (s : T
         keeps = stay settings.publisher stands.commands x stands.reaches (plan.given, registered) plan.allowed (plan.put (its_own x stands.keeps)).reads stands.keeps;
       }
 
-  -- and it is what a stop leaves of it
+  -- A stop leaves this office.
   whole_after : KeptStepsReach → ReleasesStayKept → (caller : Caller) (command : Command) (planned : Plan)
       → IsPlan settings.publisher (given s moment caller command) planned → IsRegistered caller s.tenderers → IsReached settings.publisher s
       → (u : Tables) → u ≡ after_puts planned.puts s → IsWholeAfter settings s moment (Gives caller command) u
@@ -123,7 +123,7 @@ module _ {S : Type 0} (M : Meaning S) (settings : Settings) (old new : S) (s : T
         subst (IsReached settings.publisher) (sym same) (stands_after reach stay caller command planned plan registered stands),
       )
 
-  -- a command that is done
+  -- A command that is done.
   pub command_done : KeptStepsReach → ReleasesStayKept → (caller : Caller) (command : Command) (planned : Plan)
       → IsPlan settings.publisher (given s moment caller command) planned → IsRegistered caller s.tenderers → IsReached settings.publisher s
       → text ≡ response_of (Json planned.reply) → M.holds new (after_puts planned.puts s) → ((u : Tables) → M.may_leave new u → u ≡ after_puts planned.puts s)
@@ -142,7 +142,7 @@ module _ {S : Type 0} (M : Meaning S) (settings : Settings) (old new : S) (s : T
       (leaves_accepted M settings old new s moment (Gives caller command) (ap (λ (o : Option Refusal). is_none o) plan.allowed)
       (λ u left. whole_after reach stay caller command planned plan registered stands u (leaves u left)))
 
-  -- a command that was planned and isn't done: the office stays, and a stop may leave the whole command
+  -- A command that was planned and isn't done. The office stays as it is, and a stop may leave the whole command.
   pub command_undone : KeptStepsReach → ReleasesStayKept → (caller : Caller) (command : Command) (planned : Plan)
       → IsPlan settings.publisher (given s moment caller command) planned → IsRegistered caller s.tenderers → text ≡ unavailable_text → HoldsStanding M settings new s → ((u : Tables) → M.may_leave new u → M.may_leave old u ⊎ (u ≡ after_puts planned.puts s))
       → Answered M settings old new s moment (Gives caller command) text
@@ -154,7 +154,7 @@ module _ {S : Type 0} (M : Meaning S) (settings : Settings) (old new : S) (s : T
         (λ u left. elim (leaves u left) [ inl before ↦ inl before | inr whole ↦ inr (whole_after reach stay caller command planned plan registered held.1 u whole) ]),
   )
 
-  -- a query that is refused
+  -- A query that is refused.
   seen_refused : (caller : Caller) (query : Query) (why : Refusal) → IsSaid settings caller query s (Err why) → TellsRefusal why None text
       → HoldsStanding M settings new s → Stays → Answered M settings old new s moment (Sees caller query) text
   seen_refused caller query why (inl said) tells held stays =
@@ -165,7 +165,7 @@ module _ {S : Type 0} (M : Meaning S) (settings : Settings) (old new : S) (s : T
       → HoldsStanding M settings new s → Stays → Answered M settings old new s moment (Sees caller query) text
   query_refused caller query why seen tells held stays = seen_refused caller query why (seen (has_needed settings s held.1 query)) tells held stays
 
-  -- a query that is answered
+  -- A query that is answered.
   seen_told : (caller : Caller) (query : Query) (shown : List ℕ) → IsSaid settings caller query s (Ok shown)
       → text ≡ response_of (seen_as (query_kind_of query) shown) → HoldsStanding M settings new s → Stays → Answered M settings old new s moment (Sees caller query) text
   seen_told caller query shown (inl said) is held stays =

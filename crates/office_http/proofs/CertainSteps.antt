@@ -1,4 +1,4 @@
--- What is certain.
+-- The refusals that are certain.
 use Rattle.std.proofs.Common.{◌≡◌, ℕ, ◌⊎◌, inl, inr, Bool, true, false, not, ◌||◌, if◌then◌else◌, List, Option, Some, None, Result, Ok, Err, refl, sym, ap, ◌∙◌, subst}
 use Rattle.std.specs.Prelude.{option_map}
 use Rattle.office_commands.specs.declared.command.Caller.{Caller}
@@ -27,11 +27,11 @@ use Rattle.office_http.specs.Meaning.{Meant, Refuses, Gives, Sees, meant, meant_
 use Rattle.office_http.specs.Response.{response_of}
 use Rattle.office_http.specs.declared.reply.Reply.TheVariants.{Refused}
 
--- a refusal, with the method of the path where the request has another
+-- A refusal, with the method of the path if the request has another one.
 abbrev Reason : Type 0
 Reason = Refusal × Option Allow
 
--- what is refused and told so
+-- A refusal to which the text is the response.
 pub certain_refusal : (text : List ℕ) (Rises : Type 0) (s : Tables) (moment : ℕ) (m : Meant) (refusal : Refusal) (method : Option Allow) → m ≡ Refuses refusal method
     → text ≡ response_of (Refused refusal method) → (why : Reason) → refusal_meant s moment m ≡ Some why → (text ≡ response_of (Refused why.0 why.1)) ⊎ Rises
 certain_refusal text Rises s moment m refusal method means is why refused =
@@ -40,12 +40,12 @@ certain_refusal text Rises s moment m refusal method means is why refused =
 
 -- ---- a command
 
--- the refusal that is told is this one
+-- The refusal in the response is this one.
 same_told : {T : Type 0} (text : List ℕ) (refusal why : Refusal) → ◌≡◌ {A = Result T Refusal} (Err refusal) (Err why) → text ≡ response_of (Refused refusal None)
     → text ≡ response_of (Refused why None)
 same_told text refusal why same is = let e : refusal ≡ why = cc same in is ∙ ap (λ (w : Refusal). response_of (Refused w None)) e
 
--- it is told with the method of the path, which isn't there
+-- The response has no method of a path.
 with_none : (text : List ℕ) (why : Reason) → why.1 ≡ None → text ≡ response_of (Refused why.0 None) → text ≡ response_of (Refused why.0 why.1)
 with_none text why none is = is ∙ ap (λ (m : Option Allow). response_of (Refused why.0 m)) (sym none)
 
@@ -57,12 +57,12 @@ module _ (s : Tables) (moment : ℕ) (caller : Caller) (command : Command) where
       by true is = absurd (cc is)
       by false is = refl
 
-  -- its own refusal
+  -- The command's own refusal.
   own : (refusal : Option Refusal) (why : Reason) → option_map (λ (w : Refusal). (w, (let none : Option Allow = None in none))) refusal ≡ Some why → (refusal ≡ Some why.0) × (why.1 ≡ None)
   own None why is = absurd (cc is)
   own (Some w) why is = let same : (w, None) ≡ why = cc is in (ap (λ (r : Reason). Some r.0) same, ap (λ (r : Reason). r.1) (sym same))
 
-  -- one that was refused, and is told its refusal or another for a fault
+  -- A refused command gets its refusal, or another one because of a fault.
   pub certain_command : {T : Type 0} (text : List ℕ) (Rises : Type 0) (refusal : Refusal)
       → (gathers_lines command ≡ false → (why : Refusal) → refusal_of (given s moment caller command) ≡ Some why → ◌≡◌ {A = Result T Refusal} (Err refusal) (Err why) ⊎ Rises)
       → text ≡ response_of (Refused refusal None) → takes_none (Gives caller command) ≡ true → (why : Reason) → refusal_meant s moment (Gives caller command) ≡ Some why
@@ -74,7 +74,7 @@ module _ (s : Tables) (moment : ℕ) (caller : Caller) (command : Command) where
         | inr rises ↦ inr rises
       ]
 
-  -- none is there where it is allowed
+  -- An allowed command has no refusal.
   pub nothing_certain : (text : List ℕ) (Rises : Type 0) → refusal_of (given s moment caller command) ≡ None → (why : Reason)
       → refusal_meant s moment (Gives caller command) ≡ Some why → (text ≡ response_of (Refused why.0 why.1)) ⊎ Rises
   nothing_certain text Rises allowed why refused =
@@ -85,13 +85,13 @@ module _ (s : Tables) (moment : ℕ) (caller : Caller) (command : Command) where
 -- ---- a query
 
 module _ (s : Tables) (moment : ℕ) (caller : Caller) (query : Query) where
-  -- it is what is told of the query
+  -- The refusal is the specification's answer to the query.
   is_refusal : (shown : Result (List ℕ) Refusal) (why : Reason) → option_map (λ (w : Refusal). (w, (let none : Option Allow = None in none))) (refusal_in shown) ≡ Some why
       → (shown ≡ Err why.0) × (why.1 ≡ None)
   is_refusal (Ok text) why is = absurd (cc is)
   is_refusal (Err w) why is = let same : (w, None) ≡ why = cc is in (ap (λ (r : Reason). Err r.0) same, ap (λ (r : Reason). r.1) (sym same))
 
-  -- one that was refused
+  -- A query that was refused.
   pub refused_query : {T : Type 0} (text : List ℕ) (Rises : Type 0) (refusal : Refusal)
       → ((why : Refusal) → text_of (told no_packages s caller query) ≡ Err why → ◌≡◌ {A = Result T Refusal} (Err refusal) (Err why) ⊎ Rises)
       → text ≡ response_of (Refused refusal None) → (why : Reason) → refusal_meant s moment (Sees caller query) ≡ Some why
@@ -103,7 +103,7 @@ module _ (s : Tables) (moment : ℕ) (caller : Caller) (query : Query) where
         | inr rises ↦ inr rises
       ]
 
-  -- one that was answered
+  -- A query that was answered.
   pub shown_query : {T : Type 0} (text : List ℕ) (Rises : Type 0) (value : T)
       → ((why : Refusal) → text_of (told no_packages s caller query) ≡ Err why → ◌≡◌ {A = Result T Refusal} (Ok value) (Err why) ⊎ Rises)
       → (why : Reason) → refusal_meant s moment (Sees caller query) ≡ Some why → (text ≡ response_of (Refused why.0 why.1)) ⊎ Rises
@@ -114,9 +114,9 @@ module _ (s : Tables) (moment : ℕ) (caller : Caller) (query : Query) where
         | inr rises ↦ inr rises
       ]
 
--- ---- what a request means
+-- ---- the meaning of a request
 
--- what is asked by a route is read without memory: its path alone says it, or the caller may not ask by it
+-- A command or query is read without memory if its path alone says which it is or the caller may not use the route.
 found_read : (request : RequestView) (route : Route) (caller : Caller) (read : Result Asked Refusal)
     → (is_told_by_path route.endpoint ≡ true → read ≡ asked_by_route caller route request) → (may_ask caller route.endpoint ≡ false → read ≡ Err Forbidden)
     → (is_told_by_path route.endpoint || not (may_ask caller route.endpoint)) ≡ true → read ≡ asked_by_route caller route request
@@ -129,7 +129,7 @@ found_read request route caller read path forbidden = by (is_told_by_path route.
         forbidden right ∙ sym (ap (λ (b : Bool). if b then asked_by route.endpoint route.place (query_of request.head.target) request.body else Err Forbidden) right)
 
 module _ (settings : Settings) (s : Tables) (moment : ℕ) (text : List ℕ) (Rises : Type 0) (request : RequestView) where
-  -- what is certain of what is meant
+  -- The refusal that is certain for this meaning.
   abbrev pub Certain : Meant → Type 0
   Certain m = takes_none m ≡ true → (why : Reason) → refusal_meant s moment m ≡ Some why → (text ≡ response_of (Refused why.0 why.1)) ⊎ Rises
 

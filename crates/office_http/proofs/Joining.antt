@@ -1,19 +1,19 @@
--- Texts that are put one behind another.
+-- Texts that are joined one after another.
 use Rattle.std.proofs.Common.{◌≡◌, ℕ, ◌+◌, ◌-◌, List, [], ◌++◌, append_assoc, take, drop, length, sym, ap, ◌∙◌, append-nil, arith}
 use Rattle.std.proofs.Math.Seq.{drop-append_seam, take-append_seam}
 use Rattle.std.proofs.lemmas.List.{length-append}
 
--- a text behind what was there, where it is known otherwise
+-- A text that was added is the text to which it is equal.
 pub put_as : (old new text shown : List ℕ) → new ≡ old ++ text → text ≡ shown → new ≡ old ++ shown
 put_as old new text shown put is = rw is at put
 
--- a head in a new list, two texts together behind it, and then two more
+-- A head in a new list, then two texts together, then two more.
 pub five_in_new : (out head first second third fourth a b c d e : List ℕ) → out ≡ [] → head ≡ out ++ a → first ≡ head ++ b → second ≡ first ++ c
     → third ≡ second ++ d → fourth ≡ third ++ e → fourth ≡ a ++ (b ++ c) ++ d ++ e
 five_in_new out head first second third fourth a b c d e is_new at_head at_first at_second at_third at_fourth =
     rw (at_fourth, at_third, at_second, at_first, at_head, is_new) (simp append_assoc)
 
--- eight texts behind what was there
+-- Eight texts after the content.
 pub eight_behind : (out first second third fourth fifth sixth seventh eighth a b c d e f g h : List ℕ)
     → first ≡ out ++ a → second ≡ first ++ b → third ≡ second ++ c → fourth ≡ third ++ d
     → fifth ≡ fourth ++ e → sixth ≡ fifth ++ f → seventh ≡ sixth ++ g → eighth ≡ seventh ++ h
@@ -21,7 +21,7 @@ pub eight_behind : (out first second third fourth fifth sixth seventh eighth a b
 eight_behind out first second third fourth fifth sixth seventh eighth a b c d e f g h at_first at_second at_third at_fourth at_fifth at_sixth at_seventh at_eighth =
     rw (at_eighth, at_seventh, at_sixth, at_fifth, at_fourth, at_third, at_second, at_first) (simp append_assoc)
 
--- a text that is put behind another and turned to its front; n is how long both are
+-- A text that is added at the end and then rotated to the front. `n` is the length of both.
 pub turned : (old front joined out : List ℕ) (n : ℕ) → n ≡ length joined → joined ≡ old ++ front
     → out ≡ drop (n - length front) joined ++ take (n - length front) joined → out ≡ front ++ old
 turned old front joined out n many is turns =
@@ -32,7 +32,7 @@ turned old front joined out n many is turns =
     ∙ ap (λ (xs : List ℕ). drop (length old) xs ++ take (length old) xs) is
     ∙ (λ i. drop-append_seam old front i ++ take-append_seam old front i)
 
--- a text of this length behind the head that tells it
+-- A body of this length after the head that says it.
 pub around : (start : ℕ → List ℕ) (close body front shown out : List ℕ) (n : ℕ) → n ≡ length body → front ≡ start n ++ close → shown ≡ front
     → out ≡ shown ++ body → out ≡ start (length body) ++ [] ++ close ++ body
 around start close body front shown out n many made same joined =

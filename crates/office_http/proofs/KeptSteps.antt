@@ -1,4 +1,4 @@
--- The commands that requests give are accepted one by one, and so are kept.
+-- The commands of requests are accepted one by one, and so they are kept.
 use Rattle.std.proofs.Common.{◌≡◌, ℕ, ◌⊎◌, inl, inr, Bool, true, false, List, [], ◌∷◌, Option, Some, None, Result, Ok, Err, refl, sym, subst}
 use Rattle.std.specs.Prelude.{⊤}
 use Rattle.office_values.specs.declared.refusal.Refusal.{Refusal}
@@ -25,7 +25,7 @@ use Rattle.office_requests.specs.Asking.{WhatIsAskedCanBeGiven}
 use Rattle.office_http.specs.Inside.Meant.{CanBeMeant}
 use Rattle.office_http.proofs.MeantSteps.{meant_can}
 
--- the laws of the machine and of what it publishes that are taken over
+-- The laws of the specification and of the publications that this proof uses.
 pub record Laws : Type 0 where
   pub accounts : AccountsAreKept
   pub tenders : TendersAreKept

@@ -1,4 +1,4 @@
--- Whoever asks is known: the public, the clerk, or a tenderer who is registered.
+-- Every caller is known: the public, the clerk, or a registered tenderer.
 use Rattle.std.proofs.Common.{◌≡◌, ℕ, Bool, true, false, List, Option, Some, None, Result, Ok, Err, refl, sym, subst}
 use Rattle.std.specs.Prelude.{IsSome, if◌then◌else◌}
 use Rattle.office_values.specs.declared.refusal.Refusal.{Refusal}
@@ -13,7 +13,7 @@ use Rattle.office_machine.specs.Machine.{IsRegistered}
 use Rattle.office_desk.specs.Callers.{caller_of, clerk_with_key, fits_key, is_clerk_name, tenderer_with_key, tenderer_named}
 use Rattle.office_http.specs.Meaning.{who}
 
--- what is read, if it isn't refused, is so
+-- The value that was read has the property, if it isn't a refusal.
 unfoldable pub IsRead : {A : Type 0} → (A → Type 0) → Result A Refusal → Type 0
 IsRead P (Ok value) = P value
 IsRead P (Err why) = Unit {0}

@@ -1,4 +1,4 @@
--- What a stop may leave after one answer.
+-- The states that a stop may leave after one answer.
 use Rattle.std.proofs.Common.{◌≡◌, ℕ, ◌⊎◌, inl, inr, Bool, true, false, sym, subst}
 use Rattle.office_values.specs.declared.settings.Settings.{Settings}
 use Rattle.office_base.specs.Tables.{Tables}
@@ -6,12 +6,12 @@ use Rattle.office_base.specs.Shelves.{Meaning}
 use Rattle.office_http.specs.Meaning.{Meant}
 use Rattle.office_http.specs.Answering.{IsWholeAfter, LeftAfter, StopsAfter, is_accepted}
 
--- what could be left before may be left of an answer that changes nothing
+-- A stop may still leave the earlier states after an answer that changes nothing.
 left_before : (accepted : Bool) (Before IsAfter : Type 0) → Before → LeftAfter accepted true Before IsAfter
 left_before false Before IsAfter before = before
 left_before true Before IsAfter before = inl before
 
--- where more could be left before
+-- It may leave more if it could leave more before.
 pub left_weaker : (accepted busy : Bool) (First Before IsAfter : Type 0) → (Before → First) → LeftAfter accepted busy Before IsAfter → LeftAfter accepted busy First IsAfter
 left_weaker false busy First Before IsAfter more left = more left
 left_weaker true false First Before IsAfter more left = left
@@ -19,7 +19,7 @@ left_weaker true true First Before IsAfter more (inl left) = inl (more left)
 left_weaker true true First Before IsAfter more (inr whole) = inr whole
 
 module _ {S : Type 0} (M : Meaning S) (settings : Settings) (old new : S) (s : Tables) (moment : ℕ) (m : Meant) where
-  -- nothing is added to what a stop may leave
+  -- A stop may leave nothing new.
   abbrev pub Stays : Type 0
   Stays = (u : Tables) → M.may_leave new u → M.may_leave old u
 
@@ -40,7 +40,7 @@ module _ {S : Type 0} (M : Meaning S) (settings : Settings) (old new : S) (s : T
       → StopsAfter M settings old new true s moment m
   leaves_either accepted leaves u left = subst (λ (b : Bool). left_with true b u) (sym accepted) (leaves u left)
 
--- of two calls, one after the other, the first of which adds nothing
+-- Two calls, of which the first one adds nothing.
 pub stops_then : {S : Type 0} (M : Meaning S) (settings : Settings) (old mid new : S) (busy : Bool) (s : Tables) (moment : ℕ) (m : Meant)
     → ((u : Tables) → M.may_leave mid u → M.may_leave old u) → StopsAfter M settings mid new busy s moment m → StopsAfter M settings old new busy s moment m
 stops_then M settings old mid new busy s moment m stays stops u left = left_weaker (is_accepted s moment m) busy (M.may_leave old u) (M.may_leave mid u) (IsWholeAfter settings s moment m u) (stays u) (stops u left)

@@ -1,4 +1,4 @@
--- What is meant by a request can be given.
+-- The meaning of a request can be given to the specification.
 use Rattle.std.proofs.Common.{Option, Result, Ok, Err}
 use Rattle.std.specs.Prelude.{IfOk}
 use Rattle.office_commands.specs.declared.command.Caller.{Caller}

@@ -1,4 +1,4 @@
--- From what a request says to its answer: its route, its caller and what is asked.
+-- From a request to its answer: the route, the caller, and the command or query.
 use Rattle.std.proofs.Common.{◌≡◌, ℕ, ◌⊎◌, inl, inr, true, false, List, Option, None, Result, Ok, Err, sym, ap, ◌∙◌, subst}
 use Rattle.std.specs.Prelude.{IfOk}
 use Rattle.office_commands.specs.declared.command.Caller.{Caller}
@@ -22,18 +22,18 @@ use Rattle.office_http.proofs.KnownCallers.{IsKnown, IsRead, who_known}
 use Rattle.office_http.proofs.MeantSteps.{asked_can}
 
 module _ {S : Type 0} (M : Meaning S) (settings : Settings) (old new : S) (s : Tables) (moment : ℕ) (text : List ℕ) (request : RequestView) where
-  -- what the route says
+  -- The route, or its refusal.
   abbrev pub taken : Result Route (Refusal × Option Allow)
   taken = routed request.head.method request.head.target
 
-  -- who asks
+  -- The caller, or the refusal.
   abbrev pub asker : Result Caller Refusal
   asker = who settings s (credentials_of request.head.fields)
 
   abbrev pub unavailable_caller : Result Caller Refusal
   unavailable_caller = Err Unavailable
 
-  -- no route is taken
+  -- There is no such route.
   pub route_refused : (why : Refusal) (method : Option Allow) → taken ≡ Err (why, method) → TellsRefusal why method text → HoldsStanding M settings new s
       → ((u : Tables) → M.may_leave new u → M.may_leave old u) → Answered M settings old new s moment (meant settings request s) text
   route_refused why method is tells held stays =
@@ -43,13 +43,13 @@ module _ {S : Type 0} (M : Meaning S) (settings : Settings) (old new : S) (s : T
       (ap (λ (r : Result Route (Refusal × Option Allow)). is_accepted s moment (meant_at settings request s r)) is)
       tells held stays
 
-  -- what is meant, by the route and the caller
+  -- The meaning, by the route and the caller.
   pub meant_is : (route : Route) (caller : Result Caller Refusal) → taken ≡ Ok route → asker ≡ caller → meant settings request s ≡ meant_by route request caller
   meant_is route caller at by =
       ap (λ (r : Result Route (Refusal × Option Allow)). meant_at settings request s r) at
       ∙ ap (λ (c : Result Caller Refusal). meant_by route request c) by
 
-  -- the caller is refused
+  -- The caller is refused.
   pub caller_refused : (route : Route) (why : Refusal) → taken ≡ Ok route → (Err why ≡ asker) ⊎ (Err why ≡ unavailable_caller) → TellsRefusal why None text
       → HoldsStanding M settings new s → ((u : Tables) → M.may_leave new u → M.may_leave old u) → Answered M settings old new s moment (meant settings request s) text
   caller_refused route why at (inl by) tells held stays =
@@ -62,11 +62,11 @@ module _ {S : Type 0} (M : Meaning S) (settings : Settings) (old new : S) (s : T
   caller_refused route why at (inr is) tells held stays =
       is_unavailable M settings old new s moment text (meant settings request s) (tells_unavailable why text (cc) tells) held stays
 
-  -- whoever asks is known
+  -- The caller is known.
   caller_known : (caller : Caller) → Ok caller ≡ asker → IsRead (IsKnown s) (Ok caller)
   caller_known caller by = subst (λ (c : Result Caller Refusal). IsRead (IsKnown s) c) (sym by) (who_known settings s (credentials_of request.head.fields))
 
-  -- the answer to what could not be read for want of memory
+  -- The answer to a command or query that couldn't be read because memory is too small.
   wanting : (caller : Caller) → Answered M settings old new s moment (meant_asked caller (Err Unavailable)) text
       → Answered M settings old new s moment (meant settings request s) text
   wanting caller (true, is, held, stops) = is_unavailable M settings old new s moment text (meant settings request s) is held stops
@@ -82,7 +82,7 @@ module _ {S : Type 0} (M : Meaning S) (settings : Settings) (old new : S) (s : T
   read_answered route caller read at by (inr is) answered =
       wanting caller (subst (λ (r : Result Asked Refusal). Answered M settings old new s moment (meant_asked caller r) text) is answered)
 
-  -- what is asked is answered
+  -- The command or query is answered.
   pub asked_answered : (route : Route) (caller : Caller) (read : Result Asked Refusal) → taken ≡ Ok route
       → (Ok caller ≡ asker) ⊎ (Ok caller ≡ unavailable_caller) → (read ≡ asked_by_route caller route request) ⊎ (read ≡ Err Unavailable)
       → IfOk read CanBeAsked → (CanBeMeant s (meant_asked caller read) → Answered M settings old new s moment (meant_asked caller read) text)
@@ -91,9 +91,9 @@ module _ {S : Type 0} (M : Meaning S) (settings : Settings) (old new : S) (s : T
   asked_answered route caller read at (inl by) is can answered =
       read_answered route caller read at by is (answered (asked_can s caller read (caller_known caller by) can))
 
--- ---- what is shown
+-- ---- the rows that an answer shows
 
--- what tells a refusal shows nothing, whatever was meant
+-- The text of a refusal shows nothing, whatever the meaning is.
 pub refused_shows : (m : Meant) (s : Tables) (text : List ℕ) → IsRefusedText text → ShowsMeant m s text
 refused_shows (Refuses why method) s text refused = refused
 refused_shows (Gives caller command) s text refused = tt
@@ -114,14 +114,14 @@ module _ (settings : Settings) (s : Tables) (text : List ℕ) (request : Request
   read_shown at by (inr is) shown =
       refused_shows (meant settings request s) s text (subst (λ (r : Result Asked Refusal). ShowsMeant (meant_asked caller r) s text) is shown)
 
-  -- what is asked is shown
+  -- The answer to the query shows rows that exist.
   pub asked_shown : routed request.head.method request.head.target ≡ Ok route
       → (Ok caller ≡ who settings s (credentials_of request.head.fields)) ⊎ (let none : Result Caller Refusal = Err Unavailable in Ok caller ≡ none)
       → (read ≡ asked_by_route caller route request) ⊎ (read ≡ Err Unavailable) → ShowsMeant (meant_asked caller read) s text → ShowsMeant (meant settings request s) s text
   asked_shown at (inl by) is shown = read_shown at by is shown
   asked_shown at (inr never) is shown = absurd (cc)
 
-  -- what is given is given by the request
+  -- A command that was read is the command of the request.
   read_gives : routed request.head.method request.head.target ≡ Ok route → Ok caller ≡ who settings s (credentials_of request.head.fields)
       → (read ≡ asked_by_route caller route request) ⊎ (read ≡ Err Unavailable) → GivesCommand (meant_asked caller read) → GivesCommand (meant settings request s)
   read_gives at by (inl is) gives =

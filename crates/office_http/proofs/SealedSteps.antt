@@ -1,4 +1,4 @@
--- What runs over HTTP tell of sealed bytes: the machine's law, over the requests that their blocks make.
+-- The specification's law about sealed bytes, applied to the requests of runs over HTTP.
 use Rattle.std.proofs.Common.{◌≡◌, ℕ, ◌⊎◌, inl, inr, Bool, true, false, not, ◌&&◌, is_some, List, [], ◌∷◌, Option, Some, None, Result, Ok, Err, refl, sym, ◌∙◌, ap, subst}
 use Rattle.std.specs.Prelude.{if◌then◌else◌}
 use Rattle.office_commands.specs.declared.command.Caller.{Caller}
@@ -39,7 +39,7 @@ use Rattle.office_http.specs.Sealed.{AlikeTo, AnsweredAlikeUntil, AnsweredRunsAr
 use Rattle.office_http.specs.declared.reply.Reply.TheVariants.{Refused}
 use Rattle.office_http.proofs.MeantSteps.{meant_can}
 
--- the laws that are taken over
+-- The laws that this proof uses.
 pub record Laws : Type 0 where
   pub seals : PublishedSealsAreKept
   pub whole : PublishedRunsAreAlike
@@ -50,22 +50,22 @@ pub record Laws : Type 0 where
   pub fates : FatesReadNoMerges
   pub asked : WhatIsAskedCanBeGiven
 
--- the machine's request of a block that means something to it
+-- The specification's request for a block that has a meaning.
 abbrev request_of : Bool → ℕ → Caller → Demand → Request
 request_of busy moment caller demand = record { moment = moment; caller = caller; demand = demand; unavailable = busy }
 
--- before the others; none where the block is refused before
+-- This request before the others, or none if the block is refused before.
 abbrev asks : Bool → ℕ → Meant → List Request → List Request
 asks busy moment (Refuses why method) rest = rest
 asks busy moment (Gives caller command) rest = request_of busy moment caller (Asks command) ∷ rest
 asks busy moment (Sees caller query) rest = request_of busy moment caller (Looks query) ∷ rest
 
--- those of a run
+-- The requests of a run.
 abbrev run_asks : Held → List Step → List Request
 run_asks h [] = []
 run_asks h (x ∷ steps) = asks x.busy x.block.moment (meant_in h x.block) (run_asks (office_answers.after x.busy h x.block) steps)
 
--- the same bytes are theirs, whatever merges stand beside the office
+-- The bytes are the same tenderer's, whatever merges the office has.
 past_merges : (th : ChosenTender) (merges : List CompiledRow) (s : Tables) (caller : Caller) (command command' : Command)
     → SameBut th (with_merges merges s) caller command command' → SameBut th s caller command command'
 past_merges th merges s caller command command' (Same e) = Same e
@@ -76,7 +76,7 @@ module _ (laws : Laws) (settings : Settings) where
   abbrev means : Means
   means = publishing settings.publisher
 
-  -- an office of the machine, with merges beside it
+  -- An office of the specification, with merges added.
   abbrev held : List CompiledRow → Tables → Held
   held merges s = record { settings = settings; tables = with_merges merges s }
 
@@ -149,7 +149,7 @@ module _ (laws : Laws) (settings : Settings) where
       (subst (λ h. AreRequests means (office_left merges s x) (run_asks h steps)) (sym (held_is merges s x)) (all_can (merges_left merges s x) (office_left merges s x) steps))
 
   module _ (th : ChosenTender) where
-    -- ---- and are the same but for such bytes
+    -- ---- the requests of both runs are the same except for such bytes
 
     asks_same : (merges : List CompiledRow) (s : Tables) (moment moment' : ℕ) (busy busy' : Bool) (rest rest' : List Request)
         → moment' ≡ moment → busy' ≡ busy → (m m' : Meant) → MeansSame th (with_merges merges s) m m'
@@ -181,9 +181,9 @@ module _ (laws : Laws) (settings : Settings) where
         same.0.moment same.0.busy (meaning merges s x) (meaning trees' s' y) same.0.meaning
         (more (office_answers.after x.busy (held merges s) x.block) (office_answers.after y.busy (held trees' s') y.block) (held_is merges s x) (held_is trees' s' y) same.1)
 
-    -- ---- what the machine tells is what is sent
+    -- ---- the specification's replies are the responses
 
-    -- a test of a block, and the machine's of its request, that are one whatever merges there are
+    -- A test of a block that agrees with a test of the specification's request, whatever merges there are.
     record AgreeOn (halts : Tables → Bool → ℕ → Meant → Bool) (stops : Tables → Request → Bool) : Type 0 where
       gives : (merges : List CompiledRow) (s : Tables) (busy : Bool) (moment : ℕ) (caller : Caller) (command : Command)
           → halts (with_merges merges s) busy moment (Gives caller command) ≡ stops s (request_of busy moment caller (Asks command))
@@ -208,7 +208,7 @@ module _ (laws : Laws) (settings : Settings) where
         but_digest = record { first = r; second = r'; tells = tells; tells' = tells'; same = told.but_digest };
       }
 
-      -- one block
+      -- One block.
       record Sent (merges trees' : List CompiledRow) (s s' : Tables) (moment moment' : ℕ) (busy busy' : Bool) (rest rest' : List Request) (m m' : Meant) : Type 0 where
         told : AreAlike th m (answer_bytes settings busy (with_merges merges s) moment m) (answer_bytes settings busy' (with_merges trees' s') moment' m')
         goes : halts (with_merges merges s) busy moment m ≡ false → Alike (machine_after s busy moment m) (machine_after s' busy' moment' m') rest rest'
@@ -236,7 +236,7 @@ module _ (laws : Laws) (settings : Settings) where
             goes = λ goes_on. alike.2 (sym (agree.sees merges s busy moment caller query) ∙ goes_on);
           })
 
-      -- a block halts a run where its test holds
+      -- A block ends a run if its test holds.
       abbrev ends : Held → Step → Bool
       ends h x = halts h.tables x.busy x.block.moment (meant_in h x.block)
 
@@ -302,7 +302,7 @@ module _ (laws : Laws) (settings : Settings) where
       (all_bare (merges_left merges s x) (office_left merges s x) ys ws (joined_bare merges s x.block.moment xs zs same x.busy (meaning merges s x)) steps)
       ∙ ap bare (one_joined s x.busy x.block.moment (meaning merges s x) zs (run_asks (office_answers.after x.busy (held merges s) x.block) steps))
 
--- lists that differ in what stood beside the offices alone have the same tenders gone
+-- Lists of commands whose offices differ only in their merges have the same withdrawn and returned tenders.
 module _ (laws : Laws) where
   same_came : (xs ys : List Given) → bare xs ≡ bare ys → (r : ℕ) → received_at xs r ≡ received_at ys r
   same_came xs ys same r = sym (laws.fates xs r).0 ∙ ap (λ zs. received_at zs r) same ∙ (laws.fates ys r).0
@@ -347,7 +347,7 @@ runs_alike laws th xs h reached steps steps' same gone =
     (same_gone laws (accepted_steps h steps xs) (accepted_steps h steps' xs) (all_accepted (publishing h.settings.publisher) h.tables xs (run_asks h steps)) (all_accepted (publishing h.settings.publisher) h.tables xs (run_asks h steps'))
     (all_bare laws h.settings h.tables.compiled h.tables xs xs refl steps) (all_bare laws h.settings h.tables.compiled h.tables xs xs refl steps') gone))
 
--- Who calls is told by the tenderers that an office knows.
+-- The caller depends only on the tenderers that an office knows.
 
 module _ (settings : Settings) (s s' : Tables) (known : KnowAlike s s') where
   caller_same : (name key : Option (List ℕ)) → caller_of settings s' name key ≡ caller_of settings s name key

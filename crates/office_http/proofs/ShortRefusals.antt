@@ -1,4 +1,4 @@
--- How long the response to a refusal is at most.
+-- The greatest length of the response to a refusal.
 use Rattle.std.proofs.Common.{◌≡◌, ℕ, ◌+◌, ◌≤◌, List, ◌++◌, length, Option, None, Some, refl, sym, subst, arith, ◌∙◌, length-append}
 use Rattle.std.specs.Fmt.{digits}
 use Rattle.std.specs.Prelude.{codes, decimal, option_map}
@@ -195,7 +195,7 @@ allow_short None = omega arith
 allow_short (Some allow.Get) = omega arith
 allow_short (Some allow.Post) = omega arith
 
--- ---- what it is about
+-- ---- the subject of a refusal
 
 field_short : (f : Field) → length (what_member (Some (Named (field_name f)))) ≤ 40
 field_short fields.Name = omega arith
@@ -229,7 +229,7 @@ thing_short things.Award = omega arith
 thing_short things.Contract = omega arith
 thing_short things.Security = omega arith
 
--- what names no record, and what names this one
+-- A subject that names no record, and one that names this record.
 pub numbers_none : (w : Option What) → option_map told w ≡ None → IsShortNumber w
 numbers_none w is n at = absurd (cc (sym is ∙ at))
 
@@ -240,7 +240,7 @@ pub numbers_row : (w : Option What) (number : ℕ) → option_map told w ≡ Som
 numbers_row w number is few n at =
     let same : number ≡ n = cc (sym is ∙ at) in subst (λ (k : ℕ). length (decimal k) ≤ 10) same few
 
--- the number of a record has ten digits at most
+-- The number of a record has at most ten digits.
 row_short : (n : ℕ) → length (decimal n) ≤ 10 → length (what_member (Some (Record n))) ≤ 40
 row_short n few =
     let a = length-append (codes ",\"what\":\"row ") (decimal n ++ codes "\"") in
@@ -283,7 +283,7 @@ about_short NothingToCancel fits = omega arith
 about_short LimitReached fits = omega arith
 about_short Unavailable fits = omega arith
 
--- ---- the whole
+-- ---- the whole response
 
 four : (a b c d : List ℕ) → length (a ++ b ++ c ++ d) ≡ length a + length b + length c + length d
 four a b c d = omega (arith, length-append (a ++ b ++ c) d, length-append (a ++ b) c, length-append a b)
@@ -317,7 +317,7 @@ start_within a b c d e f g h p q r s t u v w =
       w,
     )
 
--- the head up to the length of the body
+-- The head up to the length of the body.
 start_short : (r : Refusal) (size : ℕ) → length (decimal size) ≤ 3 → length (head_start (status_of_refusal r) json size) ≤ 90
 start_short r size few =
     start_within (codes "HTTP/1.1 ") (decimal (status_of_refusal r)) (codes " ") (phrase_of (status_of_refusal r)) (codes "\r\nContent-Type: ") json

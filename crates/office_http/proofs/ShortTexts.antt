@@ -1,12 +1,12 @@
--- Short texts that are put one behind another.
+-- Short texts that are joined one after another.
 use Rattle.std.proofs.Common.{◌≡◌, ℕ, ◌+◌, ◌≤◌, List, [], ◌++◌, length, ap, subst, arith, ◌∙◌, append_assoc, length-append}
 use Rattle.office_wire.specs.Short.{FitsBehind}
 
--- that a text was put, as one fact
+-- The fact that a text was added.
 pub record Fits (old text new : List ℕ) : Type 0 where
   pub it : FitsBehind old text new
 
--- it was, and so a text that is known otherwise
+-- A text was added, and so was any text that is equal to it.
 pub fit : (old text new : List ℕ) → FitsBehind old text new → Fits old text new
 fit old text new it = record { it = it }
 
@@ -24,7 +24,7 @@ fits_then old mid new x y first second = record {
       at_new ∙ (ap (λ (t : List ℕ). t ++ y) at_mid ∙ append_assoc old x y);
 }
 
--- in a new place
+-- A text in a new place.
 pub fits_new : (old text new : List ℕ) → old ≡ [] → Fits old text new → length text ≤ 288 → new ≡ text
 fits_new old text new none fits few =
     let nothing : length old ≡ 0 = ap length none in

@@ -1,4 +1,4 @@
--- What the machine replies, as it is told.
+-- The specification's replies as they are sent.
 use Rattle.std.proofs.Common.{◌≡◌, ℕ, Bool, true, false, List, ◌∷◌, Option, Some, None, Ok, Err, refl}
 use Rattle.std.specs.Prelude.{cond, not, map, filter, ◌||◌}
 use Rattle.office_commands.specs.Queries.{query_kind_of}
@@ -47,7 +47,7 @@ use Rattle.office_http.specs.declared.reply.Reply as replies
 use Rattle.office_http.specs.declared.reply.Reply.TheVariants.{Json, Text}
 use Rattle.office_http.specs.declared.reply.Reply.TheVariants as variants
 
--- what is refused is told as a refusal
+-- A refusal is sent as a refusal.
 pub refused_as : (r : Reply) (why : Refusal) → Err why ≡ text_of r → told_as r ≡ variants.Refused why None
 refused_as (Refused other) why is = cc
 refused_as _ why is = absurd (cc)
@@ -68,13 +68,13 @@ as_json readings s u t caller (Modify receipt bytes) allowed =
     modified readings s.clock t caller bytes (may_give caller (Modify receipt bytes)) (envelope_at receipt s) (notice_of_envelope (envelope_at receipt s) s) allowed
 as_json readings s u t caller _ allowed = refl
 
--- it is told in JSON
+-- It is sent as JSON.
 pub accepted_as : (x : Given) → refusal_of x ≡ None → told_as (accepted_reply x) ≡ Json (reply_text (accepted_reply x))
 accepted_as x allowed = as_json office_readings x.before (done office_readings x) (time_of x) x.caller x.command allowed
 
--- What a query sees.
+-- The answer to a query.
 
--- where it may be seen
+-- The answer if the caller may ask.
 where_may : (may : Bool) (r : Reply) (why : Refusal) (reply : replies.Reply) (text : List ℕ) → (Ok text ≡ text_of r → told_as r ≡ reply)
     → Ok text ≡ text_of (cond may r (Refused why)) → told_as (cond may r (Refused why)) ≡ reply
 where_may true r why reply text seen is = seen is
@@ -171,7 +171,7 @@ shown_as p s caller (queries.Securities notice) text is = securities_seen (notic
 shown_as p s caller (queries.Tenderers after) text is = cc
 shown_as p s caller (queries.Contract contract) text is = contract_seen caller (contract_at contract s) (entries_of_contract contract s) text is
 
--- what is seen is told by the query's kind
+-- The kind of the query decides how its answer is sent.
 pub told_seen : (p : Packages) (s : Tables) (caller : Caller) (query : Query) (text : List ℕ) → Ok text ≡ text_of (told p s caller query)
     → told_as (told p s caller query) ≡ seen_as (query_kind_of query) text
 told_seen p s caller query text is =

@@ -1,4 +1,4 @@
--- A run or a request that is answered by one office is so by another of which it is a view.
+-- A run or a request that one office answers is also answered by another office that is a view of it.
 use Rattle.std.proofs.Common.{◌≡◌, ℕ, ◌⊎◌, inl, inr, Bool, List, [], ◌∷◌, ◌++◌, Option, Result, Ok, Err, refl, ap, ◌∙◌, subst}
 use Rattle.std.specs.Prelude.{⊤}
 use Rattle.office_wire.specs.AnyReader.{CutsAnyRefusal, HasTold, WentThrough}

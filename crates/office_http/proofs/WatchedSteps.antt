@@ -1,4 +1,4 @@
--- What a stop may leave, step by step.
+-- The states that a stop may leave, step by step.
 use Rattle.std.proofs.Common.{◌≡◌, ℕ, Bool, List, [], ◌∷◌, ◌++◌, Option, Result, append_assoc, append-nil, refl, sym, ap, ◌∙◌, subst}
 use Rattle.std.specs.Prelude.{⊤}
 use Rattle.office_values.specs.declared.settings.Settings.{Settings}
@@ -15,14 +15,14 @@ use Rattle.office_http.specs.Stops.{LeftBySteps, StandsWatched, StopsBy, Watched
 use Rattle.office_http.proofs.LeftSteps.{left_weaker}
 use Rattle.office_http.proofs.ViewedAnswers.{ran_as, served_as, went_as}
 
--- ---- a step more, behind the others
+-- ---- one more step at the end
 
 office_push : (h : Held) (steps : List Step) (x : Step)
     → office_left office_answers h (steps ++ x ∷ []) ≡ office_answers.after x.busy (office_left office_answers h steps) x.block
 office_push h [] x = refl
 office_push h (y ∷ steps) x = office_push (office_answers.after y.busy h y.block) steps x
 
--- what a stop may leave after it, by what it could leave before it
+-- The states that a stop may leave after a step, by those that it could leave before.
 abbrev LeftByStep : (Tables → Type 0) → Held → Step → Tables → Type 0
 LeftByStep Before h x u =
     LeftAfter (is_accepted h.tables x.block.moment (meant_in h x.block)) x.busy (Before u) (IsWholeAfter h.settings h.tables x.block.moment (meant_in h x.block) u)
@@ -42,7 +42,7 @@ module _ {S : Type 0} (M : Meaning S) where
     abbrev next : Bool → Watched S
     next busy = watched_answers.after busy w b
 
-    -- a step of the office that it is
+    -- A step of the office as it is now.
     step_stands : (busy : Bool) → StandsAs M new (office_answers.after busy here b)
         → ((u : Tables) → M.may_leave new.shelf u → LeftByStep (M.may_leave old.shelf) here (record { busy = busy; block = b }) u)
         → (M.leaves_sound old.shelf → M.leaves_sound new.shelf) → StopsBy M w.shelf old.shelf w.first w.steps → StandsWatched M new (next busy)

@@ -1,4 +1,4 @@
--- Responses that are known, computed.
+-- Examples of responses, computed by the prover.
 use Rattle.std.specs.Prelude.{◌≡◌, codes, Some, None}
 use Rattle.std.specs.Fmt.{digits}
 use Rattle.std.proofs.Common.{refl}

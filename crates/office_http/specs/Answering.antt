@@ -1,4 +1,4 @@
--- How an office answers what is meant: the reply, its bytes, and the office after it.
+-- The office's answer to the meaning of a request: the reply, its bytes, and the office after it.
 use Rattle.std.specs.Prelude.{◌≡◌, ℕ, ◌⊎◌, Bool, true, false, not, ◌&&◌, List, Option, None, is_none, if◌then◌else◌}
 use Rattle.office_commands.specs.declared.command.QueryKind.{QueryKind}
 use Rattle.office_commands.specs.declared.command.QueryKind.TheVariants as kinds
@@ -31,7 +31,7 @@ use Rattle.office_http.specs.Response.{response_of}
 use Rattle.office_http.specs.declared.reply.Reply.{Reply}
 use Rattle.office_http.specs.declared.reply.Reply.TheVariants.{Json, Text, Refused}
 
--- what the machine replies, as it is told: the ledger, a register, minutes and an evaluation are plain texts, and all else is JSON
+-- A reply of the specification as it is sent. The ledger, a register, minutes and an evaluation are plain texts, and everything else is JSON.
 abbrev pub told_as : machine.Reply → Reply
 told_as (machine.Refused why) = Refused why None
 told_as (machine.LedgerSeen rows) = Text (reply_text (machine.LedgerSeen rows))
@@ -40,7 +40,7 @@ told_as (machine.Minutes notice lots rows) = Text (reply_text (machine.Minutes n
 told_as (machine.EvaluationSeen notice lots) = Text (reply_text (machine.EvaluationSeen notice lots))
 told_as reply = Json (reply_text reply)
 
--- what a query of this kind sees, as it is told
+-- The text that a query of this kind shows, as it is sent.
 abbrev pub seen_as : QueryKind → List ℕ → Reply
 seen_as kinds.Ledger text = Text text
 seen_as kinds.Minutes text = Text text
@@ -48,53 +48,53 @@ seen_as kinds.Register text = Text text
 seen_as kinds.Evaluation text = Text text
 seen_as _ text = Json text
 
--- the reply to what is meant, at this moment
+-- The reply to the meaning of a request at this moment.
 abbrev pub reply_to_meant : Settings → Tables → ℕ → Meant → Reply
 reply_to_meant settings s moment (Refuses why method) = Refused why method
 reply_to_meant settings s moment (Gives caller command) =
     told_as (reply_by (refusal_of (given s moment caller command)) (publishing settings.publisher) (given s moment caller command))
 reply_to_meant settings s moment (Sees caller query) = told_as (told (packages settings.publisher) s caller query)
 
--- the office after it
+-- The office after the answer.
 abbrev pub tables_after : Settings → Tables → ℕ → Meant → Tables
 tables_after settings s moment (Refuses why method) = s
 tables_after settings s moment (Gives by command) = office_kept (refusal_of (given s moment by command)) settings.publisher (given s moment by command)
 tables_after settings s moment (Sees caller query) = s
 
--- it is a command that isn't refused
+-- The meaning is a command that isn't refused.
 abbrev pub is_accepted : Tables → ℕ → Meant → Bool
 is_accepted s moment (Refuses why method) = false
 is_accepted s moment (Gives caller command) = is_none (refusal_of (given s moment caller command))
 is_accepted s moment (Sees caller query) = false
 
--- the response where memory or the store is wanting
+-- The response if memory is too small or the store fails.
 abbrev pub unavailable_text : List ℕ
 unavailable_text = response_of (Refused refusals.Unavailable None)
 
--- the response's bytes, and the office after it; what is answered Unavailable changes nothing
+-- The bytes of the response, and the office after it. An answer of `Unavailable` changes nothing.
 abbrev pub answer_bytes : Settings → Bool → Tables → ℕ → Meant → List ℕ
 answer_bytes settings busy s moment m = if busy then unavailable_text else response_of (reply_to_meant settings s moment m)
 
 abbrev pub tables_left : Settings → Bool → Tables → ℕ → Meant → Tables
 tables_left settings busy s moment m = if busy then s else tables_after settings s moment m
 
--- what a stop may leave after an answer, by what it could leave before and what stands after an accepted command: what is refused and what
--- is seen add nothing; an accepted command leaves what stands after it and nothing else; where it is answered Unavailable, the one or the other
+-- The states that a stop may leave after an answer, by those that it could leave before and the one after the accepted command. A refusal and a query add
+-- nothing. After an accepted command a stop leaves only the new state, and if it was answered `Unavailable`, either of the two.
 abbrev pub LeftAfter : Bool → Bool → Type 0 → Type 0 → Type 0
 LeftAfter false busy Before IsAfter = Before
 LeftAfter true false Before IsAfter = IsAfter
 LeftAfter true true Before IsAfter = Before ⊎ IsAfter
 
--- the office after what was meant, which stands as its commands left it
+-- The office after the meaning of a request, which is a reached office.
 abbrev pub IsWholeAfter : Settings → Tables → ℕ → Meant → Tables → Type 0
 IsWholeAfter settings s moment m u = (u ≡ tables_after settings s moment m) × IsReached settings.publisher u
 
--- so a stop leaves it of a shelf that is answered from; the test says that the answer is Unavailable
+-- A stop may leave only these states of a store after an answer. The test `busy` says that the answer is `Unavailable`.
 abbrev pub StopsAfter : {S : Type 0} → Meaning S → Settings → S → S → Bool → Tables → ℕ → Meant → Type 0
 StopsAfter M settings old new busy s moment m =
     (u : Tables) → M.may_leave new u → LeftAfter (is_accepted s moment m) busy (M.may_leave old u) (IsWholeAfter settings s moment m u)
 
--- the refusal of what can't be read as a request
+-- The refusal of bytes that can't be read as a request, and its response.
 abbrev pub fault_refusal : ReadFault → Refusal
 fault_refusal fault.BadHead = refusals.BadHead
 fault_refusal fault.TooLong = refusals.TooLong
@@ -105,24 +105,24 @@ fault_refusal fault.Read = refusals.Unavailable
 abbrev pub fault_text : ReadFault → List ℕ
 fault_text why = response_of (Refused (fault_refusal why) None)
 
--- an office as it answers requests: its settings and its tables
+-- An office as it answers requests: its settings and its tables.
 pub record Held : Type 0 where
   pub settings : Settings
   pub tables : Tables
 
--- a desk over a shelf holds this
+-- A desk has these settings, and its store holds these tables.
 abbrev pub IsHeld : {S : Type 0} → Meaning S → DeskOf S → Held → Type 0
 IsHeld M desk h = (desk.settings ≡ h.settings) × M.holds desk.shelf h.tables
 
--- what a desk over a shelf holds, where the shelf holds these tables
+-- The office of a desk if its store holds these tables.
 abbrev pub held_by : {S : Type 0} → DeskOf S → Tables → Held
 held_by desk s = record { settings = desk.settings; tables = s }
 
--- what a block's request means to it
+-- The meaning of a block's request to this office.
 abbrev pub meant_in : Held → Block → Meant
 meant_in h b = meant h.settings b.request h.tables
 
--- how it answers the blocks of a run
+-- How the office answers the blocks of a run, and which office each answer leaves.
 abbrev pub office_answers : Answers Held
 office_answers = record {
   reply = λ busy h b. answer_bytes h.settings busy h.tables b.moment (meant_in h b);
@@ -130,61 +130,62 @@ office_answers = record {
   refusal = fault_text;
 }
 
--- a desk over a shelf holds this, and it stands as its commands left it
+-- A desk holds this office, and it is a reached office.
 abbrev pub StandsAs : {S : Type 0} → Meaning S → DeskOf S → Held → Type 0
 StandsAs M desk h = IsHeld M desk h × IsReached h.settings.publisher h.tables
 
--- what is meant was answered with this text, perhaps with Unavailable; the shelf holds the office after it, which stands as its commands left
--- it. A stop leaves the tables after an accepted command and no others, and nothing new after a refusal or a look; where a command that isn't refused was answered
--- Unavailable, what it could leave before, or the tables after that command
+-- A reached office answers the meaning of a request with this text, perhaps with `Unavailable`. The store then holds the office after it, which is reached too.
+-- `StopsAfter` says which states a stop may leave.
 abbrev pub IsAnswered : {S : Type 0} → Meaning S → Settings → S → S → ℕ → (Tables → Meant) → List ℕ → Type 0
 IsAnswered M settings old new moment m text =
     M.honest new → (s : Tables) → M.holds old s → IsReached settings.publisher s
     → (busy : Bool) × (text ≡ answer_bytes settings busy s moment (m s)) × M.holds new (tables_left settings busy s moment (m s))
     × IsReached settings.publisher (tables_left settings busy s moment (m s)) × StopsAfter M settings old new busy s moment (m s)
 
--- a command is given
+-- A command is given.
 abbrev pub GivesCommand : Meant → Type 0
 GivesCommand (Refuses why method) = ⊥
 GivesCommand (Gives caller command) = Unit {0}
 GivesCommand (Sees caller query) = ⊥
 
--- whatever the shelf held, it holds it still, or a command is given and the answer is a 200 in JSON, as that to an accepted command; what it holds then isn't said here
+-- The store still holds the tables that it held. Otherwise a command is given and the answer is a 200 in JSON, like that to an accepted command. The new tables
+-- aren't said here.
 abbrev pub ChangesOnlyAccepting : {S : Type 0} → Meaning S → S → S → (Tables → Meant) → List ℕ → Type 0
 ChangesOnlyAccepting M old new m text =
     M.honest new → (s : Tables) → M.holds old s → M.holds new s ⊎ (GivesCommand (m s) × ((reply : List ℕ) × (text ≡ response_of (Json reply))))
 
--- a command was given that isn't refused, and it wasn't answered Unavailable
+-- A command was given that isn't refused, and it wasn't answered with `Unavailable`.
 abbrev pub is_done : Bool → Tables → ℕ → Meant → Bool
 is_done busy s moment m = is_accepted s moment m && not busy
 
--- what a query needs of the tables to be seen rightly: packages, that they stand as commands left them
+-- The condition for a right answer to a query: a package needs a reached office.
 abbrev pub NeedsMeant : Settings → Tables → Meant → Type 0
 NeedsMeant settings s (Refuses why method) = Unit {0}
 NeedsMeant settings s (Gives caller command) = Unit {0}
 NeedsMeant settings s (Sees caller query) = Needs settings.publisher query s
 
--- Whatever tables the shelf held, no commands need have led to them: this text is the answer, perhaps Unavailable, and all but a command that is done leaves them.
+-- This text is the answer, perhaps `Unavailable`, and only a command that is done changes the tables. This holds of any tables in the store that have what the
+-- query needs, even if no commands lead to them.
 abbrev pub IsTold : {S : Type 0} → Meaning S → Settings → S → S → ℕ → (Tables → Meant) → List ℕ → Type 0
 IsTold M settings old new moment m text =
     M.honest new → (s : Tables) → M.holds old s → NeedsMeant settings s (m s)
     → (busy : Bool) × (text ≡ answer_bytes settings busy s moment (m s)) × (is_done busy s moment (m s) ≡ false → M.holds new s)
 
--- the response to a refusal
+-- The text is the response to a refusal.
 abbrev pub IsRefusedText : List ℕ → Type 0
 IsRefusedText text = (why : Refusal) × (method : Option Allow) × (text ≡ response_of (Refused why method))
 
--- a package is shown only where what it shows is there, and what is refused is told as refused
+-- A refused request gets a refusal. A query gets one too, or all facts that its answer shows hold (`HasShown`).
 abbrev pub ShowsMeant : Meant → Tables → List ℕ → Type 0
 ShowsMeant (Refuses why method) s text = IsRefusedText text
 ShowsMeant (Gives caller command) s text = Unit {0}
 ShowsMeant (Sees caller query) s text = HasShown query s ⊎ IsRefusedText text
 
--- so it is whatever the shelf held
+-- This holds of any tables in the store.
 abbrev pub ShowsOnlyWhole : {S : Type 0} → Meaning S → S → S → (Tables → Meant) → List ℕ → Type 0
 ShowsOnlyWhole M old new m text = M.honest new → (s : Tables) → M.holds old s → ShowsMeant (m s) s text
 
--- the request at the front of the bytes was answered
+-- The request at the beginning of the bytes was answered.
 pub record AnswersRequest {S : Type 0} (M : Meaning S) (settings : Settings) (old new : S) (moment : ℕ) (input text : List ℕ) : Type 0 where
   pub request : RequestView
   pub rest : List ℕ
@@ -196,7 +197,7 @@ pub record AnswersRequest {S : Type 0} (M : Meaning S) (settings : Settings) (ol
   pub certain : TellsCertain M settings old new moment request text
   pub told : IsTold M settings old new moment (meant settings request) text
 
--- the bytes were refused, perhaps for want of memory, which may be so of any bytes; and nothing changed
+-- The bytes were refused, and nothing changed. Any bytes can be refused because memory is too small.
 pub record RefusesBytes {S : Type 0} (M : Meaning S) (old new : S) (input text : List ℕ) : Type 0 where
   pub why : ReadFault
   pub refused : IsRefused input why

@@ -1,4 +1,4 @@
--- What a run did to an office, whatever its reader told of its bytes.
+-- The effect of a run on an office, whatever bytes its reader reports.
 use Rattle.std.specs.Prelude.{ℕ, List, Option, Result}
 use Rattle.office_base.specs.Shelves.{Meaning}
 use Rattle.office_machine.specs.Machine.{Given, Reaches}
@@ -12,13 +12,14 @@ use Rattle.office_http.specs.Answering.{Held, StandsAs, office_answers}
 use Rattle.office_http.specs.Joined.{accepted_steps}
 use Rattle.office_http.specs.Stops.{StopsBy}
 
--- wherever accepted commands lead, they and those of the steps are kept
+-- If accepted commands lead to this office, then they and the commands of these steps are kept.
 abbrev pub KeepsSteps : Held → List Step → Type 0
 KeepsSteps h steps =
     (xs : List Given) → Reaches (publishing h.settings.publisher) xs h.tables → OfficeIsKept h.settings.publisher (accepted_steps h steps xs) (office_left office_answers h steps).tables
 
--- A run went through steps, each of a request of the grammar, for which a read was made at least, out of so many that were left before and after it.
--- The office is what they lead to, what was written is their responses, a stop leaves what they may, and all accepted commands are kept.
+-- A run went through these steps, each with a request of the grammar. There are at most as many steps as reads that it made: `reads` were allowed before it,
+-- and `left` are after it. The office is the one to which the steps lead, and the output has their responses. A stop leaves only states that the steps allow,
+-- and all accepted commands are kept.
 abbrev pub HasRun : {S : Type 0} → Meaning S → Result ℕ RunFault → ℕ → ℕ → DeskOf S → DeskOf S → Option (List ℕ) → Option (List ℕ) → Type 0
 HasRun M result reads left old new before after =
     M.honest new.shelf → (h : Held) → StandsAs M old h

@@ -1,4 +1,4 @@
--- Refusals that are certain: they are told, or the store's count of faults rose.
+-- The refusals that are certain: the response is the refusal, or the store has counted another fault.
 use Rattle.std.specs.Prelude.{◌≡◌, ℕ, ◌⊎◌, Bool, true, not, ◌||◌, List, Option, Some, None, Result, Ok, Err, option_map}
 use Rattle.office_commands.specs.declared.command.Caller.{Caller}
 use Rattle.office_values.specs.declared.refusal.Refusal.{Refusal}
@@ -22,30 +22,30 @@ use Rattle.office_http.specs.Meaning.{Meant, Refuses, Gives, Sees, meant, who}
 use Rattle.office_http.specs.Response.{response_of}
 use Rattle.office_http.specs.declared.reply.Reply.TheVariants.{Refused}
 
--- the refusal that an answer is
+-- The refusal, if the answer is one.
 abbrev pub refusal_in : Result (List ℕ) Refusal → Option Refusal
 refusal_in (Ok text) = None
 refusal_in (Err why) = Some why
 
--- the refusal of what is meant, with the method of the path where the request has another
+-- The refusal of the meaning of a request, with the method of the path if the request has another one.
 abbrev pub refusal_meant : Tables → ℕ → Meant → Option (Refusal × Option Allow)
 refusal_meant s moment (Refuses why method) = Some (why, method)
 refusal_meant s moment (Gives caller command) = option_map (λ (why : Refusal). (why, None)) (refusal_of (given s moment caller command))
 refusal_meant s moment (Sees caller query) = option_map (λ (why : Refusal). (why, None)) (refusal_in (text_of (told no_packages s caller query)))
 
--- it is found without memory: the command names no budget lines
+-- The decision needs no memory. Only an import and a publication need some, for the budget lines that they name.
 abbrev pub takes_none : Meant → Bool
 takes_none (Refuses why method) = true
 takes_none (Gives caller command) = not (gathers_lines command)
 takes_none (Sees caller query) = true
 
--- what is meant is found without memory: no route is taken; whoever asks isn't anybody, or may not ask by it; or its path alone says what is asked
+-- The meaning is found without memory. There is no such route, the caller isn't known or may not use it, or the path alone says which command or query it is.
 abbrev pub is_found : Result Route (Refusal × Option Allow) → Result Caller Refusal → Bool
 is_found (Err why) asker = true
 is_found (Ok route) (Err why) = true
 is_found (Ok route) (Ok caller) = is_told_by_path route.endpoint || not (may_ask caller route.endpoint)
 
--- where both are found so, a request that is refused is told its refusal, or the store's count of faults rose
+-- If meaning and decision need no memory, a refused request gets its refusal, or the store has counted another fault.
 abbrev pub TellsCertain : {S : Type 0} → Meaning S → Settings → S → S → ℕ → RequestView → List ℕ → Type 0
 TellsCertain M settings old new moment request text =
     M.honest new → (s : Tables) → M.holds old s

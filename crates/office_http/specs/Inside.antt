@@ -1,2 +1,2 @@
--- Words of private clauses: no public clause speaks of them.
+-- Definitions that only private clauses use.
 pub mod Meant

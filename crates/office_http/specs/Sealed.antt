@@ -1,4 +1,4 @@
--- Two runs whose requests differ in sealed bytes alone: what is sent over HTTP is alike.
+-- Two runs whose requests differ only in sealed bytes get responses that are alike.
 use Rattle.std.specs.Prelude.{◌≡◌, ⊤, ℕ, Bool, false, not, ◌&&◌, List, [], ◌∷◌, is_some}
 use Rattle.office_commands.specs.Callers.{is_by}
 use Rattle.office_commands.specs.declared.command.Caller.{Caller}
@@ -15,27 +15,27 @@ use Rattle.office_http.specs.Joined.{accepted_steps}
 use Rattle.office_http.specs.Meaning.{Meant, Refuses, Gives, Sees}
 use Rattle.office_http.specs.Response.{response_of}
 
--- what two requests mean is the same, but for bytes that one tenderer seals for one lot; envelopes are those of the first office
+-- Two requests mean the same, except for bytes that one tenderer seals for one lot. The envelopes are those of the first office.
 abbrev pub MeansSame : ChosenTender → Tables → Meant → Meant → Type 0
 MeansSame th s (Gives caller command) (Gives caller' command') = (caller' ≡ caller) × SameBut th s caller command command'
 MeansSame th s (Gives caller command) m' = ⊥
 MeansSame th s m m' = m' ≡ m
 
--- two blocks that come at one moment, each to the office of its run, and mean the same but for such bytes; and neither is answered
--- Unavailable, or both are
+-- Two blocks have the same moment, and mean the same to the offices of their runs except for such bytes. Either both are answered with `Unavailable`, or
+-- neither.
 pub record SameStep (th : ChosenTender) (h h' : Held) (x y : Step) : Type 0 where
   pub busy : y.busy ≡ x.busy
   pub moment : y.block.moment ≡ x.block.moment
   pub meaning : MeansSame th h.tables (meant_in h x.block) (meant_in h' y.block)
 
--- block by block
+-- The runs agree in this way block by block.
 abbrev pub SameSteps : ChosenTender → Held → Held → List Step → List Step → Type 0
 SameSteps th h h' [] [] = ⊤
 SameSteps th h h' (x ∷ steps) (y ∷ steps') =
     SameStep th h h' x y × SameSteps th (office_answers.after x.busy h x.block) (office_answers.after y.busy h' y.block) steps steps'
 SameSteps th h h' steps steps' = ⊥
 
--- two responses tell replies that differ in a digest alone
+-- Two responses are those to replies that differ only in a digest.
 pub record TellButDigest (text text' : List ℕ) : Type 0 where
   pub first : machine.Reply
   pub second : machine.Reply
@@ -43,18 +43,19 @@ pub record TellButDigest (text text' : List ℕ) : Type 0 where
   pub tells' : text' ≡ response_of (told_as second)
   pub same : without_digest second ≡ without_digest first
 
--- every other caller gets the same bytes, and this tenderer the same but for the digest that is told
+-- Every other caller gets the same bytes. This tenderer's responses differ only in a digest.
 pub record AlikeTo (th : ChosenTender) (caller : Caller) (text text' : List ℕ) : Type 0 where
   pub others : is_by caller th.who ≡ false → text' ≡ text
   pub but_digest : TellButDigest text text'
 
--- what means nothing to the office is answered with the same bytes
+-- The two responses to a block are alike. If the block is refused before it has a meaning, they are equal.
 abbrev pub AreAlike : ChosenTender → Meant → List ℕ → List ℕ → Type 0
 AreAlike th (Refuses why method) text text' = text' ≡ text
 AreAlike th (Gives caller command) text text' = AlikeTo th caller text text'
 AreAlike th (Sees caller query) text text' = AlikeTo th caller text text'
 
--- response by response, up to one that stops it, its own with the rest; at each the two offices know the same tenderers, and so who may call
+-- The responses are alike one by one, up to and including the one at which the test `stops` holds. At each of them the two offices know the same tenderers, and
+-- therefore the same callers.
 abbrev pub AnsweredAlikeUntil : ChosenTender → (Held → Step → Bool) → Held → Held → List Step → List Step → Type 0
 AnsweredAlikeUntil th stops h h' [] [] = KnowAlike h.tables h'.tables
 AnsweredAlikeUntil th stops h h' (x ∷ steps) (y ∷ steps') =
@@ -64,7 +65,7 @@ AnsweredAlikeUntil th stops h h' (x ∷ steps) (y ∷ steps') =
     → AnsweredAlikeUntil th stops (office_answers.after x.busy h x.block) (office_answers.after y.busy h' y.block) steps steps')
 AnsweredAlikeUntil th stops h h' steps steps' = ⊥
 
--- the notice of the lot is opened
+-- This step opens the notice of the lot.
 abbrev pub meant_opens : ChosenTender → Tables → ℕ → Meant → Bool
 meant_opens th s moment (Refuses why method) = false
 meant_opens th s moment (Gives caller command) = opens_it th command && not (is_some (refusal_of (given s moment caller command)))
@@ -76,18 +77,18 @@ opens_lot th h x = not x.busy && meant_opens th h.tables x.block.moment (meant_i
 abbrev pub at_no_step : Held → Step → Bool
 at_no_step h x = false
 
--- two runs from one office, of requests that differ in such bytes alone, are answered alike up to the opening of the lot's notice
+-- Two runs from one office, whose requests differ only in such bytes, get responses that are alike up to the opening of the lot's notice.
 abbrev pub AnsweredSealsAreKept : Type 0
 AnsweredSealsAreKept = (th : ChosenTender) (xs : List Given) (h : Held) → Reaches (publishing h.settings.publisher) xs h.tables
     → (steps steps' : List Step) → SameSteps th h h steps steps' → AnsweredAlikeUntil th (opens_lot th) h h steps steps'
 
--- and to the end, where each receipt whose bytes differ is withdrawn or returned
+-- If each receipt whose bytes differ is withdrawn or returned, their responses are alike to the end.
 abbrev pub AnsweredRunsAreAlike : Type 0
 AnsweredRunsAreAlike = (th : ChosenTender) (xs : List Given) (h : Held) → Reaches (publishing h.settings.publisher) xs h.tables
     → (steps steps' : List Step) → SameSteps th h h steps steps' → DifferingAreGone (accepted_steps h steps xs) (accepted_steps h steps' xs)
     → AnsweredAlikeUntil th at_no_step h h steps steps'
 
--- what a request means is told by the tenderers that an office knows
+-- The meaning of a request depends only on the settings and on the tenderers that the office knows.
 abbrev pub MeaningsReadTenderers : Type 0
 MeaningsReadTenderers = (h h' : Held) → h'.settings ≡ h.settings → KnowAlike h.tables h'.tables
     → (x : Step) → meant_in h' x.block ≡ meant_in h x.block

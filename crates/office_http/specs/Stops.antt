@@ -1,4 +1,4 @@
--- What a stop may leave of an office that answered a run, or one request.
+-- The states that a stop may leave of an office that answered a run, or one request.
 use Rattle.std.specs.Prelude.{ℕ, List, [], ◌∷◌, ◌++◌}
 use Rattle.office_base.specs.Tables.{Tables}
 use Rattle.office_base.specs.Shelves.{Meaning}
@@ -6,7 +6,7 @@ use Rattle.office_desk.specs.Desks.{DeskOf}
 use Rattle.office_wire.specs.Runs.{Answers, Step, IsOneAtMost, office_left}
 use Rattle.office_http.specs.Answering.{Held, IsWholeAfter, LeftAfter, StandsAs, is_accepted, meant_in, office_answers}
 
--- after the steps of a run from an office, by what it could leave before them; what an accepted command leaves stands as its commands left it
+-- The states that a stop may leave after the steps of a run, by those that it could leave before. The state after an accepted command is a reached office.
 abbrev pub LeftBySteps : (Tables → Type 0) → Held → List Step → Tables → Type 0
 LeftBySteps Before h [] u = Before u
 LeftBySteps Before h (x ∷ steps) u =
@@ -14,18 +14,18 @@ LeftBySteps Before h (x ∷ steps) u =
     (λ v. LeftAfter (is_accepted h.tables x.block.moment (meant_in h x.block)) x.busy (Before v) (IsWholeAfter h.settings h.tables x.block.moment (meant_in h x.block) v))
     (office_answers.after x.busy h x.block) steps u
 
--- so it leaves it of a shelf, and whole offices alone where it left whole offices alone before
+-- A stop may leave only these states of a store. They are whole offices if it could leave only whole offices before.
 pub record StopsBy {S : Type 0} (M : Meaning S) (old new : S) (h : Held) (steps : List Step) : Type 0 where
   pub left : (u : Tables) → M.may_leave new u → LeftBySteps (M.may_leave old) h steps u
   pub sound : M.leaves_sound old → M.leaves_sound new
 
--- a desk whose office stands answered nothing or one request at this moment: its office stands again, and a stop leaves what the step says
+-- A desk with a reached office answered at most one request, at this moment. Its office is a reached one again, and a stop leaves only what the step allows.
 abbrev pub StopsOnce : {S : Type 0} → Meaning S → ℕ → DeskOf S → DeskOf S → Type 0
 StopsOnce M moment old new =
     M.honest new.shelf → (h : Held) → StandsAs M old h
     → (steps : List Step) × IsOneAtMost moment steps × StandsAs M new (office_left office_answers h steps) × StopsBy M old.shelf new.shelf h steps
 
--- an office that is watched while it answers: its shelf and what it held at first, and the steps so far
+-- An office that is watched while it answers: its store at first, the office at first, and the steps so far.
 pub record Watched (S : Type 0) : Type 0 where
   pub shelf : S
   pub first : Held
@@ -34,7 +34,7 @@ pub record Watched (S : Type 0) : Type 0 where
 abbrev pub office_now : {S : Type 0} → Watched S → Held
 office_now w = office_left office_answers w.first w.steps
 
--- it answers as the office that it is now, and each answer is a step more
+-- It answers as the office that it is now, and each answer adds a step.
 abbrev pub watched_answers : {S : Type 0} → Answers (Watched S)
 watched_answers = record {
   reply = λ busy w b. office_answers.reply busy (office_now w) b;
@@ -42,6 +42,6 @@ watched_answers = record {
   refusal = office_answers.refusal;
 }
 
--- a desk holds what it is now, which stands as its commands left it, and a stop leaves what its steps say
+-- A desk holds the office that it is now, which is a reached one, and a stop leaves only what its steps allow.
 abbrev pub StandsWatched : {S : Type 0} → Meaning S → DeskOf S → Watched S → Type 0
 StandsWatched M desk w = StandsAs M desk (office_now w) × StopsBy M w.shelf desk.shelf w.first w.steps

@@ -1,4 +1,4 @@
-//! Requests answered in bytes.
+//! The answers to requests, in bytes.
 ghost use Rattle.std.specs.Prelude.{◌≡◌, ◌⊎◌, None, Ok, Err, OnOk, true};
 ghost use Rattle.office_values.specs.declared.refusal.Refusal.{Refusal as RefusalOf};
 ghost use Rattle.office_values.specs.declared.refusal.Refusal.TheVariants.{Unavailable};
@@ -43,7 +43,7 @@ fn refuse(refusal: Refusal, method: Option<Allow>) -> Answer
     Answer::short(refusal_text(refusal, method))
 }
 
-// Answers a command. The response is built whole before anything changes.
+// Answers a command. The response is complete before anything changes.
 fn answer_command<H: Shelf + Drop>(
     alloc: Global,
     desk: &mut Desk<H>,
@@ -100,7 +100,7 @@ fn answer_query<H: Shelf + Drop>(
     }
 }
 
-// Who asks.
+// The caller of a request.
 fn caller_of<H: Shelf + Drop>(desk: &mut Desk<H>, request: &Request) -> Result<Caller, Refusal>
     ensures looks { Looks H.meaning desk.old.shelf desk.new.shelf (λ s.
         (result ≡ who desk.old.settings s (credentials_of request.now.head.fields)) ⊎ (result ≡ Err Unavailable)) }
@@ -114,7 +114,7 @@ fn caller_of<H: Shelf + Drop>(desk: &mut Desk<H>, request: &Request) -> Result<C
     desk.caller(credentials.name, credentials.key)
 }
 
-// Answers what a caller asks by a route.
+// Answers a caller's command or query, if it could be read.
 fn answer_asked<H: Shelf + Drop>(
     alloc: Global,
     desk: &mut Desk<H>,
@@ -169,11 +169,14 @@ fn answer_read<H: Shelf + Drop>(
     answer_asked(alloc, desk, moment, &caller, asked)
 }
 
-/// Answers a request that was read. The response is built whole before anything changes; where memory or the store is wanting, it
-/// is the constant response to `Unavailable`, and the tables stay as they are; a stop right then may leave an accepted command whole. An office
-/// that stands as its commands left it stands so again; whatever the shelf holds, it holds it still unless a command is given and the answer is a 200, and a
-/// package is shown only where each release that its notice's row counts is there. What is refused at sight is told so, whatever memory
-/// there is; and a refusal that takes none to find, where the path says what is asked, is told, or the store's count of faults rose.
+/// Answers a request that was read. The response is complete before anything changes.
+///
+/// If memory is too small or the store fails, the response is the constant one to `Unavailable`, and the tables stay as they are. A stop at that moment may
+/// still leave an accepted command as a whole. A reached office is a reached one afterwards. The tables change only if a command is given and the answer is a
+/// 200.
+///
+/// A package is shown only if each release that its notice's row counts exists. A refusal at sight doesn't depend on the memory. If the path alone says what is
+/// asked and the refusal needs no memory, the response is this refusal, or the store has counted another fault.
 pub fn answer_request<H: Shelf + Drop>(
     alloc: Global,
     routes: &Routes,
@@ -196,7 +199,7 @@ pub fn answer_request<H: Shelf + Drop>(
     answer_read(alloc, routes, desk, moment, request)
 }
 
-/// The response to what can't be read as a request. Takes no memory; a reader that fails is answered as want of memory.
+/// The response to bytes that can't be read as a request. A reader that fails gets the same response as too little memory. Takes no memory.
 pub fn fault_response(fault: ReadFault) -> &'static [u8]
     ensures { result.now ≡ fault_text fault }
 {
@@ -208,8 +211,8 @@ pub fn fault_response(fault: ReadFault) -> &'static [u8]
     }
 }
 
-/// Answers the request at the front of these bytes. Bytes behind it are ignored, and bytes that hold no request are refused. Where
-/// memory or the store is wanting, the answer is the constant response to `Unavailable`, and the tables stay as they are.
+/// Answers the request at the beginning of these bytes, and ignores the bytes after it. Bytes that hold no request are refused. If memory is too small or the
+/// store fails, the answer is the constant response to `Unavailable`, and the tables stay as they are.
 pub fn answer<H: Shelf + Drop>(
     alloc: Global,
     routes: &Routes,

@@ -8,9 +8,8 @@ use office_publications::laws::{keeping, merges_apart};
 use office_publications::sealed;
 use office_requests::asked::can_be_given;
 
-/// Wherever accepted commands lead from the empty office, those that requests and whole runs accept join them: together they lead to the
-/// office after it, its accounts are what they moved, and each tender and each security, a tender's or a contract's, has the fate that they
-/// gave it.
+/// If accepted commands lead from the empty office to an office, then those that requests and whole runs add lead to the office after them. Its accounts are
+/// the sums that they moved, and each tender and each security, of a tender or of a contract, has the fate that they gave it.
 pub fn accounts_and_fates()
     ensures requests { RequestsAreKept }
     ensures steps { StepsAreKept }
@@ -23,12 +22,12 @@ pub fn accounts_and_fates()
     fates::performances();
 }
 
-/// Two runs from one office, of requests that differ in the bytes alone that one tenderer seals for one lot, tell every other caller the
-/// same up to the opening of the lot's notice, and this tenderer the same but for the digest; where each receipt whose bytes differ is
-/// withdrawn or returned in the end, this holds for the whole of both runs.
+/// Take two runs from one office whose requests differ only in the bytes that one tenderer seals for one lot. Up to the opening of the lot's notice, every
+/// other caller gets the same replies, and this tenderer gets replies that differ only in the digest. If each receipt whose bytes differ is withdrawn or
+/// returned in the end, this holds for both runs as a whole.
 ///
-/// It holds of what the office replies, and of the bytes of each response over HTTP, in `answer` and in a run. Two requests of the same bytes
-/// mean the same to both offices, since these know the same tenderers.
+/// It holds of the replies, and of the bytes of each response over HTTP, in `answer` and in a run. Two requests of the same bytes mean the same to both
+/// offices, because these know the same tenderers.
 pub fn seals()
     ensures seals { PublishedSealsAreKept }
     ensures whole { PublishedRunsAreAlike }

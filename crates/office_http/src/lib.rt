@@ -1,4 +1,4 @@
-//! From a request to what is asked of the office, and from its reply to the bytes of a response.
+//! Turns a request into a command or a query, and the office's reply into the bytes of a response.
 #![tactic(auto)]
 
 pub mod answering;

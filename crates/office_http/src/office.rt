@@ -38,7 +38,7 @@ pub struct Office<H: Shelf + Drop> {
     routes: Routes,
 }
 
-// By hand, so that a program that lets an office go proves no drop of what is in it.
+// Written by hand, so that a program that drops an office proves no drop of its parts.
 impl<H: Shelf + Drop> Drop for Office<H> {
     fn drop(self) {
         let Office { desk: _, routes: _ } = self;
@@ -54,7 +54,7 @@ impl<H: Shelf + Drop> Model for Office<H> {
 }
 
 impl<H: Shelf + Drop> Office<H> {
-    /// An office with this desk. The table of routes is made here, once.
+    /// An office with this desk. It makes the table of routes once, here.
     pub fn new(alloc: Global, desk: Desk<H>) -> Result<Office<H>, AllocError>
         ensures { IfOk result (λ office. office ≡ desk) }
     {
@@ -62,7 +62,7 @@ impl<H: Shelf + Drop> Office<H> {
         Ok(Office { desk, routes })
     }
 
-    /// The desk. Takes no memory.
+    /// The desk; the office is used up. Takes no memory.
     pub fn into_desk(self) -> Desk<H>
         ensures { result ≡ self }
     {
@@ -72,7 +72,7 @@ impl<H: Shelf + Drop> Office<H> {
 }
 
 impl<H: StoredShelf + Drop> Office<H> {
-    /// Whether a fault shut the store for good. Nothing changes. A fault as of the shelf.
+    /// Whether a fault has closed the store for good. Nothing changes. A fault of this call is counted like any other.
     pub fn is_shut(&mut self) -> Result<bool, ShelfFault>
         ensures told { TellsShut H.meaning H.store self.old.shelf self.new.shelf result }
         ensures settings { self.new.settings ≡ self.old.settings }
@@ -101,10 +101,9 @@ impl<H: Shelf + Drop> Responder for Office<H> {
     }
 }
 
-/// Answers each block of the input in turn: a line `at MOMENT` and a request. Answers how many there were, where the input ends behind a
-/// block. The responses are flushed once, at the end. `Read` is answered where a read failed or no more may be made, `Write` where a write
-/// or the flush failed. Whatever the reader tells of its bytes, the office goes through steps, each of a request of the grammar, for which
-/// a read was made at least.
+/// Answers each block of the input in turn: a line `at MOMENT` and a request. Returns the number of blocks if the input ends after a block. The responses are
+/// flushed once, at the end. `Read` means that a read failed or that no more reads are allowed, and `Write` that a write or the flush failed. Whatever bytes
+/// the reader reports, the office goes through steps. Each has a request of the grammar, for which at least one read was made.
 pub fn run<H: Shelf + Drop, R: BufRead, W: Write>(
     alloc: Global,
     office: &mut Office<H>,
@@ -137,9 +136,9 @@ pub fn run<H: Shelf + Drop, R: BufRead, W: Write>(
     runs::run(alloc, office, reader, writer)
 }
 
-/// Reads one request, and sends and flushes the response to it, at the moment handed in. The only faults are `Read`, where a read failed
-/// or no more may be made, and `Write`, where a write or the flush failed. Whatever the reader tells of its bytes, nothing or one request
-/// was answered.
+/// Reads one request, and sends and flushes the response to it, at the moment that the caller passes. The only faults are `Read` and `Write`. `Read` means that
+/// a read failed or that no more reads are allowed, and `Write` that a write or the flush failed. Whatever bytes the reader reports, at most one request was
+/// answered.
 pub fn serve_one<H: Shelf + Drop, R: BufRead, W: Write>(
     alloc: Global,
     office: &mut Office<H>,

@@ -1,4 +1,4 @@
-//! The response to a refusal, in a place of its own: so that no refusal waits for memory.
+//! The response to a refusal, built in a place of fixed size, so that no refusal needs memory.
 ghost use Rattle.std.specs.Prelude.{◌≡◌, ◌≤◌, Some, decimal, length, option_map};
 ghost use Rattle.http.specs.StatusCode.{IsStatusCode};
 ghost use Rattle.office_values.specs.Refusals.{Named, Record, told};
@@ -12,7 +12,7 @@ use office_requests::route::Allow;
 use office_values::refusal::{Refusal, What};
 use office_wire::short::ShortText;
 
-// The member that names a field or a thing, behind what is there.
+// Adds the member that names a field or a thing.
 fn put_name(out: &mut ShortText, name: &str)
     ensures { FitsBehind out.old (what_member (Some (Named name.now))) out.new }
 {
@@ -21,7 +21,7 @@ fn put_name(out: &mut ShortText, name: &str)
     out.put(b"\"");
 }
 
-// The member that names a record, behind what is there.
+// Adds the member that names a record.
 fn put_row(out: &mut ShortText, number: u32)
     ensures put { FitsBehind out.old (what_member (Some (Record number))) out.new }
     ensures few { length (decimal number) ≤ 10 }
@@ -31,7 +31,7 @@ fn put_row(out: &mut ShortText, number: u32)
     out.put(b"\"");
 }
 
-// The member that says what a refusal is about, behind what is there.
+// Adds the member that says what a refusal is about.
 fn put_what(out: &mut ShortText, what: Option<What>)
     ensures put { FitsBehind out.old (what_member (option_map told what)) out.new }
     ensures number { IsShortNumber what }
@@ -58,7 +58,7 @@ fn refusal_object(refusal: Refusal) -> ShortText
     out
 }
 
-// The head of a response in JSON up to the length of its body.
+// Adds the head of a JSON response up to the length of its body.
 fn put_start(out: &mut ShortText, status: u16, size: usize)
     requires { IsStatusCode status }
     ensures { FitsBehind out.old (head_start status json size) out.new }

@@ -18,7 +18,7 @@ const JSON: &str = "application/json";
 
 const PLAIN_TEXT: &str = "text/plain; charset=utf-8";
 
-// As much as a head ever takes.
+// The capacity for the head of a response, in bytes.
 const HEAD_ROOM: usize = 192;
 
 // The phrase of a status.
@@ -32,7 +32,7 @@ pub(crate) fn phrase(status: u16) -> &'static str
     }
 }
 
-// A response's head up to the length of its body, behind what is there.
+// Adds the head of a response up to the length of its body.
 fn put_head(out: &mut Vec<u8>, status: u16, media: &str, length: usize) -> Result<(), AllocError>
     requires { IsStatusCode status }
     ensures { IfOk result (λ _. out.new.items ≡ out.old.items ++ head_start status media.now length) }
@@ -92,14 +92,14 @@ pub(crate) fn challenge_field(status: u16) -> &'static str
     }
 }
 
-// The response to what is accepted, as a JSON text.
+// The response to an accepted command, as a JSON text.
 pub(crate) fn accepted_response(alloc: Global, text: &[u8]) -> Result<Vec<u8>, AllocError>
     ensures { IfOk result (λ out. out.items ≡ response_of (Json text.now)) }
 {
     response(alloc, 200, JSON, "", "", text)
 }
 
-// Puts a text before what is there; takes no further room where there is enough.
+// Puts a text before the content. It takes no memory if the capacity is large enough.
 fn put_before(out: &mut Vec<u8>, front: &[u8]) -> Result<(), AllocError>
     ensures { IfOk result (λ _. out.new.items ≡ front.now ++ out.old.items) }
 {
@@ -109,7 +109,7 @@ fn put_before(out: &mut Vec<u8>, front: &[u8]) -> Result<(), AllocError>
     Ok(())
 }
 
-// A head of status 200 before a body of this length.
+// The head of a response with status 200, before a body of this length.
 fn ok_head(alloc: Global, media: &str, length: usize) -> Result<Vec<u8>, AllocError>
     ensures { IfOk result (λ out. out.items ≡ head_start 200 media.now length ++ codes "\r\nConnection: close\r\n\r\n") }
 {
@@ -119,7 +119,7 @@ fn ok_head(alloc: Global, media: &str, length: usize) -> Result<Vec<u8>, AllocEr
     Ok(out)
 }
 
-// A response of status 200 in the memory of its body.
+// A response with status 200, in the memory of its body.
 fn response_around(alloc: Global, media: &str, body: Vec<u8>) -> Result<Vec<u8>, AllocError>
     ensures { IfOk result (λ out. out.items ≡ response_with 200 media.now [] body.items) }
 {
@@ -129,7 +129,7 @@ fn response_around(alloc: Global, media: &str, body: Vec<u8>) -> Result<Vec<u8>,
     Ok(out)
 }
 
-// The response to a query of this kind, with what is seen.
+// The response to a query of this kind, with the text that it shows.
 pub(crate) fn seen_response(
     alloc: Global,
     kind: QueryKind,
@@ -156,8 +156,8 @@ pub(crate) fn seen_response(
     }
 }
 
-/// The response's bytes: an HTTP/1.1 response whose connection is closed behind it (RFC 9112, section 9.6). The body of a refusal
-/// is a JSON object, its members in the byte order of their names.
+/// The bytes of a response in HTTP/1.1, which closes the connection (RFC 9112, section 9.6). The body of a refusal is a JSON object whose members are in the
+/// byte order of their names.
 pub fn respond(alloc: Global, reply: &Reply) -> Result<Vec<u8>, AllocError>
     requires { NamesMethod reply.now }
     ensures { IfOk result (λ response. response.items ≡ response_of reply.now) }
@@ -174,28 +174,28 @@ pub fn respond(alloc: Global, reply: &Reply) -> Result<Vec<u8>, AllocError>
     }
 }
 
-/// The response where memory is wanting. Takes none.
+/// The response if memory is too small. Takes no memory.
 pub fn unavailable() -> &'static [u8]
     ensures { result.now ≡ response_of (Refused Unavailable None) }
 {
     b"HTTP/1.1 503 Service Unavailable\r\nContent-Type: application/json\r\nContent-Length: 35\r\nConnection: close\r\n\r\n{\"name\":\"Unavailable\",\"refusal\":32}"
 }
 
-// The response to what is no request. Takes no memory.
+// The response to bytes that aren't a request. Takes no memory.
 pub(crate) fn bad_head() -> &'static [u8]
     ensures { result.now ≡ response_of (Refused BadHead None) }
 {
     b"HTTP/1.1 400 Bad Request\r\nContent-Type: application/json\r\nContent-Length: 30\r\nConnection: close\r\n\r\n{\"name\":\"BadHead\",\"refusal\":1}"
 }
 
-// The response to what passes a bound. Takes no memory.
+// The response to a request that exceeds a limit. Takes no memory.
 pub(crate) fn too_long() -> &'static [u8]
     ensures { result.now ≡ response_of (Refused TooLong None) }
 {
     b"HTTP/1.1 413 Payload Too Large\r\nContent-Type: application/json\r\nContent-Length: 30\r\nConnection: close\r\n\r\n{\"name\":\"TooLong\",\"refusal\":2}"
 }
 
-// The response to a transfer coding. Takes no memory.
+// The response to a request with a transfer coding. Takes no memory.
 pub(crate) fn coding() -> &'static [u8]
     ensures { result.now ≡ response_of (Refused Coding None) }
 {

@@ -1,4 +1,4 @@
--- The rows of a join rise by their keys.
+-- The rows of a join are in rising order of their keys.
 use Rattle.std.specs.Prelude.{◌≡◌, ℕ, pos, List, [], ◌∷◌, map, flat_map, Option, Some, true}
 use Rattle.std.proofs.Common.{refl, sym, ap, ap₂, ◌∙◌}
 use Rattle.std.specs.List.{AllByRecursion}
@@ -98,7 +98,7 @@ lot_order o p =
 abbrev pub row_order : JoinedRow → JoinedRow → Ordering
 row_order a b = ordering_then (value_cmp (Text a.line) (Text b.line)) (lot_order a.lot b.lot)
 
--- a relation that holds of those that pass a test
+-- a relation that holds between elements that pass a test
 module _ {X : Type 0} (P : X → Type 0) (R S : X → X → Type 0) (f : (a b : X) → P a → P b → R a b → S a b) where
   all_on : (x : X) → P x → (xs : List X) → AllByRecursion P xs → AllByRecursion (R x) xs → AllByRecursion (S x) xs
   all_on x h [] ps rs = tt

@@ -1,4 +1,4 @@
--- Joined rows come back from their cells.
+-- Joined rows are read back from their columns.
 use Rattle.std.specs.Prelude.{◌≡◌, [], ◌∷◌, Option, Some, None}
 use Rattle.std.proofs.Common.{refl, ap}
 use Rattle.office_base.specs.declared.records.EntryKind.{EntryKind}

@@ -21,7 +21,7 @@ use Rattle.office_ledger.proofs.Taken.{grouped}
 pub same_itself : (n : ℕ) → same_number n n ≡ true
 same_itself n = ap is_eq (tied_itself nat_cmp_total n)
 
--- a contract alone
+-- one contract
 module _ (t : Tables) (c : ContractRow) where
   abbrev enter : LineSums → LineSums
   enter s = enter_contract (with_entry c None) s
@@ -40,7 +40,7 @@ module _ (t : Tables) (c : ContractRow) where
   stays : (s : LineSums) → IsIn s → enter s ≡ s
   stays s h = rw h refl
 
-  -- with entries, where it is the one whose rows come
+  -- the contract as the current one, with the sums of some entries
   abbrev open_with : ContractSums → OpenContract
   open_with sums = record { contract = c.contract; sums = sums }
 
@@ -49,7 +49,7 @@ module _ (t : Tables) (c : ContractRow) where
   entries_taken [] s sums = refl
   entries_taken (e ∷ es) s sums = entries_taken es s (sums_with_entry e.kind e.amount sums)
 
-  -- the sums once its rows have come
+  -- the sums of the line after all rows of the contract
   abbrev pub contract_done : LineSums → LineSums
   contract_done s = record (settled s) { contract = Some (open_with (sums_of t.entries c)) }
 
@@ -63,7 +63,7 @@ module _ (t : Tables) (c : ContractRow) where
 
 -- several contracts, in the order of their numbers
 module _ (t : Tables) where
-  -- the sums with contracts that are done
+  -- the sums of the line after these contracts are complete
   abbrev pub counted : List ContractSums → LineSums → LineSums
   counted [] s = s
   counted (x ∷ xs) s = counted xs (with_sums x s)

@@ -39,7 +39,7 @@ module _ (rows : List JoinedRow) (row : JoinedRow) (old : Summing) where
   fault_next law (Err Store) h (inl none) = inl (none_fits law (rows ++ row ∷ []) (ap (λ (s : Added). s.rows) (sym (added_next h)) ∙ none))
   fault_next law (Err Store) h (inr last) = inr (omega (arith, h.counted, last, length-snoc rows row))
 
--- where the ledger of a whole join is none, a line doesn't fit
+-- if the whole join has no ledger, a sum of a line is out of its range
 pub no_ledger : JoinedSums → (t : Tables) → IsSorted t → (T : Type 0) (right : Tables → T → Type 0) (fault : ShelfFault) (all : Option (List LedgerRow)) → closed (added (joined t)) ≡ all
     → IsFaultOf (all ≡ None) fault → SumsAnswer {T = T} ⊥ right LinesFit (Err fault) t
 no_ledger law t sorted T right NoMemory all is why = tt

@@ -1,4 +1,4 @@
--- The columns of lots, contracts and entries that the selects name, and how these are joined, by the slot of the lots: contracts have the next one, entries the one behind it.
+-- The columns of lots, contracts and entries in the selects, and the joins. The slot of the lots is a parameter; contracts and entries have the next two.
 use Rattle.std.proofs.Common.{◌≡◌, ◌-◌, nat_lt, ◌∷◌, [], List, Some, Ok, true, false, ℕ, suc, codes, refl}
 use Rattle.sqlite_sql.specs.Term.{Term, col, op2}
 use Rattle.sqlite_sql.specs.declared.ops.BinaryOp.TheVariants.{And}
@@ -22,11 +22,11 @@ use Rattle.office_tables.proofs.Whole.{at_budget}
 use Rattle.office_ledger.proofs.JoinedSelect.{Joint, known_by}
 use Rattle.office_ledger.proofs.Scoped.{Has}
 
--- a column that is no rowid
+-- a column that isn't the rowid
 abbrev pub column_pick : Name → ℕ → Name → ℕ → Column → Pick
 column_pick table slot text k c = record { table = table; text = text; slot = slot; place = k; row = suc k; column = c }
 
--- a rowid
+-- a column that is the rowid
 abbrev pub key_pick : Name → ℕ → Name → ℕ → Column → Pick
 key_pick table slot text k c = record { table = table; text = text; slot = slot; place = k; row = 0; column = c }
 
@@ -70,33 +70,33 @@ module _ (n : ℕ) where
   abbrev pub entry_amount : Pick
   entry_amount = column_pick (codes "entries") (suc (suc n)) (codes "entries.amount") 3 (number_column (codes "amount"))
 
-  -- those that are shown, and those by whose order
+  -- the columns that are shown, and those that give the order
   abbrev pub lot_picks : List Pick
   lot_picks = lot_notice ∷ lot_lot ∷ lot_reserved ∷ contract_contract ∷ contract_signed ∷ contract_released ∷ entry_entry ∷ entry_kind ∷ entry_amount ∷ []
 
   abbrev pub lot_sorts : List Pick
   lot_sorts = lot_notice ∷ lot_lot ∷ contract_contract ∷ entry_entry ∷ []
 
-  -- contracts of the lot, entries of the contract
+  -- the conditions of the joins: contracts of the lot, entries of the contract
   abbrev pub on_lot : Expr
   on_lot = both_e (equals_e contract_notice lot_notice) (equals_e contract_lot lot_lot)
 
   abbrev pub on_contract : Expr
   on_contract = equals_e entry_contract contract_contract
 
-  -- what these are read as
+  -- the compiled form of these conditions
   abbrev pub lot_test : Term
   lot_test = op2 And (equals (col (suc n) 2) (col n 1)) (equals (col (suc n) 3) (col n 2))
 
   abbrev pub contract_test : Term
   contract_test = equals (col (suc (suc n)) 1) (col (suc n) 0)
 
-  -- contracts and entries are joined, and that leaves so much of the budget
+  -- the joins of contracts and entries, each with the budget that is left after it
   abbrev pub lot_joints : (schema : Schema) (at : Trees4) → HoldsFour schema at → ℕ → ℕ → List (Joint schema)
   lot_joints schema at four b c =
       record { known = known_by four.contracts; on = on_lot; test = lot_test; left = b } ∷ record { known = known_by four.entries; on = on_contract; test = contract_test; left = c } ∷ []
 
-  -- a scope finds each of them
+  -- a scope finds each of these columns
   pub record FindsLots (cx : Context) : Type 0 where
     pub notice : Finds cx lot_notice
     pub lot : Finds cx lot_lot
@@ -133,7 +133,7 @@ module _ (n : ℕ) where
     amount = of_entries (codes "entries.amount") 3 (number_column (codes "amount")) (refl, refl, refl);
   }
 
-  -- both are read
+  -- both conditions are compiled
   module _ (cx : Context) (found : FindsLots cx) (next b : ℕ) (l : Carried) where
     pub lot_lowers : nat_lt 1 b ≡ true → nat_lt 1 (b - 1) ≡ true → nat_lt 1 (b - 1 - 1) ≡ true → nat_lt 1 (b - 1 - 1 - 1) ≡ true → nat_lt 1 (b - 1 - 1 - 1 - 1) ≡ true → nat_lt 1 (b - 1 - 1 - 1 - 1 - 1) ≡ true → nat_lt 1 (b - 1 - 1 - 1 - 1 - 1 - 1) ≡ true
         → lower cx on_lot (at_budget next b l) ≡ Ok (lot_test, at_budget next (b - 1 - 1 - 1 - 1 - 1 - 1 - 1) nothing)

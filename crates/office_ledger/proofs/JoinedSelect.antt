@@ -1,4 +1,4 @@
--- A SELECT of known tables that are joined one after another, in the order of columns: what its text means, whatever else the schema has.
+-- The meaning of a SELECT of known tables that are joined one after another, in the order of columns, in any schema that has them.
 use Rattle.std.proofs.Common.{◌≡◌, ◌+◌, nat_lt, length, negsuc, ◌∷◌, [], ◌++◌, List, Option, Some, None, Ok, true, false, ℕ, slice_get, refl, sym, ap, ◌∙◌, map}
 use Rattle.std.specs.List.{list_all}
 use Rattle.std.proofs.lemmas.List.{append_assoc, append-nil}
@@ -40,7 +40,7 @@ use Rattle.office_ledger.proofs.Scoped.{bound_of}
 use Rattle.office_ledger.proofs.Sources.{source_of, out_source, bound_is, source_is, left_joined, first_joined, joined_by}
 use Rattle.office_tables.proofs.Whole.{at_budget, among, compiled_to, compiles, draft_of, pages_whole}
 
--- ---- as a text is written
+-- ---- the parts of the text
 
 abbrev pub core_of : List Source → List Pick → Option Expr → Core
 core_of sources picks filter = roll-Core (record { distinct = false; shown = map shown_of picks; from = sources; filter = filter; group = []; having = None })
@@ -48,13 +48,13 @@ core_of sources picks filter = roll-Core (record { distinct = false; shown = map
 abbrev pub select_of : List Source → List Pick → List Pick → Option Expr → Select
 select_of sources picks sorts filter = roll-Select (record { with = []; first = core_of sources picks filter; others = []; order = map sort_of sorts; limit = None; offset = None })
 
--- what the grammar makes of a text: of these tables these columns, in the order of those
+-- the grammar reads a text as this: columns of these tables, in the order of these columns
 pub record IsWritten (text : List ℕ) (sources : List Source) (picks sorts : List Pick) (filter : Option Expr) : Type 0 where
   pub is : first text ≡ Ok (parsed_in (first text))
   pub statement : (parsed_in (first text)).statement ≡ written.Select (select_of sources picks sorts filter)
   pub formats : (parsed_in (first text)).formats ≡ []
 
--- ---- what stands in FROM
+-- ---- the tables of FROM
 
 -- a table that the schema has under a name
 pub record KnownTable (schema : Schema) : Type 0 where
@@ -67,7 +67,7 @@ pub record KnownTable (schema : Schema) : Type 0 where
 abbrev pub known_by : {schema : Schema} {name : Name} {columns : List Column} {key : Option ℕ} {tree : ℕ} → Holds schema name columns key tree → KnownTable schema
 known_by {schema} {name} h = record { name = name; place = h.place; table = h.table; named = h.named; found = h.found }
 
--- one that is joined to those before it: ON as it is written, what it is read as, and what that leaves of the budget
+-- a table that is joined to those before it: its ON as text and as a compiled term, and the budget that is left after it
 pub record Joint (schema : Schema) : Type 0 where
   pub known : KnownTable schema
   pub on : Expr
@@ -83,7 +83,7 @@ module _ (schema : Schema) where
   bounds_at slot [] = []
   bounds_at slot (j ∷ js) = bound_of j.known.name j.known.place slot ∷ bounds_at (slot + 1) js
 
-  -- the slot behind theirs
+  -- the next slot after these tables
   abbrev pub slot_after : ℕ → List (Joint schema) → ℕ
   slot_after slot [] = slot
   slot_after slot (j ∷ js) = slot_after (slot + 1) js
@@ -96,7 +96,7 @@ module _ (schema : Schema) where
   steps_after done [] = done
   steps_after done (j ∷ js) = steps_after (done ++ Left j.known.table.tree (conjuncts j.test) ∷ []) js
 
-  -- what each ON leaves of the budget, and carries
+  -- the budget that is left after all ONs, and the collation of the last one
   abbrev pub budget_after : ℕ → List (Joint schema) → ℕ
   budget_after b [] = b
   budget_after b (j ∷ js) = budget_after j.left js
@@ -120,7 +120,7 @@ module _ (schema : Schema) where
       rw (source_is schema (source_of true j.known.name (Some j.on)) j.known.name true (Some j.on) (out_source true j.known.name (Some j.on)) query schema slot) more
 
   module _ (bounds : List Bound) (shown : List Output) (next : ℕ) where
-    -- each ON is read, where a name is no alias, and names no table behind its own
+    -- each ON is compiled in a scope in which a name is no alias, and it names no table after its own
     abbrev pub AreRead : ℕ → ℕ → Carried → List (Joint schema) → Type 0
     AreRead slot b l [] = Unit {0}
     AreRead slot b l (j ∷ js) =
@@ -135,7 +135,7 @@ module _ (schema : Schema) where
         rw (joined_by schema bounds shown (record { steps = done; filter = [] }) j.known.name j.known.place slot j.on j.known.table (at_budget next b l) _ j.known.found
         (left_joined schema bounds shown (record { steps = done; filter = [] }) j.known.table.tree slot j.on j.test (at_budget next b l) (at_budget next j.left nothing) h.0 h.1)) more
 
-  -- ---- the whole: a table, those that are joined to it, the columns that are shown and those by whose order, and the test of WHERE as it is written and as it is read
+  -- ---- the whole select: the first table, the joined tables, the columns that are shown, those that give the order, and the test of WHERE
 
   module _ (head : KnownTable schema) (js : List (Joint schema)) (picks sorts : List Pick) (filter : Option Expr) (tests : List Term) (b : ℕ) (l : Carried) where
     abbrev pub sources : List Source
@@ -150,7 +150,7 @@ module _ (schema : Schema) where
     abbrev pub steps : List Step
     steps = steps_after (Inner head.table.tree ∷ []) js
 
-    -- of the result's columns, and of all else
+    -- the scope of the columns of the result, and that of all other parts
     abbrev pub result_scope : Context
     result_scope = among schema bounds [] true true
 
@@ -163,7 +163,7 @@ module _ (schema : Schema) where
     abbrev pub keys : List (Term × Key)
     keys = keys_of scope [] sorts
 
-    -- once the result's columns are read
+    -- the budget that is left after the columns of the result are read
     abbrev pub left : ℕ
     left = spent result_scope max_budget picks
 
@@ -182,7 +182,7 @@ module _ (schema : Schema) where
     abbrev meant_by : List ℕ → Compiled
     meant_by text = compiled_to (record { lets = []; body = query }) outs (parsed_in (first text))
 
-    -- each column is found, each ON and the test of WHERE are read, and slots and budget serve
+    -- each column is found, each ON and the test of WHERE are compiled, and slots and budget suffice
     pub record IsRead : Type 0 where
       pub few : nat_lt 64 (length sources) ≡ false
       pub room : HaveRoom 2 js
@@ -227,7 +227,7 @@ module _ (schema : Schema) where
       unfolding order.sorts
       sorts_is = sorts_are scope outs [] sorts next b l it.sorted it.later
 
-      -- the text means its query, where the types of this are right
+      -- the text means its query, if the kinds of its columns are right
       pub means : (text : List ℕ) → IsWritten text sources picks sorts filter → accepts_program schema [] query [] ≡ true → StatementMeans schema text (command.Select (record { lets = []; body = query }) names)
       means text is accepted =
           means_by schema text (meant_by text) (refl, refl)

@@ -48,7 +48,7 @@ picks = line_line ∷ line_appropriation ∷ line_free ∷ lot_picks 2
 abbrev pub sorts : List Pick
 sorts = line_line ∷ lot_sorts 2
 
--- ---- as the text is written
+-- ---- the parts of the text
 
 abbrev pub on_line : Expr
 on_line = equals_e (lot_line 2) line_line
@@ -160,7 +160,7 @@ module _ (schema : Schema) (at : Trees4) (four : HoldsFour schema at) where
     four.entries.columns_are,
   )
 
-  -- the trees are those that are known
+  -- the trees are those of the four tables
   query_is : query schema head joints picks sorts None [] 99975 nothing ≡ joined_query at
   query_is = λ i. joined_query (record { lines = four.lines.tree_is i; lots = four.lots.tree_is i; contracts = four.contracts.tree_is i; entries = four.entries.tree_is i })
 

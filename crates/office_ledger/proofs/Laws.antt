@@ -1,4 +1,4 @@
--- What the select shows of a connection.
+-- The rows that the selects show of a connection.
 use Rattle.std.proofs.Common.{◌≡◌, ◌^◌, ℕ, List, [], ◌∷◌, ◌++◌, map, false, refl, subst}
 use Rattle.std.specs.Prelude.{nat_le}
 use Rattle.sqlite_value.specs.declared.value.Value.TheVariants.{Null, Text}
@@ -20,7 +20,7 @@ use Rattle.office_ledger.proofs.LotsJoining.{lots_mean, lots_names}
 use Rattle.office_ledger.proofs.LotsShown.{shows_lots}
 use Rattle.office_ledger.proofs.Shown.{shows_joined}
 
--- no table of the statement's own stands before a stored one
+-- a stored table isn't hidden by a table that the statement computes
 pub stored_is : (db : Trees) (tree : ℕ) → nat_le (2 ^ 31) tree ≡ false → db tree ≡ overlay db [] tree
 stored_is db tree stored = rw stored refl
 

@@ -1,4 +1,4 @@
--- The rows of lines, one line after another, are the ledger.
+-- The rows of all lines, taken one line after another, give the ledger.
 use Rattle.std.specs.Prelude.{◌≡◌, ℕ, ◌-◌, ◌≤◌, Bool, true, false, cond, ◌&&◌, nat_eq, nat_le, List, [], ◌∷◌, ◌++◌, map, flat_map, Option, Some, None}
 use Rattle.std.proofs.Common.{refl, sym, ap, subst, ◌∙◌, arith}
 use Rattle.std.proofs.lemmas.Bool.{and_parts, and_from, leb-true, le-leb, eqb-true, eq-eqb}
@@ -34,7 +34,7 @@ use Rattle.office_ledger.proofs.Taken.{fold_rows-append, fold_rows-flat_map, gro
 same_itself : (a : List ℕ) → same_id a a ≡ true
 same_itself a = texts_ties a a ∙ ap is_eq (tied_itself nat_list_cmp_total a)
 
--- ---- the pots of a line
+-- ---- the balances of a line
 
 all_from_zero : {X : Type 0} (f g : X → ℕ) (xs : List X) → sum_over (λ x. f x - g x) xs ≡ 0 → AllByRecursion (λ x. f x ≤ g x) xs
 all_from_zero f g [] h = tt
@@ -44,12 +44,12 @@ zero_from_all : {X : Type 0} (f g : X → ℕ) (xs : List X) → AllByRecursion 
 zero_from_all f g [] h = refl
 zero_from_all f g (x ∷ xs) h = omega (arith, h.0, zero_from_all f g xs h.1)
 
--- the row of a line in the ledger; none where a sum is out of its range
+-- the row of a line in the ledger, or none if a sum of the line is out of its range
 abbrev pub IsLedgerRow : Tables → LineRow → Option LedgerRow → Type 0
 IsLedgerRow t row (Some ledger) = (ledger ≡ ledger_row t row) × LineFits row.line t
 IsLedgerRow t row None = ¬ (LineFits row.line t)
 
--- the ledger; none where a sum of a line is out of its range
+-- the ledger, or none if a sum of some line is out of its range
 abbrev pub IsLedger : Tables → Option (List LedgerRow) → Type 0
 IsLedger t (Some rows) = (rows ≡ ledger_of t) × LinesFit t
 IsLedger t None = ¬ (LinesFit t)
@@ -206,7 +206,7 @@ module _ (law : JoinedSums) (t : Tables) (sorted : IsSorted t) where
   none_and [] = refl
   none_and (r ∷ rs) = none_and rs
 
-  -- these rows, and those of lines that are left
+  -- these rows, followed by the rows of the remaining lines
   abbrev IsLedgerWith : List LedgerRow → List LineRow → Option (List LedgerRow) → Type 0
   IsLedgerWith rows rs (Some all) = (all ≡ rows ++ map (ledger_row t) rs) × AllByRecursion (λ (r : LineRow). LineFits r.line t) rs
   IsLedgerWith rows rs None = ¬ (AllByRecursion (λ (r : LineRow). LineFits r.line t) rs)
@@ -225,7 +225,7 @@ module _ (law : JoinedSums) (t : Tables) (sorted : IsSorted t) where
   ledger_with [] rows = (sym (append-nil rows), tt)
   ledger_with (r ∷ rs) rows = with_found r rs rows (λ more. ledger_with rs more) (found r) (row_is r)
 
-  -- the whole join adds up to the ledger
+  -- the sums of the whole join are the ledger
   pub adds_up : IsLedger t (closed (added (joined t)))
   adds_up = subst (IsLedger t) (sym (ap closed (fold_rows-flat_map take_row (joined_line t) t.lines nothing_added) ∙ lines_taken t.lines nothing_added sorted.lines tt)) (whole (and_rows t.lines (Some [])) (ledger_with t.lines []))
     where
@@ -233,7 +233,7 @@ module _ (law : JoinedSums) (t : Tables) (sorted : IsSorted t) where
       whole (Some all) h = h
       whole None h = h
 
--- ---- once a line doesn't fit, the ledger is none
+-- ---- after a line that doesn't fit, there is no ledger
 
 unfit_row : (r : JoinedRow) (s : Added) → s.rows ≡ None → (b : Bool) → (cond b s (record { rows = closed s; line = Some (line_opened r); sums = no_sums })).rows ≡ None
 unfit_row r s none true = none

@@ -1,4 +1,4 @@
--- The joined rows of lots make the sums of their contracts, lot by lot.
+-- The joined rows of lots give the sums of their contracts, lot by lot.
 use Rattle.std.specs.Prelude.{◌≡◌, ℕ, ◌-◌, ◌<◌, Bool, true, false, cond, ◌&&◌, List, [], ◌∷◌, ◌++◌, map, flat_map, Option, Some, None, Result, Ok, Err, OnOk}
 use Rattle.std.proofs.Common.{refl, sym, ap, ap₂, subst, ◌∙◌, arith}
 use Rattle.std.proofs.lemmas.List.{append_assoc, append-nil}
@@ -77,7 +77,7 @@ module _ (t : Tables) (x : LotRow) where
   abbrev head_of : JoinedLot
   head_of = with_contract x None
 
-  -- the first of these isn't coming
+  -- the first of these contracts isn't the current one
   abbrev pub IsNew : Option CurrentContract → List ContractRow → Type 0
   IsNew current [] = Unit {0}
   IsNew current (c ∷ cs) = is_current head_of c.contract current ≡ false
@@ -96,7 +96,7 @@ module _ (t : Tables) (x : LotRow) where
       ∙ contracts_listed cs (contract_listed t x c s) order.1 (next_is_new c (sums_of t.entries c) cs order.0)
       ∙ append_assoc (all_listed s) (sums_of t.entries c ∷ []) (map (sums_of t.entries) cs)
 
-  -- what is coming after them: as before, or of this lot
+  -- the current contract after them is the previous one, or one of this lot
   pub current_after : (cs : List ContractRow) (s : Listed) → IsInOrder nat_cmp contract_key cs → IsNew s.current cs → (P : Option CurrentContract → Type 0) → P s.current
       → ((c : ContractRow) (sums : ContractSums) → P (Some (current_with t x c sums))) → P (list_all cs s).current
   current_after [] s order new P was own = was
@@ -115,7 +115,7 @@ module _ (t : Tables) (sorted : IsSorted t) where
   contracts_in_order : (x : LotRow) → IsInOrder nat_cmp contract_key (contracts_of_lot (lot_key x) t)
   contracts_in_order x = in_order-filter nat_cmp_total contract_key _ t.contracts sorted.contracts
 
-  -- the contract that is coming is of a lot below all of these
+  -- the current contract is of a lot that comes before all of these
   abbrev IsBelow : List LotRow → Option CurrentContract → Type 0
   IsBelow xs None = Unit {0}
   IsBelow xs (Some k) = StartsAbove lot_cmp lot_key (k.notice, k.lot) xs
@@ -149,7 +149,7 @@ module _ (t : Tables) (sorted : IsSorted t) where
       ap all_listed (fold_rows-flat_map list_lot (joined_lot t) (lots_of_line line t) nothing_listed)
       ∙ lots_listed (lots_of_line line t) nothing_listed (in_order-filter lots_total lot_key _ t.lots sorted.lots) tt
 
--- ---- a row more
+-- ---- one more row
 
 pub listed_next : (rows : List JoinedLot) (row : JoinedLot) (old new : Listing) {T : Type 0} (result : Result T ShelfFault) → HasListed rows old
     → OnOk result (new ≡ record { reserved = list_reserved row old.reserved; contracts = record { listed = list_lot row old.contracts.listed; left = old.contracts.left - 1 } })

@@ -1,4 +1,4 @@
--- The rows of lots, one lot after another, and what they add up to.
+-- The rows of lots, one lot after another, and their sums.
 use Rattle.std.specs.Prelude.{◌≡◌, ℕ, ◌+◌, Bool, true, false, cond, ◌&&◌, List, [], ◌∷◌, ◌++◌, map, flat_map, Option, Some, None}
 use Rattle.std.proofs.Common.{refl, sym, ap, ◌∙◌, arith}
 use Rattle.std.specs.Ordering.{nat_cmp, is_eq, eq_by_cmp, ordering_then}
@@ -94,7 +94,7 @@ module _ (t : Tables) (sorted : IsSorted t) (l : LotRow) where
   settled_again : (s : LineSums) → s.contract ≡ None → settled s ≡ s
   settled_again s e = rw e refl
 
-  -- the sums once the lot's rows have come, its last contract counted
+  -- the sums after the lot's rows, with its last contract
   abbrev pub lot_sums : LineSums → LineSums
   lot_sums s = counted t (map (sums_of t.entries) contracts) (lot_begun s)
 
@@ -139,7 +139,7 @@ module _ (t : Tables) (sorted : IsSorted t) where
       subst_above : (current : Option (List ℕ × List ℕ)) → current ≡ Some (lot_key l) → LotsAbove current ls
       subst_above current e = rw e order.0
 
-  -- ---- what they add up to
+  -- ---- their sums
 
   counted_outstanding : (xs : List ContractSums) (s : LineSums) → (counted t xs s).outstanding ≡ s.outstanding + sum_over outstanding_in xs
   counted_outstanding [] s = omega arith

@@ -24,7 +24,7 @@ use Rattle.office_tables.proofs.Whole.{at_budget, among}
 use Rattle.office_ledger.proofs.JoinedSelect.{IsWritten, KnownTable, Joint, known_by, IsRead, query, means}
 use Rattle.office_ledger.proofs.JoinedColumns.{lot_line, lot_picks, lot_sorts, on_lot, on_contract, lot_joints, FindsLots, finds_lots, lot_lowers, contract_lowers}
 
--- ---- as the text is written
+-- ---- the parts of the text
 
 abbrev pub where_line : Expr
 where_line = given_e (lot_line 1) 1
@@ -112,7 +112,7 @@ module _ (schema : Schema) (at : Trees4) (four : HoldsFour schema at) where
     four.entries.columns_are,
   )
 
-  -- the trees are those that are known
+  -- the trees are those of the four tables
   query_is : query schema head joints (lot_picks 1) (lot_sorts 1) (Some where_line) is_of_line 99978 nothing ≡ lots_query at
   query_is = λ i. lots_query (record { lines = four.lines.tree_is i; lots = four.lots.tree_is i; contracts = four.contracts.tree_is i; entries = four.entries.tree_is i })
 

@@ -1,4 +1,4 @@
--- What the select over the lots of a line matches: the choices of the join, in any order.
+-- The rows that the select over a line's lots matches are the choices of the join, in any order.
 use Rattle.std.proofs.Common.{◌≡◌, ℕ, Bool, true, false, cond, ◌&&◌, List, [], ◌∷◌, ◌++◌, map, flat_map, filter, Some, None, refl, sym, ap, ap₂, ◌∙◌}
 use Rattle.std.specs.List.{list_all}
 use Rattle.std.specs.List.Sorted.{IsPermutation}
@@ -28,14 +28,14 @@ use Rattle.office_ledger.proofs.Cells.{number_null}
 use Rattle.office_ledger.proofs.Levels.{first_level, level, no_level}
 use Rattle.office_ledger.proofs.Nested.{with_last, with_contracts, lot_choices, lot_is}
 
--- a joined lot as the select puts it out: what it is sorted by, and what it shows
+-- a joined lot as the select shows it, with the columns that give its order
 abbrev pub out : JoinedLot → Output
 out l = (cells.lot_key (Some l), lot_cells (Some l))
 
 -- ---- the choices of the join
 
 module _ (t : Tables) (line : List ℕ) where
-  -- a lot counts where it is of the line
+  -- a lot is part of the answer if it is of the line
   abbrev if_of_line : LotRow → List Output
   if_of_line x = cond (of_line line x) (lot_choices out t x) []
 
@@ -132,7 +132,7 @@ module _ (at : Trees4) (lost : Value) (db : Trees) (t : Tables) (line : List ℕ
         by true e = one_lot e
         by false e = IsPermutation-same _ _ (nothing e)
 
-  -- all that is put out is the join
+  -- all rows that the select shows are the join
   pub lots_matched : IsPermutation (puts_out (lots_from at) (params ∷ [])) (map out (joined_lots line t))
   lots_matched = IsPermutation-trans _ _ _
       (IsPermutation-same _ _ (map-flat_map (output (lots_query at)) (λ r. matches_as lost db is_of_line from2 (params ∷ r ∷ [])) (db at.lots)))

@@ -1,4 +1,4 @@
--- What the select's FROM matches: the choices of the join, in any order.
+-- The rows that the select's FROM matches are the choices of the join, in any order.
 use Rattle.std.proofs.Common.{◌≡◌, ℕ, Bool, true, ◌&&◌, List, [], ◌∷◌, ◌++◌, map, flat_map, filter, Some, None, ap, ap₂, ◌∙◌}
 use Rattle.std.specs.List.{list_all}
 use Rattle.std.specs.List.Sorted.{IsPermutation}
@@ -27,13 +27,13 @@ use Rattle.office_ledger.proofs.Cells.{text_null, number_null}
 use Rattle.office_ledger.proofs.Levels.{first_level, level, no_level}
 use Rattle.office_ledger.proofs.Nested.{with_last, with_contracts, lot_out, with_lots, with_lines, choices}
 
--- a joined row as the select puts it out: what it is sorted by, and what it shows
+-- a joined row as the select shows it, with the columns that give its order
 abbrev pub out : JoinedRow → Output
 out r = (row_key r, joined_cells r)
 
 module _ (at : Trees4) (lost : Value) (db : Trees) (t : Tables) (params : Row)
     (lines : Show LineCells (db at.lines) t.lines) (lots : Show LotCells (db at.lots) t.lots) (contracts : Show ContractCells (db at.contracts) t.contracts) (entries : Show EntryCells (db at.entries) t.entries) where
-  -- what is put out of the matches of the rest of FROM
+  -- the rows that are shown for the matches of the rest of FROM
   abbrev puts_out : Join → Env → List Output
   puts_out from env = map (output (joined_query at)) (matches_as lost db [] from env)
 
@@ -53,7 +53,7 @@ module _ (at : Trees4) (lost : Value) (db : Trees) (t : Tables) (params : Row)
   from2 = left at.lots of_the_line from3
 
   module _ (r1 : Row) (l : LineRow) (c1 : LineCells r1 l) where
-    -- a line alone
+    -- a line without lots
     alone : puts_out end (params ∷ r1 ∷ [] ∷ [] ∷ [] ∷ []) ≡ with_lots out t l None
     alone = λ i. ((c1.line i ∷ Null ∷ Null ∷ Null ∷ Null ∷ []), (c1.line i ∷ c1.appropriation i ∷ c1.free i ∷ Null ∷ Null ∷ Null ∷ Null ∷ Null ∷ Null ∷ Null ∷ Null ∷ Null ∷ [])) ∷ []
 
@@ -68,7 +68,7 @@ module _ (at : Trees4) (lost : Value) (db : Trees) (t : Tables) (params : Row)
         ∙ alone
 
     module _ (r2 : Row) (x : LotRow) (c2 : LotCells r2 x) where
-      -- a lot alone
+      -- a lot without contracts
       lot_alone : puts_out end (params ∷ r1 ∷ r2 ∷ [] ∷ [] ∷ []) ≡ with_contracts (lot_out out t l) t x None
       lot_alone = λ i. ((c1.line i ∷ c2.notice i ∷ c2.lot i ∷ Null ∷ Null ∷ []), (c1.line i ∷ c1.appropriation i ∷ c1.free i ∷ c2.notice i ∷ c2.lot i ∷ c2.reserved i ∷ Null ∷ Null ∷ Null ∷ Null ∷ Null ∷ Null ∷ [])) ∷ []
 
@@ -113,7 +113,7 @@ module _ (at : Trees4) (lost : Value) (db : Trees) (t : Tables) (params : Row)
         (λ r x h. and_true (equal Binary (column r 4) (column r1 1)) ∙ ap₂ (equal Binary) h.line c1.line ∙ text_tested x.line l.line)
         one_lot (IsPermutation-same _ _ no_lot) (db at.lots) t.lots lots)
 
-  -- all that is put out is the join
+  -- all rows that the select shows are the join
   pub matched : IsPermutation (puts_out (joined_from at) (params ∷ [])) (map out (joined t))
   matched = IsPermutation-trans _ _ _
       (IsPermutation-same _ _ (map-flat_map (output (joined_query at)) (λ r. matches_as lost db [] from2 (params ∷ r ∷ [])) (db at.lines)))

@@ -1,4 +1,4 @@
--- The join of lists, level by level, as the nested choices that SQL makes.
+-- The join of lists, level by level, equals the nested choices that SQL makes.
 use Rattle.std.specs.Prelude.{◌≡◌, List, [], ◌∷◌, ◌++◌, map, flat_map, Option, Some, None, option_map}
 use Rattle.std.proofs.Common.{refl, sym, ap, ◌∙◌}
 use Rattle.std.proofs.lemmas.List.{append-nil}
@@ -31,7 +31,7 @@ or_none-full : {X : Type 0} (xs : List X) → IsFull xs → or_none xs ≡ map S
 or_none-full [] h = absurd h
 or_none-full (x ∷ xs) h = refl
 
--- the choices of one level: none, or one after another
+-- the choices of one level: `None`, or one element after another
 nested : {X Y Z : Type 0} (k : Option Y → Z) (rows : X → List Y) → ((x : X) → IsFull (rows x)) → (choose : Option X → List Z)
     → choose None ≡ k None ∷ [] → ((x : X) → choose (Some x) ≡ map (λ y. k (Some y)) (rows x)) → (xs : List X)
     → flat_map choose (or_none xs) ≡ map k (or_none (flat_map rows xs))
@@ -42,7 +42,7 @@ nested k rows full choose none some (x ∷ xs) =
     ∙ sym (map-flat_map (λ y. k (Some y)) rows (x ∷ xs))
     ∙ sym (ap (map k) (or_none-full (flat_map rows (x ∷ xs)) (full-append (rows x) (flat_map rows xs) (full x))) ∙ map-map k Some (flat_map rows (x ∷ xs)))
 
--- the last level: each is one row
+-- the last level, where each choice is one row
 last : {X Y Z : Type 0} (k : Option Y → Z) (f : X → Y) (xs : List X) → flat_map (λ o. k (option_map f o) ∷ []) (or_none xs) ≡ map k (or_none (map f xs))
 last k f [] = refl
 last k f (x ∷ xs) = ap (λ l. k (Some (f x)) ∷ l) (flat_map-map (λ o. k (option_map f o) ∷ []) Some xs ∙ more xs)
@@ -51,9 +51,9 @@ last k f (x ∷ xs) = ap (λ l. k (Some (f x)) ∷ l) (flat_map-map (λ o. k (op
     more [] = refl
     more (x ∷ xs) = ap (λ l. k (Some (f x)) ∷ l) (more xs)
 
--- the choices of a lot: one of its contracts, and one of the entries of this
+-- the choices for a lot: one of its contracts, and one of the entries of this contract
 module _ {Z : Type 0} (out : JoinedLot → Z) (t : Tables) where
-  -- with a contract chosen
+  -- the rows of a lot for a chosen contract
   abbrev pub with_last : LotRow → ContractRow → Option EntryRow → List Z
   with_last x c e = out (with_contract x (Some (with_entry c (option_map entry_part e)))) ∷ []
 
@@ -76,7 +76,7 @@ module _ {Z : Type 0} (out : JoinedLot → Z) (t : Tables) where
       ∙ sym (map-map out (with_contract x) (or_none (flat_map (joined_contract t) (contracts_of_lot (lot_key x) t))))
 
 module _ {Z : Type 0} (out : JoinedRow → Z) (t : Tables) where
-  -- with a line chosen
+  -- the rows of a line for a chosen lot
   abbrev pub lot_out : LineRow → JoinedLot → Z
   lot_out l y = out (with_lot l (Some y))
 

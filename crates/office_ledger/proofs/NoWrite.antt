@@ -1,4 +1,4 @@
--- A statement that has no RETURNING as it is written has none as it is understood, in whatever schema that is.
+-- A statement without RETURNING in its text has none in its compiled form, in any schema.
 use Rattle.std.proofs.Common.{◌≡◌, ◌+◌, Ok, Err, None, inl, inr, cond, ℕ, List, sym, ap, ◌∙◌}
 use Rattle.std.proofs.lemmas.Bool.{cases_Bool}
 use Rattle.sqlite_schema.specs.declared.schema.Schema.{Schema}
@@ -19,7 +19,7 @@ use Rattle.office_ledger.proofs.Joining.{joined_written, returns_none}
 no_answer : {x : CompileError} {c : Compiled} → ◌≡◌ {A = Checked Compiled} (Err x) (Ok c) → ⊥
 no_answer e = cc
 
--- what is understood is compiled in the schema, or in that of the listing
+-- a text is compiled in the schema, or in that of the catalog
 by_either : (a b : Checked Compiled) → ((c : Compiled) → a ≡ Ok c → c.returning ≡ None) → ((c : Compiled) → b ≡ Ok c → c.returning ≡ None)
     → (c : Compiled) → cond (misses_table a) (if_select b) a ≡ Ok c → c.returning ≡ None
 by_either (Ok d) b ha hb c e = ha c e

@@ -1,4 +1,4 @@
--- Why what is joined isn't read, where it may be absent.
+-- The reason why an optional part of a row isn't read.
 use Rattle.std.proofs.Common.{◌≡◌, Bool, false, Option, None, Some, Result, sym, ◌∙◌, true≢false}
 use Rattle.std.specs.Prelude.{IfErr, IfSome, IsTrue, ◌↔◌}
 use Rattle.std.specs.Result.{IsErrAnd}
@@ -12,7 +12,7 @@ neither : {Y : Type 0} (cells : Option Y → Row) (fits : Y → Type 0) (row : R
 neither cells fits row none h None f e = none e
 neither cells fits row none h (Some y) f e = h.none y f e
 
--- it isn't absent, and it isn't written so
+-- the part isn't absent, and no valid part has these columns
 pub not_read : {T Y : Type 0} (cells : Option Y → Row) (fits : Y → Type 0) (row : Row) (absent : Bool) → (IsTrue absent ↔ (cells None ≡ row)) → absent ≡ false → (e : ShelfFault) (r : Result T ShelfFault)
     → IsErrAnd r (λ y. y ≡ e) → IsFaultOf (IsUnwritten (λ y. cells (Some y)) fits row) e → IfErr r (IsFaultOf (IsUnwritten cells (λ o. IfSome o fits) row))
 not_read cells fits row absent tested there e r same h =

@@ -1,4 +1,4 @@
--- Columns that are named with their tables, in a scope of several tables, whatever else the schema has.
+-- Columns that are named with their tables, in a scope of several tables, in any schema that has them.
 use Rattle.std.proofs.Common.{◌≡◌, ◌∷◌, [], ◌++◌, ◌-◌, List, Ok, None, Some, refl, ap, ◌∙◌, false, true, ℕ, zero, suc, slice_get, nat_lt, map}
 use Rattle.sqlite_value.specs.declared.keys.Collation.TheVariants.{Binary}
 use Rattle.sqlite_value.specs.declared.keys.Key.{Key}
@@ -31,11 +31,11 @@ use Rattle.office_tables.proofs.Simple.{out_parameter}
 use Rattle.office_tables.proofs.Whole.{at_budget}
 use Rattle.office_tables.proofs.LoweredTests as tests
 
--- what a column of a table carries
+-- the collation of a column of a table
 abbrev pub plainly : Carried
 plainly = record { collation = Some Binary; is_written = false }
 
--- and what its rowid does
+-- the collation of the rowid, and of the other columns
 abbrev pub carried_by : ℕ → Carried
 carried_by zero = nothing
 carried_by (suc place) = plainly
@@ -52,7 +52,7 @@ chosen_is zero (suc b) = refl
 chosen_is (suc a) zero = refl
 chosen_is (suc a) (suc b) = refl
 
--- a column as a text names it: with the name of its table, the slot of that, its place in it and in a row, and how the text writes it
+-- A column as a text names it: its table, its text, the slot of the table, its place in the table and in a row, and its declaration.
 pub record Pick : Type 0 where
   pub table : Name
   pub text : Name
@@ -217,7 +217,7 @@ unfolding everything
 out_given p m = refl
 
 module _ (cx : Context) (p : Pick) (h : Finds cx p) (kind : of_declared p.column ≡ affinity.Text) where
-  -- a column of texts against the first parameter
+  -- the first parameter, compared with a column of texts
   abbrev pub given : Term
   given = op2 (by.Compare compare.Eq Binary) (term_of_pick p) (col 0 0)
 

@@ -1,4 +1,4 @@
--- The joined rows of lots tell what each lot has reserved, at the first of its rows.
+-- The joined rows of lots give the reserved amount of each lot, at the first of its rows.
 use Rattle.std.specs.Prelude.{◌≡◌, ℕ, Bool, true, false, cond, List, [], ◌∷◌, ◌++◌, map, flat_map, None}
 use Rattle.std.proofs.Common.{refl, sym, ap, ◌∙◌}
 use Rattle.std.proofs.lemmas.List.{append_assoc, append-nil}
@@ -14,7 +14,7 @@ use Rattle.office_base.proofs.RowLaws.Filters.{in_order-filter}
 use Rattle.office_ledger.proofs.Lots.{same_itself, LotsAbove, not_open}
 use Rattle.office_ledger.proofs.Taken.{fold_rows-flat_map, grouped}
 
--- rows that change nothing
+-- rows that change nothing leave the state as it is
 none_counts : {X S : Type 0} (xs : List X) (s : S) → fold_rows (λ x s. s) xs s ≡ s
 none_counts [] s = refl
 none_counts (x ∷ xs) s = none_counts xs s

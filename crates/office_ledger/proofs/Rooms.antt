@@ -1,4 +1,4 @@
--- Room for the sums of a line: each row takes at most three amounts of it.
+-- The sums of a line stay below 2^128: each row adds at most three amounts.
 use Rattle.std.specs.Prelude.{◌≡◌, ℕ, ◌+◌, ◌^◌, ◌≤◌, Some}
 use Rattle.std.proofs.Common.{ap, arith}
 use Rattle.office_base.specs.EntrySums.{sums_with_entry}
@@ -19,7 +19,7 @@ kind_within Raise amount x h = record { gained = omega (arith, h); lost = omega 
 kind_within Cut amount x h = record { gained = omega arith; lost = omega (arith, h); paid = omega arith }
 kind_within Payment amount x h = record { gained = omega arith; lost = omega (arith, h); paid = omega (arith, h) }
 
--- an entry takes one
+-- an entry adds one amount
 pub entry_room : (k : EntryKind) (amount number : ℕ) (s : LineSums) (current : OpenContract) (sums : ContractSums) → s.contract ≡ Some current → sums ≡ sums_with_entry k amount current.sums → amount ≤ 2 ^ 50
     → (n : ℕ) → HasRoom (n + 1) s → HasRoom n (record s { contract = Some (record { contract = number; sums = sums }) })
 entry_room k amount number s current sums is are bound n h =
@@ -34,7 +34,7 @@ entry_room k amount number s current sums is are bound n h =
       paid = omega (arith, h.paid, w.paid, p, ap (λ (x : ContractSums). x.paid) are);
     }
 
--- less room is there too
+-- if more amounts can be added, fewer can
 pub less_room : (s : LineSums) (m n : ℕ) → n ≤ m → HasRoom m s → HasRoom n s
 less_room s m n less h = record {
   reserved = omega (arith, h.reserved, less);

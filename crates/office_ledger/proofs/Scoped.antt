@@ -1,4 +1,4 @@
--- Scopes of known tables: their columns are found.
+-- Scopes of known tables find the columns of these tables.
 use Rattle.std.proofs.Common.{◌≡◌, ◌∷◌, [], List, Option, Some, None, Ok, Bool, true, false, ℕ, suc, slice_get, codes, refl, sym, ap, ◌∙◌, arith}
 use Rattle.std.specs.List.{position_from}
 use Rattle.sqlite_value.specs.declared.keys.Collation.TheVariants.{Binary}
@@ -20,14 +20,14 @@ use Rattle.office_tables.proofs.Whole.{among}
 abbrev pub bound_of : Name → ℕ → ℕ → Bound
 bound_of name at slot = record { name = name; table = at; slot = slot; shared = [] }
 
--- where a column that is no rowid stands in a row, and what it carries
+-- the place in a row of a column that isn't the rowid, and its collation
 placed_is : (table : Table) (k : ℕ) → is_key table.key k ≡ false → place_of table k ≡ suc k
 placed_is table k apart = rw apart (omega arith)
 
 carries_is : (table : Table) (k : ℕ) (c : Column) → is_key table.key k ≡ false → c.collation ≡ Binary → declared table k c ≡ plainly
 carries_is table k c apart plain = rw (apart, plain) refl
 
--- the column stands at this place among these
+-- the column is at this place among these columns
 abbrev pub Has : List Column → ℕ → Column → Type 0
 Has columns k c = (position_from (λ d. same_name d.name c.name) 0 columns ≡ Some k) × (slice_get columns k ≡ Some c) × (c.collation ≡ Binary)
 

@@ -24,7 +24,7 @@ use Rattle.sqlite_resolve.specs.Program as program
 use Rattle.office_ledger.proofs.Scoped.{bound_of}
 use Rattle.office_tables.proofs.Whole.{at_budget, among}
 
--- ---- as the text is written
+-- ---- the parts of the text
 
 abbrev pub source_of : Bool → Name → Option Expr → Source
 source_of is_left name on = roll-Source (record { is_left = is_left; origin = origin.Table name; alias = None; on = on; using = [] })

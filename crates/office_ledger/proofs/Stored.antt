@@ -1,4 +1,4 @@
--- Rows that stand for a table show its records, in some order.
+-- Rows that hold a table show its records, in some order.
 use Rattle.std.proofs.Common.{◌≡◌, inl, inr, true, false, List, [], ◌∷◌, map, refl, sym, ap, subst, Ordering, Less, Equal, Greater, true≢false}
 use Rattle.std.specs.List.{AllByRecursion}
 use Rattle.std.specs.List.Sorted.{IsPermutation}

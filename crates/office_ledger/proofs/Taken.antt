@@ -1,4 +1,4 @@
--- Rows that come one after another: in several lists, and in groups that each have a head.
+-- Rows that are taken one after another, in several lists, and in groups that each have a head.
 use Rattle.std.specs.Prelude.{◌≡◌, List, [], ◌∷◌, ◌++◌, map, flat_map, Option, Some, None}
 use Rattle.std.proofs.Common.{refl, ap, ◌∙◌}
 use Rattle.office_ledger.specs.Joins.{or_none}
@@ -13,7 +13,7 @@ module _ {R S : Type 0} (take : R → S → S) where
   fold_rows-flat_map rows [] s = refl
   fold_rows-flat_map rows (x ∷ xs) s = fold_rows-append (rows x) (flat_map rows xs) s ∙ fold_rows-flat_map rows xs (fold_rows take (rows x) s)
 
--- a group: its first row enters it, the others stay in it
+-- a group: its first row enters it, and the other rows stay in it
 module _ {R S X : Type 0} (take : R → S → S) (wrap : Option X → R) (enter : S → S) (inner : X → S → S) (IsIn : S → Type 0)
     (none : (s : S) → take (wrap None) s ≡ enter s)
     (some : (x : X) (s : S) → take (wrap (Some x)) s ≡ inner x (enter s))

@@ -1,4 +1,4 @@
--- What rows of the four tables show of records, and what the select shows of joined rows.
+-- The columns of rows that the selects read, for records of the four tables and for joined rows.
 use Rattle.std.specs.Prelude.{◌≡◌, pos, List, [], ◌∷◌, Option, Some, None}
 use Rattle.std.specs.List.Sorted.{IsPermutation}
 use Rattle.sqlite_value.specs.declared.value.Value.{Value}
@@ -14,7 +14,7 @@ use Rattle.office_ledger.specs.declared.joined.JoinedLot.{JoinedLot}
 use Rattle.office_ledger.specs.declared.joined.JoinedContract.{JoinedContract}
 use Rattle.office_ledger.specs.declared.joined.JoinedEntry.{JoinedEntry}
 
--- the columns that the select reads, counted from 1; the key of a contract is its rowid, at 0
+-- The columns of a stored row that a select reads, counted from 1. The key of a contract is its rowid, in column 0.
 pub record LineCells (r : Row) (x : LineRow) : Type 0 where
   pub line : column r 1 ≡ Text x.line
   pub appropriation : column r 3 ≡ Int (pos x.appropriation)
@@ -39,7 +39,7 @@ pub record EntryCells (r : Row) (x : EntryRow) : Type 0 where
   pub kind : column r 3 ≡ Text (entry_kind_text x.kind)
   pub amount : column r 4 ≡ Int (pos x.amount)
 
--- each row shows a record
+-- each row shows the record at the same place
 abbrev pub Paired : {X : Type 0} → (Row → X → Type 0) → List Row → List X → Type 0
 Paired cells [] [] = Unit {0}
 Paired cells [] (x ∷ xs) = ⊥
@@ -52,8 +52,9 @@ pub record Show {X : Type 0} (cells : Row → X → Type 0) (rows : List Row) (x
   pub paired : Paired cells rows stored
   pub same : IsPermutation stored xs
 
--- ---- a joined row: its key, and its cells
+-- ---- a joined row: the columns of its key, and the columns of the answer
 
+-- the value of a part, or NULL if the row doesn't have it
 abbrev pub perhaps : {X : Type 0} → (X → Value) → Option X → Value
 perhaps cell None = Null
 perhaps cell (Some x) = cell x
@@ -66,6 +67,7 @@ abbrev pub entry_in : Option JoinedContract → Option JoinedEntry
 entry_in None = None
 entry_in (Some c) = c.entry
 
+-- the key of a joined row, part by part: its entry, its contract, the notice and identifier of its lot, and its line
 abbrev pub entry_key : Option JoinedEntry → Row
 entry_key e = perhaps (λ (e : JoinedEntry). Text e.entry) e ∷ []
 
@@ -78,6 +80,7 @@ lot_key l = perhaps (λ (l : JoinedLot). Text l.notice) l ∷ perhaps (λ (l : J
 abbrev pub row_key : JoinedRow → Row
 row_key r = Text r.line ∷ lot_key r.lot
 
+-- the columns of a joined row in the answer, part by part: its entry, its contract, its lot, and its line
 abbrev pub entry_cells : Option JoinedEntry → Row
 entry_cells e = perhaps (λ (e : JoinedEntry). Text e.entry) e ∷ perhaps (λ (e : JoinedEntry). Text (entry_kind_text e.kind)) e ∷ perhaps (λ (e : JoinedEntry). Int (pos e.amount)) e ∷ []
 

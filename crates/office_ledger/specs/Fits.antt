@@ -1,4 +1,4 @@
--- The range of each field of a joined row, as the types of the records keep it.
+-- The ranges of the fields of joined rows. The types of the records keep them.
 use Rattle.std.specs.Prelude.{◌≤◌, IfSome}
 use Rattle.office_values.specs.Ids.{IsId}
 use Rattle.office_values.specs.Money.{amount_limit, total_limit}
@@ -8,7 +8,7 @@ use Rattle.office_ledger.specs.declared.joined.JoinedLot.{JoinedLot}
 use Rattle.office_ledger.specs.declared.joined.JoinedContract.{JoinedContract}
 use Rattle.office_ledger.specs.declared.joined.JoinedEntry.{JoinedEntry}
 
--- the fields of each part are in their ranges
+-- each field is in its range, and each part of the row fits
 abbrev pub EntryFits : JoinedEntry → Type 0
 EntryFits x = IsId x.entry × IsSum x.amount
 

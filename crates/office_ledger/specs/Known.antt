@@ -1,4 +1,4 @@
--- What is known of a schema in which the four tables stand, whatever else stands there.
+-- When a schema has the four tables of the join, whatever other tables it has.
 use Rattle.std.specs.Prelude.{◌≡◌, ◌^◌, ◌==◌, ℕ, Option, Some, None, false, List, codes, slice_get, nat_le, find}
 use Rattle.sqlite_schema.specs.declared.schema.Column.{Column}
 use Rattle.sqlite_schema.specs.declared.schema.Table.{Table}
@@ -23,7 +23,7 @@ contract_columns = contracts.columns
 abbrev pub entry_columns : List Column
 entry_columns = entries.columns
 
--- the schema has a table of this name with these columns at this tree, and its rowid is this column of it, or none
+-- the schema has a table of this name with these columns in this tree; its rowid is column `key`, if any
 pub record Holds (schema : Schema) (name : List ℕ) (columns : List Column) (key : Option ℕ) (tree : ℕ) : Type 0 where
   pub place : ℕ
   pub table : Table
@@ -32,11 +32,12 @@ pub record Holds (schema : Schema) (name : List ℕ) (columns : List Column) (ke
   pub columns_are : table.columns ≡ columns
   pub key_is : table.key ≡ key
   pub tree_is : table.tree ≡ tree
-  -- no other table has the tree
+  -- no other table has this tree
   pub alone : find (λ t. t.tree == tree) schema.tables ≡ Some table
-  -- it is stored, and not one that a statement computes
+  -- the table is stored, and isn't one that a statement computes
   pub stored : nat_le (2 ^ 31) tree ≡ false
 
+-- the schema has the four tables, with their columns, in these trees
 pub record HoldsFour (schema : Schema) (at : Trees4) : Type 0 where
   pub lines : Holds schema (codes "lines") line_columns None at.lines
   pub lots : Holds schema (codes "lots") lot_columns None at.lots

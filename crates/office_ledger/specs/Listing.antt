@@ -1,14 +1,14 @@
--- What a list of amounts has taken.
+-- The rows that a list of amounts has taken so far.
 use Rattle.std.specs.Prelude.{◌≡◌, ◌+◌, ◌-◌, ◌^◌, List, length}
 use Rattle.office_ledger.specs.Inside.Listing.{listed, ContractListing, LotListing, all_reserved}
 use Rattle.office_ledger.specs.declared.joined.JoinedLot.{JoinedLot}
 
--- what a list of amounts is: what lots have reserved so far, and what contracts come to
+-- a list of amounts: the reserved amounts of lots, and the sums of contracts
 pub record Listing : Type 0 where
   pub reserved : LotListing
   pub contracts : ContractListing
 
--- it has taken these rows
+-- the list has taken exactly these rows, and counted them
 pub record HasListed (rows : List JoinedLot) (s : Listing) : Type 0 where
   pub reserved : s.reserved ≡ all_reserved rows
   pub sums : s.contracts.listed ≡ listed rows

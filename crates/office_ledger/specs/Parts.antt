@@ -1,4 +1,4 @@
--- The columns of a row in which an entry, a contract with its entry, or a lot with its contract stands, from one on.
+-- The columns of a row, from one on, that hold an entry, a contract with its entry, or a lot with its contract.
 use Rattle.std.specs.Prelude.{ℕ, ◌+◌, ◌++◌}
 use Rattle.sqlite_value.specs.Order.{Row}
 use Rattle.office_tables.specs.Values.{three_from}

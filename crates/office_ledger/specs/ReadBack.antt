@@ -1,4 +1,4 @@
--- What the selects show is read back.
+-- Joined rows are read back from the rows of the selects.
 use Rattle.std.specs.Prelude.{◌≡◌, List, map}
 use Rattle.office_ledger.specs.declared.joined.JoinedRow.{JoinedRow}
 use Rattle.office_ledger.specs.declared.joined.JoinedLot.{JoinedLot}

@@ -1,4 +1,4 @@
--- One select that joins lines, lots, contracts and entries, and shows them in the order of their keys.
+-- The select that joins lines, lots, contracts and entries, and shows them in the order of their keys.
 use Rattle.std.specs.Prelude.{ℕ, List, [], ◌∷◌, codes, None, false, pos, negsuc}
 use Rattle.sqlite_value.specs.declared.value.Value.TheVariants.{Int}
 use Rattle.sqlite_value.specs.declared.keys.Collation.TheVariants.{Binary}
@@ -21,7 +21,7 @@ pub record Trees4 : Type 0 where
   pub contracts : ℕ
   pub entries : ℕ
 
--- lots of the line, contracts of the lot, entries of the contract
+-- the conditions of the joins: lots of the line, contracts of the lot, entries of the contract
 abbrev pub of_the_line : List Term
 of_the_line = equals (col 2 4) (col 1 1) ∷ []
 
@@ -31,9 +31,11 @@ of_the_lot = equals (col 3 2) (col 2 1) ∷ equals (col 3 3) (col 2 2) ∷ []
 abbrev pub of_the_contract : List Term
 of_the_contract = equals (col 4 1) (col 3 0) ∷ []
 
+-- the joins of FROM
 abbrev pub joined_from : Trees4 → Join
 joined_from at = inner at.lines (left at.lots of_the_line (left at.contracts of_the_lot (left at.entries of_the_contract end)))
 
+-- the meaning of the text as a query
 abbrev pub joined_query : Trees4 → Query
 joined_query at = record {
   from = joined_from at;

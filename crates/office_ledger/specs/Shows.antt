@@ -1,4 +1,4 @@
--- What the select of joined rows shows of a database that holds an office's lines, lots, contracts and entries, whatever else it holds.
+-- The selects show the joins, in any database that holds an office's lines, lots, contracts and entries.
 use Rattle.std.specs.Prelude.{◌≡◌, ℕ, List, [], ◌∷◌, ◌++◌, map, Some}
 use Rattle.sqlite_value.specs.declared.value.Value.TheVariants.{Text}
 use Rattle.sqlite_value.specs.Order.{Row}
@@ -14,7 +14,7 @@ use Rattle.office_ledger.specs.SelectLots.{list_joined_of_line}
 use Rattle.office_ledger.specs.Known.{HoldsFour}
 use Rattle.office_ledger.specs.Cells.{LineCells, LotCells, ContractCells, EntryCells, Show, joined_cells, lot_cells}
 
--- the four tables stand in the database, and their rows show those of the office
+-- the database has the four tables, and their rows show the records of the office
 pub record HoldsJoined (db : Database) (t : Tables) : Type 0 where
   pub at : Trees4
   pub four : HoldsFour db.schema at
@@ -24,23 +24,25 @@ pub record HoldsJoined (db : Database) (t : Tables) : Type 0 where
   pub contracts : Show ContractCells (db.trees at.contracts) t.contracts
   pub entries : Show EntryCells (db.trees at.entries) t.entries
 
--- the whole answer is the join, in the order of its keys
+-- the whole answer of the select is the join, in the order of its keys
 abbrev pub JoinIsShown : {S : Type 0} → Ghosts S → Type 0
 JoinIsShown {S} g = (old new : Held S) (t : Tables) (rows : List Row) → HoldsJoined (state g old).now t → Shown list_joined [] (state g old) (state g new) rows → rows ≡ map joined_cells (joined t)
 
--- the first rows of the answer are the first of the join
+-- the rows that the select has shown so far are the first rows of the join
 abbrev pub JoinIsBegun : {S : Type 0} → Ghosts S → Type 0
 JoinIsBegun {S} g = (held : Held S) (t : Tables) (rows : List Row) → HoldsJoined (state g held).now t → Begins list_joined [] (state g held) rows → (rest : List Row) × (rows ++ rest ≡ map joined_cells (joined t))
 
--- the same of the lots of a line
+-- the columns of a joined lot in the answer of the select for one line
 abbrev pub joined_lot_cells : JoinedLot → Row
 joined_lot_cells l = lot_cells (Some l)
 
+-- the whole answer of the select for one line is the join of the line's lots
 abbrev pub LotsAreShown : {S : Type 0} → Ghosts S → Type 0
 LotsAreShown {S} g =
     (old new : Held S) (t : Tables) (line : List ℕ) (rows : List Row) → HoldsJoined (state g old).now t → Shown list_joined_of_line (Text line ∷ []) (state g old) (state g new) rows
     → rows ≡ map joined_lot_cells (joined_lots line t)
 
+-- the rows that the select for one line has shown so far are the first rows of the join of the line's lots
 abbrev pub LotsAreBegun : {S : Type 0} → Ghosts S → Type 0
 LotsAreBegun {S} g =
     (held : Held S) (t : Tables) (line : List ℕ) (rows : List Row) → HoldsJoined (state g held).now t → Begins list_joined_of_line (Text line ∷ []) (state g held) rows

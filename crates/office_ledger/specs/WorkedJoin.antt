@@ -1,4 +1,4 @@
--- A worked example of the join: the office of office_base's example.
+-- A worked example: the join of the office in the example of `office_base`.
 use Rattle.std.specs.Prelude.{ℕ, List, [], ◌∷◌, Option, Some, None, codes}
 use Rattle.office_base.specs.declared.records.EntryKind.TheVariants.{Payment}
 use Rattle.office_ledger.specs.declared.joined.JoinedRow.{JoinedRow}
@@ -18,7 +18,7 @@ lot name reserved contract = record { notice = codes "N1"; lot = name; reserved 
 abbrev roads : Option JoinedLot → JoinedRow
 roads lot = record { line = codes "1000"; appropriation = 1000; free = 820; lot = lot }
 
--- lot A with a contract of 100 and two payments of 10; lot B with one of 50; lot C, which has reserved 30; a line without lots
+-- Lot A has a contract of 100 with two payments of 10, lot B has one of 50, and lot C has reserved 30. The other line has no lots.
 abbrev pub worked_join : List JoinedRow
 worked_join =
     roads (Some (lot (codes "A") 0 (Some (contract 1 100 (Some (payment (codes "P1")))))))

@@ -1,4 +1,4 @@
-//! What the rows of the selects add up to.
+//! Adds up the rows of the selects.
 ghost use Rattle.std.specs.Prelude.{◌≡◌, ℕ, List, map, IfOk};
 ghost use Rattle.office_base.specs.Joined.{amounts_of_line, ledger_of, LinesFit};
 ghost use Rattle.office_base.specs.Tables.{Tables, IsSorted};
@@ -14,7 +14,7 @@ use office_base::shelf::ShelfFault;
 use sqlite::Row;
 use std::alloc::Global;
 
-/// The ledger, from the rows of the select of all lines. A row that no office writes and a sum out of its range are faults of the store.
+/// The ledger, from the rows of the select of all lines. A row that no office writes, and a sum out of its range, are faults of the store.
 pub fn ledger_of_rows(alloc: Global, rows: &[Row]) -> Result<Vec<LedgerRow>, ShelfFault>
     ensures { (t : Tables) → IsSorted t → rows.now ≡ map joined_cells (joined t) → IfOk result (λ ledger. (ledger.items ≡ ledger_of t) × LinesFit t) }
 {
@@ -29,8 +29,8 @@ pub fn ledger_of_rows(alloc: Global, rows: &[Row]) -> Result<Vec<LedgerRow>, She
     sums.finish()
 }
 
-/// What the lots of a line have reserved and their contracts come to, from the rows of the select of these lots, each taken once. A row
-/// that no office writes is a fault of the store.
+/// The reserved amounts of a line's lots and the sums of their contracts, from the rows of the select of these lots. Each lot and each contract counts once.
+/// A row that no office writes is a fault of the store.
 pub fn amounts_of_rows(alloc: Global, rows: &[Row]) -> Result<LineAmounts, ShelfFault>
     ensures { (t : Tables) (line : List ℕ) → IsSorted t → rows.now ≡ map joined_lot_cells (joined_lots line t) → IfOk result (λ amounts. amounts ≡ amounts_of_line line t) }
 {

@@ -1,4 +1,4 @@
-//! What the lots of a line have reserved and their contracts come to, from the joined rows of these lots as they come.
+//! The reserved amounts of a line's lots and the sums of their contracts, from joined rows, one after another.
 ghost use Rattle.std.specs.Prelude.{◌≡◌, ◌≤◌, ◌-◌, ◌^◌, ◌<◌, ◌++◌, ℕ, List, [], ◌∷◌, length, OnOk, OnErr, IfOk, IfErr};
 ghost use Rattle.office_base.specs.Faults.{IsFaultOf};
 ghost use Rattle.office_base.specs.Joined.{amounts_of_line};
@@ -19,7 +19,7 @@ use office_values::money::Amount;
 use std::alloc::Global;
 use std::marker::Model;
 
-/// What lots have reserved and their contracts come to, as the joined rows of these lots come.
+/// The reserved amounts of lots and the sums of their contracts, from the joined rows that were taken so far.
 #[derive(Drop)]
 pub struct AmountList {
     reserved: Vec<Amount>,
@@ -66,7 +66,7 @@ impl AmountList {
             self.contracts.take(lot)?;
             return Ok(());
         }
-        // Room first, so that a fault leaves both as they were.
+        // First there must be memory, so that a fault leaves both lists as they were.
         let Ok(()) = self.reserved.reserve(1) else {
             return Err(ShelfFault::NoMemory);
         };
@@ -76,8 +76,7 @@ impl AmountList {
         Ok(())
     }
 
-    /// Takes a row more: a lot tells at the first of its rows what it has reserved, and a contract counts at the first of its own. A fault
-    /// leaves the list as it was.
+    /// Takes one more row. A lot counts at the first of its rows, and so does a contract. A fault leaves the list as it was.
     pub fn take(&mut self, lot: JoinedLot) -> Result<(), ShelfFault>
         ensures taken { (rows : List JoinedLot) → HasListed rows self.old → OnOk result (HasListed (rows ++ lot ∷ []) self.new) }
         ensures kept { OnErr result (self.new ≡ self.old) }
@@ -86,7 +85,7 @@ impl AmountList {
         self.add(&lot)
     }
 
-    /// The amounts of a line, where all joined rows of its lots were taken.
+    /// The amounts of a line, after all joined rows of its lots were taken.
     pub fn finish(self) -> Result<LineAmounts, ShelfFault>
         ensures amounts { (t : Tables) (line : List ℕ) → IsSorted t → HasListed (joined_lots line t) self → IfOk result (λ amounts. amounts ≡ amounts_of_line line t) }
         ensures fault { IfErr result (λ e. e ≡ NoMemory) }

@@ -1,4 +1,4 @@
-//! The sums of a line's contracts, added up from the joined rows of its lots as they come.
+//! The sums of the contracts of a line's lots, from joined rows, one after another.
 ghost use Rattle.std.specs.Prelude.{◌≡◌, ◌-◌, ◌^◌, ◌<◌, OnOk, OnErr, IfOk, IfErr, None};
 ghost use Rattle.office_base.specs.Faults.{IsFaultOf};
 ghost use Rattle.office_base.specs.declared.shelf.ShelfFault.TheVariants.{NoMemory};
@@ -12,7 +12,7 @@ use office_values::id::Id;
 use std::alloc::Global;
 use std::marker::Model;
 
-/// The contract whose rows are coming, and what it comes to so far.
+/// The contract whose rows come now, with its sums so far.
 #[derive(Clone, Copy)]
 pub struct CurrentContract {
     notice: Id,
@@ -21,7 +21,7 @@ pub struct CurrentContract {
     sums: ContractSums,
 }
 
-/// What contracts come to, as the joined rows of their lots come.
+/// The sums of contracts, from the joined rows that were taken so far.
 #[derive(Drop)]
 pub struct ContractList {
     done: Vec<ContractSums>,
@@ -65,7 +65,7 @@ impl ContractList {
         }
     }
 
-    // Counts the contract whose rows were coming among those that are done.
+    // Adds the current contract to those that are complete.
     fn end_contract(&mut self) -> Result<(), ShelfFault>
         ensures ended { OnOk result (self.new ≡ record { listed = record { done = all_listed self.old.listed; current = None }; left = self.old.left }) }
         ensures kept { OnErr result (self.new ≡ self.old) }
@@ -83,7 +83,7 @@ impl ContractList {
         }
     }
 
-    // The first row of a contract ends the one before.
+    // The first row of a contract completes the contract before it.
     fn enter(&mut self, lot: &JoinedLot, contract: &JoinedContract) -> Result<(), ShelfFault>
         ensures entered { OnOk result (self.new ≡ record { listed = enter_listed lot.now contract.now self.old.listed; left = self.old.left }) }
         ensures kept { OnErr result (self.new ≡ self.old) }
@@ -106,7 +106,7 @@ impl ContractList {
         Ok(())
     }
 
-    /// Takes a row more: a contract counts at the first of its rows. A fault leaves the list as it was.
+    /// Takes one more row. A contract counts at the first of its rows. A fault leaves the list as it was.
     pub fn take(&mut self, lot: &JoinedLot) -> Result<(), ShelfFault>
         ensures taken { OnOk result (self.new ≡ record { listed = list_lot lot.now self.old.listed; left = self.old.left - 1 }) }
         ensures counted { OnOk result (0 < self.old.left) }
@@ -118,7 +118,7 @@ impl ContractList {
         };
         if let Some(contract) = &lot.contract {
             self.enter(lot, contract)?;
-            // Counted first, so that there is room for the entry.
+            // The row is counted first, because only then the sums are known to have place for the entry.
             self.left = left;
             if let (Some(entry), Some(current)) = (&contract.entry, self.current) {
                 self.current = Some(CurrentContract {
@@ -131,7 +131,7 @@ impl ContractList {
         Ok(())
     }
 
-    /// The sums of the contracts whose rows were taken.
+    /// The sums of all contracts whose rows were taken.
     pub fn finish(mut self) -> Result<Vec<ContractSums>, ShelfFault>
         ensures sums { IfOk result (λ sums. sums.items ≡ all_listed self.listed) }
         ensures fault { IfErr result (λ e. e ≡ NoMemory) }

@@ -1,4 +1,4 @@
-//! Rows of budget lines joined with their lots, contracts and entries.
+//! Rows that join a budget line with a lot, a contract and an entry.
 use office_base::records::EntryKind;
 use office_commands::amounts::EntryAmount;
 use office_values::given::GivenNumber;
@@ -13,7 +13,7 @@ pub struct JoinedEntry {
     pub amount: EntryAmount,
 }
 
-/// A contract with one of its entries, or alone where it has none.
+/// A contract with one of its entries, or alone if it has none.
 #[derive(Clone, Copy)]
 pub struct JoinedContract {
     pub contract: GivenNumber,
@@ -22,7 +22,7 @@ pub struct JoinedContract {
     pub entry: Option<JoinedEntry>,
 }
 
-/// A lot with one of its contracts, or alone where it has none.
+/// A lot with one of its contracts, or alone if it has none.
 #[derive(Clone, Copy)]
 pub struct JoinedLot {
     pub notice: Id,
@@ -31,7 +31,7 @@ pub struct JoinedLot {
     pub contract: Option<JoinedContract>,
 }
 
-/// A budget line with one of its lots, or alone where it has none.
+/// A budget line with one of its lots, or alone if it has none.
 #[derive(Clone, Copy)]
 pub struct JoinedRow {
     pub line: Id,

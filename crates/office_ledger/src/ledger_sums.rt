@@ -1,4 +1,4 @@
-//! The ledger, added up from joined rows as they come.
+//! The ledger, added up from joined rows, one after another.
 ghost use Rattle.std.specs.Prelude.{◌≡◌, ◌-◌, ◌<◌, ◌⊎◌, ◌++◌, List, [], ◌∷◌, OnOk, OnErr, IfErr, Some, None};
 ghost use Rattle.office_base.specs.Faults.{IsFaultOf};
 ghost use Rattle.office_base.specs.Joined.{ledger_of, LinesFit};
@@ -19,7 +19,7 @@ use office_values::money::Total;
 use std::alloc::Global;
 use std::marker::Model;
 
-/// The line whose rows are coming.
+/// The budget line whose rows come now.
 #[derive(Clone, Copy)]
 pub struct OpenLine {
     line: Id,
@@ -27,7 +27,7 @@ pub struct OpenLine {
     free: Total,
 }
 
-/// A ledger that is being added up. It keeps a row for each line, and no more of the rows that it takes.
+/// A ledger that is being added up. It keeps one row for each line, and none of the joined rows that it takes.
 #[derive(Drop)]
 pub struct LedgerSums {
     rows: Vec<LedgerRow>,
@@ -61,7 +61,7 @@ impl LedgerSums {
         }
     }
 
-    // Puts the line whose rows were coming into the ledger.
+    // Adds the current line to the ledger.
     fn end_line(&mut self) -> Result<(), ShelfFault>
         ensures ended { OnOk result (self.new ≡ record { added = done self.old.added; left = self.old.left }) }
         ensures kept { OnErr result (self.new ≡ self.old) }
@@ -95,7 +95,7 @@ impl LedgerSums {
         }
     }
 
-    // The first row of a line ends the line before it.
+    // The first row of a line completes the line before it.
     fn enter_line(&mut self, row: &JoinedRow) -> Result<(), ShelfFault>
         ensures entered { OnOk result (self.new ≡ record { added = enter_line row.now self.old.added; left = self.old.left }) }
         ensures kept { OnErr result (self.new ≡ self.old) }
@@ -131,7 +131,7 @@ impl LedgerSums {
         Ok(())
     }
 
-    /// Takes a row more: a line, a lot or a contract counts at the first of its rows. A fault leaves the ledger as it was.
+    /// Takes one more row. A line, a lot or a contract counts at the first of its rows. A fault leaves the ledger as it was.
     pub fn take(&mut self, row: JoinedRow) -> Result<(), ShelfFault>
         ensures taken { (rows : List JoinedRow) → HasTaken rows self.old → OnOk result (HasTaken (rows ++ row ∷ []) self.new) }
         ensures kept { OnErr result (self.new ≡ self.old) }
@@ -141,7 +141,7 @@ impl LedgerSums {
         self.add(&row)
     }
 
-    /// The ledger of an office whose whole join was taken. A sum out of its range is a fault of the store.
+    /// The ledger of an office, after its whole join was taken. A sum out of its range is a fault of the store.
     pub fn finish(mut self) -> Result<Vec<LedgerRow>, ShelfFault>
         ensures { (t : Tables) → IsSorted t → HasTaken (joined t) self → SumsAnswer ⊥ (λ t rows. rows.items ≡ ledger_of t) LinesFit result t }
     {

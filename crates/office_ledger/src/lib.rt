@@ -1,5 +1,4 @@
-//! The joined ledger: budget lines with their lots, contracts and entries, row by row, and what they add up to; and the selects of SQL that
-//! show this join.
+//! The ledger as a join: budget lines with their lots, contracts and entries, row by row, their sums, and the SQL selects that show this join.
 #![tactic(auto)]
 
 pub mod adding;

@@ -1,4 +1,4 @@
-//! Sums over the lots and contracts of one budget line, as their joined rows come.
+//! The sums over the lots and contracts of one budget line, from joined rows, one after another.
 ghost use Rattle.std.specs.Prelude.{◌≡◌, ◌+◌, ◌^◌, ◌<◌, ◌≤◌, ℕ, false, IfSome, IfNone, IsTrue, Some, None};
 ghost use Rattle.office_ledger.specs.Inside.Adding.{no_sums, settled, is_contract, is_lot, joined_lot_key, take_entry, enter_contract, take_contract, enter_lot, take_lot, sums_fit, pots_by, opened, HasRoom};
 
@@ -8,15 +8,15 @@ use office_values::given::GivenNumber;
 use office_values::id::Id;
 use office_values::money::Total;
 
-/// The contract whose rows are coming: its number, and what it comes to so far.
+/// The contract whose rows come now: its number, and its sums so far.
 #[derive(Clone, Copy)]
 pub struct OpenContract {
     contract: GivenNumber,
     sums: ContractSums,
 }
 
-/// What the lots and contracts of a line come to, in units: what lots have reserved; and of the contracts that are done, what is
-/// outstanding, what was taken beyond what was put in, and what was paid.
+/// The sums of one line in units: the reserved amounts of its lots; of the complete contracts, the outstanding amounts, the overdrawn amounts, and the
+/// payments.
 #[derive(Clone, Copy)]
 pub struct LineSums {
     reserved: u128,
@@ -42,7 +42,7 @@ impl LineSums {
         }
     }
 
-    // Counts the contract whose rows were coming among those that are done.
+    // Adds the current contract to the sums of those that are complete.
     fn settle(&mut self)
         requires { HasRoom 0 self.old }
         ensures sums { self.new ≡ settled self.old }
@@ -120,7 +120,7 @@ impl LineSums {
         }
     }
 
-    // The first row of a lot counts what it has reserved.
+    // The first row of a lot adds its reserved amount.
     fn enter_lot(&mut self, lot: &JoinedLot)
         requires { HasRoom 1 self.old }
         ensures sums { self.new ≡ enter_lot lot.now self.old }
@@ -146,7 +146,7 @@ impl LineSums {
         }
     }
 
-    /// The pots of a line with these columns once its rows are done; None where a sum is out of its range.
+    /// The balances of a line with these columns, after its last row; `None` if a sum is out of its range.
     pub fn pots(mut self, appropriation: Total, free: Total) -> Option<Pots>
         requires { HasRoom 0 self }
         ensures found { IfSome result (λ pots. pots ≡ pots_by appropriation free (settled self)) }

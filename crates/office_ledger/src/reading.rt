@@ -1,4 +1,4 @@
-//! Rows of the selects as joined rows. What no office writes there is a fault of the store.
+//! Reads rows of the selects as joined rows. A row that no office writes is a fault of the store.
 ghost use Rattle.std.specs.Prelude.{◌≡◌, ◌≤◌, ◌↔◌, IsTrue, IfOk, IfErr, IfSome, None, Some};
 ghost use Rattle.office_base.specs.Faults.{IsFaultOf};
 ghost use Rattle.office_tables.specs.Unwritten.{IsUnwritten};
@@ -15,7 +15,7 @@ use office_tables::columns::{amount_at, are_null, bounded_at, has_columns, id_at
 use office_tables::words::entry_kind_at;
 use sqlite::Row;
 
-// Whether no entry stands from this column on.
+// Whether there is no entry from this column on.
 fn has_no_entry(row: &Row, at: usize) -> bool
     requires { at ≤ 100 }
     ensures { IsTrue result ↔ (entry_cells None ≡ columns_of_entry row.now at) }
@@ -23,7 +23,7 @@ fn has_no_entry(row: &Row, at: usize) -> bool
     are_null(row, at)
 }
 
-// Whether no contract stands from this column on.
+// Whether there is no contract from this column on.
 fn has_no_contract(row: &Row, at: usize) -> bool
     requires { at ≤ 90 }
     ensures { IsTrue result ↔ (contract_cells None ≡ columns_of_contract row.now at) }
@@ -31,7 +31,7 @@ fn has_no_contract(row: &Row, at: usize) -> bool
     are_null(row, at) && has_no_entry(row, at + 3)
 }
 
-// Whether no lot stands from this column on.
+// Whether there is no lot from this column on.
 fn has_no_lot(row: &Row, at: usize) -> bool
     requires { at ≤ 80 }
     ensures { IsTrue result ↔ (lot_cells None ≡ columns_of_lot row.now at) }
@@ -39,7 +39,7 @@ fn has_no_lot(row: &Row, at: usize) -> bool
     are_null(row, at) && has_no_contract(row, at + 3)
 }
 
-// The entry that stands from this column on.
+// The entry from this column on.
 fn entry_at(row: &Row, at: usize) -> Result<JoinedEntry, ShelfFault>
     requires { at ≤ 100 }
     ensures exact { IfOk result (λ entry. entry_cells (Some entry) ≡ columns_of_entry row.now at) }
@@ -52,7 +52,7 @@ fn entry_at(row: &Row, at: usize) -> Result<JoinedEntry, ShelfFault>
     })
 }
 
-// The same; None where there is none.
+// The entry from this column on, or `None` if all its columns are NULL.
 fn entry_from(row: &Row, at: usize) -> Result<Option<JoinedEntry>, ShelfFault>
     requires { at ≤ 100 }
     ensures exact { IfOk result (λ entry. entry_cells entry ≡ columns_of_entry row.now at) }
@@ -64,7 +64,7 @@ fn entry_from(row: &Row, at: usize) -> Result<Option<JoinedEntry>, ShelfFault>
     Ok(Some(entry_at(row, at)?))
 }
 
-// The contract that stands from this column on, with its entry.
+// The contract from this column on, with its entry.
 fn contract_at(row: &Row, at: usize) -> Result<JoinedContract, ShelfFault>
     requires { at ≤ 90 }
     ensures exact { IfOk result (λ contract. contract_cells (Some contract) ≡ columns_of_contract row.now at) }
@@ -78,7 +78,7 @@ fn contract_at(row: &Row, at: usize) -> Result<JoinedContract, ShelfFault>
     })
 }
 
-// The same; None where there is none.
+// The contract from this column on, with its entry, or `None` if all their columns are NULL.
 fn contract_from(row: &Row, at: usize) -> Result<Option<JoinedContract>, ShelfFault>
     requires { at ≤ 90 }
     ensures exact { IfOk result (λ contract. contract_cells contract ≡ columns_of_contract row.now at) }
@@ -90,7 +90,7 @@ fn contract_from(row: &Row, at: usize) -> Result<Option<JoinedContract>, ShelfFa
     Ok(Some(contract_at(row, at)?))
 }
 
-// The lot that stands from this column on, with its contract.
+// The lot from this column on, with its contract.
 fn lot_at(row: &Row, at: usize) -> Result<JoinedLot, ShelfFault>
     requires { at ≤ 80 }
     ensures exact { IfOk result (λ lot. joined_lot_cells lot ≡ columns_of_lot row.now at) }
@@ -104,7 +104,7 @@ fn lot_at(row: &Row, at: usize) -> Result<JoinedLot, ShelfFault>
     })
 }
 
-// The same; None where there is none.
+// The lot from this column on, with its contract, or `None` if all their columns are NULL.
 fn lot_from(row: &Row, at: usize) -> Result<Option<JoinedLot>, ShelfFault>
     requires { at ≤ 80 }
     ensures exact { IfOk result (λ lot. lot_cells lot ≡ columns_of_lot row.now at) }
@@ -141,12 +141,12 @@ pub fn joined_lot(row: &Row) -> Result<JoinedLot, ShelfFault>
     lot_at(row, 0)
 }
 
-/// A law: joined rows come back from what the select shows of them.
+/// A law: a joined row is read back from the columns that the select shows of it.
 pub fn joined_rows_come_back()
     ensures { JoinedRowsComeBack }
 {}
 
-/// A law: joined lots come back from what the select shows of them.
+/// A law: a joined lot is read back from the columns that the select shows of it.
 pub fn joined_lots_come_back()
     ensures { JoinedLotsComeBack }
 {}

@@ -1,4 +1,4 @@
--- The accounts: moves, pots and what holds of them.
+-- The accounts: moves, balances and the facts that commands keep.
 pub mod AccountsKept
 pub mod AllFit
 pub mod Aside

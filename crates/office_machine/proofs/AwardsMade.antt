@@ -1,4 +1,4 @@
--- Each award that is there was made by a command along the run, to the tender that was shown as best.
+-- Each award of a reached office was made by one of its commands, for the tender that was shown as best.
 use Rattle.std.proofs.Common.{◌≡◌, ℕ, Bool, true, false, List, [], ◌∷◌, ◌++◌, map, filter, Option, Some, None, inl, inr, ◌⊎◌, refl, sym, ◌∙◌, ap, subst}
 use Rattle.std.specs.List.{AllByRecursion}
 use Rattle.office_values.specs.declared.refusal.Refusal.{Refusal}
@@ -47,7 +47,7 @@ use Rattle.office_machine.proofs.Rows.SortedTables.{sorted}
 use Rattle.office_machine.proofs.Runs.{along}
 use Rattle.office_machine.proofs.Rows.Keyed as keyed
 
--- What became of an award leaves what it was made as.
+-- Another state of an award doesn't change who made it.
 
 one_still : (x : Given) (command : Command) (a : AwardRow) (state : AwardState) → MakesAward x a command → MakesAward x (record a { state = state }) command
 one_still x (Award notice lot) a state h = record { of_notice = h.of_notice; of_lot = h.of_lot; number = h.number; moment = h.moment; shown = h.shown }
@@ -60,7 +60,7 @@ still (x ∷ xs) a state h = elim h as (λ _. MakesAward x (record a { state = s
   | inr earlier ↦ inr (still xs a state earlier)
 ]
 
--- Puts whose awards were made.
+-- The award of each put was made by one of the commands.
 
 abbrev AreMade : List Given → Tables → Type 0
 AreMade xs t = (number : ℕ) (a : AwardRow) → award_at number t ≡ Some a → WasMade xs a
@@ -81,7 +81,7 @@ puts_made : (xs : List Given) (ps : List Put) (t : Tables) → AllByRecursion (P
 puts_made xs [] t own h = h
 puts_made xs (p ∷ ps) t own h = puts_made xs ps (after_put p t) own.1 (put_made xs p t own.0 h)
 
--- puts of other tables
+-- puts on other tables put no award
 one_off : (xs : List Given) (test : TableName → Bool) → test Awards ≡ false → (p : Put) → IsOn test p → PutIsMade xs p
 one_off xs test off (puts.Award a) on = absurd (let both : true ≡ false = sym on ∙ off in cc)
 one_off xs test off _ on = tt
@@ -98,12 +98,12 @@ made_append : (xs : List Given) (ps qs : List Put) → AllByRecursion (PutIsMade
 made_append xs [] qs a b = b
 made_append xs (p ∷ ps) qs a b = (a.0, made_append xs ps qs a.1 b)
 
--- awards that end
+-- awards that are cancelled were made if they were made before
 made_ended : (xs : List Given) (rows : List AwardRow) → AllByRecursion (λ (a : AwardRow). WasMade xs (cancelled_award a)) rows → AllByRecursion (PutIsMade xs) (map award_put rows)
 made_ended xs [] all = tt
 made_ended xs (a ∷ rows) all = (all.0, made_ended xs rows all.1)
 
--- A command, where the awards before it were made.
+-- A command, if the awards before it were made.
 
 module _ (means : Means) (xs : List Given) (s : Tables) (moment : ℕ) (caller : Caller) (kept : AreMade xs s) (reached : Reaches means xs s) where
   abbrev given : Command → Given
@@ -112,7 +112,7 @@ module _ (means : Means) (xs : List Given) (s : Tables) (moment : ℕ) (caller :
   abbrev Makes : Command → List Put → Type 0
   Makes command ps = AllByRecursion (PutIsMade (given command ∷ xs)) ps
 
-  -- an award that was there, whatever becomes of it
+  -- an award from before, in any state, was made by one of the commands
   earlier : (command : Command) (number : ℕ) (a : AwardRow) (state : AwardState) → award_at number s ≡ Some a → WasMade (given command ∷ xs) (record a { state = state })
   earlier command number a state is = inr (still xs a state (kept number a is))
 
@@ -241,7 +241,7 @@ module _ (means : Means) (xs : List Given) (s : Tables) (moment : ℕ) (caller :
   one_made (Cancel notice rationale) allowed = cancel_made notice rationale (notice_at notice s)
   one_made command allowed = other command refl allowed
 
--- a release is no award
+-- the put of a release puts no award
 published_made : (xs : List Given) (t : Tables) (p : Option ReleaseRow) → AreMade xs t → AreMade xs (after_puts (publication_puts p) t)
 published_made xs t None h number = h number
 published_made xs t (Some p) h number = h number

@@ -1,4 +1,4 @@
--- Winners are shown as such just before an award and from then on.
+-- The winner is shown as the best tender just before an award and just after it.
 use Rattle.std.proofs.Common.{◌≡◌, ℕ, zero, suc, ◌+◌, ◌-◌, ◌<◌, Bool, true, false, cond, not, ◌&&◌, ◌||◌, List, [], ◌∷◌, length, slice_index_or, map, filter, Option, Some, None, option_map, unwrap_or, nat_lt, nat_eq, refl, sym, ◌∙◌, ap, subst, arith}
 use Rattle.std.specs.List.{AllByRecursion, Contains, list_any}
 use Rattle.std.specs.declared.cmp.Ordering.{Ordering}
@@ -43,7 +43,7 @@ use Rattle.office_machine.proofs.Rows.Keyed as keyed
 use Rattle.office_base.proofs.ExactKeys.{same_itself}
 use Rattle.office_base.proofs.RowLaws.Keyed.{IsKeyed, found_key}
 
--- What lists have.
+-- Lists.
 
 has_head : {X : Type 0} (x : X) (xs : List X) → Contains (x ∷ xs) x
 has_head x xs = (0, omega arith, refl)
@@ -77,9 +77,9 @@ module _ {X : Type 0} where
   has_found R key [] k x is = absurd (let none : ◌≡◌ {A = Option X} None (Some x) = is in cc)
   has_found R key (y ∷ ys) k x is = has_first y x ys (row_at R key ys k) (R k (key y)) (has_found R key ys k x) is
 
--- The winner among the tenders of a lot is the one among those that are shown.
+-- The winner among the tenders of a lot is the best of those that are shown.
 
--- points that are shown of what may win alone, and of nothing where the price decides
+-- the points that are shown: 0 unless the tender is admissible and points decide
 abbrev points_seen : Bool → Bool → ℕ → ℕ
 points_seen none may n = unwrap_or (cond (not none && may) (Some n) None) 0
 
@@ -101,7 +101,7 @@ module _ (weight : ℕ) (rows : List EnvelopeRow) where
   abbrev read_one : EnvelopeRow → Bool
   read_one f = is_read f.state
 
-  -- what holds of all of them holds of those that are shown
+  -- a property of all tenders is a property of those that are shown
   shown_more : (P : EvaluatedTender → Type 0) (f : EnvelopeRow) (fs : List EnvelopeRow) (b : Bool) → P (told f) → AllByRecursion P (map told fs) → AllByRecursion P (map told (cond b (f ∷ fs) fs))
   shown_more P f fs true one all = (one, all)
   shown_more P f fs false one all = all
@@ -110,7 +110,7 @@ module _ (weight : ℕ) (rows : List EnvelopeRow) where
   shown_all P [] all = tt
   shown_all P (f ∷ fs) all = shown_more P f (filter read_one fs) (read_one f) all.0 (shown_all P fs all.1)
 
-  -- the columns that are shown decide as the rows do
+  -- the shown columns give the same order as the rows
   compared : (e f : EnvelopeRow) → is_admissible e ≡ true → is_admissible f ≡ true → is_shown_better (told f) (told e) ≡ is_better weight (lowest_in rows) f e
   compared e f own may =
       seen_as (nat_eq weight 0) (is_admissible f) (is_admissible e) (points weight (lowest_in rows) f) (points weight (lowest_in rows) e) (is_cheaper f e) may own
@@ -138,7 +138,7 @@ module _ (weight : ℕ) (rows : List EnvelopeRow) where
   winner_shown clock None none = shown_all (λ (t : EvaluatedTender). t.admissible ≡ false) rows none
   winner_shown clock (Some e) best = best_shown e best
 
--- A lot of an opened notice is shown to the clerk, and to anybody once it has an outcome.
+-- A lot of an opened notice is shown to the clerk, and to everyone once it has an outcome.
 
 or_true : (b : Bool) → (b || true) ≡ true
 or_true true = refl
@@ -179,9 +179,9 @@ module _ (caller : Caller) (s : Tables) (notice lot : List ℕ) (n : NoticeRow) 
       } in
       subst (λ reply. ShowsLot Such reply lot) (sym all_told) it
 
--- What an award leaves.
+-- The office after an award.
 
--- neither securities that go back nor a release are shown
+-- returned securities don't change the evaluation
 returned_shown : (Such : List EvaluatedTender → Type 0) (caller : Caller) (notice lot : List ℕ) (ws : List SecurityRow) (v : Tables) → ShowsLot Such (evaluation_shown caller v notice) lot
     → ShowsLot Such (evaluation_shown caller (after_puts (map security_returned ws) v) notice) lot
 returned_shown Such caller notice lot [] v h = h
@@ -197,7 +197,7 @@ found_as {R = R} {key = key} t xs r k at = subst (λ q. row_at R key (row_put R 
 
 module _ (s : Tables) (notice lot : List ℕ) (n : NoticeRow) (l : LotRow) (there : notice_at notice s ≡ Some n) (opened : is_opened n.state ≡ true) (is : lot_at (notice, lot) s ≡ Some l)
     (Such : List EvaluatedTender → Type 0) (such : Such (evaluated_tenders n.weight (envelopes_of_lot notice lot s))) (caller : Caller) where
-  -- the same tenders, where the notice has one release more and the lot is decided
+  -- if the notice gets one release more and the lot is decided, the lot's tenders are still shown
   decided_shown : (v : Tables) (decided : LotRow) → v.notices ≡ put_notice s.notices (with_next_release n) → v.lots ≡ put_lot s.lots decided → v.envelopes ≡ s.envelopes
       → lot_key decided ≡ (notice, lot) → is_undecided decided.state ≡ false → ShowsLot Such (evaluation_shown caller v notice) lot
   decided_shown v decided notices lots envelopes at state =
@@ -218,7 +218,7 @@ module _ (s : Tables) (notice lot : List ℕ) (n : NoticeRow) (l : LotRow) (ther
   decision_shown t r (Some e) securities =
       decided_shown (after_puts (decision_puts s.clock t n l r (Some e) securities) s) (awarded e l) refl refl refl (found_key keyed.lots s.lots (notice, lot) l is) refl
 
--- Each accepted award.
+-- Every accepted award.
 
 pub open_notice : (s : Tables) (notice lot : List ℕ) (t : ℕ) → AllByRecursion (λ (test : Bool × Refusal). test.0 ≡ false) (award_tests (award_rows s notice lot) t) → (n : NoticeRow) → notice_at notice s ≡ Some n
     → is_opened n.state ≡ true

@@ -1,4 +1,4 @@
--- The laws of each command, and what they are made of.
+-- The laws of each command, and the lemmas for them.
 pub mod AmendContract
 pub mod AmendNotice
 pub mod Award

@@ -1,4 +1,4 @@
--- In an office that accepted commands reach nothing is lacking.
+-- In a reached office, no row is missing that an accepted command needs.
 use Rattle.std.specs.Prelude.{List}
 use Rattle.office_base.specs.Tables.{Tables}
 use Rattle.office_machine.specs.Lacking.{NothingIsLacking}

@@ -1,4 +1,4 @@
--- The rows that a row speaks of.
+-- The rows that other rows refer to.
 pub mod ParentsPut
 pub mod ParentsThere
 pub mod PerformancesAsked

@@ -1,4 +1,4 @@
--- What a command that isn't refused has found.
+-- Facts about a command that isn't refused.
 use Rattle.std.specs.Prelude.{◌≡◌, ℕ, ◌+◌, ◌≤◌, Bool, true, false, cond, not, ◌||◌, ◌&&◌, List, [], ◌∷◌, Option, Some, None, is_some, nat_lt}
 use Rattle.std.proofs.Common.{refl, sym, ap, ◌∙◌, arith}
 use Rattle.std.proofs.lemmas.Bool.Decides.{nat_tests}
@@ -13,7 +13,7 @@ pub passed : (b : Bool) (why : Refusal) (rest : Option Refusal) → cond b (Some
 passed true why rest e = cc
 passed false why rest e = (refl, e)
 
--- none of its tests holds
+-- no condition of its refusals holds
 pub none_holds : (tests : List (Bool × Refusal)) → first_of tests ≡ None → AllByRecursion (λ test. test.0 ≡ false) tests
 none_holds [] e = tt
 none_holds (test ∷ tests) e = let p = passed test.0 test.1 (first_of tests) e in (p.0, none_holds tests p.1)
@@ -37,19 +37,19 @@ pub not_and : (b d : Bool) → (b && d) ≡ false → b ≡ true → d ≡ false
 not_and true d e f = e
 not_and false d e f = cc
 
--- what is there
+-- an optional value that exists, as a value
 pub witness : {X : Type 0} (o : Option X) → is_some o ≡ true → (x : X) × (o ≡ Some x)
 witness None e = cc
 witness (Some x) e = (x, refl)
 
--- a test of a row that is there
+-- the test of a row that exists
 pub test_of : {X : Type 0} (p : X → Bool) (o : Option X) (x : X) → o ≡ Some x → (b : Bool) → holds_of p o ≡ b → p x ≡ b
 test_of p o x is b e = sym (ap (holds_of p) is) ∙ e
 
 pub is_there : {X : Type 0} (o : Option X) (x : X) → o ≡ Some x → is_some o ≡ true
 is_there o x e = ap is_some e
 
--- the same amount, twice tested
+-- an amount under two tests is the amount under both
 pub both : (b d : Bool) (n : ℕ) → cond (b && d) n 0 ≡ cond d (cond b n 0) 0
 both true true n = refl
 both true false n = refl
@@ -69,10 +69,10 @@ not_all true true c e f g = e
 not_all true false c e f g = cc
 not_all false b c e f g = cc
 
--- a command that isn't refused passes its own tests
+-- the conditions of the command's own refusals don't hold
 pub allowed_by : (x : Given) → refusal_of x ≡ None → first_of (command_tests x) ≡ None
 allowed_by x e = (passed (not (may_give x.caller x.command)) Forbidden (first_of (command_tests x)) e).1
 
--- its caller may give it
+-- the caller may give the command
 pub may_by : (x : Given) → refusal_of x ≡ None → may_give x.caller x.command ≡ true
 may_by x e = not_false (may_give x.caller x.command) (passed (not (may_give x.caller x.command)) Forbidden (first_of (command_tests x)) e).0

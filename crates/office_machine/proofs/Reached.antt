@@ -1,4 +1,4 @@
--- What a run accepts reaches its last office.
+-- The commands that a run accepts lead to its last office.
 use Rattle.std.proofs.Common.{◌≡◌, Bool, true, false, List, [], ◌∷◌, Option, Some, None, refl}
 use Rattle.office_base.specs.Tables.{Tables}
 use Rattle.office_values.specs.declared.refusal.Refusal.{Refusal}

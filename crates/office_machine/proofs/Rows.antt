@@ -1,4 +1,4 @@
--- Rows of a table: found, put, changed, dropped, counted.
+-- The rows of a table: finding, putting, changing, dropping and counting them.
 pub mod Counting
 pub mod Keyed
 pub mod Mapped

@@ -1,4 +1,4 @@
--- What the empty office has, and each accepted command keeps, holds wherever accepted commands lead.
+-- A fact about the empty office that each accepted command keeps is true of every reached office.
 use Rattle.std.proofs.Common.{◌≡◌, List, [], ◌∷◌, None, sym, subst}
 use Rattle.office_values.specs.Ids.{id_cmp}
 use Rattle.office_base.specs.Rows.{IsInOrder}
@@ -6,7 +6,7 @@ use Rattle.office_base.specs.Tables.{Tables, no_tables, compiled_key}
 use Rattle.office_base.specs.declared.records.CompiledRow.{CompiledRow}
 use Rattle.office_machine.specs.Machine.{AreOfNotices, Means, Given, CanBeGiven, Reaches, refusal_of, next, with_merges}
 
--- a command that is accepted where these lead
+-- the command is accepted in an office to which these commands lead
 pub record IsAccepted (means : Means) (xs : List Given) (x : Given) : Type 0 where
   pub reached : Reaches means xs x.before
   pub given : CanBeGiven x

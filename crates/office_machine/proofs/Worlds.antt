@@ -1,4 +1,4 @@
--- Two worlds, alike but for what one tenderer seals.
+-- Two worlds that differ only in the bytes that one tenderer seals.
 pub mod RepliesAlike
 pub mod SealsKept
 pub mod TendersShown

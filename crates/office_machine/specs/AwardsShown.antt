@@ -1,4 +1,5 @@
--- Each award goes to a tender that is best by what the evaluation shows just before it, and anybody is shown so from then on (Model Law, articles 11 and 43).
+-- Each award goes to the tender that is best by the evaluation. The clerk sees this just before the award, and everyone sees it just after (Model Law, articles
+-- 11 and 43).
 use Rattle.std.specs.Prelude.{◌≡◌, ℕ, ◌+◌, Bool, true, false, ◌&&◌, ◌||◌, ◌⊎◌, List, [], ◌∷◌, Option, Some, None, unwrap_or, nat_lt, nat_eq}
 use Rattle.std.specs.List.{AllByRecursion, Contains}
 use Rattle.office_commands.specs.declared.command.Caller.{Caller}
@@ -13,19 +14,19 @@ use Rattle.office_machine.specs.Machine.{Means, Given, Reaches, next, refusal_of
 use Rattle.office_machine.specs.Replies.{Reply, Awarded, EvaluationSeen, EvaluatedTender, EvaluatedLot, Winning}
 use Rattle.office_machine.specs.Requests.{reply_by}
 
--- the points that are shown; where the price alone decides no tender has any
+-- The points that are shown for a tender; 0 if none are shown, as when the price alone decides.
 abbrev pub points_shown : EvaluatedTender → ℕ
 points_shown t = unwrap_or t.points 0
 
--- the lower price is better, then the lower receipt
+-- The first tender has the lower price or, at an equal price, the lower receipt.
 abbrev pub is_shown_cheaper : EvaluatedTender → EvaluatedTender → Bool
 is_shown_cheaper x y = nat_lt (price_in x.reading) (price_in y.reading) || (nat_eq (price_in x.reading) (price_in y.reading) && nat_lt x.receipt y.receipt)
 
--- but first more points are
+-- The first tender has more points or, with as many points, it is cheaper.
 abbrev pub is_shown_better : EvaluatedTender → EvaluatedTender → Bool
 is_shown_better x y = nat_lt (points_shown y) (points_shown x) || (nat_eq (points_shown x) (points_shown y) && is_shown_cheaper x y)
 
--- the tender with this receipt is shown, at this price, as admissible, and no admissible one that is shown is better
+-- An admissible tender with this receipt and this price is shown, and no admissible tender that is shown is better.
 pub record IsShownBest (tenders : List EvaluatedTender) (receipt price : ℕ) : Type 0 where
   pub best : EvaluatedTender
   pub of_receipt : best.receipt ≡ receipt
@@ -34,46 +35,48 @@ pub record IsShownBest (tenders : List EvaluatedTender) (receipt price : ℕ) : 
   pub admissible : best.admissible ≡ true
   pub none_better : AllByRecursion (λ (t : EvaluatedTender). t.admissible ≡ true → is_shown_better t best ≡ false) tenders
 
--- a winner is such a tender; nobody wins where none is shown as admissible
+-- The winner is shown as the best tender. If nobody wins, no tender is shown as admissible.
 abbrev pub IsShownWinner : Option Winning → List EvaluatedTender → Type 0
 IsShownWinner None tenders = AllByRecursion (λ (t : EvaluatedTender). t.admissible ≡ false) tenders
 IsShownWinner (Some w) tenders = IsShownBest tenders w.tender w.price
 
--- of the lots that are shown one is this, and its tenders are such
+-- One of the shown lots is this lot, and its tenders have the property `Such`.
 pub record LotIsShown (Such : List EvaluatedTender → Type 0) (lots : List EvaluatedLot) (lot : List ℕ) : Type 0 where
   pub shown : EvaluatedLot
   pub same : shown.lot ≡ lot
   pub among : Contains lots shown
   pub such : Such shown.tenders
 
+-- The reply is an evaluation that shows this lot, and the lot's tenders have the property `Such`.
 abbrev pub ShowsLot : (List EvaluatedTender → Type 0) → Reply → List ℕ → Type 0
 ShowsLot Such (EvaluationSeen notice lots) lot = LotIsShown Such lots lot
 ShowsLot Such reply lot = ⊥
 
--- what a caller sees of the evaluation of a notice
+-- The evaluation of a notice, as a caller sees it.
 abbrev pub evaluation_shown : Caller → Tables → List ℕ → Reply
 evaluation_shown caller s notice = evaluation_told caller s (notice_at notice s) (lots_of_notice notice s) (awards_of_notice notice s)
 
--- Of each accepted award: who wins.
+-- The winner of each accepted award.
 
--- the tenders by which this winner won are shown to the clerk just before the award, and to anybody just after it
+-- The evaluation shows this winner to the clerk just before the award, and to every caller just after it.
 pub record WinnerIsShown (means : Means) (x : Given) (notice lot : List ℕ) (winner : Option Winning) : Type 0 where
   pub before : ShowsLot (IsShownWinner winner) (evaluation_shown Clerk x.before notice) lot
   pub after : (caller : Caller) → ShowsLot (IsShownWinner winner) (evaluation_shown caller (next means x) notice) lot
 
--- so of the winner that the reply to an award names
+-- The reply to an award names the winner that the evaluation shows. Nothing is said of other commands.
 abbrev pub ReplyIsShown : Means → Given → Command → Reply → Type 0
 ReplyIsShown means x (Award notice lot) (Awarded named winner release moment) = WinnerIsShown means x notice lot winner
 ReplyIsShown means x (Award notice lot) reply = ⊥
 ReplyIsShown means x command reply = Unit {0}
 
+-- The law: the reply to an accepted award names the winner that the evaluation shows.
 abbrev pub WinnersAreShown : Type 0
 WinnersAreShown = (means : Means) (xs : List Given) (x : Given) → Reaches means xs x.before → refusal_of x ≡ None → ReplyIsShown means x x.command (reply_by None means x)
 
--- Of each award that is there: which command made it.
+-- The command that made each award.
 
--- this award, whatever became of it since, is of the lot that the command named, under the next number, at the command's moment, and goes to a tender, at its
--- price, that the evaluation showed the clerk as best just before
+-- The command made this award: it has the next number, the command's moment and lot, and the receipt and price of the tender that the clerk saw as best. Its
+-- state may have changed since.
 pub record IsMade (x : Given) (notice lot : List ℕ) (a : AwardRow) : Type 0 where
   pub of_notice : a.notice ≡ notice
   pub of_lot : a.lot ≡ lot
@@ -81,14 +84,16 @@ pub record IsMade (x : Given) (notice lot : List ℕ) (a : AwardRow) : Type 0 wh
   pub moment : a.moment ≡ time_of x
   pub shown : ShowsLot (λ tenders. IsShownBest tenders a.receipt a.price) (evaluation_shown Clerk x.before notice) lot
 
+-- The command is an award, and made this row.
 abbrev pub MakesAward : Given → AwardRow → Command → Type 0
 MakesAward x a (Award notice lot) = IsMade x notice lot a
 MakesAward x a command = ⊥
 
--- one of these commands made it
+-- One of these commands made the award.
 abbrev pub WasMade : List Given → AwardRow → Type 0
 WasMade [] a = ⊥
 WasMade (x ∷ xs) a = MakesAward x a x.command ⊎ WasMade xs a
 
+-- The law: each award of a reached office was made by one of the commands that led to it.
 abbrev pub AwardsWereShown : Type 0
 AwardsWereShown = (means : Means) (xs : List Given) (s : Tables) → Reaches means xs s → (number : ℕ) (a : AwardRow) → award_at number s ≡ Some a → WasMade xs a

@@ -1,4 +1,4 @@
--- The rule of each command, a file each.
+-- The rule of each command, one file each.
 pub mod Import
 pub mod Register
 pub mod Publish

@@ -1,4 +1,4 @@
--- What accepted commands move between the pots of budget lines.
+-- The money that accepted commands move between the balances of budget lines.
 use Rattle.std.specs.Prelude.{◌≡◌, ℕ, ◌+◌, ◌-◌, Bool, true, false, cond, ◌&&◌, List, [], ◌∷◌, ◌++◌, map, filter, Option, Some, None, nat_le}
 use Rattle.office_values.specs.Ids.{same_id}
 use Rattle.office_base.specs.Tables.{same_number, Tables, notice_at, lot_at, award_at, contract_at, lots_of_notice, envelopes_of_lot}
@@ -18,7 +18,7 @@ use Rattle.award_core.specs.Rules.Award.{price_of, winner}
 use Rattle.office_base.specs.Parents.{lot_of_award, lot_of_contract}
 use Rattle.office_machine.specs.Machine.{Given}
 
--- where money can be; outside is where appropriations come from
+-- The places of money: the four balances of a line, and the outside, from which appropriations come.
 pub data Pot : Type 0 where
   Outside : Pot
   Free : Pot
@@ -26,7 +26,7 @@ pub data Pot : Type 0 where
   Contracted : Pot
   Paid : Pot
 
--- whether two pots are the same
+-- The two places are the same.
 abbrev pub same_pot : Pot → Pot → Bool
 same_pot Outside Outside = true
 same_pot Free Free = true
@@ -35,97 +35,99 @@ same_pot Contracted Contracted = true
 same_pot Paid Paid = true
 same_pot p q = false
 
--- an amount that goes from one pot of a line to another
+-- An amount that moves from one place of a line to another.
 pub record Move : Type 0 where
   pub line : List ℕ
   pub from : Pot
   pub to : Pot
   pub amount : ℕ
 
--- the lot of these identifiers, as (notice, lot)
+-- The two pairs (notice, lot) name the same lot.
 abbrev pub same_lot : List ℕ × List ℕ → List ℕ × List ℕ → Bool
 same_lot a b = same_id a.0 b.0 && same_id a.1 b.1
 
--- the estimate of the lot with this identifier among those that are published, or what it was before
+-- The estimate of the published lot with this identifier; the earlier amount if no such lot is published.
 abbrev pub estimate_in : List NewLot → List ℕ → ℕ → ℕ
 estimate_in [] id before = before
 estimate_in (lot ∷ lots) id before = cond (same_id lot.id id) lot.estimate (estimate_in lots id before)
 
--- the price of an award of a tender, or what it was before
+-- The price of the winning tender; the earlier amount if there is none.
 abbrev pub price_after : Option EnvelopeRow → ℕ → ℕ
 price_after None before = before
 price_after (Some e) before = price_of e
 
--- what is to be held for a lot after a command, before which it was this
+-- The amount that is held for a lot after a command. `before` is the amount held before it.
 abbrev pub holding_after : Tables → Command → List ℕ × List ℕ → ℕ → ℕ
 holding_after s (Publish notice content) lot before = cond (same_id notice lot.0) (estimate_in content.lots lot.1 before) before
 holding_after s (Award notice id) lot before =
     cond (same_lot (notice, id) lot) (price_after (winner (notice_at notice s) (envelopes_of_lot notice id s)) before) before
 holding_after s command lot before = before
 
--- the price of the lot's last award of a tender, or else its estimate as it was published
+-- The price of the lot's last award that had a winner; its published estimate if there was none.
 abbrev pub reserved_for : List Given → List ℕ × List ℕ → ℕ
 reserved_for [] lot = 0
 reserved_for (x ∷ xs) lot = holding_after x.before x.command lot (reserved_for xs lot)
 
--- the line of a lot; nothing where it isn't there
+-- The budget line of a lot; empty if the lot doesn't exist.
 abbrev pub line_in : Option LotRow → List ℕ
 line_in None = []
 line_in (Some l) = l.line
 
--- the lot of an award, as (notice, lot)
+-- The lot of an award, as (notice, lot); both are empty if the award doesn't exist.
 abbrev pub lot_in_award : Option AwardRow → List ℕ × List ℕ
 lot_in_award None = ([], [])
 lot_in_award (Some a) = (a.notice, a.lot)
 
--- what a contract gets, and what it gives, by a change of this kind
+-- The amount that a change adds to a contract: 0 for a cut.
 abbrev pub raised_by : ChangeKind → ℕ → ℕ
 raised_by change_kinds.Raise amount = amount
 raised_by change_kinds.Cut amount = 0
 
+-- The amount that a change takes off a contract: 0 for a raise.
 abbrev pub cut_by : ChangeKind → ℕ → ℕ
 cut_by change_kinds.Raise amount = 0
 cut_by change_kinds.Cut amount = amount
 
--- what a command brings into contracted for a contract, with what is held for each lot before it
+-- The amount that a command brings into contracted for a contract. `held` is the amount held for each lot before it.
 abbrev pub brought_by : Tables → Command → (List ℕ × List ℕ → ℕ) → ℕ → ℕ
 brought_by s (Sign award named) held contract = cond (same_number award contract) (held (lot_in_award (award_at award s))) 0
 brought_by s (AmendContract changed entry kind amount rationale) held contract = cond (same_number changed contract) (raised_by kind amount) 0
 brought_by s command held contract = 0
 
--- what it takes out of contracted for a contract, of which this was owed before it
+-- The amount that a command takes out of contracted for a contract. `owed` is the amount owed under it before.
 abbrev pub taken_by : Command → ℕ → ℕ → ℕ
 taken_by (AmendContract changed entry kind amount rationale) owed contract = cond (same_number changed contract) (cut_by kind amount) 0
 taken_by (Pay paying entry amount) owed contract = cond (same_number paying contract) amount 0
 taken_by (End ending how) owed contract = cond (same_number ending contract) owed 0
 taken_by command owed contract = 0
 
--- what accepted commands brought into contracted for a contract, and what they took out
+-- The amount that accepted commands brought into contracted for a contract.
 abbrev pub brought : List Given → ℕ → ℕ
 brought [] contract = 0
 brought (x ∷ xs) contract = brought_by x.before x.command (reserved_for xs) contract + brought xs contract
 
+-- The amount that accepted commands took out of contracted for a contract.
 abbrev pub taken : List Given → ℕ → ℕ
 taken [] contract = 0
 taken (x ∷ xs) contract = taken_by x.command (brought xs contract - taken xs contract) contract + taken xs contract
 
--- what is still owed of a contract
+-- The amount that is still owed under a contract.
 abbrev pub owed : List Given → ℕ → ℕ
 owed xs contract = brought xs contract - taken xs contract
 
--- a row that adds brings money from outside, a row that cuts takes it back
+-- A row that adds moves money from outside into free; a row that cuts moves it back.
 abbrev pub move_of_row : BudgetRow → Move
 move_of_row row = record { line = row.line; from = cond (is_cut row.kind) Free Outside; to = cond (is_cut row.kind) Outside Free; amount = row.amount }
 
--- a lot that is published reserves its estimate
+-- A published lot reserves its estimate.
 abbrev pub move_of_lot : NewLot → Move
 move_of_lot lot = record { line = lot.line; from = Free; to = Reserved; amount = lot.estimate }
 
--- what is held for a lot is free again
+-- The amount that is held for a lot is free again.
 abbrev pub move_back : (List ℕ × List ℕ → ℕ) → LotRow → Move
 move_back held lot = record { line = lot.line; from = Reserved; to = Free; amount = held (lot.notice, lot.lot) }
 
--- an award holds its price in place of what was held for the lot; without a winner all that is free again
+-- An award reserves its price in place of the amount held for the lot, so the difference moves. Without a winner, the whole amount is free again.
 abbrev pub move_of_award : List ℕ → ℕ → Option EnvelopeRow → Move
 move_of_award line held None = record { line = line; from = Reserved; to = Free; amount = held }
 move_of_award line held (Some e) =
@@ -133,11 +135,12 @@ move_of_award line held (Some e) =
     (record { line = line; from = Reserved; to = Free; amount = held - price_of e })
     (record { line = line; from = Free; to = Reserved; amount = price_of e - held })
 
+-- A raise moves free money into contracted; a cut moves it back.
 abbrev pub move_of_change : ChangeKind → List ℕ → ℕ → Move
 move_of_change change_kinds.Raise line amount = record { line = line; from = Free; to = Contracted; amount = amount }
 move_of_change change_kinds.Cut line amount = record { line = line; from = Contracted; to = Free; amount = amount }
 
--- what a command moves, after those accepted before it, the last one first
+-- The moves of a command. `earlier` are the commands accepted before it, the last one first.
 abbrev pub moves_for : Tables → Command → List Given → List Move
 moves_for s (Import batch rows) earlier = map move_of_row rows
 moves_for s (Publish notice content) earlier = map move_of_lot content.lots
@@ -153,22 +156,24 @@ moves_for s (End contract how) earlier =
     record { line = line_in (lot_of_contract (contract_at contract s) s); from = Contracted; to = Free; amount = owed earlier contract } ∷ []
 moves_for s command earlier = []
 
+-- The moves of a given command.
 abbrev pub moves_by : Given → List Given → List Move
 moves_by x earlier = moves_for x.before x.command earlier
 
--- what accepted commands, the last one first, moved
+-- The moves of all accepted commands, the last command first.
 abbrev pub moves : List Given → List Move
 moves [] = []
 moves (x ∷ xs) = moves_by x xs ++ moves xs
 
--- what they brought into a pot of a line, and what they took out of it
+-- The amount that moves brought into a place of a line.
 abbrev pub inflow : List Move → List ℕ → Pot → ℕ
 inflow ms line pot = sum_over (λ (m : Move). cond (same_pot m.to pot && same_id m.line line) m.amount 0) ms
 
+-- The amount that moves took out of a place of a line.
 abbrev pub outflow : List Move → List ℕ → Pot → ℕ
 outflow ms line pot = sum_over (λ (m : Move). cond (same_pot m.from pot && same_id m.line line) m.amount 0) ms
 
--- this is what came into the pot, less what went out of it; for outside it is what left it, less what came back
+-- This amount is the money that came into the place, less the money that left it. For the outside, it is the money that left, less the money that came back.
 abbrev pub IsBalance : List Move → List ℕ → Pot → ℕ → Type 0
 IsBalance ms line Outside n = n + inflow ms line Outside ≡ outflow ms line Outside
 IsBalance ms line pot n = n + outflow ms line pot ≡ inflow ms line pot

@@ -1,4 +1,4 @@
--- What is outstanding of a contract after a command on it, in terms of the office before.
+-- The outstanding amount of a contract after a command, computed from the rows before it.
 use Rattle.std.specs.Prelude.{◌≡◌, ℕ, ◌+◌, ◌-◌, List, Option, Some, None}
 use Rattle.office_commands.specs.declared.commands.Command.{Command}
 use Rattle.office_commands.specs.declared.commands.Command.TheVariants.{AmendContract, Pay, End}
@@ -15,45 +15,47 @@ use Rattle.office_machine.specs.Readings.{Readings}
 use Rattle.office_machine.specs.Machine.{Means, Given, Reaches, refusal_of, done}
 use Rattle.office_machine.specs.Replies.{left_of}
 
--- what is outstanding once so much more has come and gone
+-- The outstanding amount after so much more came and so much more went.
 abbrev pub left_with : List EntryRow → ContractRow → ℕ → ℕ → ℕ
 left_with entries c came gone = (plus entries c + came) - (minus entries c + gone)
 
--- a payment goes; where the contract's notice isn't there, as in no office that commands reach, nothing is put
+-- A payment takes its amount off. If the contract or its notice is missing, which no reached office allows, nothing changes.
 abbrev pub left_by_payment : Option ContractRow → List EntryRow → Option NoticeRow → ℕ → ℕ
 left_by_payment (Some c) entries (Some n) amount = left_with entries c 0 amount
 left_by_payment contract entries notice amount = left_of contract entries
 
--- a raise comes, a cut goes; likewise where the notice or the line isn't there
+-- A raise adds its amount, and a cut takes it off.
 abbrev pub left_changed : ChangeKind → List EntryRow → ContractRow → ℕ → ℕ
 left_changed change_kinds.Raise entries c amount = left_with entries c amount 0
 left_changed change_kinds.Cut entries c amount = left_with entries c 0 amount
 
+-- A change applies to the outstanding amount. If the contract, its notice or its line is missing, which no reached office allows, nothing changes.
 abbrev pub left_by_change : ChangeKind → Option ContractRow → List EntryRow → Option NoticeRow → Option LineRow → ℕ → ℕ
 left_by_change kind (Some c) entries (Some n) (Some w) amount = left_changed kind entries c amount
 left_by_change kind contract entries notice line amount = left_of contract entries
 
--- an end releases what is outstanding, in place of what was released before
+-- An end releases the outstanding amount, in place of the amount released before. If a row is missing, nothing changes.
 abbrev pub left_by_end : Option ContractRow → List EntryRow → Option NoticeRow → Option LineRow → ℕ
 left_by_end (Some c) entries (Some n) (Some w) = left_with entries c c.released (outstanding entries c)
 left_by_end contract entries notice line = left_of contract entries
 
--- what is outstanding of a contract after a command
+-- The outstanding amount of a contract after a command.
 abbrev pub left_after : Readings → Given → ℕ → ℕ
 left_after readings x contract = left_of (contract_at contract (done readings x)) (done readings x).entries
 
--- and before it, by the contract's own entries
+-- The outstanding amount of a contract before a command, by the contract's own entries.
 abbrev pub left_before : Tables → ℕ → ℕ
 left_before s contract = left_of (contract_at contract s) (entries_of_contract contract s)
 
--- the notice of a contract, and its lot's line
+-- The notice of a contract, if it exists.
 abbrev pub notice_under : ℕ → Tables → Option NoticeRow
 notice_under contract s = notice_of_contract (contract_at contract s) s
 
+-- The budget line of a contract's lot, if it exists.
 abbrev pub line_under : ℕ → Tables → Option LineRow
 line_under contract s = line_of_lot (lot_of_contract (contract_at contract s) s) s
 
--- after an accepted command, by the rows that it looks at, in any office
+-- After an accepted command on a contract, its outstanding amount follows from the rows that the command looks at. This is true of any office, reached or not.
 abbrev pub IsLeft : Readings → Given → Tables → Command → Type 0
 IsLeft readings x s (AmendContract contract entry kind amount rationale) =
     left_after readings x contract
@@ -64,11 +66,12 @@ IsLeft readings x s (End contract how) =
     left_after readings x contract ≡ left_by_end (contract_at contract s) (entries_of_contract contract s) (notice_under contract s) (line_under contract s)
 IsLeft readings x s command = Unit {0}
 
+-- The law: this is true of every command that isn't refused.
 abbrev pub LeftIsKnown : Type 0
 LeftIsKnown = (readings : Readings) (x : Given) → refusal_of x ≡ None → IsLeft readings x x.before x.command
 
--- in an office that commands reach: a raise adds its amount, a cut or a payment takes its amount off, and at most what is outstanding;
--- an end leaves nothing
+-- In a reached office, a raise adds its amount, a cut or a payment takes its amount off, and an end leaves nothing. So no cut and no payment exceeds the
+-- outstanding amount.
 abbrev pub OutstandingIsKept : Readings → Given → Tables → Command → Type 0
 OutstandingIsKept readings x s (AmendContract contract entry change_kinds.Raise amount rationale) = left_after readings x contract ≡ left_before s contract + amount
 OutstandingIsKept readings x s (AmendContract contract entry change_kinds.Cut amount rationale) = left_after readings x contract + amount ≡ left_before s contract
@@ -76,5 +79,6 @@ OutstandingIsKept readings x s (Pay contract entry amount) = left_after readings
 OutstandingIsKept readings x s (End contract how) = left_after readings x contract ≡ 0
 OutstandingIsKept readings x s command = Unit {0}
 
+-- The law: this is true of every command that a reached office accepts.
 abbrev pub LeftIsBooked : Type 0
 LeftIsBooked = (means : Means) (xs : List Given) (x : Given) → Reaches means xs x.before → refusal_of x ≡ None → OutstandingIsKept means.readings x x.before x.command

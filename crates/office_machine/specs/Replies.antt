@@ -1,4 +1,4 @@
--- What the office answers: replies to commands, and what queries see.
+-- The replies of the office to commands and queries, as values.
 use Rattle.std.specs.Prelude.{ℕ, ◌+◌, Bool, true, List, length, Option, Some, None}
 use Rattle.office_values.specs.declared.refusal.Thing.TheVariants as things
 use Rattle.office_values.specs.declared.refusal.Refusal.{Refusal}
@@ -25,7 +25,7 @@ use Rattle.award_core.specs.Rules.Award.{price_of}
 use Rattle.office_machine.specs.Counted.{releases_in}
 use Rattle.office_machine.specs.Readings.{Readings}
 
--- a line of a register and one of minutes
+-- A line of a register: a tender that came for a notice, without the name of its tenderer.
 pub record Registered : Type 0 where
   pub receipt : ℕ
   pub lot : List ℕ
@@ -33,6 +33,7 @@ pub record Registered : Type 0 where
   pub length : ℕ
   pub state : EnvelopeState
 
+-- A line of the minutes: an opened tender with its tenderer, whose row is `party`.
 pub record Minuted : Type 0 where
   pub receipt : ℕ
   pub lot : List ℕ
@@ -40,7 +41,7 @@ pub record Minuted : Type 0 where
   pub party : Option TendererRow
   pub reading : Option Reading
 
--- one's own tender, in a list of them
+-- A tender in the list that its own tenderer sees.
 pub record OwnTender : Type 0 where
   pub digest : List ℕ
   pub length : ℕ
@@ -50,7 +51,7 @@ pub record OwnTender : Type 0 where
   pub security : Option ℕ
   pub state : EnvelopeState
 
--- a security of a notice: who named it is told once tenders are no longer received
+-- A security in the list of a notice. The tenderer is named only once tenders are no longer received.
 pub record ListedSecurity : Type 0 where
   pub amount : ℕ
   pub lot : List ℕ
@@ -59,14 +60,13 @@ pub record ListedSecurity : Type 0 where
   pub state : SecurityState
   pub tenderer : Option (List ℕ)
 
--- a tenderer, without its key's digest
+-- A tenderer in the list of all tenderers, without the digest of the key.
 pub record ListedTenderer : Type 0 where
   pub tenderer : List ℕ
   pub name : List ℕ
   pub address : List ℕ
 
--- what was found of an opened tender: how it reads, whether its examination found it responsive and of which quality, its thousandths of points, whether it may
--- win, and whether it is out of the running
+-- The findings on an opened tender; its points are in thousandths. `failed` says that it can't win any more: it was passed over or withdrawn late.
 pub record EvaluatedTender : Type 0 where
   pub receipt : ℕ
   pub tenderer : List ℕ
@@ -77,19 +77,20 @@ pub record EvaluatedTender : Type 0 where
   pub admissible : Bool
   pub failed : Bool
 
--- a lot with its opened tenders and its awards, both none where the caller isn't shown them
+-- A lot with its opened tenders and its awards. Both lists are empty if the caller isn't shown them.
 pub record EvaluatedLot : Type 0 where
   pub lot : List ℕ
   pub state : LotState
   pub tenders : List EvaluatedTender
   pub awards : List AwardRow
 
--- what is told of a lot's winner
+-- The winner of a lot, as the reply to an award names it: the award's number, the price, and the receipt of the tender.
 pub record Winning : Type 0 where
   pub award : ℕ
   pub price : ℕ
   pub tender : ℕ
 
+-- A reply to a command, or to a query.
 pub data Reply : Type 0 where
   Refused : (why : Refusal) → Reply
   Imported : (batch : List ℕ) → (rows : ℕ) → (moment : ℕ) → Reply
@@ -121,33 +122,39 @@ pub data Reply : Type 0 where
 
 -- The replies to accepted commands.
 
--- the number of the next release of a notice
+-- The number of the next release of a notice.
 abbrev pub release_of : List NoticeRow → List ℕ → ℕ
 release_of notices notice = releases_in (find_notice notices notice) + 1
 
+-- The number of the next release of an award's notice; 0 if the award doesn't exist.
 abbrev pub release_of_award : Option AwardRow → List NoticeRow → ℕ
 release_of_award None notices = 0
 release_of_award (Some a) notices = release_of notices a.notice
 
+-- The number of the next release of a contract's notice; 0 if the contract doesn't exist.
 abbrev pub release_of_contract : Option ContractRow → List NoticeRow → ℕ
 release_of_contract None notices = 0
 release_of_contract (Some c) notices = release_of notices c.notice
 
+-- The outstanding amount of a contract; 0 if the contract doesn't exist.
 abbrev pub left_of : Option ContractRow → List EntryRow → ℕ
 left_of None entries = 0
 left_of (Some c) entries = outstanding entries c
 
+-- The reply to a tender that came in.
 abbrev pub received_reply : EnvelopeRow → Reply
 received_reply e = Received e.digest e.receipt e.security e.state e.moment
 
+-- The reply to the replacement of a tender: the receipt of the new one.
 abbrev pub modify_reply : Readings → ClockRow → ℕ → List ℕ → Option EnvelopeRow → Reply
 modify_reply readings clock t bytes None = Refused (NoSuch things.Tender)
 modify_reply readings clock t bytes (Some e) = received_reply (replacing readings.digest clock t e bytes)
 
--- where a tender that is taken back is: from the deadline on it stays where it was
+-- The state of a tender after its withdrawal. A late withdrawal leaves the state as it was.
 abbrev pub state_after : Bool → Option EnvelopeRow → EnvelopeState
 state_after true (Some e) = e.state
 state_after late envelope = Withdrawn
 
+-- The winning tender, as the reply to an award names it.
 abbrev pub winning : ClockRow → EnvelopeRow → Winning
 winning clock e = record { award = clock.awards + 1; price = price_of e; tender = e.receipt }

@@ -1,4 +1,4 @@
--- A command's rule, and what rules share.
+-- The rule of a command, and the parts that rules share.
 use Rattle.std.specs.Prelude.{ℕ, Bool, List, [], map, filter, Option, Some, None, option_map}
 use Rattle.office_commands.specs.declared.item.Item.{Item}
 use Rattle.office_commands.specs.declared.command.Caller.{Caller}
@@ -14,51 +14,55 @@ use Rattle.office_base.specs.declared.records.ContractRow.{ContractRow}
 use Rattle.office_machine.specs.Readings.{Readings}
 use Rattle.office_machine.specs.Replies.{Reply}
 
--- the notice of an award, and of a contract
+-- The notice of an award.
 abbrev pub notice_in_award : AwardRow → List ℕ
 notice_in_award a = a.notice
 
+-- The notice of a contract.
 abbrev pub notice_in_contract : ContractRow → List ℕ
 notice_in_contract c = c.notice
 
--- of which notice a command publishes a release: of none, of one that it names, of that of an award, or of a contract
+-- How a command determines the notice of its release: it publishes none, names the notice, or names an award or a contract of it.
 pub data Source : Type 0 where
   Silent : Source
   UnderNotice : List ℕ → Source
   UnderAward : ℕ → Source
   UnderContract : ℕ → Source
 
--- that notice, where the award or the contract is there
+-- That notice. None if the command publishes no release, or if the award or the contract doesn't exist.
 abbrev pub notice_of : Source → List AwardRow → List ContractRow → Option (List ℕ)
 notice_of Silent awards contracts = None
 notice_of (UnderNotice notice) awards contracts = Some notice
 notice_of (UnderAward award) awards contracts = option_map notice_in_award (find_award awards award)
 notice_of (UnderContract contract) awards contracts = option_map notice_in_contract (find_contract contracts contract)
 
--- when a command is refused, what may be lacking to it, what it puts, of which notice it publishes a release, and the reply to it
+-- The rule of a command: its refusals, its changes, its release and its reply.
 pub record Rule : Type 0 where
-  -- the conditions of its refusals, in their order
+  -- The conditions of its refusals, in their order.
   pub tests : Tables → ℕ → Caller → List (Bool × Refusal)
-  -- whether rows are lacking where it isn't refused: none are in an office that accepted commands reach
+  -- Whether rows are missing that the command needs. In a reached office none are, unless the command is refused.
   pub lacks : Tables → Bool
-  -- what it puts where it is accepted, but for its publication
+  -- The changes that it makes if it is accepted, without its release.
   pub puts : Readings → Tables → ℕ → Caller → List Put
+  -- The notice for which it publishes a release.
   pub publishes : Source
-  -- with the office before it and the office after it
+  -- The reply if it is accepted, from the office before it and the office after it.
   pub reply : Readings → Tables → Tables → ℕ → Caller → Reply
 
--- the bytes of a seal, and the items of a lot; none where it isn't there
+-- The bytes of a seal; none if the seal doesn't exist.
 abbrev pub bytes_in : Option SealRow → List ℕ
 bytes_in None = []
 bytes_in (Some seal) = seal.bytes
 
+-- The items of a lot; none if the lot doesn't exist.
 abbrev pub items_of_row : Option LotRow → List Item
 items_of_row None = []
 items_of_row (Some l) = l.items
 
--- the sealed tenders of a notice, each with its bytes and the items of its lot
+-- A sealed tender with its bytes and the items of its lot.
 abbrev pub sealed_tender : Tables → EnvelopeRow → SealedTender
 sealed_tender s e = record { envelope = e; bytes = bytes_in (seal_at e.receipt s); items = items_of_row (lot_at (e.notice, e.lot) s) }
 
+-- The sealed tenders of a notice.
 abbrev pub sealed_tenders : List ℕ → Tables → List SealedTender
 sealed_tenders notice s = map (sealed_tender s) (filter is_sealed_envelope (envelopes_of_notice notice s))

@@ -1,4 +1,4 @@
--- Two lists of requests that differ in the bytes that one tenderer seals for one lot alone, and what their runs tell.
+-- Sealed bytes stay secret: two runs that differ only in bytes that one tenderer seals for one lot get alike replies until the opening.
 use Rattle.std.specs.Prelude.{◌≡◌, ℕ, Bool, true, false, not, ◌&&◌, List, [], ◌∷◌, map, Option, Some, None, is_some, ◌⊎◌}
 use Rattle.office_values.specs.Ids.{same_id}
 use Rattle.office_commands.specs.declared.command.Caller.{Caller}
@@ -19,43 +19,45 @@ use Rattle.office_machine.specs.Replies.{NoticesSeen, TermsSeen, OwnTendersSeen,
 use Rattle.office_machine.specs.Sights.{Packages}
 use Rattle.office_machine.specs.Requests.{Demand, Asks, Looks, Request, given_by_request, reply_to, office_after, all_accepted, AreRequests}
 
--- envelopes with other digests
+-- The two envelopes differ at most in their digests.
 abbrev pub ButDigest : EnvelopeRow → EnvelopeRow → Type 0
 ButDigest e e' = e' ≡ record e { digest = e'.digest }
 
--- the text of a release tells no digest, and of seals those alone that an opening opens
+-- The text of a release depends on no digest of a tender, and on no seals but those that an opening opens.
 abbrev pub ReleasesHideSeals : Means → Type 0
 ReleasesHideSeals means = (x : Given) (envelopes : List EnvelopeRow) (seals : List SealRow) → Pairs ButDigest x.before.envelopes envelopes
     → OpensAlike x.command x.before (record x.before { envelopes = envelopes; seals = seals })
     → means.release (record { before = record x.before { envelopes = envelopes; seals = seals }; moment = x.moment; caller = x.caller; command = x.command }) ≡ means.release x
 
--- packages show no digest and no seal
+-- The text of a package depends on no digest of a tender and on no seal.
 abbrev pub PackagesHideSeals : Packages → Type 0
 PackagesHideSeals packages = (query : Query) (s : Tables) (envelopes : List EnvelopeRow) (seals : List SealRow) → Pairs ButDigest s.envelopes envelopes
     → packages query (record s { envelopes = envelopes; seals = seals }) ≡ packages query s
 
--- the same request but for such bytes, of equal length
+-- The two demands of a caller differ at most in bytes of equal length that the chosen tenderer seals for the chosen lot.
 abbrev pub SameDemand : ChosenTender → Tables → Caller → Demand → Demand → Type 0
 SameDemand th s caller (Asks command) (Asks command') = SameBut th s caller command command'
 SameDemand th s caller (Looks query) (Looks query') = query ≡ query'
 SameDemand th s caller demand demand' = ⊥
 
+-- The two requests differ at most in these bytes.
 pub record SameRequest (th : ChosenTender) (s : Tables) (a b : Request) : Type 0 where
   pub moment : b.moment ≡ a.moment
   pub caller : b.caller ≡ a.caller
   pub unavailable : b.unavailable ≡ a.unavailable
   pub demand : SameDemand th s a.caller a.demand b.demand
 
--- request by request; envelopes are those of the first run
+-- The two lists of requests differ, pair by pair, at most in these bytes. A replaced tender is looked up in the office of the first run.
 abbrev pub SameButSeals : Means → ChosenTender → Tables → List Request → List Request → Type 0
 SameButSeals means th s [] [] = Unit {0}
 SameButSeals means th s (a ∷ rest) (b ∷ rest') = SameRequest th s a b × SameButSeals means th (office_after means s a) rest rest'
 SameButSeals means th s rest rest' = ⊥
 
--- without the digest of the bytes handed in
+-- A tender in a list, without its digest.
 abbrev pub bare_tender : OwnTender → OwnTender
 bare_tender t = record t { digest = [] }
 
+-- A reply without the digests of tenders.
 abbrev pub without_digest : Reply → Reply
 without_digest (Refused why) = Refused why
 without_digest (Imported batch rows moment) = Imported batch rows moment
@@ -85,28 +87,30 @@ without_digest (SecuritiesSeen rows) = SecuritiesSeen rows
 without_digest (TenderersSeen next rows) = TenderersSeen next rows
 without_digest (ContractSeen contract left paid entries) = ContractSeen contract left paid entries
 
--- every other caller is told the same, and this tenderer the same but for the digest
+-- The replies differ at most in digests; if the caller isn't the chosen tenderer, they are equal.
 pub record ToldAlike (th : ChosenTender) (caller : Caller) (r r' : Reply) : Type 0 where
   pub others : is_by caller th.who ≡ false → r' ≡ r
   pub but_digest : without_digest r' ≡ without_digest r
 
--- the notice of the lot is opened
+-- The command opens the notice of the chosen lot.
 abbrev pub opens_it : ChosenTender → Command → Bool
 opens_it th (Open notice) = same_id notice th.notice
 opens_it th command = false
 
+-- The request asks to open the notice of the chosen lot, and isn't refused.
 abbrev pub demand_opens : ChosenTender → Tables → Request → Demand → Bool
 demand_opens th s a (Asks command) = opens_it th command && not (is_some (refusal_of (given_by_request s a command)))
 demand_opens th s a (Looks query) = false
 
+-- The request opens the notice of the chosen lot.
 abbrev pub is_opening : ChosenTender → Tables → Request → Bool
 is_opening th s a = not a.unavailable && demand_opens th s a a.demand
 
--- both know the same tenderers, so whoever may call the one may call the other
+-- The two offices have the same tenderers, so they know the same callers.
 abbrev pub KnowAlike : Tables → Tables → Type 0
 KnowAlike s s' = s'.tenderers ≡ s.tenderers
 
--- request by request, up to one that stops it, its own reply with the rest
+-- The replies of two runs are alike, pair by pair, until a request stops the comparison. The reply to this request is still compared.
 abbrev pub AlikeUntil : Means → Packages → ChosenTender → (Tables → Request → Bool) → Tables → Tables → List Request → List Request → Type 0
 AlikeUntil means packages th stops s s' [] [] = KnowAlike s s'
 AlikeUntil means packages th stops s s' (a ∷ rest) (b ∷ rest') =
@@ -114,23 +118,24 @@ AlikeUntil means packages th stops s s' (a ∷ rest) (b ∷ rest') =
     × (stops s a ≡ false → AlikeUntil means packages th stops (office_after means s a) (office_after means s' b) rest rest')
 AlikeUntil means packages th stops s s' rest rest' = ⊥
 
--- up to the opening of the notice
+-- The runs are alike until the notice of the chosen lot is opened.
 abbrev pub AlikeUntilOpening : Means → Packages → ChosenTender → Tables → Tables → List Request → List Request → Type 0
 AlikeUntilOpening means packages th s s' rest rest' = AlikeUntil means packages th (is_opening th) s s' rest rest'
 
--- to the end
+-- No request stops the comparison.
 abbrev pub never : Tables → Request → Bool
 never s a = false
 
+-- The runs are alike to their end.
 abbrev pub AlikeThroughout : Means → Packages → ChosenTender → Tables → Tables → List Request → List Request → Type 0
 AlikeThroughout means packages th s s' rest rest' = AlikeUntil means packages th never s s' rest rest'
 
--- the bytes that came in with a receipt
+-- The bytes of a tender that came in, if one did.
 abbrev pub bytes_of : Option Reception → Option (List ℕ)
 bytes_of None = None
 bytes_of (Some c) = Some c.bytes
 
--- withdrawn or returned
+-- The tender is withdrawn or returned.
 abbrev pub is_gone : Option EnvelopeState → Bool
 is_gone None = false
 is_gone (Some envelope_states.Sealed) = false
@@ -138,14 +143,16 @@ is_gone (Some envelope_states.Withdrawn) = true
 is_gone (Some envelope_states.Returned) = true
 is_gone (Some envelope_states.Opened) = false
 
--- each receipt whose bytes differ is withdrawn or returned in the end
+-- Each tender whose bytes differ between the two runs is withdrawn or returned in the end.
 abbrev pub DifferingAreGone : List Given → List Given → Type 0
 DifferingAreGone xs ys = (r : ℕ) → (bytes_of (received_at xs r) ≡ bytes_of (received_at ys r)) ⊎ (is_gone (fate_of_tender xs r) ≡ true)
 
+-- The law: two runs from a reached office that differ at most in these bytes are alike until the notice of the chosen lot is opened.
 abbrev pub SealsAreKept : Type 0
 SealsAreKept = (means : Means) (packages : Packages) → ReleasesHideSeals means → PackagesHideSeals packages → (th : ChosenTender) (xs : List Given) (s : Tables) → Reaches means xs s
     → (rest rest' : List Request) → AreRequests means s rest → SameButSeals means th s rest rest' → AlikeUntilOpening means packages th s s rest rest'
 
+-- The law: they are alike to their end if each tender whose bytes differ is withdrawn or returned in the end.
 abbrev pub WholeRunsAreAlike : Type 0
 WholeRunsAreAlike = (means : Means) (packages : Packages) → ReleasesHideSeals means → PackagesHideSeals packages → (th : ChosenTender) (xs : List Given) (s : Tables) → Reaches means xs s
     → (rest rest' : List Request) → AreRequests means s rest → SameButSeals means th s rest rest' → DifferingAreGone (all_accepted means s xs rest) (all_accepted means s xs rest')

@@ -1,4 +1,4 @@
--- Worked examples of the office machine.
+-- Worked examples of the specification.
 pub mod Office
 pub mod Dates
 pub mod Budgets

@@ -1,4 +1,4 @@
-//! Worked examples of the office machine: each contract computes.
+//! Worked examples of the specification: the prover computes each of them.
 ghost use Rattle.office_machine.specs.Worked.Amending.{AmendingWorked};
 ghost use Rattle.office_machine.specs.Worked.Awarding.{AwardingWorked};
 ghost use Rattle.office_machine.specs.Worked.Budgets.{BudgetsWorked};
@@ -30,122 +30,122 @@ pub fn dates()
     ensures { DatesWorked }
 {}
 
-/// Money comes to budget lines and is cut from them, up to what is free and to the bound of sums.
+/// Budget files add money to budget lines and cut it from them, up to the free money and to the bound of sums.
 pub fn budgets()
     ensures { BudgetsWorked }
 {}
 
-/// Tenderers are registered under names of their own.
+/// Tenderers are registered, each with an identifier that no other has.
 pub fn registering()
     ensures { RegisteringWorked }
 {}
 
-/// A notice reserves its lots' estimates, up to what is free and no further.
+/// A notice reserves the estimates of its lots, up to the free money.
 pub fn publishing()
     ensures { PublishingWorked }
 {}
 
-/// The deadline of a notice moves later while it is still to come.
+/// The deadline of a notice moves to a later moment, as long as it isn't over.
 pub fn amending()
     ensures { AmendingWorked }
 {}
 
-/// Sealed tenders come in time and late; each gets a receipt, and what is late goes back.
+/// Sealed tenders come in time or late. Each gets a receipt, and a late one is returned.
 pub fn receiving()
     ensures { ReceivingWorked }
 {}
 
-/// Sealed tenders are modified and withdrawn before the deadline.
+/// Sealed tenders are replaced and withdrawn before the deadline.
 pub fn replacing()
     ensures { ReplacingWorked }
 {}
 
-/// Who sees a tender, a security, the register and the minutes.
+/// Which callers see a tender, a security, the register and the minutes.
 pub fn looking()
     ensures { LookingWorked }
 {}
 
-/// Tender securities are asked for, held, returned and forfeited.
+/// Tender securities are required, held, returned and forfeited.
 pub fn securities()
     ensures { SecuritiesWorked }
 {}
 
-/// Tenders are withdrawn after the deadline, where their notice lets them, at the price of their securities.
+/// Tenders are withdrawn after the deadline if their notice allows it, and forfeit their securities.
 pub fn withdrawing()
     ensures { WithdrawingWorked }
 {}
 
-/// Performance securities are asked for at the signing, and go back or are forfeited at the end of the contract.
+/// Performance securities are required at the signing, and returned or forfeited at the end of the contract.
 pub fn performances()
     ensures { PerformancesWorked }
 {}
 
-/// Tenders are opened at the deadline, and the minutes tell how they read.
+/// Tenders are opened from the deadline on, and the minutes show how they were read.
 pub fn opening()
     ensures { OpeningWorked }
 {}
 
-/// Opened tenders are examined, with a quality where points decide.
+/// Opened tenders are examined, and get points for quality if the notice says that points decide.
 pub fn examining()
     ensures { ExaminingWorked }
 {}
 
-/// The best tender has the lot: the lowest price, the most points, or nobody.
+/// The best tender wins the lot, by the lowest price or by the most points; or nobody wins it.
 pub fn awarding()
     ensures { AwardingWorked }
 {}
 
-/// What is told of how an award came about, to the clerk and to others.
+/// The evaluation shows how an award was decided, to the clerk and to others.
 pub fn evaluating()
     ensures { EvaluatingWorked }
 {}
 
-/// A contract is signed after the standstill; a winner who doesn't sign is passed over.
+/// A contract is signed after the standstill. A winner who doesn't sign is passed over.
 pub fn signing()
     ensures { SigningWorked }
 {}
 
-/// Contracts are raised, cut and paid within what is free and outstanding, and their end frees the rest.
+/// Contracts are raised up to the free money, and cut and paid up to the outstanding amount. Their end frees the rest.
 pub fn contracts()
     ensures { ContractsWorked }
 {}
 
-/// What is told of notices, terms, own tenders, securities, tenderers and contracts, and to whom.
+/// The lists of notices, own tenders, securities and tenderers, the terms and the contracts, and the callers that see them.
 pub fn listing()
     ensures { ListingWorked }
 {}
 
-/// A cancellation gives back what isn't contracted: money, tenders and securities.
+/// A cancellation returns the tenders and securities, and frees the money, of lots that have no contract.
 pub fn cancelling()
     ensures { CancellingWorked }
 {}
 
-/// Which commands publish a release, and how many releases a notice may have.
+/// Some commands publish a release, and a notice may have a limited number of them.
 pub fn releases()
     ensures { ReleasesWorked }
 {}
 
-/// Who may give which command, and that the others are told nothing.
+/// Which callers may give which commands. Others are refused.
 pub fn rights()
     ensures { RightsWorked }
 {}
 
-/// Which of several refusals is answered, and that a refused request and a look change nothing.
+/// Which of several refusals is answered. A refused request and a query change nothing.
 pub fn refusing()
     ensures { RefusingWorked }
 {}
 
-/// What accepted commands make of each tender and each security.
+/// The fates that accepted commands give to tenders and securities.
 pub fn fates()
     ensures { FatesWorked }
 {}
 
-/// Two runs that differ in the bytes that one tenderer seals tell nobody else a difference.
+/// Two runs that differ in the bytes that one tenderer seals give nobody else different replies.
 pub fn seals()
     ensures { SealsWorked }
 {}
 
-/// A whole procurement by all sixteen commands, from its money to its payments, with what it moved.
+/// A whole procurement by all sixteen commands, from its money to its payments, with the money that it moved.
 pub fn whole_run()
     ensures { WholeRunWorked }
 {}

@@ -1,20 +1,18 @@
-//! The laws of the fates.
+//! The laws of the fates of tenders and securities.
 ghost use Rattle.office_machine.specs.Fates.{SecuritiesAreKept, TendersAreKept, PerformancesAreKept};
 
-/// Wherever accepted commands lead from the empty office, the receipts that were given out have one envelope each, in the state
-/// that these commands gave it, with the digest and the length of the bytes handed in; its seal has these bytes, and is there for
-/// sealed and opened tenders alone.
+/// In every reached office, each receipt that was given out has one envelope, and there are no others. The envelope has the digest and the length of the bytes
+/// that came in, and the state that accepted commands gave it. Its seal has these bytes, and exists only while the tender is sealed or opened.
 pub fn tenders()
     ensures { TendersAreKept }
 {}
 
-/// There the securities are those that were named at accepted receptions, each in the state that these commands gave it.
+/// In every reached office, the securities are those that were named with accepted tenders, each in the state that accepted commands gave it.
 pub fn securities()
     ensures { SecuritiesAreKept }
 {}
 
-/// Wherever accepted commands lead from the empty office, the performance securities are those named at accepted signings, each in the
-/// state that the first end of its contract gave it.
+/// In every reached office, the performance securities are those that were named at accepted signings. The first end of its contract decides the state of each.
 pub fn performances()
     ensures { PerformancesAreKept }
 {}

@@ -12,79 +12,75 @@ ghost use Rattle.office_machine.specs.Releases.{ReleasesAreCounted, ReleasesAreI
 ghost use Rattle.office_machine.specs.Requests.{RunsReach, StepsReach};
 ghost use Rattle.office_machine.specs.Worlds.{StepsStayAlike};
 
-/// Wherever accepted commands lead from the empty office, each pot of each line, summed from joined rows, is what they moved
-/// into it less what they moved out of it, and a line's appropriation is the sum of its four pots.
+/// In every reached office, each balance of each budget line, summed from rows, is the money that accepted commands moved into it, less what they moved out.
+/// The appropriation of the line is the sum of its four balances.
 pub fn accounts()
     ensures { AccountsAreKept }
 {}
 
-/// Wherever accepted commands lead, the rows of each table stand in the order of their keys, each key once.
+/// In every reached office, the rows of each table are in the order of their keys, and no key occurs twice.
 pub fn order()
     ensures { TablesAreInOrder }
 {}
 
-/// The clock stands at the moment of the last accepted command, whichever it is, and no accepted command puts it back.
+/// The clock has the moment of the last accepted command, and no accepted command puts it back.
 pub fn clock()
     ensures set { ClockIsSet }
     ensures forward { ClockNeverRunsBack }
 {}
 
-/// The refusals of each command are tried in the order of their numbers, so that the one answered is the least whose condition
-/// holds.
+/// The refusals of each command are tried in the order of their numbers. So a command is answered by the refusal with the least number among those whose
+/// conditions hold.
 pub fn refusals()
     ensures order { NumbersNeverFall }
     ensures least { LeastIsAnswered }
 {}
 
-/// An accepted command leads from the office that accepted commands reached to the office after it, and so what a run of requests accepts
-/// leads to its last office.
+/// An accepted command leads from a reached office to a reached office. So the commands that a run of requests accepts lead to its last office.
 pub fn runs()
     ensures steps { StepsReach }
     ensures runs { RunsReach }
 {}
 
-/// No sum over the rows that accepted commands lead to is out of its range: not of a line, a lot or a contract.
+/// In every reached office, each sum over rows is within the bound of sums: those of lines, of lots and of contracts.
 pub fn sums()
     ensures { SumsInRange }
 {}
 
-/// What is outstanding of a contract after an accepted command on it, by the rows that the command looks at; and wherever accepted
-/// commands lead, a raise adds its amount, a cut or a payment takes its amount off what is there, and an end leaves nothing.
+/// After an accepted command on a contract, its outstanding amount follows from the rows that the command looks at. In a reached office, a raise adds its
+/// amount, a cut or a payment takes its amount off, and an end leaves nothing.
 pub fn outstanding()
     ensures known { LeftIsKnown }
     ensures booked { LeftIsBooked }
 {}
 
-/// Of each row that accepted commands lead to, the rows that it speaks of are there; and a contract whose notice asks for a performance
-/// security has one.
+/// In every reached office, each row that another row refers to exists. A contract has a performance security if its notice asks for one.
 pub fn parents()
     ensures there { ParentsAreThere }
     ensures performances { PerformancesAreThere }
 {}
 
-/// Wherever accepted commands lead, nothing is lacking to a command that isn't refused: the rows that its rule looks at are there once the
-/// named one is, and no more went from a contract, or from what was appropriated, than had come.
+/// In a reached office, a command that isn't refused finds every row that it needs. No more went from a contract, or from an appropriation, than had come.
 pub fn lacking()
     ensures { NothingIsLacking }
 {}
 
-/// The winner that the reply to an award names is shown by the evaluation, to the clerk just before it and to anybody just after it, as admissible,
-/// and by the points, prices and receipts that are shown no other admissible tender of the lot is better; where nobody wins, none is shown as
-/// admissible. Wherever accepted commands lead, each award that is there was made by one of them for a tender that was shown so.
+/// The reply to an accepted award names the winner that the evaluation shows, to the clerk just before it and to everyone just after it. The winner is
+/// admissible, and no other admissible tender of the lot is better. If nobody wins, no tender is shown as admissible.
+/// Each award of a reached office was made by an accepted command, for a tender that was shown as best just before.
 pub fn awards()
     ensures winners { WinnersAreShown }
     ensures made { AwardsWereShown }
 {}
 
-/// Wherever accepted commands lead, tenders of a notice may be withdrawn late exactly where its accepted publication said that this forfeits
-/// their security.
+/// In every reached office, tenders of a notice may be withdrawn late exactly if its accepted publication said that this forfeits the security.
 pub fn late_withdrawals()
     ensures { LateRulesAreKept }
 {}
 
-/// The row of a notice counts the commands that published a release of it, at most as many as there are numbers for; a release of each
-/// number from 1 to that count is there, and no other; and the releases of a notice are those that these commands published, in their
-/// sequence, along which their moments never fall.
+/// The row of a notice counts the releases that commands published for it, at most `release_limit`. The notice has a release of each number from 1 to this
+/// count, and no other, if a release is made of each command that publishes. Its releases are the published ones, in their sequence, and their moments never
+/// fall.
 pub fn releases()
     ensures counted { ReleasesAreCounted }
     ensures numbered { ReleasesAreNumbered }
@@ -92,15 +88,14 @@ pub fn releases()
     ensures in_time { ReleasesAreInTime }
 {}
 
-/// Two commands that differ in the bytes that one tenderer seals for a lot alone are answered alike, and leave two offices alike
-/// that were: they differ in digests and seals of such envelopes alone. An opening has to find equal seals.
+/// Two commands that differ only in bytes of equal length that one tenderer seals for one lot have the same refusal. They leave two offices alike that were
+/// alike: these differ only in digests and seals of such tenders. An opening must find equal seals.
 pub fn worlds()
     ensures { StepsStayAlike }
 {}
 
-/// The merges of releases stand beside an office and are no part of it: whatever merges there are, a command is refused for the same reason,
-/// told the same and puts the same, whoever looks sees the same, and the office after it is the same but for the merges, where releases and
-/// packages are told without them; and so are the fates that commands give to tenders.
+/// Merges of releases are stored beside an office and are no part of it. No refusal, reply or fate of a tender depends on them. Nor do the changes of a command
+/// or the later office, if the texts of releases don't, nor the replies to queries, if the texts of packages don't.
 pub fn merges()
     ensures refusals { RefusalsReadNoMerges }
     ensures replies { RepliesReadNoMerges }

@@ -1,13 +1,13 @@
-//! The laws of the seals.
+//! The laws of sealed tenders.
 ghost use Rattle.office_machine.specs.Seals.{SealsAreKept, WholeRunsAreAlike};
 
-/// Two runs from one office, of requests that differ in the bytes alone that one tenderer seals for one lot, tell every other
-/// caller the same up to the opening of the lot's notice, and this tenderer the same but for the digest.
+/// Two runs start from a reached office, and their requests differ only in bytes of equal length that one tenderer seals for one lot. Until the lot's notice is
+/// opened, every other caller gets the same replies in both, and this tenderer's replies differ at most in digests.
 pub fn seals()
     ensures { SealsAreKept }
 {}
 
-/// Where each receipt whose bytes differ is withdrawn or returned in the end, this holds for the whole of both runs.
+/// If each tender whose bytes differ is withdrawn or returned in the end, this is true of both runs to their end.
 pub fn whole()
     ensures { WholeRunsAreAlike }
 {}

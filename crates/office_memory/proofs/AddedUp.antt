@@ -1,4 +1,4 @@
--- Entries and lines added up.
+-- Lemmas for adding up the entries of contracts and the lines of the ledger.
 use Rattle.std.specs.Prelude.{◌≡◌, ℕ, ◌+◌, ◌^◌, ◌≤◌, List, Some, None}
 use Rattle.std.proofs.Common.{sym, ap, ◌∙◌, subst, arith}
 use Rattle.office_base.specs.EntrySums.{sums_with_entry}
@@ -12,7 +12,7 @@ use Rattle.office_base.specs.declared.records.EntryKind.TheVariants.{Raise, Cut,
 use Rattle.office_base.specs.declared.records.LineRow.{LineRow}
 use Rattle.office_memory.specs.Inside.Adding.{HasRoom, IsLedgerRow}
 
--- an entry takes the room of one
+-- after one of n + 1 entries is added, n more still fit into 128 bits
 pub entry_room : (k : EntryKind) (amount : ℕ) (sums new : ContractSums) → new ≡ sums_with_entry k amount sums → amount ≤ 2 ^ 50 → (n : ℕ) → HasRoom (n + 1) sums → HasRoom n new
 entry_room Raise amount sums new are bound n h = record {
   gained = omega (arith, h.gained, bound, ap (λ (s : ContractSums). s.gained) are);
@@ -46,7 +46,7 @@ module _ (law : JoinedSums) (t : Tables) (sorted : IsSorted t) (row : LineRow) (
       let first : List ℕ → Type 0 = λ r. SumsFit r sums in
       subst family sums_are_theirs (subst first reserved_are h)
 
-  -- the pots over these sums are the row of the ledger
+  -- the balances that were added up are the right row of the ledger
   pub row_found : (pots : Pots) → pots ≡ pots_with row reserved sums → SumsFit reserved sums → IsLedgerRow t row (Some (record { line = row.line; pots = pots }))
   row_found pots are fit = (
     ap (λ (p : Pots). record { line = row.line; pots = p })
@@ -54,6 +54,6 @@ module _ (law : JoinedSums) (t : Tables) (sorted : IsSorted t) (row : LineRow) (
     (law t sorted row).fits.0 (fits_back fit),
   )
 
-  -- where there are none, the line doesn't fit
+  -- if there are no balances, the line doesn't fit its bounds
   pub no_row : ¬ (SumsFit reserved sums) → IsLedgerRow t row None
   no_row unfit h = unfit (fits ((law t sorted row).fits.1 h))

@@ -1,4 +1,4 @@
--- All changes made in memory.
+-- Changes that were all made fulfil the promise of `apply`.
 use Rattle.std.specs.Prelude.{◌≡◌, ℕ, List, Ok}
 use Rattle.std.proofs.Common.{sym, ap, ◌∙◌}
 use Rattle.office_base.specs.Tables.{Tables, after_puts, ChangesKeepOrder}

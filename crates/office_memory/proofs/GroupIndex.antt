@@ -1,4 +1,4 @@
--- Rows of a group by the index.
+-- An index finds the rows of a group, before and after changes of its table.
 use Rattle.std.specs.Prelude.{◌≡◌, Bool, true, false, cond, ◌&&◌, List, [], ◌∷◌, filter, Some, Result, Ok, Err, OnOk, OnErr}
 use Rattle.std.proofs.Common.{refl, sym, ap, ◌∙◌, subst}
 use Rattle.std.specs.BTreeMap.{get, is_at}
@@ -22,7 +22,7 @@ pub contains_more : (test was : Bool) → was ≡ true → cond test true was �
 contains_more true was h = refl
 contains_more false was h = h
 
--- a key is the one of a list of one
+-- a list of one key contains that key
 pub is_only : {K : Type 0} {R : K → K → Ordering} → IsTotalOrder R → (key : K) → list_any (is_at (R key)) (key ∷ []) ≡ true
 is_only {K} {R} o key = or_left (is_eq (R key key)) false (ap is_eq (same_key o key))
 
@@ -45,7 +45,7 @@ module _ {G K : Type 0} {S : G → G → Ordering} {R : K → K → Ordering} (s
   more_step g q k index next keys updates more has false e =
       ap (λ found. list_any (is_at (R k)) (keys_in found)) (updates ∙ ap (λ b. cond b (Some keys) (get S index q)) e) ∙ has
 
-  -- where the keys of one group are others, but at least those that were there, none leaves the index
+  -- if the keys of one group change, but keep those that it had, no key leaves the index
   pub more_keys : (g : G) (index next : KeysOfGroups G K) (keys : BTreeSet K)
       → ((q : G) → get S next q ≡ cond (is_at (S g) q) (Some keys) (get S index q))
       → ((j : K) → list_any (is_at (R j)) (keys_of S g index) ≡ true → contains R keys j ≡ true)
@@ -66,7 +66,7 @@ module _ {G K : Type 0} {S : G → G → Ordering} {R : K → K → Ordering} (s
       rows_of_it g [] index has = tt
       rows_of_it g (r ∷ rows) index has = (row_of_it g index r has.0, rows_of_it g rows index has.1)
 
-      -- the keys that an index has of a group find its rows
+      -- looking up the keys that an index lists for a group finds the rows of the group
       pub rows_found : (g : G) (rows : List X) (index : KeysOfGroups G K) (keys : List K) → HasRows S R group key rows index → keys ≡ keys_of S g index
           → IsStrictlySortedBy R keys → IsInOrder R key rows
           → filter (λ r. same (group r) g) (filter_map (row_at R key rows) keys) ≡ filter (λ r. same (group r) g) rows
@@ -74,7 +74,7 @@ module _ {G K : Type 0} {S : G → G → Ordering} {R : K → K → Ordering} (s
           let family : List K → Type 0 = λ ks. AllByRecursion (λ r. same (group r) g ≡ true → list_any (is_at (R (key r))) ks ≡ true) rows in
           all_found o key (λ r. same (group r) g) keys rows sorted order (subst family (sym are) (rows_of_it g rows index has))
 
-      -- where it has none, there are none
+      -- if an index lists no key for a group, the group has no rows
       pub no_rows : (g : G) (rows : List X) (index : KeysOfGroups G K) → HasRows S R group key rows index → [] ≡ keys_of S g index → IsInOrder R key rows
           → [] ≡ filter (λ r. same (group r) g) rows
       unfolding IsStrictlySortedBy
@@ -87,17 +87,17 @@ module _ {G K : Type 0} {S : G → G → Ordering} {R : K → K → Ordering} (s
     has_all [] index next kept h = tt
     has_all (r ∷ rows) index next kept h = (kept (group r) (key r) h.0, has_all rows index next kept h.1)
 
-    -- a key is added to it, and it stays as whole as it was
+    -- an index to which a key was added still covers the rows
     pub indexed_with : (rows : List X) (index next : KeysOfGroups G K) (is_whole now_whole : Bool) → IsIndexed S R group key rows index is_whole
         → ((q : G) (k : K) → has_key S R index q k ≡ true → has_key S R next q k ≡ true) → now_whole ≡ is_whole → IsIndexed S R group key rows next now_whole
     indexed_with rows index next is_whole now_whole h more same whole = has_all rows index next more (h (sym same ∙ whole))
 
-    -- a row that it has is put
+    -- an index that lists a row's key covers the rows after the row was put
     has_all-put : (r : X) (rows : List X) (index : KeysOfGroups G K) → has_key S R index (group r) (key r) ≡ true → HasRows S R group key rows index
         → HasRows S R group key (row_put R key rows r) index
     has_all-put r rows index has h = all-put o key (λ x. has_key S R index (group x) (key x) ≡ true) rows r has h
 
-    -- once its key was added, it may be
+    -- after a row's key was added, the index covers the rows with that row
     pub ready_for : {Y E : Type 0} (r : X) (index next : KeysOfGroups G K) (is_whole now_whole : Bool) (result : Result Y E)
         → OnOk result (has_key S R next (group r) (key r) ≡ true) → ((q : G) (k : K) → has_key S R index q k ≡ true → has_key S R next q k ≡ true) → now_whole ≡ is_whole
         → OnOk result ((rows : List X) → IsIndexed S R group key rows index is_whole → IsIndexed S R group key (row_put R key rows r) next now_whole)
@@ -105,20 +105,20 @@ module _ {G K : Type 0} {S : G → G → Ordering} {R : K → K → Ordering} (s
         λ rows h whole. has_all-put r rows next has (indexed_with rows index next is_whole now_whole h more same whole)
     ready_for r index next is_whole now_whole (Err e) has more same = tt
 
-    -- a row that was replaced comes again: it stays whole where it has the row
+    -- when a replaced row is restored, the index covers the rows, since it stays whole only if it lists that row
     pub indexed_again : (r : X) (rows : List X) (index next : KeysOfGroups G K) (is_whole now_whole : Bool) → IsIndexed S R group key rows index is_whole
         → next ≡ index → now_whole ≡ (is_whole && has_key S R index (group r) (key r)) → IsIndexed S R group key (row_put R key rows r) next now_whole
     indexed_again r rows index next is_whole now_whole h same stays whole =
         let has = and_parts is_whole (has_key S R index (group r) (key r)) (sym stays ∙ whole) in
         rw same (has_all-put r rows index has.1 (h has.0))
 
-    -- a row is dropped
+    -- when a row is dropped, the index covers the remaining rows
     pub indexed_after_drop : (k : K) (rows : List X) (index : KeysOfGroups G K) (is_whole : Bool) → IsIndexed S R group key rows index is_whole
         → IsIndexed S R group key (row_drop R key rows k) index is_whole
     indexed_after_drop k rows index is_whole h whole =
         all-drop R key (λ r. has_key S R index (group r) (key r) ≡ true) rows k (h whole)
 
--- what holds of rows with one put, and of those without, holds of them once it was put, or refused
+-- if a property is true of the rows with a new one and of those without it, it is true after a put that succeeded or failed
 pub put_or_not : {K X Y E : Type 0} (R : K → K → Ordering) (key : X → K) (P : List X → Type 0) (r : X) (rows after : List X) (result : Result Y E)
     → OnOk result (after ≡ row_put R key rows r) → OnErr result (after ≡ rows) → P (row_put R key rows r) → P rows → P after
 put_or_not R key P r rows after (Ok v) put kept with_it without = subst P (sym put) with_it

@@ -1,4 +1,4 @@
--- All identifiers lie between the least and the greatest.
+-- Every identifier is between the least and the greatest one.
 use Rattle.std.specs.Prelude.{◌≡◌, ℕ, zero, suc, ◌≤◌, true, false, IsTrue, List, [], ◌∷◌, length, All, replicate}
 use Rattle.std.proofs.Common.{refl, arith, lit≤}
 use Rattle.std.specs.Ordering.{nat_cmp, ordering_then, is_le, is_lt}

@@ -1,4 +1,4 @@
--- Keys between the first and the last of a parent.
+-- The keys of a parent's rows are those between the least and the greatest key that begin with the parent's.
 use Rattle.std.specs.Prelude.{◌≡◌, ℕ, ◌<◌, ◌-◌, ◌^◌, Bool, true, false, not, ◌&&◌, List}
 use Rattle.std.proofs.Common.{refl, sym, ap, ◌∙◌, arith}
 use Rattle.std.specs.Cmp.{IsTotalOrder}
@@ -13,14 +13,14 @@ use Rattle.office_memory.specs.Inside.IdBounds.{least, greatest}
 use Rattle.office_memory.proofs.IdBounds.{is_le-least, is_lt-greatest, least-greatest}
 use Rattle.office_base.proofs.Orders.{same_key}
 
--- a compound key lies between two that begin alike where it begins so too and its rest lies between theirs
+-- a pair is between two pairs with equal first parts exactly if its first part equals theirs and its second part is between theirs
 begins_alike : (c low high : Ordering) → is_le (ordering_then c low) && not (is_lt (ordering_then c high)) ≡ is_eq c && (is_le low && not (is_lt high))
 begins_alike Less low high = refl
 begins_alike Equal low high = refl
 begins_alike Greater low high = refl
 
 module _ {A B : Type 0} (R : A → A → Ordering) (S : B → B → Ordering) where
-  -- in the order of pairs: where every rest lies between two, the keys that begin alike lie between the pairs with those
+  -- if the second part of a pair is between two values, the pair is between those of `p` and these values exactly if its first part is `p`
   pub between_ends : (same : A → A → Bool) → IsTotalOrder R → ((x y : A) → same x y ≡ is_eq (R x y)) → (low high : B) (p a : A) (b : B) → is_le (S low b) ≡ true → is_lt (S high b) ≡ false
       → is_le (ordering_then (R p a) (S low b)) && not (is_lt (ordering_then (R p a) (S high b))) ≡ same a p
   between_ends same total ties low high p a b above below =
@@ -42,7 +42,7 @@ module _ {A B : Type 0} (R : A → A → Ordering) (S : B → B → Ordering) wh
   ends_in_order total low high up p = ap (λ c. is_gt (ordering_then c (S low high))) (same_key total p) ∙ up
 
 module _ {A : Type 0} {R : A → A → Ordering} (total : IsTotalOrder R) where
-  -- pairs that end with an identifier
+  -- the case of pairs that end with an identifier
   pub between_ids : {same : A → A → Bool} → ((x y : A) → same x y ≡ is_eq (R x y)) → (p a : A) (b : List ℕ) → IsId b
       → is_le (ordering_then (R p a) (id_cmp least b)) && not (is_lt (ordering_then (R p a) (id_cmp greatest b))) ≡ same a p
   between_ids {same} ties p a b h = between_ends R id_cmp same total ties least greatest p a b (is_le-least b h) (is_lt-greatest b h)
@@ -50,7 +50,7 @@ module _ {A : Type 0} {R : A → A → Ordering} (total : IsTotalOrder R) where
   pub ids_in_order : (p : A) → is_gt (ordering_then (R p p) (id_cmp least greatest)) ≡ false
   ids_in_order p = ends_in_order R id_cmp total least greatest (ap is_gt least-greatest) p
 
-  -- and pairs that end with a number
+  -- the case of pairs that end with a number of 64 bits
   pub between_numbers : {same : A → A → Bool} → ((x y : A) → same x y ≡ is_eq (R x y)) → (p a : A) (b : ℕ) → b < 2 ^ 64
       → is_le (ordering_then (R p a) (nat_cmp 0 b)) && not (is_lt (ordering_then (R p a) (nat_cmp (2 ^ 64 - 1) b))) ≡ same a p
   between_numbers {same} ties p a b h = between_ends R nat_cmp same total ties 0 (2 ^ 64 - 1) p a b (grind (arith, nat_tests)) (grind (arith, nat_tests))

@@ -1,4 +1,4 @@
--- What lots have reserved, read off the rows that are borrowed.
+-- The reserved amounts of borrowed lots are those of the lots.
 use Rattle.std.specs.Prelude.{◌≡◌, List, [], ◌∷◌, map}
 use Rattle.std.proofs.Common.{Bor, refl, ap, ◌∙◌}
 use Rattle.office_base.specs.declared.records.LotRow.{LotRow}

@@ -1,4 +1,4 @@
--- Rows that are dropped, and rows that are put after that.
+-- Putting a row after drops is the same as dropping after the put, unless a drop has the row's key.
 use Rattle.std.specs.Prelude.{◌≡◌, Bool, true, false, cond, not, List, [], ◌∷◌, ◌++◌, filter}
 use Rattle.std.proofs.Common.{refl, sym, ap, ◌∙◌}
 use Rattle.std.specs.Cmp.{IsTotalOrder}
@@ -26,7 +26,7 @@ module _ {K X : Type 0} {R : K → K → Ordering} (o : IsTotalOrder R) (key : X
   one_step k r Equal e = refl
   one_step k r Greater e = refl
 
-  -- the row comes before the first
+  -- the new row comes before the first row
   put_before : (k : K) (r x : X) (xs : List X) → R (key r) (key x) ≡ Less → IsInOrder R key (x ∷ xs) → (c : Ordering) → R k (key r) ≡ c
       → row_put R key (row_drop R key (x ∷ xs) k) r ≡ cond (is_eq c) (r ∷ x ∷ xs) (by_order c (r ∷ x ∷ xs) (x ∷ xs) (r ∷ row_drop R key (x ∷ xs) k))
   unfolding row_put row_drop
@@ -38,7 +38,7 @@ module _ {K X : Type 0} {R : K → K → Ordering} (o : IsTotalOrder R) (key : X
       ∙ ap (λ b. by_order b (r ∷ x ∷ xs) (r ∷ xs) (x ∷ row_put R key xs r)) e
   put_before k r x xs e h Greater c = put_first R key r (row_drop R key (x ∷ xs) k) (start-drop o key (key r) (x ∷ xs) k e h)
 
-  -- it takes the place of the first
+  -- the new row replaces the first row
   put_at : (k : K) (r x : X) (xs : List X) → R (key r) (key x) ≡ Equal → IsInOrder R key (x ∷ xs) → (c : Ordering) → R k (key r) ≡ c
       → row_put R key (row_drop R key (x ∷ xs) k) r ≡ cond (is_eq c) (r ∷ xs) (by_order c (r ∷ xs) xs (r ∷ row_drop R key xs k))
   unfolding row_put row_drop
@@ -52,7 +52,7 @@ module _ {K X : Type 0} {R : K → K → Ordering} (o : IsTotalOrder R) (key : X
       ap (λ a. row_put R key (by_order a (x ∷ xs) xs (x ∷ row_drop R key xs k)) r) (sym (alike_right o k (key r) (key x) e) ∙ c)
       ∙ ap (λ b. by_order b (r ∷ x ∷ row_drop R key xs k) (r ∷ row_drop R key xs k) (x ∷ row_put R key (row_drop R key xs k) r)) e
 
-  -- it comes after the first
+  -- the new row comes after the first row
   put_after : (k : K) (r x : X) (xs : List X) → R (key r) (key x) ≡ Greater
       → row_put R key (row_drop R key xs k) r ≡ cond (eq_by_cmp R k (key r)) (row_put R key xs r) (row_drop R key (row_put R key xs r) k)
       → (a : Ordering) → R k (key x) ≡ a
@@ -79,7 +79,7 @@ module _ {K X : Type 0} {R : K → K → Ordering} (o : IsTotalOrder R) (key : X
   put_step k r x xs h ih Equal e = put_at k r x xs e h (R k (key r)) refl
   put_step k r x xs h ih Greater e = put_after k r x xs e ih (R k (key x)) refl
 
-  -- a row put after a drop: the drop is for nothing where it was of the same key, and else it may come after
+  -- A put after a drop: a drop of the row's own key has no effect, and any other drop may be made after the put.
   pub put_dropped : (xs : List X) (k : K) (r : X) → IsInOrder R key xs
       → row_put R key (row_drop R key xs k) r ≡ cond (eq_by_cmp R k (key r)) (row_put R key xs r) (row_drop R key (row_put R key xs r) k)
   unfolding row_put row_drop
@@ -99,7 +99,7 @@ module _ {K X : Type 0} {R : K → K → Ordering} (o : IsTotalOrder R) (key : X
         ih ∙ ap (λ rows. rows_drop R key rows (filter keep ks)) (one ∙ ap (λ b. cond b (row_put R key xs r) (row_drop R key (row_put R key xs r) k)) e)
     keep_step keep k ks r xs one ih false e false kept same = cc
 
-    -- a row put after several drops: those of other keys may come after
+    -- a put after several drops: the drops of other keys may be made after the put
     pub put_over_drops : (keep : K → Bool) (ks : List K) (xs : List X) (r : X) → ((k : K) → keep k ≡ not (eq_by_cmp R k (key r))) → IsInOrder R key xs
         → row_put R key (rows_drop R key xs ks) r ≡ rows_drop R key (row_put R key xs r) (filter keep ks)
     put_over_drops keep [] xs r same h = refl
@@ -107,7 +107,7 @@ module _ {K X : Type 0} {R : K → K → Ordering} (o : IsTotalOrder R) (key : X
         keep_step keep k ks r xs (put_dropped xs k r h) (put_over_drops keep ks (row_drop R key xs k) r same (laws.order_drop xs k h))
         (eq_by_cmp R k (key r)) refl (keep k) refl (same k)
 
--- one drop more
+-- appending a key to the list drops one more row
 pub rows_drop-push : {K X : Type 0} (R : K → K → Ordering) (key : X → K) (xs : List X) (ks : List K) (k : K) → rows_drop R key xs (ks ++ k ∷ []) ≡ row_drop R key (rows_drop R key xs ks) k
 rows_drop-push R key xs [] k = refl
 rows_drop-push R key xs (j ∷ ks) k = rows_drop-push R key (row_drop R key xs j) ks k

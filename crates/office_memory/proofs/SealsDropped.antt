@@ -1,4 +1,4 @@
--- Seals that are put where others are to be dropped.
+-- Sealed bytes that are put while others are still to be dropped.
 use Rattle.std.specs.Prelude.{◌≡◌, ℕ, not, nat_eq, List, filter}
 use Rattle.std.proofs.Common.{sym, ap, arith}
 use Rattle.std.specs.Cmp.{nat_cmp_total}
@@ -14,7 +14,7 @@ use Rattle.office_memory.proofs.RowsDropped.{put_over_drops}
 number_test : (a b : ℕ) → nat_eq a b ≡ eq_by_cmp nat_cmp a b
 number_test a b = grind (arith, nat_tests)
 
--- the receipt of the seal is taken off those that are to be dropped
+-- putting sealed bytes removes their receipt from those that are still to be dropped
 pub seal_put : RowsAreKept nat_cmp seal_key → (rows : List SealRow) (receipts : List ℕ) (row : SealRow) → IsInOrder nat_cmp seal_key rows
     → rows_drop nat_cmp seal_key (put_seal rows row) (filter (λ k. not (nat_eq k row.receipt)) receipts) ≡ put_seal (rows_drop nat_cmp seal_key rows receipts) row
 seal_put laws rows receipts row order =

@@ -1,4 +1,4 @@
--- Changes taken back, as they are listed from the first to the last.
+-- Taking changes back, with a list of them from the first to the last.
 use Rattle.std.specs.Prelude.{◌≡◌, List, [], ◌∷◌, ◌++◌}
 use Rattle.std.proofs.Common.{refl, sym, ap, ◌∙◌, subst}
 use Rattle.office_base.specs.Tables.{Tables, after_put, after_puts}
@@ -6,7 +6,7 @@ use Rattle.office_memory.specs.MemoryTables.{after_undo, after_undos, CanUndo, C
 use Rattle.office_memory.specs.declared.tables.Undo.{Undo}
 use Rattle.office_base.specs.declared.puts.Put.{Put}
 
--- one more at the end is taken back first
+-- the last change of the list is taken back first
 pub after_undos-push : (us : List Undo) (u : Undo) (t : Tables) → after_undos (us ++ u ∷ []) t ≡ after_undos us (after_undo u t)
 after_undos-push [] u t = refl
 after_undos-push (v ∷ us) u t = ap (after_undo v) (after_undos-push us u t)
@@ -27,12 +27,12 @@ can_undo-front (v ∷ us) u t all =
     let family : Tables → Type 0 = λ s. CanUndo v s in
     (can_undo-front us u t all.0, subst family (after_undos-push us u t) all.1)
 
--- one change more
+-- appending a change to the list makes one more change at the end
 pub after_puts-push : (ps : List Put) (p : Put) (t : Tables) → after_puts (ps ++ p ∷ []) t ≡ after_put p (after_puts ps t)
 after_puts-push [] p t = refl
 after_puts-push (q ∷ ps) p t = after_puts-push ps p (after_put q t)
 
--- one taken back
+-- after one change was taken back, the others lead back to the start
 pub taken_back_one : (us rest : List Undo) (u : Undo) (t s start : Tables) → us ≡ rest ++ u ∷ [] → s ≡ after_undo u t
     → CanUndoAll us t × (after_undos us t ≡ start) → CanUndoAll rest s × (after_undos rest s ≡ start)
 taken_back_one us rest u t s start all one h =
@@ -42,7 +42,7 @@ taken_back_one us rest u t s start all one h =
       ap (after_undos rest) one ∙ sym (after_undos-push rest u t) ∙ ap (λ vs. after_undos vs t) (sym all) ∙ h.1,
     )
 
--- one made
+-- after one more change was made, all lead back to the start
 pub made_one : (us : List Undo) (u : Undo) (t s start : Tables) → after_undo u s ≡ t → CanUndo u s
     → CanUndoAll us t × (after_undos us t ≡ start) → CanUndoAll (us ++ u ∷ []) s × (after_undos (us ++ u ∷ []) s ≡ start)
 made_one us u t s start back can h =

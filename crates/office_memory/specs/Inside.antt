@@ -1,4 +1,4 @@
--- Words of private clauses, and of those of indexes: no clause of the shelf speaks of them.
+-- Definitions that only private clauses and the clauses of indexes use.
 pub mod Drops
 pub mod IdBounds
 pub mod GroupIndex

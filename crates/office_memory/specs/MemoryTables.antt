@@ -1,4 +1,4 @@
--- What an office in memory keeps.
+-- The content of an office in memory, and the undoing of changes.
 use Rattle.std.specs.Prelude.{List, [], ◌∷◌}
 use Rattle.std.specs.Ordering.{nat_cmp}
 use Rattle.office_values.specs.Ids.{id_cmp}
@@ -9,7 +9,7 @@ use Rattle.office_memory.specs.declared.tables.MemoryTables.{MemoryTables}
 use Rattle.office_memory.specs.declared.tables.Undo.{Undo}
 use Rattle.office_memory.specs.declared.tables.Undo.TheVariants as undo
 
--- its tables
+-- the tables of the specification that an office in memory holds
 abbrev pub tables_of : MemoryTables → Tables
 tables_of m = record {
   lines = m.lines;
@@ -50,7 +50,7 @@ after_undo (undo.Performance replaced) t = record t { performances = taken_back 
 after_undo (undo.Clock row) t = record t { clock = row }
 after_undo undo.Nothing t = t
 
--- it can be taken back with no memory
+-- a change can be taken back without memory
 abbrev pub CanUndo : Undo → Tables → Type 0
 CanUndo (undo.Line replaced) t = CanTakeBack id_cmp line_key replaced t.lines
 CanUndo (undo.Batch replaced) t = CanTakeBack id_cmp batch_key replaced t.batches
@@ -70,12 +70,12 @@ CanUndo (undo.Performance replaced) t = CanTakeBack nat_cmp performance_key repl
 CanUndo (undo.Clock row) t = Unit {0}
 CanUndo undo.Nothing t = Unit {0}
 
--- the tables after changes were taken back, the last one first
+-- the tables after these changes were taken back, the last one first
 abbrev pub after_undos : List Undo → Tables → Tables
 after_undos [] t = t
 after_undos (u ∷ us) t = after_undo u (after_undos us t)
 
--- they can be taken back, the last one first
+-- these changes can be taken back without memory, the last one first
 abbrev pub CanUndoAll : List Undo → Tables → Type 0
 CanUndoAll [] t = Unit {0}
 CanUndoAll (u ∷ us) t = CanUndoAll us t × CanUndo u (after_undos us t)

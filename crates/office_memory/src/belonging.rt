@@ -1,4 +1,4 @@
-//! Which rows belong to which: by their keys, or by an index.
+//! How the rows of a notice, a lot, a line or a contract are found: by the order of their keys, or by an index.
 ghost use Rattle.office_values.specs.Ids.{same_id};
 ghost use Rattle.office_base.specs.Tables.{same_number, of_notice};
 
@@ -13,7 +13,7 @@ use office_base::records::{
 use office_values::id::Id;
 use std::alloc::{AllocError, Global};
 
-// Lots belong to their notice by their keys.
+// The key of a lot begins with its notice.
 impl Child for LotRow {
     type Parent = Id;
 
@@ -24,7 +24,7 @@ impl Child for LotRow {
     }
 }
 
-// Entries belong to their contract by their keys.
+// The key of an entry begins with its contract.
 impl Child for EntryRow {
     type Parent = u64;
 
@@ -35,7 +35,7 @@ impl Child for EntryRow {
     }
 }
 
-// Releases belong to their notice by their keys.
+// The key of a release begins with its notice.
 impl Child for ReleaseRow {
     type Parent = Id;
 
@@ -46,7 +46,7 @@ impl Child for ReleaseRow {
     }
 }
 
-/// By the budget line.
+/// Groups rows by their budget line.
 pub struct ByLine;
 
 impl Grouping<LotRow> for ByLine {
@@ -59,7 +59,7 @@ impl Grouping<LotRow> for ByLine {
     }
 }
 
-/// By the notice.
+/// Groups rows by their notice.
 pub struct ByNotice;
 
 impl Grouping<EnvelopeRow> for ByNotice {
@@ -102,7 +102,7 @@ impl Grouping<ContractRow> for ByNotice {
     }
 }
 
-/// By the lot of a notice.
+/// Groups rows by their lot, which is a notice and an identifier.
 pub struct ByLot;
 
 impl Grouping<EnvelopeRow> for ByLot {
@@ -125,7 +125,7 @@ impl Grouping<SecurityRow> for ByLot {
     }
 }
 
-/// By the lot and the tenderer.
+/// Groups tenders by their lot and their tenderer.
 pub struct ByTenderer;
 
 impl Grouping<EnvelopeRow> for ByTenderer {
@@ -138,7 +138,7 @@ impl Grouping<EnvelopeRow> for ByTenderer {
     }
 }
 
-/// Securities are listed by their notice, and by their lot.
+/// The indexes of tender securities: by notice, and by lot.
 #[derive(Drop)]
 pub struct SecurityIndexes {
     pub by_notice: GroupIndex<SecurityRow, ByNotice>,
@@ -167,7 +167,7 @@ impl Indexes<SecurityRow> for SecurityIndexes {
     }
 }
 
-/// Tenders are listed by their notice, by their lot, and by their lot and tenderer.
+/// The indexes of tenders: by notice, by lot, and by lot and tenderer.
 #[derive(Drop)]
 pub struct EnvelopeIndexes {
     pub by_notice: GroupIndex<EnvelopeRow, ByNotice>,

@@ -1,4 +1,4 @@
-//! Rows whose keys begin with those of their parents.
+//! Rows whose keys begin with the key of their parent, so that the rows of a parent are a range of the table.
 ghost use Rattle.std.specs.Prelude.{◌≡◌, ◌<◌, ◌^◌, Bool, IfOk, filter, length};
 ghost use Rattle.std.specs.BTreeMap.Range.{IsLeBy};
 ghost use Rattle.std.specs.Map.{values_of};
@@ -12,24 +12,24 @@ use office_base::row::{Row, copy_of};
 use std::alloc::{AllocError, Global};
 use std::collections::btree_map::Range;
 
-/// A row whose key begins with that of its parent, so that the rows of a parent stand together in a table.
+/// A row whose key begins with the key of its parent, so that the rows of a parent follow each other in the table.
 pub trait Child: Row
 where
     Self::Key: Known,
 {
     type Parent: Copy;
 
-    // Whether it is of this parent.
+    // Whether the row belongs to this parent.
     ghost is_of: { Self.Parent → Self → Bool };
 
-    /// Two keys in order: between them lie the keys of this parent's rows, and no others.
+    /// Two keys in order: the keys of this parent's rows are between them, and no others.
     fn key_range(parent: &Self::Parent) -> (Self::Key, Self::Key)
         ensures in_order { IsLeBy Self.Key.cmp result.0 result.1 }
         ensures between { (r : Self) → Self.Key.is_known (Self.key_of r)
             → is_between Self.Key.cmp result.0 result.1 (Self.key_of r) ≡ is_of parent.now r };
 }
 
-/// The rows of a parent, in the order of their keys. Costs the logarithm of the table's rows.
+/// The rows of a parent, borrowed, in the order of their keys. It takes time logarithmic in the number of the table's rows.
 pub fn rows_of<'a, R: Child + Drop>(
     table: &'a Table<R>,
     parent: &R::Parent,
@@ -44,7 +44,7 @@ where
     table.range(&first, &last)
 }
 
-/// The rows of a parent, copied, in the order of their keys. Costs what it copies, and the logarithm of the table's rows.
+/// Copies of the rows of a parent, in the order of their keys. It takes the time of the copies, and time logarithmic in the number of the table's rows.
 pub fn copy_rows_of<R: Child + Drop>(
     alloc: Global,
     table: &Table<R>,

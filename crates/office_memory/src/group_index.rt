@@ -1,4 +1,4 @@
-//! An index of rows by their groups.
+//! An index that lists the keys of rows by group.
 ghost use Rattle.std.specs.Prelude.{◌≡◌, ◌&&◌, IfOk, OnOk, true, [], ◌∷◌, filter, map};
 ghost use Rattle.std.specs.BTreeSet.{contains};
 ghost use Rattle.office_memory.specs.Inside.GroupIndex.{has_key, HasRows, IsIndexed};
@@ -11,27 +11,27 @@ use office_base::row::{Row, copy_of};
 use std::alloc::{AllocError, Global};
 use std::collections::{BTreeMap, BTreeSet};
 
-/// What rows are listed by, each with others of its group: a name for it, of which there is no value.
+/// A name for a way to group rows, such as by notice. It is only a type parameter: no value of it exists.
 pub trait Grouping<R: Row> {
     type Group: Ord + Copy;
 
     ghost group_of: { R → Self.Group };
 
-    /// The group of a row.
+    /// The group to which a row belongs.
     fn group(row: &R) -> Self::Group
         ensures { result ≡ group_of row.now };
 }
 
-/// Of each group, the keys of the rows that are or were of it. A row that was of a group stays there.
+/// For each group, the keys of the rows that belong or once belonged to it. A key isn't removed when its row changes its group.
 #[derive(Drop)]
 pub struct GroupIndex<R: Row, N: Grouping<R>> {
     alloc: Global,
     pub keys: BTreeMap<N::Group, BTreeSet<R::Key>>,
-    /// Whether the index has each row. It has, unless a row was taken back that had never been put.
+    /// Whether the index lists every row. It does, unless `take_back` restored a row that was never put.
     pub is_whole: bool,
 }
 
-// This key alone.
+// A set with only this key. AllocError if there is too little memory.
 fn only<K: Ord + Copy>(alloc: Global, key: K) -> Result<BTreeSet<K>, AllocError>
     ensures { IfOk result (λ keys. keys.keys ≡ key ∷ []) }
 {
@@ -40,7 +40,7 @@ fn only<K: Ord + Copy>(alloc: Global, key: K) -> Result<BTreeSet<K>, AllocError>
     Ok(keys)
 }
 
-// Adds a key to those of a group.
+// Adds a key to the set of a group. No key leaves the set, even if there is too little memory.
 fn add_to<K: Ord + Copy>(keys: &mut BTreeSet<K>, key: K) -> Result<(), AllocError>
     ensures has { OnOk result (contains K.cmp keys.new key ≡ true) }
     ensures kept { (k : K) → contains K.cmp keys.old k ≡ true → contains K.cmp keys.new k ≡ true }
@@ -49,7 +49,7 @@ fn add_to<K: Ord + Copy>(keys: &mut BTreeSet<K>, key: K) -> Result<(), AllocErro
     Ok(())
 }
 
-// Copies of these rows.
+// Copies of these rows, in order. AllocError if there is too little memory.
 fn copies<R: Row>(alloc: Global, rows: &[&R]) -> Result<Vec<R>, AllocError>
     ensures { IfOk result (λ copied. copied.items ≡ map (λ row. row.now) rows.now) }
 {
@@ -64,7 +64,7 @@ impl<R: Row + Drop, N: Grouping<R>> GroupIndex<R, N>
 where
     R::Key: Known,
 {
-    // Whether it has the key under the group.
+    // Whether the index lists this key under this group.
     fn has(&self, group: &N::Group, key: &R::Key) -> bool
         ensures { result ≡ has_key N.Group.cmp R.Key.cmp self.now.keys group.now key.now }
     {
@@ -74,7 +74,7 @@ where
         }
     }
 
-    // Adds the key under the group. No key leaves the index, also where memory is wanting.
+    // Lists the key under the group. No key leaves the index, even if there is too little memory.
     fn add(&mut self, group: N::Group, key: R::Key) -> Result<(), AllocError>
         ensures has { OnOk result (has_key N.Group.cmp R.Key.cmp self.new.keys group key ≡ true) }
         ensures kept { (g : N.Group) (k : R.Key) → has_key N.Group.cmp R.Key.cmp self.old.keys g k ≡ true
@@ -88,7 +88,7 @@ where
         Ok(())
     }
 
-    // It stays whole only where it has the key under the group.
+    // Marks the index as not whole if it doesn't list this key under this group.
     fn keep_whole(&mut self, group: &N::Group, key: &R::Key)
         ensures keys { self.new.keys ≡ self.old.keys }
         ensures whole { self.new.is_whole ≡ (self.old.is_whole && has_key N.Group.cmp R.Key.cmp self.old.keys group.now key.now) }
@@ -96,8 +96,8 @@ where
         self.is_whole &= self.has(group, key);
     }
 
-    // The rows of a group, where the index has all rows. Costs a look-up for each key that it has of the group; a row that is gone, or is of
-    // another group now, is passed over.
+    // The rows of a group, for an index that lists every row. It looks up each key that the index lists for the group, and leaves out a row that is gone or
+    // belongs to another group now.
     fn indexed<'a>(
         &self,
         alloc: Global,
@@ -122,7 +122,7 @@ where
         Ok(found)
     }
 
-    // The rows of a group. Costs a look at each row.
+    // The rows of a group, found by going through all rows.
     fn searched<'a>(
         alloc: Global,
         rows: &'a Table<R>,
@@ -140,8 +140,8 @@ where
         Ok(found)
     }
 
-    /// The rows of a group in the table whose index it is, in the order of their keys. Costs a look-up for each row that is or was of the
-    /// group; a look at each row of the table, once a row was taken back that had never been put.
+    /// The rows of a group in the table of this index, borrowed, in the order of their keys. It looks up each row that belongs or once belonged to the group.
+    /// If the index isn't whole, it goes through all rows.
     pub fn rows_of_group<'a, I: Indexes<R>>(
         &self,
         alloc: Global,
@@ -158,7 +158,7 @@ where
         self.indexed(alloc, rows, group)
     }
 
-    /// The rows of a group in the table whose index it is, copied, in the order of their keys. Costs as `rows_of_group`, and the copies.
+    /// Copies of the rows of a group in the table of this index, in the order of their keys.
     pub fn copy_of_group<I: Indexes<R>>(
         &self,
         alloc: Global,
@@ -190,7 +190,7 @@ where
         self.add(N::group(row), row.key())
     }
 
-    // It still has a row that comes again, if that was put; else it isn't whole any more, since to add a row could find no memory.
+    // A restored row stays listed if it was put before. Otherwise the index isn't whole any more, because listing it could fail for too little memory.
     fn go_back(&mut self, replaced: &Replaced<R>) {
         match &replaced.old {
             Some(boxed) => {

@@ -1,4 +1,4 @@
-//! The identifiers between which all identifiers lie.
+//! The least and the greatest identifier: every identifier is between them.
 ghost use Rattle.std.specs.Prelude.{◌≡◌};
 ghost use Rattle.office_memory.specs.Inside.IdBounds.{least, greatest};
 
@@ -14,7 +14,7 @@ pub fn least_id() -> Id
     id
 }
 
-/// The greatest identifier: `z`, as long as an identifier may be.
+/// The greatest identifier: 32 times `z`.
 pub fn greatest_id() -> Id
     ensures { result ≡ greatest }
 {

@@ -10,7 +10,7 @@ use office_base::row::Row;
 use std::alloc::{AllocError, Global};
 use std::marker::Model;
 
-/// A table, and its indexes.
+/// A table of rows by their keys, and its indexes.
 #[derive(Drop)]
 pub struct IndexedTable<R: Row + Drop, I: Indexes<R>>
 where
@@ -37,7 +37,7 @@ impl<R: Row + Drop, I: Indexes<R>> IndexedTable<R, I>
 where
     R::Key: Known,
 {
-    /// A table without rows. Takes no memory.
+    /// A table without rows. It allocates no memory.
     pub fn new(alloc: Global) -> IndexedTable<R, I>
         ensures { result ≡ [] }
     {
@@ -47,21 +47,21 @@ where
         }
     }
 
-    /// Its rows by their keys.
+    /// The rows by their keys.
     pub fn rows(&self) -> &Table<R>
         ensures { result.now ≡ self.now }
     {
         &self.rows
     }
 
-    /// Its indexes.
+    /// The indexes of the rows.
     pub fn indexes(&self) -> &I
         ensures { I.covers result.now self.now }
     {
         &self.indexes
     }
 
-    /// Adds the row, or replaces the one with its key, and tells how to take that back.
+    /// Adds the row, or replaces the one with its key, and returns the data with which `take_back` undoes that.
     pub fn put(&mut self, row: R) -> Result<Replaced<R>, AllocError>
         ensures rows { OnOk result (self.new ≡ row_put R.Key.cmp R.key_of self.old row) }
         ensures back { IfOk result (λ replaced. taken_back R.Key.cmp R.key_of replaced self.new ≡ self.old) }
@@ -72,7 +72,7 @@ where
         self.rows.put(row)
     }
 
-    /// Takes a row back that was put: the one that it replaced comes again, or it is dropped. Takes no memory.
+    /// Takes a put back: restores the row that it replaced, or drops the new one. It allocates no memory.
     pub fn take_back(&mut self, replaced: Replaced<R>)
         requires { CanTakeBack R.Key.cmp R.key_of replaced self.old }
         ensures { self.new ≡ taken_back R.Key.cmp R.key_of replaced self.old }

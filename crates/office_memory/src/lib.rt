@@ -1,4 +1,4 @@
-//! The tables of an office in memory.
+//! The tables of an office in memory: a store that never breaks.
 #![tactic(auto)]
 
 mod belonging;

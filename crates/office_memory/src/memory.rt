@@ -1,4 +1,4 @@
-//! An office in memory.
+//! An office in memory, as a store.
 ghost use Rattle.std.specs.Prelude.{◌≡◌, Ok};
 ghost use Rattle.office_base.specs.Faults.{one_fault_more};
 ghost use Rattle.office_base.specs.Tables.{no_tables};
@@ -22,15 +22,14 @@ use office_values::id::Id;
 use std::alloc::Global;
 use std::marker::Model;
 
-/// An office in memory: its tables, and how many faults it answered. Want of memory is a fault, and a sum of the ledger that is out of
-/// its range.
+/// An office in memory: its tables, and the number of faults that it answered. A fault is too little memory, or a sum of the ledger outside its range.
 pub struct MemoryShelf {
     alloc: Global,
     tables: MemoryTables,
     faults: u64,
 }
 
-// By hand, so that a program that lets an office go proves no drop of what is in it.
+// Written by hand, so that a program that drops an office doesn't have to prove the drop of each table.
 impl Drop for MemoryShelf {
     fn drop(self) {
         let MemoryShelf {
@@ -52,7 +51,7 @@ impl Model for MemoryShelf {
 }
 
 impl MemoryShelf {
-    /// An empty office. Takes no memory.
+    /// An empty office. It allocates no memory.
     pub fn new(alloc: Global) -> MemoryShelf
         ensures empty { result ≡ (no_tables, 0) }
         ensures holds { memory_meaning.holds result no_tables }
@@ -64,14 +63,14 @@ impl MemoryShelf {
         }
     }
 
-    /// The clock; moment 0 and no numbers where nothing was accepted yet. Takes no memory.
+    /// The clock. It has moment 0 and the numbers 0 if the office has accepted no command. It allocates no memory.
     pub fn clock(&self) -> ClockRow
         ensures clock { result ≡ self.now.0.clock }
     {
         self.tables.clock
     }
 
-    // Counts a fault.
+    // Counts this fault, and returns it.
     fn counted(&mut self, fault: ShelfFault) -> ShelfFault
         ensures fault { result ≡ fault }
         ensures kept { self.new.0 ≡ self.old.0 }
@@ -81,7 +80,7 @@ impl MemoryShelf {
         fault
     }
 
-    // Counts a refusal of memory.
+    // Counts a fault of too little memory, and returns it.
     fn refused(&mut self) -> ShelfFault
         ensures fault { result ≡ NoMemory }
         ensures kept { self.new.0 ≡ self.old.0 }
@@ -212,7 +211,7 @@ impl Lookups for MemoryShelf {
         }
     }
 
-    // It never refuses.
+    // Reading the clock never fails.
     fn get_clock(&mut self) -> Result<ClockRow, ShelfFault>
         ensures clock { result ≡ Ok self.old.0.clock }
         ensures kept { self.new ≡ self.old }

@@ -1,4 +1,4 @@
-//! What the rows of an office in memory add up to.
+//! The sums over the rows of an office in memory: the amounts of a budget line, and the ledger.
 ghost use Rattle.std.specs.Prelude.{◌≡◌, ◌+◌, ℕ, ◌++◌, IfOk, OnOk, option_map, map};
 ghost use Rattle.office_base.specs.Joined.{amounts_of_line, sums_of, sums_under};
 ghost use Rattle.office_base.specs.Tables.{IsSorted, contracts_of_lot, lot_key};
@@ -15,7 +15,7 @@ use office_values::id::Id;
 use office_values::money::Amount;
 use std::alloc::{AllocError, Global};
 
-// What each of these lots has reserved.
+// The amount that each of these lots has reserved.
 fn reserved_by(alloc: Global, lots: &[&LotRow]) -> Result<Vec<Amount>, AllocError>
     ensures { IfOk result (λ amounts. amounts.items ≡ map (λ lot. lot.now.reserved) lots.now) }
 {
@@ -26,7 +26,7 @@ fn reserved_by(alloc: Global, lots: &[&LotRow]) -> Result<Vec<Amount>, AllocErro
     Ok(amounts)
 }
 
-// What a contract comes to.
+// The sums of a contract over its entries.
 fn sums_of(entries: &Table<EntryRow>, contract: &ContractRow) -> ContractSums
     ensures { result ≡ sums_of entries.now contract.now }
 {
@@ -42,7 +42,7 @@ fn sums_of(entries: &Table<EntryRow>, contract: &ContractRow) -> ContractSums
     sums
 }
 
-// Adds what each contract of a lot comes to.
+// Appends the sums of each contract of a lot.
 fn push_sums(
     alloc: Global,
     tables: &MemoryTables,
@@ -61,7 +61,7 @@ fn push_sums(
     Ok(())
 }
 
-// What the contracts of these lots come to, lot by lot.
+// The sums of the contracts of these lots, lot by lot.
 fn sums_under(
     alloc: Global,
     tables: &MemoryTables,
@@ -76,8 +76,8 @@ fn sums_under(
     Ok(sums)
 }
 
-/// What each lot of a line has reserved, and what each contract of these lots comes to, lot by lot, in the order of their keys. Costs, for
-/// each lot, a look at the contracts of its notice, and the entries of its own.
+/// The amount that each lot of a line has reserved, and the sums of each contract of these lots, lot by lot. It goes, for each lot, through the contracts of
+/// its notice, and through the entries of the lot's own contracts.
 pub fn amounts_of_line(
     alloc: Global,
     tables: &MemoryTables,
@@ -92,7 +92,7 @@ pub fn amounts_of_line(
     Ok(LineAmounts::from_vecs(reserved, contracts))
 }
 
-// A line in the ledger; None where a sum is out of its range.
+// The row of a line in the ledger; None if a sum of the line is outside its range.
 fn ledger_row(
     alloc: Global,
     tables: &MemoryTables,
@@ -115,8 +115,8 @@ fn ledger_row(
     }
 }
 
-/// The ledger, in the order of the lines; None where a sum of a line is out of its range. One pass over the lines: costs a look at each
-/// lot, at each entry, and, for each lot, at the contracts of its notice.
+/// The ledger, in the order of the lines; None if a sum of a line is outside its range. It goes once through the lines, their lots and all entries, and, for
+/// each lot, through the contracts of its notice.
 pub fn ledger(alloc: Global, tables: &MemoryTables) -> Result<Option<Vec<LedgerRow>>, AllocError>
     ensures { IsSorted (tables_of tables.now) → IfOk result (λ rows. IsLedger (tables_of tables.now) (option_map (λ found. found.items) rows)) }
 {

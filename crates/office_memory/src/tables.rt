@@ -1,4 +1,4 @@
-//! The tables of an office in memory.
+//! The tables of an office in memory, and changes of which all are made or none.
 ghost use Rattle.std.specs.Prelude.{◌≡◌, ◌<◌, IfOk, OnOk, OnErr, not, filter, vec_len, vec_capacity, nat_eq};
 ghost use Rattle.office_base.specs.Tables.{Tables, after_put, after_puts, no_tables};
 ghost use Rattle.office_base.specs.declared.puts.Put.TheVariants.{Seal};
@@ -21,7 +21,7 @@ use office_values::moment::Moment;
 use std::alloc::{AllocError, Global};
 use std::mem;
 
-/// The tables of an office in memory.
+/// The tables of an office in memory, one for each kind of record, and its clock.
 #[derive(Drop)]
 pub struct MemoryTables {
     pub lines: Table<LineRow>,
@@ -42,7 +42,7 @@ pub struct MemoryTables {
     pub clock: ClockRow,
 }
 
-/// What takes a change back.
+/// The data that takes one change back.
 #[derive(Drop)]
 pub enum Undo {
     Line(Replaced<LineRow>),
@@ -61,11 +61,11 @@ pub enum Undo {
     Late(Replaced<LateRow>),
     Performance(Replaced<PerformanceRow>),
     Clock(ClockRow),
-    /// Nothing was changed yet.
+    /// The change left the tables as they were.
     Nothing,
 }
 
-/// The clock of an office where nothing was accepted.
+/// The clock of an office that has accepted no command.
 fn first_clock() -> ClockRow
     ensures { result ≡ no_tables.clock }
 {
@@ -77,7 +77,7 @@ fn first_clock() -> ClockRow
     }
 }
 
-/// Tables without rows. Takes no memory.
+/// Tables without rows. It allocates no memory.
 pub fn empty(alloc: Global) -> MemoryTables
     ensures { tables_of result ≡ no_tables }
 {
@@ -101,14 +101,14 @@ pub fn empty(alloc: Global) -> MemoryTables
     }
 }
 
-/// Takes a receipt off those whose seals are to be dropped.
+/// Removes a receipt from those whose sealed bytes are still to be dropped.
 fn forget(drops: &mut Vec<u64>, receipt: u64)
     ensures { drops.new.items ≡ filter (λ k. not (nat_eq k receipt)) drops.old.items }
 {
     drops.retain(|k| *k != receipt);
 }
 
-/// Puts a seal, which then isn't to be dropped.
+/// Puts sealed bytes, which then are no longer to be dropped.
 fn put_seal(
     tables: &mut MemoryTables,
     drops: &mut Vec<u64>,
@@ -127,7 +127,7 @@ fn put_seal(
     Ok(Undo::Seal(replaced))
 }
 
-/// Makes one change, and tells how to take it back. A drop is only remembered.
+/// Makes one change, and returns the data that takes it back. A drop is only remembered for later.
 fn put_one(tables: &mut MemoryTables, drops: &mut Vec<u64>, put: Put) -> Result<Undo, AllocError>
     ensures after { OnOk result (without_seals drops.new.items (tables_of tables.new) ≡ after_put put (without_seals drops.old.items (tables_of tables.old))) }
     ensures back { IfOk result (λ undo. after_undo undo (tables_of tables.new) ≡ tables_of tables.old) }
@@ -158,7 +158,7 @@ fn put_one(tables: &mut MemoryTables, drops: &mut Vec<u64>, put: Put) -> Result<
     }
 }
 
-/// Takes one change back. Takes no memory.
+/// Takes one change back. It allocates no memory.
 fn take_back(tables: &mut MemoryTables, undo: Undo)
     requires { CanUndo undo (tables_of tables.old) }
     ensures { tables_of tables.new ≡ after_undo undo (tables_of tables.old) }
@@ -184,7 +184,7 @@ fn take_back(tables: &mut MemoryTables, undo: Undo)
     }
 }
 
-/// Takes changes back, the last one first. Takes no memory.
+/// Takes changes back, the last one first. It allocates no memory.
 fn take_back_all(tables: &mut MemoryTables, mut undos: Vec<Undo>)
     requires { CanUndoAll undos.items (tables_of tables.old) }
     ensures { tables_of tables.new ≡ after_undos undos.items (tables_of tables.old) }
@@ -194,7 +194,7 @@ fn take_back_all(tables: &mut MemoryTables, mut undos: Vec<Undo>)
     }
 }
 
-/// Drops the seals of these receipts. Takes no memory.
+/// Drops the sealed bytes of these receipts. It allocates no memory.
 fn drop_all(tables: &mut MemoryTables, drops: Vec<u64>)
     ensures { tables_of tables.new ≡ without_seals drops.items (tables_of tables.old) }
 {
@@ -203,13 +203,13 @@ fn drop_all(tables: &mut MemoryTables, drops: Vec<u64>)
     }
 }
 
-/// Makes all changes, in order, or none where memory is wanting.
+/// Makes all changes, in order, or none if there is too little memory.
 pub fn apply_all(alloc: Global, tables: &mut MemoryTables, puts: Vec<Put>) -> Result<(), AllocError>
     ensures all { OnOk result (tables_of tables.new ≡ after_puts puts.items (tables_of tables.old)) }
     ensures none { OnErr result (tables_of tables.new ≡ tables_of tables.old) }
 {
     let mut undos = Vec::with_capacity(alloc, puts.len())?;
-    // A row that was dropped might find no memory to come again: seals are dropped once nothing else can fail.
+    // Restoring a dropped row could fail for too little memory. So sealed bytes are dropped last, when nothing else can fail.
     let mut drops = Vec::new(alloc);
     for put in puts {
         match put_one(tables, &mut drops, put) {

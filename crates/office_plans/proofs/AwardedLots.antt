@@ -1,4 +1,4 @@
--- What an award puts goes by the securities of its lot only where nobody wins it.
+-- The changes of an award depend on the securities of its lot only if nobody wins.
 use Rattle.std.specs.Prelude.{◌≡◌, ℕ, List, Option, Some, None}
 use Rattle.std.proofs.Common.{refl}
 use Rattle.award_core.specs.Rules.Award.{award_puts, award_rows, decision_puts, winner}
@@ -14,13 +14,13 @@ use Rattle.office_base.specs.declared.records.SecurityRow.{SecurityRow}
 use Rattle.office_plans.specs.AwardedLots.{awarded_rows, securities_unless_won}
 
 module _ (notice lot : List ℕ) (s : Tables) (t : ℕ) where
-  -- with a winner, and with none
+  -- A decision makes the same changes by all securities of the lot as by `securities_unless_won`, with a winner and without one.
   decided : (n : NoticeRow) (l : LotRow) (r : LineRow) (w : Option EnvelopeRow)
       → decision_puts s.clock t n l r w (securities_of_lot notice lot s) ≡ decision_puts s.clock t n l r w (securities_unless_won w notice lot s)
   decided n l r None = refl
   decided n l r (Some e) = refl
 
-  -- the rows of the one and of the other, where these are there
+  -- The rows of an award as a record.
   abbrev rows_of : Option NoticeRow → Option LotRow → Option LineRow → List EnvelopeRow → List SecurityRow → AwardRows
   rows_of n l r es ss = record { notice = n; lot = l; line = r; envelopes = es; securities = ss; clock = s.clock }
 
@@ -32,7 +32,7 @@ module _ (notice lot : List ℕ) (s : Tables) (t : ℕ) where
   put (Some n) (Some l) None es = refl
   put (Some n) (Some l) (Some r) es = decided n l r (winner (Some n) es)
 
--- so it puts the same by the one rows and by the others
+-- An award makes the same changes by all rows of the rule as by the rows that the program looks up.
 pub same_puts : (notice lot : List ℕ) (s : Tables) (t : ℕ) → award_puts (award_rows s notice lot) t ≡ award_puts (awarded_rows s notice lot) t
 same_puts notice lot s t =
     put notice lot s t (notice_at notice s) (lot_at (notice, lot) s) (line_of_lot (lot_at (notice, lot) s) s) (envelopes_of_lot notice lot s)

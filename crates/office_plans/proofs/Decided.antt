@@ -1,4 +1,4 @@
--- What follows from a decision that was made on rows.
+-- The facts that follow from a decision on rows (`Decides`).
 use Rattle.std.specs.Prelude.{◌≡◌, ◌⊎◌, Bool, List, Option, Some, None, Result, Vec, Ok, Err, IsErrAnd}
 use Rattle.std.proofs.Common.{◌∙◌, refl, sym, subst, inl, inr}
 use Rattle.std.specs.declared.alloc.Global.{Global}
@@ -11,25 +11,25 @@ use Rattle.office_machine.specs.Machine.{Given, refusal_of}
 use Rattle.office_plans.specs.Plans.{Plan}
 use Rattle.office_plans.specs.Published.{IsPlanned}
 
--- a refusal is the first whose condition holds, or Unavailable
+-- An `Err` is the first refusal whose condition holds, or `Unavailable`.
 pub refuses : (why : Refusal) (first : Option Refusal) (lacks : Bool) (made : List Put) → Decides (Err why) first lacks made → (first ≡ Some why) ⊎ (why ≡ Unavailable)
 unfolding Decides
 refuses why (Some w) lacks made is = inl (let same : w ≡ why = cc in λ i. Some (same i))
 refuses why None lacks made is = inr is.1
 
--- where it is Ok no condition holds
+-- If the decision is Ok, no condition of a refusal holds.
 pub allows : (puts : Vec Put Global) (first : Option Refusal) (lacks : Bool) (made : List Put) → Decides (Ok puts) first lacks made → first ≡ None
 unfolding Decides
 allows puts (Some w) lacks made is = absurd cc
 allows puts None lacks made is = refl
 
--- and these are the puts
+-- If the decision is Ok, its changes are those of the rule.
 pub makes : (puts : Vec Put Global) (first : Option Refusal) (lacks : Bool) (made : List Put) → Decides (Ok puts) first lacks made → puts.items ≡ made
 unfolding Decides
 makes puts (Some w) lacks made is = absurd cc
 makes puts None lacks made is = is.0.1
 
--- so what is handed on is the command's refusal, where its refusal is that one, or Unavailable
+-- A plan with the decision's refusal is right if the specification refuses the command by the same conditions.
 pub told_refused : (publisher : Publisher) (x : Given) (result : Result Plan Refusal) (why : Refusal) (first : Option Refusal) → IsErrAnd result (λ y. y ≡ why)
     → refusal_of x ≡ first → (first ≡ Some why) ⊎ (why ≡ Unavailable) → IsPlanned publisher x result
 told_refused publisher x (Ok planned) why first same refused is = absurd same

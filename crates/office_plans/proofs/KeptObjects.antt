@@ -1,4 +1,4 @@
--- What can be gone on from is the merge that is kept, an object, or, where none is kept, the releases, objects each.
+-- If the stored merge is an object, or no merge is stored and each release is an object, then the notice has a merge that the next release can join.
 use Rattle.std.proofs.Common.{◌≡◌, ℕ, List, None, Result, Ok, Err, subst}
 use Rattle.std.specs.Prelude.{OnOk}
 use Rattle.ocds_merge.specs.Stored.{IsObjectText}

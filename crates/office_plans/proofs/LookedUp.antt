@@ -1,4 +1,4 @@
--- Rows that were looked up by their keys: each is there as in the table that it was looked up in.
+-- Each row that was looked up by its key is equal to the row of the table in which it was looked up.
 use Rattle.std.specs.Prelude.{◌≡◌, ◌⊎◌, ℕ, true, false, Bool, cond, List, [], Option, Some, None, is_some}
 use Rattle.std.proofs.Common.{refl, sym, ap, ◌∙◌, inl, inr}
 use Rattle.std.specs.Ordering.{eq_by_cmp, is_eq, ordering_then}
@@ -11,13 +11,13 @@ use Rattle.office_base.specs.RowLaws.{RowsAreKept}
 use Rattle.office_base.specs.Tables.{lot_cmp}
 use Rattle.office_plans.specs.LookedUp.{with_row, IsAsIn, AreFrom}
 
--- the test of equality
+-- A comparison that passes the test of equality is `Equal`.
 pub equal_from_test : (r : Ordering) → is_eq r ≡ true → r ≡ Equal
 equal_from_test Less e = cc
 equal_from_test Equal e = refl
 equal_from_test Greater e = cc
 
--- keys that compare as equal are equal: identifiers, and those of lots
+-- Keys that compare as equal are equal. This is stated for identifiers and for the keys of lots.
 pub exact_ids : (a b : List ℕ) → id_cmp a b ≡ Equal → a ≡ b
 exact_ids a b e = exact_bytes a b e
 
@@ -37,12 +37,12 @@ exact_lots a b e =
     let second : a.1 ≡ b.1 = exact_bytes a.1 b.1 (second_equal (id_cmp a.0 b.0) (id_cmp a.1 b.1) e) in
     ap (λ x. (x, a.1)) first ∙ ap (λ y. (b.0, y)) second
 
--- this one is looked up, and any other stays as it was or is as in the table
+-- After a look-up of one key, its row is as in the table. At any other key the rows stay as they were, or are as in the table too.
 record Takes {K X : Type 0} (R : K → K → Ordering) (key : X → K) (all old new : List X) (k : K) : Type 0 where
   pub here : AreFrom R key all old → IsAsIn R key all new k
   pub either : (q : K) → IsAsIn R key all new q ⊎ (row_at R key new q ≡ row_at R key old q)
 
--- no rows are looked up
+-- No rows were looked up yet.
 pub none_from : {K X : Type 0} (R : K → K → Ordering) (key : X → K) (all : List X) → AreFrom R key all []
 unfolding row_at
 none_from R key all q = inl refl
@@ -92,7 +92,7 @@ module _ {K X : Type 0} {R : K → K → Ordering} {key : X → K} (laws : RowsA
   takes_held rows k None e = takes_row rows k (row_at R key all k) refl
   takes_held rows k (Some x) e = record { here = λ from. held_is rows k x e (from k); either = λ q. inr refl }
 
-  -- the table with this one, where it isn't there yet
+  -- The rows after this key is looked up, unless its row is already among them.
   abbrev With : List X → K → List X
   With rows k = cond (is_some (row_at R key rows k)) rows (with_row R key rows (row_at R key all k))
 

@@ -1,4 +1,4 @@
--- What is so of a value, where there is one, gives what follows from it.
+-- If a value that is Ok has a property, it has every property that follows from it.
 use Rattle.std.specs.Prelude.{Result, Ok, Err, IfOk}
 
 pub if_ok : {T E : Type 0} {P Q : T → Type 0} (result : Result T E) → IfOk result P → ((v : T) → P v → Q v) → IfOk result Q

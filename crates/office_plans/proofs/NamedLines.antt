@@ -1,4 +1,4 @@
--- Lines looked up by their names, one after another: each that is named is there as in the office.
+-- Lines that were looked up by their names: each named line is equal to the office's line.
 use Rattle.std.specs.Prelude.{◌≡◌, ℕ, List, [], ◌∷◌, map}
 use Rattle.std.specs.List.{AllByRecursion}
 use Rattle.office_values.specs.Ids.{id_cmp}
@@ -21,6 +21,6 @@ module _ (laws : RowsAreKept id_cmp line_key) (t : Tables) {X : Type 0} (line_of
       let next : List LineRow = with_line t lines (line_of x) in
       (kept_all xs next (line_of x) (here laws exact_ids t.lines lines (line_of x) from), all_named xs next (from_one laws exact_ids t.lines lines (line_of x) from))
 
-  -- the lines that things name are there as in the office
+  -- For each of these things, the look-up by its line's name gives the same as in the office.
   pub lines_agree : (xs : List X) → AllByRecursion (λ (x : X). find_line (lines_named t (map line_of xs)) (line_of x) ≡ line_at (line_of x) t) xs
   lines_agree xs = all_named xs [] (none_from id_cmp line_key t.lines)

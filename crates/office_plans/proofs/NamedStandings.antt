@@ -1,4 +1,4 @@
--- Where lines stand, looked up by their names, one after another: each that is named stands as in the office.
+-- Each `Standing` that was looked up by the name of its line is equal to the one in the office.
 use Rattle.std.specs.Prelude.{◌≡◌, ℕ, Bool, true, false, cond, List, [], ◌∷◌, map, Option, Some, IsSome, is_some, option_and_then}
 use Rattle.std.proofs.Common.{refl, sym, ap, ◌∙◌, subst}
 use Rattle.std.specs.Ordering.{eq_by_cmp}
@@ -19,7 +19,7 @@ use Rattle.tender_core.specs.Walks.{IsAtMost, AreAtMost}
 use Rattle.office_plans.specs.Named.{StillThere, line_of_row, standing_at, with_new_standing, with_standing, with_standings, standings_named}
 use Rattle.office_plans.proofs.LookedUp.{equal_from_test}
 
--- where a line is among them, its columns are those of the office
+-- Each line that has a `Standing` here has the columns of the office.
 abbrev AreFrom : Tables → List Standing → Type 0
 AreFrom t m = (q : List ℕ) → IsSome (find_standing m q) → columns_at m q ≡ columns_at (standings t) q
 
@@ -46,13 +46,13 @@ fit_put m n s put one all =
     let family : List Standing → Type 0 = λ x. AreAtMost total_limit x in
     subst family (sym put) (all_fit m s one all)
 
--- no lines are looked up
+-- No `Standing` was looked up yet.
 none_from : (t : Tables) → AreFrom t []
 unfolding row_at
 none_from t q there = cc
 
 module _ (laws : RowsAreKept id_cmp standing_key) where
-  -- what was there is there after one more, and that one is
+  -- After one more `Standing` is put, every line that had one still has one, and the new line has one.
   pub kept_put : (m n : List Standing) (s : Standing) → n ≡ put_standing m s → StillThere m n
   kept_put m n s put q there =
       ap (λ x. is_some (find_standing x q)) put ∙ ap is_some (laws.found_put m s q) ∙ there_by (eq_by_cmp id_cmp q s.line) s (find_standing m q) there
@@ -77,7 +77,7 @@ module _ (laws : RowsAreKept id_cmp standing_key) where
         let at : find_standing (put_standing m s) q ≡ cond (eq_by_cmp id_cmp q s.line) (Some s) (find_standing m q) = laws.found_put m s q in
         ap columns at ∙ from_by m s q (sym (agree.columns t name)) all (eq_by_cmp id_cmp q s.line) refl (sym (ap is_some at) ∙ there)
 
-    -- one more line, where it isn't there yet
+    -- The look-up of one more line, unless its `Standing` is already among them.
     from_one : (m : List Standing) (name : List ℕ) (b : Bool) → AreFrom t m → AreFrom t (cond b m (with_new_standing t m name))
     from_one m name true all = all
     from_one m name false all = from_new m name all
@@ -105,6 +105,6 @@ module _ (laws : RowsAreKept id_cmp standing_key) where
         let next : List Standing = with_standing t m row.line in
         (from row.line (kept_all rows next row.line (there_one m row.line (is_some (find_standing m row.line)) refl)), agree_all rows next from)
 
-    -- the lines that rows name stand as in the office
+    -- The rows of a budget file find the same standings among these as in the office.
     pub standings_agree : (rows : List BudgetRow) → AgreeOnRows (standings_named t (map line_of_row rows)) (standings t) rows
     standings_agree rows = agree_all rows [] (from_all rows [] (none_from t))

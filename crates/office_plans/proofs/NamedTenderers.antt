@@ -1,4 +1,4 @@
--- Tenderers looked up by their identifiers, one after another: those of the office that were named, in the order of their identifiers.
+-- Tenderers that were looked up by their identifiers are the office's tenderers with these identifiers, in the order of the identifiers.
 use Rattle.std.specs.Prelude.{◌≡◌, ℕ, Bool, true, false, cond, ◌||◌, ◌&&◌, List, [], ◌∷◌, map, filter, Option, Some, None, is_some}
 use Rattle.std.proofs.Common.{refl, sym, ap, ◌∙◌, subst}
 use Rattle.std.specs.Cmp.Lexicographic.{texts_ties}
@@ -42,7 +42,7 @@ none_pass : (rows : List TendererRow) → filter (λ (r : TendererRow). false) r
 none_pass [] = refl
 none_pass (r ∷ rows) = none_pass rows
 
--- the rows that pass, or are of one identifier
+-- The tenderers that pass a test or have this identifier.
 module _ (p : TendererRow → Bool) (n : List ℕ) where
   abbrev or_named : TendererRow → Bool
   or_named r = p r || same_id n r.tenderer
@@ -50,7 +50,7 @@ module _ (p : TendererRow → Bool) (n : List ℕ) where
   abbrev AreAbove : List TendererRow → Type 0
   AreAbove rows = AllByRecursion (λ (r : TendererRow). id_cmp n r.tenderer ≡ Less) rows
 
-  -- none of these has it
+  -- None of these tenderers has the identifier.
   unnamed : (rows : List TendererRow) → AreAbove rows → filter p rows ≡ filter or_named rows
   unnamed [] h = refl
   unnamed (r ∷ rows) h =
@@ -58,11 +58,11 @@ module _ (p : TendererRow → Bool) (n : List ℕ) where
       ap (λ b. cond b (r ∷ filter p rows) (filter p rows)) (sym (ap (λ d. p r || d) other ∙ or_false (p r)))
       ∙ ap (λ rs. cond (or_named r) (r ∷ rs) rs) (unnamed rows h.1)
 
-  -- the rows with what was found, where it isn't there yet
+  -- The rows with the tenderer that was found, unless it is already among them.
   abbrev With : List TendererRow → Option TendererRow → List TendererRow
   With rows found = cond (is_some (find_tenderer rows n)) rows (with_row id_cmp tenderer_key rows found)
 
-  -- one row more
+  -- One more row.
   module _ (y : TendererRow) (ys : List TendererRow) (order : IsInOrder id_cmp tenderer_key (y ∷ ys)) where
     here : id_cmp n y.tenderer ≡ Equal → n ≡ y.tenderer
     here c = tenderers.exact n y.tenderer c
@@ -109,7 +109,7 @@ module _ (p : TendererRow → Bool) (n : List ℕ) where
       grown y ys order (with_one ys order.1) (p y) (id_cmp n y.tenderer) refl
       ∙ ap (λ d. cond (p y || d) (y ∷ filter or_named ys) (filter or_named ys)) (sym (texts_ties n y.tenderer))
 
--- whose tender it is
+-- The identifier of the tenderer of a stored tender.
 abbrev holder : EnvelopeRow → List ℕ
 holder e = e.tenderer
 
@@ -137,7 +137,7 @@ module _ (s : Tables) (order : IsInOrder id_cmp tenderer_key s.tenderers) where
         | false ↦ sealed_is es r
       ]
 
-  -- the tenderers of sealed tenders are those who have one
+  -- The tenderers of the sealed tenders are exactly the office's tenderers that have a sealed tender.
   pub sealed_named : (es : List EnvelopeRow) → tenderers_named s (map holder (filter is_sealed_envelope es)) ≡ filter (has_sealed es) s.tenderers
   sealed_named es = are_named (map holder (filter is_sealed_envelope es)) ∙ agree _ _ s.tenderers (sealed_is es)
 
@@ -145,7 +145,7 @@ each_holder : (s : Tables) (es : List EnvelopeRow) → map tenderer_of (map (ten
 each_holder s [] = refl
 each_holder s (e ∷ es) = ap (λ (ns : List (List ℕ)). e.tenderer ∷ ns) (each_holder s es)
 
--- so are those of the tenders that are opened
+-- The tenderers of the tenders that an opening reads are the office's tenderers that have a sealed tender of the notice.
 pub opened_named : (s : Tables) → IsInOrder id_cmp tenderer_key s.tenderers → (notice : List ℕ)
     → tenderers_named s (map tenderer_of (tenders_read notice s)) ≡ filter (has_sealed (envelopes_of_notice notice s)) s.tenderers
 opened_named s order notice = ap (tenderers_named s) (each_holder s (sealed_of_notice notice s)) ∙ sealed_named s order (envelopes_of_notice notice s)

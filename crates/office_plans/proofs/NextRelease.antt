@@ -1,4 +1,4 @@
--- A release that was made under a notice's next number, at the command's moment, is what the command publishes.
+-- A release that has its notice's next number and the command's moment is the release that the command publishes.
 use Rattle.std.specs.Prelude.{◌≡◌, ℕ, ◌+◌, List, Option, Some, option_and_then}
 use Rattle.std.proofs.Common.{◌∙◌, ap, ap₂, sym}
 use Rattle.serde_json.specs.Data.{Data}
@@ -19,7 +19,7 @@ module _ (released : EventsAreReleased) (publisher : Publisher) (x : Given) (eve
   abbrev row : ℕ → ℕ → Data → ReleaseRow
   row seq t release = record { notice = notice; seq = seq; moment = t; text = compact_text release }
 
-  -- the row of the release, where this is the notice that the command publishes for
+  -- The row of the release, if the command publishes for this notice.
   abbrev under : Option (List ℕ) → ReleaseRow
   under o =
       row (releases_in (notice_at notice x.before) + 1) (time_of x)

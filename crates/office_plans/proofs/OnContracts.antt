@@ -1,4 +1,4 @@
--- Equal replies to commands on contracts.
+-- Replies to commands on contracts are equal if their parts are equal.
 use Rattle.std.specs.Prelude.{◌≡◌, ℕ}
 use Rattle.office_machine.specs.Replies.{OfContract}
 

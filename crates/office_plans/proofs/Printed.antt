@@ -1,4 +1,4 @@
--- The text of an object, as it is written.
+-- The text of an object is the text that the writer wrote.
 use Rattle.std.proofs.Common.{◌≡◌, true, List, [], ◌∷◌, ◌++◌, map, append_assoc, append-nil, refl, sym, ap, ◌∙◌}
 use Rattle.std.proofs.lemmas.Bool.{and_parts}
 use Rattle.std.proofs.lemmas.Grind.{flat_map-append}
@@ -18,19 +18,19 @@ use Rattle.serde_json.specs.Written.{compact_text, items_outline, members_outlin
 use Rattle.serde_json.proofs.Texts.{print-outline}
 use Rattle.office_plans.specs.Json.{Member, json_object, member_tokens, names_rise, value_tokens, with_members}
 
--- the members, in the order in which they stand
+-- The members in the order in which they are written.
 abbrev members_of : List Member → Members
 members_of [] = no_members
 members_of (e ∷ es) = member e.0 e.1 (members_of es)
 
--- ---- what is meant
+-- ---- what the members mean
 
 greater : (o : Ordering) → is_gt o ≡ true → o ≡ Greater
 greater Less h = absurd (cc)
 greater Equal h = absurd (cc)
 greater Greater h = refl
 
--- a name above all others comes last
+-- A name that is above all others is put last.
 put_last : (old : List Member) (e : Member) → AllByRecursion (λ (o : Member). slice_cmp nat_cmp e.0 o.0 ≡ Greater) old → put e.0 e.1 (members_of old) ≡ members_of (old ++ e ∷ [])
 put_last [] e h = refl
 put_last (o ∷ old) e h =
@@ -59,20 +59,20 @@ none_below : (es : List Member) → AreAbove [] es
 none_below [] = tt
 none_below (e ∷ es) = (tt, none_below es)
 
--- ---- so what is written is what is meant
+-- ---- the written tokens are those of the meant object
 
 members_written : (es : List Member) → members_tokens (members_outline (members_of es)) ≡ flat_map member_tokens es ++ token.end_object ∷ []
 members_written [] = refl
 members_written (e ∷ es) =
     ap (λ ts. token.key e.0 ∷ (value_tokens e.1 ++ ts)) (members_written es) ∙ sym (append_assoc (member_tokens e) (flat_map member_tokens es) (token.end_object ∷ []))
 
--- an object, whose names rise
+-- An object whose names rise.
 pub object_written : (es : List Member) → names_rise es ≡ true
     → value_tokens (json_object es) ≡ token.begin_object ∷ (flat_map member_tokens es ++ token.end_object ∷ [])
 object_written es rise =
     ap (λ ms. token.begin_object ∷ members_tokens (members_outline ms)) (put_in_order [] es rise (none_below es)) ∙ ap (λ ts. token.begin_object ∷ ts) (members_written es)
 
--- a list
+-- A list.
 items_written : (ds : List Data) → items_tokens (items_outline (items_of ds)) ≡ flat_map value_tokens ds ++ token.end_array ∷ []
 items_written [] = refl
 items_written (d ∷ ds) = ap (λ ts. value_tokens d ++ ts) (items_written ds) ∙ sym (append_assoc (value_tokens d) (flat_map value_tokens ds) (token.end_array ∷ []))
@@ -80,22 +80,22 @@ items_written (d ∷ ds) = ap (λ ts. value_tokens d ++ ts) (items_written ds) �
 pub list_written : (ds : List Data) → value_tokens (array (items_of ds)) ≡ token.begin_array ∷ (flat_map value_tokens ds ++ token.end_array ∷ [])
 list_written ds = ap (λ ts. token.begin_array ∷ ts) (items_written ds)
 
--- ---- step by step
+-- ---- the steps of the writer
 
--- an element more
+-- One more element.
 pub one_written : {X Y A : Type 0} (f : Y → List A) (g : X → Y) (front : List A) (xs : List X) (x : X)
     → (front ++ flat_map f (map g xs)) ++ f (g x) ≡ front ++ flat_map f (map g (xs ++ x ∷ []))
 one_written f g front xs x = flat_map_more f front (map g xs) (g x) ∙ ap (λ ys. front ++ flat_map f ys) (sym (map-append g xs (x ∷ [])))
 
--- a name and its value
+-- A name and its value.
 pub named_written : (front : List token.Token) (e : Member) → (front ++ token.key e.0 ∷ []) ++ value_tokens e.1 ≡ front ++ member_tokens e
 named_written front e = append_assoc front (token.key e.0 ∷ []) (value_tokens e.1)
 
--- what stands between two marks
+-- Tokens between a first and a last one.
 pub between : {A : Type 0} (front : List A) (first : A) (inner : List A) (last : A) → ((front ++ first ∷ []) ++ inner) ++ last ∷ [] ≡ front ++ first ∷ (inner ++ last ∷ [])
 between front first inner last = append_assoc (front ++ first ∷ []) inner (last ∷ []) ∙ append_assoc front (first ∷ []) (inner ++ last ∷ [])
 
--- members, one with a list, and members
+-- Members, then one with a list, then more members.
 pub three_parts : (front : List token.Token) (es : List Member) (e : Member) (fs : List Member)
     → (((front ++ flat_map member_tokens es) ++ token.key e.0 ∷ []) ++ value_tokens e.1) ++ flat_map member_tokens fs
     ≡ front ++ flat_map member_tokens (es ++ e ∷ fs)
@@ -105,7 +105,7 @@ three_parts front es e fs =
     ∙ append_assoc front (flat_map member_tokens es) (member_tokens e ++ flat_map member_tokens fs)
     ∙ ap (λ ts. front ++ ts) (sym (flat_map-append member_tokens es (e ∷ fs)))
 
--- rows, an object each
+-- The tokens of rows, each an object.
 abbrev pub row_tokens : {X : Type 0} → (X → List Member) → List X → List token.Token
 row_tokens members rows = flat_map value_tokens (map (λ r. json_object (members r)) rows)
 
@@ -120,6 +120,6 @@ rows_written members front rows =
     ∙ ap (λ ts. front ++ ts) (sym (list_written (map (λ r. json_object (members r)) rows)))
     ∙ ap (λ ds. front ++ value_tokens (array (items_of ds))) (sym (map-map json_object members rows))
 
--- the text
+-- The text of a value.
 pub value_printed : (d : Data) → print (value_tokens d) ≡ compact_text d
 value_printed d = print-outline d

@@ -1,4 +1,4 @@
--- A command that is decided on rows that were looked up: the decision is the machine's, and what is looked up leaves the shelf as it was.
+-- A command that is decided on rows that were looked up. The decision is the specification's, and the look-ups leave the store as it was.
 use Rattle.std.specs.Prelude.{◌≡◌, ℕ, Bool, true, not, cond, List, Option, Some, Err, max}
 use Rattle.std.proofs.Common.{◌∙◌, ap, inl, sym}
 use Rattle.office_values.specs.declared.refusal.Refusal.{Refusal}
@@ -16,16 +16,16 @@ use Rattle.office_plans.specs.Asking.{given_by}
 use Rattle.office_plans.specs.Published.{IsPlanned}
 use Rattle.tender_core.specs.declared.asking.Asking.{Asking}
 
--- a command that its caller may give is refused as its own tests say
+-- A command that its caller may give is refused exactly as its own tests say.
 refused_by : (x : Given) → may_give x.caller x.command ≡ true → refusal_of x ≡ first_of (command_tests x)
 refused_by x may = ap (λ (b : Bool). cond (not b) (Some Forbidden) (first_of (command_tests x))) may
 
--- the tests of a command's rule are these of these rows, which have the office's clock
+-- The tests of the command's rule are these tests on these rows, and the rows have the office's clock.
 pub record IsTested {R : Type 0} (asking : Asking) (command : Command) (rows_of : Tables → R) (clock_in : R → ClockRow) (tests : R → ℕ → List (Bool × Refusal)) : Type 0 where
   pub clock : (s : Tables) → clock_in (rows_of s) ≡ s.clock
   pub tested : (s : Tables) → command_tests (given_by asking s command) ≡ tests (rows_of s) (time_of (given_by asking s command))
 
--- rows that were loaded, and the moment by their clock
+-- Rows that were loaded, and the moment by their clock.
 module _ {R : Type 0} {asking : Asking} {command : Command} {rows_of : Tables → R} {clock_in : R → ClockRow} {tests : R → ℕ → List (Bool × Refusal)}
     (ruled : IsTested asking command rows_of clock_in tests) (rows : R) (t : ℕ) (moment : t ≡ max asking.moment (clock_in rows).moment) where
   abbrev x : Tables → Given
@@ -37,7 +37,7 @@ module _ {R : Type 0} {asking : Asking} {command : Command} {rows_of : Tables �
   pub on_rows : {Y : Type 0} (f : R → ℕ → Y) (s : Tables) → rows ≡ rows_of s → f rows t ≡ f (rows_of s) (time_of (x s))
   on_rows f s are = ap (λ (m : R). f m t) are ∙ ap (λ (n : ℕ). f (rows_of s) n) (time_is s are)
 
-  -- so a refusal on them is the command's, and puts on them are its effect
+  -- A refusal by these rows is the command's refusal, and the changes by these rows are its effect.
   pub refused_on : (answer : Option Refusal) → may_give asking.caller.now command ≡ true → answer ≡ first_of (tests rows t) → (s : Tables) → rows ≡ rows_of s
       → refusal_of (x s) ≡ answer
   refused_on answer may is s are =
@@ -47,12 +47,12 @@ module _ {R : Type 0} {asking : Asking} {command : Command} {rows_of : Tables �
       → effect office_readings (x s) ≡ puts (rows_of s) (time_of (x s)) → made ≡ effect office_readings (x s)
   puts_on puts made is s are own = is ∙ on_rows puts s are ∙ sym own
 
-  -- where the decision refuses, so does the plan
+  -- If the decision is a refusal, then so is the plan.
   pub not_planned : {S : Type 0} (M : Meaning S) (publisher : Publisher) (a b : S) (answer : Option Refusal) (why : Refusal) → Looks M a b (λ s. rows ≡ rows_of s)
       → may_give asking.caller.now command ≡ true → answer ≡ first_of (tests rows t) → answer ≡ Some why → Looks M a b (λ s. IsPlanned publisher (x s) (Err why))
   not_planned M publisher a b answer why looked may is refused = (looked.0, λ honest s held. inl (refused_on answer may is s (looked.1 honest s held) ∙ refused))
 
--- of two calls that only look, one after the other, both are so at once
+-- If two calls only look things up, one after the other, then the facts that both report hold at once.
 pub two_looks : {S : Type 0} (M : Meaning S) → LooksFollow M → (a b c : S) (P Q All : Tables → Type 0) → Looks M a b P → Looks M b c Q
     → ((s : Tables) → P s → Q s → All s) → Looks M a c All
 two_looks M follow a b c P Q All first second all = (
@@ -62,13 +62,13 @@ two_looks M follow a b c P Q All first second all = (
       all s (first.1 sooner s held) (second.1 honest s (first.0.same sooner s held)),
 )
 
--- so it is of three
+-- The facts that three such calls report hold at once.
 pub three_looks : {S : Type 0} (M : Meaning S) → LooksFollow M → (a b c d : S) (P Q R All : Tables → Type 0) → Looks M a b P → Looks M b c Q → Looks M c d R
     → ((s : Tables) → P s → Q s → R s → All s) → Looks M a d All
 three_looks M follow a b c d P Q R All first second third all =
     two_looks M follow a c d (λ s. P s × Q s) R All (two_looks M follow a b c P Q (λ s. P s × Q s) first second (λ s p q. (p, q))) third (λ s both r. all s both.0 both.1 r)
 
--- and of four
+-- The facts that four such calls report hold at once.
 pub four_looks : {S : Type 0} (M : Meaning S) → LooksFollow M → (a b c d e : S) (P Q R T All : Tables → Type 0) → Looks M a b P → Looks M b c Q → Looks M c d R
     → Looks M d e T → ((s : Tables) → P s → Q s → R s → T s → All s) → Looks M a e All
 four_looks M follow a b c d e P Q R T All first second third fourth all =

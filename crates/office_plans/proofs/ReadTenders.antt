@@ -1,4 +1,4 @@
--- Tenders that were read.
+-- The tenders that an opening reads.
 use Rattle.std.specs.Prelude.{◌≡◌, ℕ, List, [], ◌∷◌, ◌++◌, map}
 use Rattle.std.proofs.Common.{refl, sym, ap, ◌∙◌}
 use Rattle.std.proofs.lemmas.List.{append_assoc}
@@ -14,11 +14,11 @@ each_read : (s : Tables) (es : List EnvelopeRow) → map (tender_read s) es ≡ 
 each_read s [] = refl
 each_read s (e ∷ es) = ap (λ (rest : List OpenedTender). tender_read s e ∷ rest) (each_read s es)
 
--- they are the sealed tenders, each with its reading
+-- They are the notice's sealed tenders, each with its reading.
 pub tenders_are : (notice : List ℕ) (s : Tables) → tenders_read notice s ≡ map (with_reading office_readings.read) (sealed_tenders notice s)
 tenders_are notice s = each_read s (sealed_of_notice notice s)
 
--- one tender more
+-- One more tender is read.
 pub next_read : (read : EnvelopeRow → OpenedTender) (old new : List OpenedTender) (tender : OpenedTender) (e : EnvelopeRow) (left rest : List EnvelopeRow) (all : List OpenedTender)
     → new ≡ old ++ tender ∷ [] → tender ≡ read e → left ≡ e ∷ rest → old ++ map read left ≡ all → new ++ map read rest ≡ all
 next_read read old new tender e left rest all pushed is taken before =

@@ -1,4 +1,4 @@
--- A release that a command publishes, and the merge that it joins, beside what the command puts.
+-- A release that a command publishes and the merge that it joins, added to the command's changes.
 use Rattle.std.specs.Prelude.{◌≡◌, ℕ, ◌+◌, ◌-◌, true, List, ◌∷◌, [], ◌++◌, Option, Some, None, Result, Ok, Err, IfOk, IfErr}
 use Rattle.std.proofs.Common.{sym, ◌∙◌, ap, subst, inr, arith}
 use Rattle.std.proofs.lemmas.List.{append_assoc}
@@ -26,7 +26,7 @@ use Rattle.office_plans.specs.declared.published.Released.{Released}
 before_next : (seq n : ℕ) → seq ≡ n + 1 → seq - 1 ≡ n
 before_next seq n next = omega (arith, next)
 
--- a release is published behind the one in front of it, and joins the merge
+-- The release comes after the last one of its notice, and it joins the merge.
 pub follows : (publisher : Publisher) (x : Given) (r : Released) → IsReleased publisher x r → has_last_release r.notice (r.seq - 1) x.before ≡ true
     → HasMerge r.notice x.before → AreSoMany r.notice (r.seq - 1) x.before → FollowsReleases x
 follows publisher x r released there merge many notice is =
@@ -41,7 +41,7 @@ module _ (publisher : Publisher) (x : Given) (r : Released) (p : Publication) (r
   abbrev puts_with : Option ReleaseRow → List Put
   puts_with o = (effect office_readings x ++ publication_puts o) ++ merge_puts x.before o
 
-  -- the release and its merge
+  -- The puts of the release and of its merge.
   abbrev both : List Put
   both = Release p.release ∷ Compiled p.merge ∷ []
 
@@ -60,7 +60,7 @@ module _ (publisher : Publisher) (x : Given) (r : Released) (p : Publication) (r
       let same : as_row r ≡ row = cc in
       subst (ReadsBack x.before) (kept.release ∙ same) kept.reads
 
-  -- the plan with both, or want of memory
+  -- The plan has both puts, or it is `Unavailable` because there is too little memory.
   pub is_planned : IsCommand x.command → refusal_of x ≡ None → FollowsReleases x → (puts : List Put) (text : List ℕ) → puts ≡ effect office_readings x
       → text ≡ reply_text (accepted_reply x) → (KeepsItsReleases x → IsKept x.before r p) → (result : Result Plan Refusal)
       → IfOk result (λ (q : Plan). q.puts ≡ puts ++ both) → IfOk result (λ (q : Plan). q.reply ≡ text) → IfErr result (λ why. why ≡ Unavailable)

@@ -1,4 +1,4 @@
--- A command's refusal is told, unless a look-up failed.
+-- A refused command gets its refusal, unless a look-up failed.
 use Rattle.std.specs.Prelude.{◌≡◌, ◌<◌, ◌⊎◌, ◌+◌, ◌-◌, ◌^◌, ℕ, Bool, true, List, Option, Some, None, Result, Ok, Err, max, min}
 use Rattle.std.proofs.Common.{◌∙◌, ap, arith, inl, inr, sym}
 use Rattle.office_values.specs.declared.refusal.Refusal.{Refusal}
@@ -16,28 +16,28 @@ use Rattle.office_plans.specs.Asking.{given_by}
 use Rattle.office_plans.specs.Published.{TellsRefusal}
 use Rattle.tender_core.specs.declared.asking.Asking.{Asking}
 
--- one fault more is a higher count, or the last one
+-- The count after one more fault is higher, or it was already the highest.
 has_risen : (old new : ℕ) → new ≡ one_fault_more old → HasRisen old new
 has_risen old new counted = grind (arith, counted)
 
--- a look-up that failed is counted
+-- A look-up that failed is counted.
 pub fault_told : {S T V : Type 0} (M : Meaning S) (a b : S) (asking : Asking) (command : Command) (fault : ShelfFault) (result : Result T Refusal)
     → CountsFaults {T = V} M a b (Err fault) → TellsRefusal M a b (λ s. given_by asking s command) result
 fault_told M a b asking command fault result counts honest s held why refused = inr (has_risen _ _ counts.counted)
 
--- rows that were looked up, the moment by their clock, and what the decision on them answered
+-- Rows that were looked up, the moment by their clock, and the answer of the decision on them.
 module _ {R : Type 0} {asking : Asking} {command : Command} {rows_of : Tables → R} {clock_in : R → ClockRow} {tests : R → ℕ → List (Bool × Refusal)}
     (ruled : IsTested asking command rows_of clock_in tests) (rows : R) (t : ℕ) (moment : t ≡ max asking.moment (clock_in rows).moment)
     {S T : Type 0} (M : Meaning S) (a b : S) (looked : Looks M a b (λ s. rows ≡ rows_of s)) (may : may_give asking.caller.now command ≡ true)
     (answer : Option Refusal) (is : answer ≡ first_of (tests rows t)) where
-  -- where it refuses, this refusal is told
+  -- If the decision refuses the command, then the result is this refusal.
   pub refusal_told : (why : Refusal) → answer ≡ Some why → TellsRefusal {T = T} M a b (λ s. given_by asking s command) (Err why)
   refusal_told why refuses honest s held own refused =
       let same : Some why ≡ Some own = sym refuses ∙ sym (refused_on ruled rows t moment answer may is s (looked.1 honest s held)) ∙ refused in
       let are : why ≡ own = cc in
       inl (λ i. Err (are i))
 
-  -- where it refuses nothing, there is no refusal to be told, whatever is looked at behind it
+  -- If the decision refuses nothing, then the command has no refusal, whatever the program looks up afterwards.
   pub none_to_tell : (c : S) (result : Result T Refusal) → (M.honest c → M.honest b) → answer ≡ None → TellsRefusal M a c (λ s. given_by asking s command) result
   none_to_tell c result before allows honest s held why refused =
       let differ : None ≡ Some why = sym allows ∙ sym (refused_on ruled rows t moment answer may is s (looked.1 (before honest) s held)) ∙ refused in

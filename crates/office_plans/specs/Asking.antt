@@ -1,4 +1,4 @@
--- A command that somebody gives to an office at a moment.
+-- The input of a step of the specification: the office before it, a moment, a caller and a command.
 use Rattle.std.specs.Prelude.{ℕ}
 use Rattle.office_commands.specs.declared.command.Caller.{Caller}
 use Rattle.office_commands.specs.declared.commands.Command.{Command}

@@ -1,4 +1,4 @@
--- JSON objects of plain values and of lists of objects: compact, members in the byte order of their names.
+-- JSON objects of plain values and of lists of objects, as compact text. The members are in the byte order of their names.
 use Rattle.std.specs.Prelude.{◌≡◌, ℕ, List, [], ◌∷◌, ◌++◌, map, Bool, true, ◌&&◌, Option, Some, None, codes, option_map}
 use Rattle.std.specs.Cmp.Lexicographic.{slice_cmp}
 use Rattle.std.specs.List.{list_all}
@@ -15,16 +15,16 @@ use Rattle.office_values.specs.Moments.{moment_text}
 use Rattle.office_plans.specs.declared.objects.Plain.{Plain}
 use Rattle.office_plans.specs.declared.objects.Plain.TheVariants.{Number, Count, Truth, Total, Id, Named, Moment, Since, Digest, Text, Remark}
 
--- a name and its value
+-- A member of an object: a name and its value.
 abbrev pub Member : Type 0
 Member = List ℕ × Data
 
--- a number, or null where there is none
+-- A number, or null if it is absent.
 abbrev pub number_or_null : Option ℕ → Data
 number_or_null None = null
 number_or_null (Some n) = number (unsigned n)
 
--- a text, or null where there is none
+-- A text, or null if it is absent.
 abbrev pub string_or_null : Option (List ℕ) → Data
 string_or_null None = null
 string_or_null (Some text) = string text
@@ -45,7 +45,7 @@ data_of (Remark text) = string_or_null (option_map (λ t. t.now) text)
 abbrev pub entry_of : Bor (List ℕ) × Plain → Member
 entry_of m = (m.0.now, data_of m.1)
 
--- the members with these entries put, one after another
+-- The object's members after these entries are put into it, one after another.
 abbrev pub with_members : List Member → Members → Members
 with_members [] ms = ms
 with_members (e ∷ es) ms = with_members es (put e.0 e.1 ms)
@@ -56,31 +56,31 @@ json_object es = object (with_members es no_members)
 abbrev pub object_text : List Member → List ℕ
 object_text es = compact_text (json_object es)
 
--- each name is above those before it
+-- Each name comes after all earlier names, in byte order.
 abbrev pub names_rise : List Member → Bool
 names_rise [] = true
 names_rise (e ∷ es) = list_all (λ (f : Member). is_gt (slice_cmp nat_cmp f.0 e.0)) es && names_rise es
 
--- a name with a list of objects
+-- A member whose value is a list of objects.
 abbrev pub objects_entry : List ℕ → List (List Member) → Member
 objects_entry name objects = (name, array (items_of (map json_object objects)))
 
--- members, a list of objects, and members behind it
+-- The entries of an object that has one list of objects, with entries before and after the list.
 abbrev pub with_objects : List Member → List ℕ → List (List Member) → List Member → List Member
 with_objects front name objects rest = front ++ objects_entry name objects ∷ rest
 
--- what stands in a text for a value, and for a member
+-- The tokens with which a text writes a value, and those with which it writes a member.
 abbrev pub value_tokens : Data → List token.Token
 value_tokens d = json_tokens (outline d)
 
 abbrev pub member_tokens : Member → List token.Token
 member_tokens e = token.key e.0 ∷ value_tokens e.1
 
--- the value is written behind what stands there
+-- A writer has added a value after everything that was already written.
 abbrev pub AddsValue : Written → Written → Data → Type 0
 AddsValue old new d = (new.before ≡ old.before) × (new.tokens ≡ old.tokens ++ value_tokens d)
 
--- entries of plain values
+-- Entries whose values are plain.
 abbrev pub text_entry : List ℕ → List ℕ → Member
 text_entry name text = (name, string text)
 
@@ -99,7 +99,7 @@ date_entry name second = text_entry name (moment_text second)
 abbrev pub since_entry : List ℕ → Option ℕ → Member
 since_entry name second = named_entry name (option_map moment_text second)
 
--- members that several replies have
+-- Entries that several replies have.
 abbrev pub moment_entry : ℕ → Member
 moment_entry moment = date_entry (codes "moment") moment
 

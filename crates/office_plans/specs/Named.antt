@@ -1,4 +1,4 @@
--- The budget lines that a command names, looked up one after another, each once.
+-- The budget lines that a command names. Each is looked up once, in the order in which the command names them.
 use Rattle.std.specs.Prelude.{ℕ, cond, List, [], ◌∷◌, Option, is_some, IsSome, option_map, map, filter}
 use Rattle.office_commands.specs.declared.budget.BudgetRow.{BudgetRow}
 use Rattle.office_commands.specs.declared.lot.NewLot.{NewLot}
@@ -15,7 +15,7 @@ use Rattle.tender_core.specs.declared.import.ImportRows.{ImportRows}
 use Rattle.tender_core.specs.declared.publish.PublishRows.{PublishRows}
 use Rattle.office_plans.specs.LookedUp.{with_row}
 
--- the line that a new lot, a lot and a row of a budget file name
+-- The budget line that a new lot, a stored lot or a row of a budget file names.
 abbrev pub line_of_new : NewLot → List ℕ
 line_of_new lot = lot.line
 
@@ -25,52 +25,52 @@ line_of_lot lot = lot.line
 abbrev pub line_of_row : BudgetRow → List ℕ
 line_of_row row = row.line
 
--- the table with the office's line of this name, where it isn't there yet
+-- The lines after this name is looked up, unless a line of this name is already among them.
 abbrev pub with_line : Tables → List LineRow → List ℕ → List LineRow
 with_line s lines name = cond (is_some (find_line lines name)) lines (with_row id_cmp line_key lines (line_at name s))
 
--- the table with the office's lines of these names
+-- The lines after all these names are looked up.
 abbrev pub with_lines : Tables → List LineRow → List (List ℕ) → List LineRow
 with_lines s lines [] = lines
 with_lines s lines (name ∷ names) = with_lines s (with_line s lines name) names
 
--- the office's lines of these names alone
+-- The lines of the office that have one of these names.
 abbrev pub lines_named : Tables → List (List ℕ) → List LineRow
 lines_named s names = with_lines s [] names
 
--- where the line of this name stands, by what was found of it
+-- The `Standing` of this name, by the row that was found of it: its appropriation and its free money, if there is a row.
 abbrev pub standing_at : List ℕ → Option LineRow → Standing
 standing_at name found = record { line = name; columns = option_map columns_of_row found }
 
--- the table with where the line of this name stands
+-- The table after the line of this name is looked up and its `Standing` is put.
 abbrev pub with_new_standing : Tables → List Standing → List ℕ → List Standing
 with_new_standing s m name = put_standing m (standing_at name (line_at name s))
 
--- the same, where it isn't there yet
+-- The table after the line of this name is looked up, unless its `Standing` is already in it.
 abbrev pub with_standing : Tables → List Standing → List ℕ → List Standing
 with_standing s m name = cond (is_some (find_standing m name)) m (with_new_standing s m name)
 
--- the table with where the lines of these names stand
+-- The standings after the lines of all these names are looked up.
 abbrev pub with_standings : Tables → List Standing → List (List ℕ) → List Standing
 with_standings s m [] = m
 with_standings s m (name ∷ names) = with_standings s (with_standing s m name) names
 
--- where the lines of these names alone stand
+-- The standings of the lines with these names.
 abbrev pub standings_named : Tables → List (List ℕ) → List Standing
 standings_named s names = with_standings s [] names
 
--- what was among the lines is among them still
+-- Every line that had a standing still has one.
 abbrev pub StillThere : List Standing → List Standing → Type 0
 StillThere old new = (q : List ℕ) → IsSome (find_standing old q) → IsSome (find_standing new q)
 
--- the rows of an office that an import is decided on, with the lines that its own rows name alone
+-- The rows by which an import is decided; of the lines only those that the budget file names.
 abbrev pub import_named : Tables → List ℕ → List BudgetRow → ImportRows
 import_named s batch rows = record (import_rows s batch rows) { file = record { lines = standings_named s (map line_of_row rows); rows = rows } }
 
--- the rows of an office that a publication is decided on, with the lines of its lots alone
+-- The rows by which a publication is decided; of the lines only those of its lots.
 abbrev pub publish_named : Tables → List ℕ → List NewLot → PublishRows
 publish_named s notice lots = record { notice = notice_at notice s; lines = lines_named s (map line_of_new lots); clock = s.clock }
 
--- the rows of an office that a cancellation is decided on, with the lines of the lots that are open alone
+-- The rows by which a cancellation is decided; of the lines only those of the open lots.
 abbrev pub cancel_named : Tables → List ℕ → CancelRows
 cancel_named s notice = record (cancel_rows s notice) { lines = lines_named s (map line_of_lot (filter is_open_lot (lots_of_notice notice s))) }

@@ -1,4 +1,4 @@
--- The sealed tenders of a notice, with what is read in them.
+-- The sealed tenders of a notice, each with the reading of its bytes.
 use Rattle.std.specs.Prelude.{ℕ, Bool, ◌&&◌, cond, List, is_some, map, filter}
 use Rattle.office_base.specs.Tables.{Tables, lot_cmp, lot_key, find_lot, lot_at, seal_at, envelopes_of_notice}
 use Rattle.office_base.specs.declared.records.EnvelopeRow.{EnvelopeRow}
@@ -9,26 +9,26 @@ use Rattle.office_machine.specs.Rule.{sealed_tender}
 use Rattle.office_machine.specs.OfficeMeans.{office_readings}
 use Rattle.office_plans.specs.LookedUp.{IsAsIn, with_row}
 
--- the lots with the office's lot of this key, where it isn't there yet
+-- The lots after the lot of this key is looked up, unless it is already among them.
 abbrev pub with_lot : Tables → List LotRow → List ℕ × List ℕ → List LotRow
 with_lot s lots key = cond (is_some (find_lot lots key)) lots (with_row lot_cmp lot_key lots (lot_at key s))
 
--- the lot of a tender is among these as it is in the office
+-- The lots that were looked up have the same at the key of this tender's lot as the office: the same row, or none.
 abbrev pub HasLotOf : Tables → List LotRow → EnvelopeRow → Type 0
 HasLotOf s lots e = IsAsIn lot_cmp lot_key s.lots lots (e.notice, e.lot)
 
--- the seal of a tender is there, and its lot
+-- The office has the seal of this tender and its lot.
 abbrev pub has_seal_and_lot : Tables → EnvelopeRow → Bool
 has_seal_and_lot s e = is_some (seal_at e.receipt s) && is_some (lot_at (e.notice, e.lot) s)
 
--- the tender with what is read in the bytes of its seal
+-- The tender with the reading of its sealed bytes.
 abbrev pub tender_read : Tables → EnvelopeRow → OpenedTender
 tender_read s e = with_reading office_readings.read (sealed_tender s e)
 
--- the sealed ones of a notice's tenders, which alone are opened
+-- The sealed tenders of a notice. An opening opens no others.
 abbrev pub sealed_of_notice : List ℕ → Tables → List EnvelopeRow
 sealed_of_notice notice s = filter is_sealed_envelope (envelopes_of_notice notice s)
 
--- each of them, read
+-- All sealed tenders of a notice, each read.
 abbrev pub tenders_read : List ℕ → Tables → List OpenedTender
 tenders_read notice s = map (tender_read s) (sealed_of_notice notice s)

@@ -1,4 +1,4 @@
--- What a command plans, with what it publishes.
+-- The plan of a command, with the release that it publishes.
 use Rattle.std.specs.Prelude.{◌≡◌, ◌⊎◌, Bool, true, false, Some, None, Result, Ok, Err}
 use Rattle.office_values.specs.declared.refusal.Refusal.{Refusal}
 use Rattle.office_values.specs.declared.refusal.Refusal.TheVariants.{Unavailable}
@@ -16,17 +16,17 @@ use Rattle.office_publications.specs.Keeping.{FollowsReleases, KeepsItsReleases,
 use Rattle.office_plans.specs.Plans.{Plan}
 use Rattle.office_plans.specs.Replies.{reply_text}
 
--- the reply to a command that is accepted
+-- The reply to a command that is accepted.
 abbrev pub accepted_reply : Given → Reply
 accepted_reply x = reply_for office_readings x.before (done office_readings x) (time_of x) x.caller x.command
 
--- what is planned is what the machine puts, with the merge that the release joins; and what is published can be read again
+-- The planned changes are exactly those of the specification, with the release and the merge. The release that is published can be read again.
 pub record IsPut (publisher : Publisher) (x : Given) (planned : Plan) : Type 0 where
   pub puts : planned.puts ≡ kept_puts publisher x
   pub reads : PublicationReadsBack publisher x
 
--- the command is one that can be given and isn't refused, what it publishes follows the last release of its notice, this is its reply, and,
--- where that notice keeps its releases, what it puts
+-- This is the plan of an accepted command. Its form is allowed, its release follows the last one of its notice, and its reply is the specification's. If the
+-- notice keeps its releases, the planned changes are the specification's too.
 pub record IsPlan (publisher : Publisher) (x : Given) (planned : Plan) : Type 0 where
   pub given : IsCommand x.command
   pub allowed : refusal_of x ≡ None
@@ -34,18 +34,18 @@ pub record IsPlan (publisher : Publisher) (x : Given) (planned : Plan) : Type 0 
   pub put : KeepsItsReleases x → IsPut publisher x planned
   pub reply : planned.reply ≡ reply_text (accepted_reply x)
 
--- the plan, or the command's refusal, or Unavailable
+-- The result is the plan, the command's refusal, or `Unavailable`.
 abbrev pub IsPlanned : Publisher → Given → Result Plan Refusal → Type 0
 IsPlanned publisher x (Ok planned) = IsPlan publisher x planned
 IsPlanned publisher x (Err why) = (refusal_of x ≡ Some why) ⊎ (why ≡ Unavailable)
 
--- a command that is to be refused is told its refusal, or the store's count of faults rose
+-- If the specification refuses the command, the result is this refusal, or the store has counted another fault.
 abbrev pub TellsRefusal : {S T : Type 0} → Meaning S → S → S → (Tables → Given) → Result T Refusal → Type 0
 TellsRefusal M old new x result =
     M.honest new → (s : Tables) → M.holds old s → (why : Refusal) → refusal_of (x s) ≡ Some why
     → (result ≡ Err why) ⊎ HasRisen (M.fault_count old) (M.fault_count new)
 
--- a command that isn't decided before memory was taken for a table of the budget lines that it names
+-- The command takes memory for a table of the budget lines that it names before it is decided.
 abbrev pub gathers_lines : Command → Bool
 gathers_lines (commands.Import batch rows) = true
 gathers_lines (commands.Publish notice content) = true

@@ -21,14 +21,14 @@ use Rattle.office_plans.specs.Json.{Member, text_entry, number_entry, count_entr
 use Rattle.office_plans.specs.RowMembers.{notice_entries, own_tender_entries, listed_security_entries, listed_tenderer_entries, page_entries, terms_entries, contract_entries}
 use Rattle.office_plans.specs.Words.{security_word}
 
--- members that several replies have
+-- Entries that several replies have.
 abbrev pub release_entry : ℕ → Member
 release_entry release = number_entry (codes "release") release
 
 abbrev pub state_entry : EnvelopeState → Member
 state_entry state = text_entry (codes "state") (state_word state)
 
--- of a winner: the award, the price and the tender; null where nobody wins
+-- A winner's award number, price and receipt. The reply has null in their place if nobody wins.
 abbrev pub award_number : Winning → ℕ
 award_number w = w.award
 
@@ -38,7 +38,7 @@ award_price w = w.price
 abbrev pub award_tender : Winning → ℕ
 award_tender w = w.tender
 
--- the members of a reply in JSON
+-- The members of a reply in JSON.
 abbrev pub reply_entries : Reply → List Member
 reply_entries (Imported batch rows moment) = text_entry (codes "batch") batch ∷ moment_entry moment ∷ number_entry (codes "rows") rows ∷ []
 reply_entries (Enrolled tenderer moment) = moment_entry moment ∷ text_entry (codes "tenderer") tenderer ∷ []
@@ -77,23 +77,23 @@ reply_entries (TenderersSeen next rows) = page_entries next (codes "tenderers") 
 reply_entries (ContractSeen contract left paid entries) = contract_entries contract left paid entries
 reply_entries _ = []
 
--- the line of a tender in a register, and the register's text: it shows no digest and no tenderer
+-- The line of a tender in a register, and the register's text. They show no digest and no tenderer.
 abbrev pub registered_line : Registered → List ℕ
 registered_line row = line (decimal row.receipt ∷ row.lot ∷ moment_text row.moment ∷ decimal row.length ∷ state_word row.state ∷ [])
 
 abbrev pub registry_text : List ℕ → List Registered → List ℕ
 registry_text notice rows = line (codes "REGISTER" ∷ notice ∷ []) ++ flat_map registered_line rows
 
--- who presented a tender; in an office that commands lead to, the tenderer is there
+-- The row of the tenderer who submitted a tender. A reached office always has it.
 abbrev pub presenter_of : List ℕ → Option TendererRow → TendererRow
 presenter_of tenderer None = record { tenderer = tenderer; name = []; address = []; key = [] }
 presenter_of tenderer (Some row) = row
 
--- a tender of the minutes; each that was opened was read
+-- A tender in the minutes. Each opened tender was read, so its reading exists.
 abbrev pub minuted_tender : Minuted → OpenedTender
 minuted_tender m = record { lot = m.lot; receipt = m.receipt; tenderer = presenter_of m.tenderer m.party; reading = unwrap_or m.reading Unreadable }
 
--- what was found of a tender; each that was opened was read
+-- The office's findings about an opened tender. Each opened tender was read, so its reading exists.
 abbrev pub finding_of : EvaluatedTender → Finding
 finding_of t = record {
   receipt = t.receipt;
@@ -106,14 +106,14 @@ finding_of t = record {
   failed = t.failed;
 }
 
--- the lines of a lot of an evaluation, and its text
+-- The lines of a lot in an evaluation, and the whole evaluation's text.
 abbrev pub evaluated_lines : EvaluatedLot → List ℕ
 evaluated_lines l = findings_text l.lot l.state (map finding_of l.tenders) l.awards
 
 abbrev pub evaluation_text : List ℕ → List EvaluatedLot → List ℕ
 evaluation_text notice lots = evaluation_head notice ++ flat_map evaluated_lines lots ++ evaluation_end
 
--- the text of a reply; a refusal has a response of its own
+-- The text of a reply. It is empty for a refusal, which has a response of its own.
 abbrev pub reply_text : Reply → List ℕ
 reply_text (Refused why) = []
 reply_text (LedgerSeen rows) = ledger_text rows
@@ -123,7 +123,7 @@ reply_text (Package text) = text
 reply_text (EvaluationSeen notice lots) = evaluation_text notice lots
 reply_text reply = object_text (reply_entries reply)
 
--- the refusal, or the text
+-- The refusal, or else the reply's text.
 abbrev pub text_of : Reply → Result (List ℕ) Refusal
 text_of (Refused why) = Err why
 text_of reply = Ok (reply_text reply)

@@ -1,4 +1,4 @@
--- The words for where a security is, what an entry does to its contract, and how a contract ended.
+-- The words for the state of a security, for the kind of a contract's entry, and for how a contract ended.
 use Rattle.std.specs.Prelude.{ℕ, List, codes}
 use Rattle.office_commands.specs.declared.contract.How.{How}
 use Rattle.office_commands.specs.declared.contract.How.TheVariants as hows

@@ -1,4 +1,4 @@
-//! Commands, planned over any shelf: each in its room, and here all of them.
+//! Plans for all commands, over any store. Each command has a file of its own.
 ghost use Rattle.std.specs.Prelude.{◌≡◌, true, false};
 ghost use Rattle.office_commands.specs.Commands.{kind_of};
 ghost use Rattle.office_commands.specs.Rights.{may};
@@ -31,7 +31,7 @@ use office_values::settings::Publisher;
 use std::alloc::Global;
 use tender_core::asking::Asking;
 
-/// Plans a command that the caller may give. One that gathers lines may be `Unavailable` in place of its refusal though no look-up failed.
+/// Plans a command that the caller may give. A command that gathers budget lines may be `Unavailable` instead of refused although no look-up failed.
 pub fn plan_command<H: Lookups>(
     alloc: Global,
     shelf: &mut H,

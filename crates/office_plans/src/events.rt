@@ -1,4 +1,4 @@
-//! What the events of a notice are told from.
+//! Parts of the events that commands publish.
 ghost use Rattle.std.specs.Prelude.{◌≡◌, None, IfErr, IfNone, IfOk, IfSome, filter, map};
 ghost use Rattle.ocds_release.specs.TenderStatuses.{state_with, tender_status_of};
 ghost use Rattle.office_base.specs.Tables.{award_key};
@@ -17,8 +17,7 @@ use office_values::refusal::Refusal;
 use std::alloc::{AllocError, Global};
 use tender_core::ended::{is_ended_award, is_open};
 
-/// The tenderer of this identifier, named as the row has it. None exactly where there is no row, never so in a reached office. Takes no
-/// memory.
+/// The tenderer of this identifier, with the name that its row has. None exactly if there is no row, which can't happen in a reached office. Takes no memory.
 pub(crate) fn party_of<'a>(tenderer: Id, row: &'a Option<TendererRow>) -> Option<Party<'a>>
     ensures found { IfSome result (λ party. party ≡ record { id = tenderer; name = name_in row.now }) }
     ensures none { IfNone result (row.now ≡ None) }
@@ -32,7 +31,7 @@ pub(crate) fn party_of<'a>(tenderer: Id, row: &'a Option<TendererRow>) -> Option
     }
 }
 
-/// The status of a notice's tender once one of its lots has come to a state.
+/// The status of a notice's tender after one of its lots gets this state.
 pub(crate) fn status_with(
     alloc: Global,
     lots: &[LotRow],
@@ -59,7 +58,7 @@ pub(crate) fn open_lots(alloc: Global, lots: &[LotRow]) -> Result<Vec<Id>, Alloc
     Ok(ids)
 }
 
-/// The numbers of the active awards of the lots that are open.
+/// The numbers of the active awards of the open lots.
 pub(crate) fn ended_awards(
     alloc: Global,
     lots: &[LotRow],

@@ -1,4 +1,5 @@
-//! Commands of an office, planned over any shelf: each loads its rows once, is refused on them or gets its reply, its release and what it puts.
+//! Plans the commands of an office over any store. A command loads its rows once. By these rows it is refused, or it gets its reply, its release and its
+//! changes.
 #![tactic(auto)]
 
 pub mod commands;

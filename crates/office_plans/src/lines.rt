@@ -1,4 +1,4 @@
-//! Budget lines, looked up by their names, each once.
+//! Budget lines that are looked up by their names, each once.
 ghost use Rattle.std.specs.Prelude.{◌≡◌, OnOk};
 ghost use Rattle.office_base.specs.Shelves.{Looks};
 ghost use Rattle.office_plans.specs.Named.{with_line};
@@ -9,7 +9,7 @@ use office_base::records::LineRow;
 use office_base::shelf::{Lookups, ShelfFault};
 use office_values::id::Id;
 
-/// Loads the line of this name, where it isn't loaded yet.
+/// Loads the line of this name, unless it is already loaded.
 pub fn load_line<H: Lookups>(
     shelf: &mut H,
     lines: &mut Table<LineRow>,

@@ -1,4 +1,4 @@
-//! Rows that were looked up by their keys, in a table of their own.
+//! A table of rows that were looked up by their keys.
 ghost use Rattle.std.specs.Prelude.{◌≡◌, OnOk};
 ghost use Rattle.office_plans.specs.LookedUp.{with_row};
 
@@ -7,7 +7,7 @@ use keyed_table::table::Table;
 use office_base::row::Row;
 use office_base::shelf::ShelfFault;
 
-/// Puts a row that was looked up, where there is one.
+/// Puts a row that was looked up, if it was found.
 pub fn put_found<R: Row + Drop>(rows: &mut Table<R>, found: Option<R>) -> Result<(), ShelfFault>
 where
     R::Key: Known,

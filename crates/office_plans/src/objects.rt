@@ -1,4 +1,4 @@
-//! JSON objects of plain values, and of lists of objects, written as they go, with no tree in between.
+//! JSON objects of plain values and of lists of objects. They are written member by member, without a tree.
 ghost use Rattle.std.specs.Prelude.{◌≡◌, true, List, ◌++◌, IfOk, OnOk, map, option_map};
 ghost use Rattle.std.specs.List.{flat_map};
 ghost use Rattle.serde_json.specs.Data.{array};
@@ -26,14 +26,14 @@ pub enum Plain<'a> {
     Moment(Moment),
     /// A moment, or null.
     Since(Option<Moment>),
-    /// In hexadecimal digits, lower case.
+    /// A digest, written in lower-case hexadecimal digits.
     Digest([u8; 32]),
     Text(&'a str),
     /// A text, or null.
     Remark(Option<&'a str>),
 }
 
-/// A number that may be absent, as a `Count` takes it.
+/// A number that may be absent, in the form that a `Count` takes.
 pub fn number_of(number: Option<GivenNumber>) -> Option<u64>
     ensures { result ≡ number }
 {
@@ -43,7 +43,7 @@ pub fn number_of(number: Option<GivenNumber>) -> Option<u64>
     }
 }
 
-// A text, or null.
+// Writes a text, or null.
 fn write_text(out: &mut Writer, text: Option<&str>) -> Result<(), AllocError>
     ensures { OnOk result (AddsValue out.old out.new (string_or_null (option_map (λ t. t.now) text.entry))) }
 {
@@ -53,7 +53,7 @@ fn write_text(out: &mut Writer, text: Option<&str>) -> Result<(), AllocError>
     }
 }
 
-// A moment, or null.
+// Writes a moment, or null.
 fn write_moment(out: &mut Writer, moment: Option<Moment>) -> Result<(), AllocError>
     ensures { OnOk result (AddsValue out.old out.new (data_of (Plain.Since moment))) }
 {
@@ -63,7 +63,7 @@ fn write_moment(out: &mut Writer, moment: Option<Moment>) -> Result<(), AllocErr
     }
 }
 
-// An identifier, or null.
+// Writes an identifier, or null.
 fn write_id(out: &mut Writer, id: Option<Id>) -> Result<(), AllocError>
     ensures { OnOk result (AddsValue out.old out.new (string_or_null id)) }
 {
@@ -107,7 +107,7 @@ fn write_members(
     Ok(())
 }
 
-/// Writes the object with these members, whose names rise in the order of their bytes.
+/// Writes the object with these members. Their names must rise in the order of their bytes.
 pub fn write_object(
     alloc: Global,
     out: &mut Writer,
@@ -122,7 +122,7 @@ pub fn write_object(
     Ok(())
 }
 
-/// The text of the object with these members, whose names rise in the order of their bytes.
+/// The text of the object with these members. Their names must rise in the order of their bytes.
 pub fn object_text(alloc: Global, members: &[(&str, Plain)]) -> Result<Vec<u8>, AllocError>
     requires rising { names_rise (map entry_of members.now) ≡ true }
     ensures { IfOk result (λ text. text.items ≡ object_text (map entry_of members.now)) }
@@ -132,7 +132,7 @@ pub fn object_text(alloc: Global, members: &[(&str, Plain)]) -> Result<Vec<u8>, 
     Ok(out.into_inner())
 }
 
-/// How rows are shown in a list: an object each.
+/// How a list shows its rows: each as an object.
 pub trait RowObject {
     type Row;
 
@@ -160,7 +160,7 @@ fn write_rows<O: RowObject>(
     Ok(())
 }
 
-/// Writes the object with these members, a list of rows under this name, and the members behind it; all names rise in the order of their bytes.
+/// Writes the object with these members, then a list of rows under this name, then the other members. All names must rise in the order of their bytes.
 pub fn write_with_rows<O: RowObject>(
     alloc: Global,
     out: &mut Writer,
@@ -183,8 +183,8 @@ pub fn write_with_rows<O: RowObject>(
     Ok(())
 }
 
-/// The text of the object with these members, a list of rows under this name, and the members behind it; all names rise in the order of their
-/// bytes. One function for each answer that has a list.
+/// The text of the object with these members, then a list of rows under this name, then the other members. All names must rise in the order of their bytes.
+/// Every answer that has a list uses this function.
 pub fn rows_text<O: RowObject>(
     alloc: Global,
     front: &[(&str, Plain)],

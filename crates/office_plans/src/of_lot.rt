@@ -23,7 +23,7 @@ pub fn envelopes_of_lot<H: Lookups>(
     Ok(Rows::from_vec(shelf.list_envelopes_of_lot(notice, lot)?))
 }
 
-/// The caller's own tenders of a lot, in the order of their receipts; none of a caller who is no tenderer. No other's tender is looked up.
+/// The caller's own tenders of a lot, in the order of their receipts. The clerk and the public have none. No other tender is looked up.
 pub fn own_envelopes<H: Lookups>(
     alloc: Global,
     shelf: &mut H,
@@ -53,7 +53,7 @@ pub fn securities_of_lot<H: Lookups>(
     Ok(Rows::from_vec(shelf.list_securities_of_lot(notice, lot)?))
 }
 
-/// The securities of an award's lot; none where the award isn't there.
+/// The securities of an award's lot, or none if the award doesn't exist.
 pub fn securities_of_award<H: Lookups>(
     alloc: Global,
     shelf: &mut H,

@@ -17,7 +17,7 @@ use std::alloc::Global;
 use tender_core::opening::{OpenedTender, keep_sealed};
 use tender_papers::tender::read_tender;
 
-// Loads a lot, where it isn't loaded yet.
+// Loads a lot, unless it is already loaded.
 fn load_lot<H: Lookups>(
     shelf: &mut H,
     lots: &mut Table<LotRow>,
@@ -33,7 +33,7 @@ fn load_lot<H: Lookups>(
     put_found(lots, found)
 }
 
-// A sealed tender, with what is read in the bytes of its seal. Its lot was looked up; `Unavailable` where its seal or its lot isn't there.
+// A sealed tender, with the reading of its sealed bytes. Its lot must be looked up before. `Unavailable` if its seal or its lot doesn't exist.
 fn load_tender<H: Lookups>(
     alloc: Global,
     shelf: &mut H,
@@ -54,7 +54,7 @@ fn load_tender<H: Lookups>(
     Ok(OpenedTender { envelope, reading })
 }
 
-// These tenders, read one after another. Each lot is looked up once.
+// Reads these tenders, one after another. Each lot is looked up once.
 fn load_each<H: Lookups>(
     alloc: Global,
     shelf: &mut H,
@@ -75,7 +75,7 @@ fn load_each<H: Lookups>(
     Ok(tenders)
 }
 
-/// Loads the sealed tenders of a notice, each with what is read in the bytes of its seal; `Unavailable` where a seal or a lot of one isn't there.
+/// Loads the sealed tenders of a notice, each with the reading of its sealed bytes. `Unavailable` if one of them has no seal or no lot.
 pub fn load_tenders<H: Lookups>(
     alloc: Global,
     shelf: &mut H,

@@ -1,5 +1,4 @@
-//! What is outstanding of a contract after a command on it. `Unavailable` exactly from 2^64 on: in an office that commands reach, what is outstanding is at
-//! most 10^15.
+//! The outstanding amount of a contract after a command. `Unavailable` exactly if it is 2^64 or more. In a reached office it is at most 10^15.
 ghost use Rattle.std.specs.Prelude.{◌≡◌, ◌≤◌, ◌^◌, IfOk, IfErr};
 ghost use Rattle.office_machine.specs.Outstanding.{left_by_change, left_by_end, left_by_payment, left_changed};
 ghost use Rattle.office_machine.specs.Replies.{left_of};
@@ -14,7 +13,7 @@ use office_commands::amounts::EntryAmount;
 use office_commands::contract::ChangeKind;
 use office_values::refusal::Refusal;
 
-// The sum in 64 bits.
+// The amount in 64 bits.
 fn within(left: u128) -> Result<u64, Refusal>
     ensures sum { IfOk result (λ sum. sum ≡ left) }
     ensures none { IfErr result (λ why. (why ≡ Unavailable) × (2 ^ 64 ≤ left)) }
@@ -22,7 +21,7 @@ fn within(left: u128) -> Result<u64, Refusal>
     u64::try_from(left).ok().ok_or(Refusal::Unavailable)
 }
 
-// What is outstanding where the command puts nothing.
+// The outstanding amount if the command changes nothing.
 fn left_of(contract: &Option<ContractRow>, entries: &[EntryRow]) -> u128
     ensures { result ≡ left_of contract.now entries.now }
 {
@@ -32,7 +31,7 @@ fn left_of(contract: &Option<ContractRow>, entries: &[EntryRow]) -> u128
     }
 }
 
-/// After the end of the contract: what was outstanding is released.
+/// The outstanding amount after the end of the contract, which releases all of it.
 pub fn left_by_end(rows: &EndRows) -> Result<u64, Refusal>
     ensures left { IfOk result (λ left. left ≡ left_by_end rows.now.contract rows.now.entries rows.now.notice rows.now.line) }
     ensures none { IfErr result (λ why. (why ≡ Unavailable) × (2 ^ 64 ≤ left_by_end rows.now.contract rows.now.entries rows.now.notice rows.now.line)) }
@@ -47,7 +46,7 @@ pub fn left_by_end(rows: &EndRows) -> Result<u64, Refusal>
     }
 }
 
-/// After a payment of this amount.
+/// The outstanding amount after a payment of this amount.
 pub fn left_by_payment(rows: &PayRows, amount: EntryAmount) -> Result<u64, Refusal>
     ensures left { IfOk result (λ left. left ≡ left_by_payment rows.now.contract rows.now.entries rows.now.notice amount) }
     ensures none { IfErr result (λ why. (why ≡ Unavailable) × (2 ^ 64 ≤ left_by_payment rows.now.contract rows.now.entries rows.now.notice amount)) }
@@ -59,7 +58,7 @@ pub fn left_by_payment(rows: &PayRows, amount: EntryAmount) -> Result<u64, Refus
     }
 }
 
-// After a raise or a cut of this amount, where the notice and the line are there.
+// The outstanding amount after a raise or a cut of this amount, if the notice and the budget line exist.
 fn left_changed(
     entries: &[EntryRow],
     contract: &ContractRow,
@@ -74,7 +73,7 @@ fn left_changed(
     }
 }
 
-/// After a raise or a cut of this amount.
+/// The outstanding amount after a raise or a cut of this amount.
 pub fn left_by_change(
     rows: &AmendContractRows,
     kind: ChangeKind,

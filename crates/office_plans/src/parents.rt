@@ -1,4 +1,4 @@
-//! The rows that a row speaks of, looked up where that row is there.
+//! The rows to which a row refers, such as the notice of a contract. Each function returns none if that row doesn't exist.
 ghost use Rattle.std.specs.Prelude.{◌≡◌};
 ghost use Rattle.office_base.specs.Parents.{line_of_lot, notice_of_contract, lot_of_contract};
 ghost use Rattle.office_base.specs.Parents.{notice_of_envelope, lot_of_envelope, late_of_envelope, security_of_envelope};
@@ -76,7 +76,7 @@ pub fn lot_of_envelope<H: Lookups>(
     }
 }
 
-/// What the notice of a tender says of late withdrawals.
+/// The row that says whether the notice of a tender allows late withdrawals.
 pub fn late_of_envelope<H: Lookups>(
     shelf: &mut H,
     envelope: &Option<EnvelopeRow>,
@@ -89,7 +89,7 @@ pub fn late_of_envelope<H: Lookups>(
     }
 }
 
-/// The security that a tender carries.
+/// The security of a tender, if it names one.
 pub fn security_of_envelope<H: Lookups>(
     shelf: &mut H,
     envelope: &Option<EnvelopeRow>,
@@ -131,7 +131,7 @@ pub fn lot_of_award<H: Lookups>(
     }
 }
 
-/// The tender that an award was made on.
+/// The tender that won an award.
 pub fn envelope_of_award<H: Lookups>(
     shelf: &mut H,
     award: &Option<AwardRow>,

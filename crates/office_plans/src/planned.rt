@@ -1,11 +1,11 @@
-//! What a command does, planned.
+//! The plan of a command, as a value.
 ghost use Rattle.std.specs.Prelude.{◌≡◌};
 
 use office_base::puts::Put;
 use office_values::text::Bytes;
 use std::marker::Model;
 
-/// What a command puts, and its reply. Nothing is done yet.
+/// The changes that a command makes, and the text of its reply. A plan changes nothing.
 #[derive(Drop)]
 pub struct Planned {
     puts: Vec<Put>,
@@ -21,7 +21,7 @@ impl Model for Planned {
 }
 
 impl Planned {
-    /// These changes, in their order, and this reply. Takes no memory.
+    /// A plan with these changes, in their order, and this reply. Takes no memory.
     pub fn new(puts: Vec<Put>, reply: Vec<u8>) -> Planned
         ensures puts { result.puts ≡ puts.items }
         ensures reply { result.reply ≡ reply.items }
@@ -46,7 +46,7 @@ impl Planned {
         &self.puts
     }
 
-    /// The changes and the reply, given away. Takes no memory.
+    /// The changes and the reply; the plan is used up. Takes no memory.
     pub fn into_parts(self) -> (Vec<Put>, Vec<u8>)
         ensures puts { result.0.items ≡ self.puts }
         ensures reply { result.1.items ≡ self.reply }

@@ -1,4 +1,4 @@
-//! What a command publishes, planned: its release joins what it puts, and the merge of its notice's releases.
+//! The plan of a command that publishes: its release joins its changes and the merge of its notice's releases.
 ghost use Rattle.std.specs.Prelude.{◌≡◌, ℕ, List, ◌+◌, ◌++◌, ◌-◌, ◌∷◌, [], None, Some, true, IfOk, IfErr, IfSome, IfNone, OnOk};
 ghost use Rattle.serde_json.specs.View.{view};
 ghost use Rattle.ocds_merge.specs.Stored.{IsStorable};
@@ -39,7 +39,7 @@ use office_values::settings::Publisher;
 use serde_json::Value;
 use std::alloc::Global;
 
-/// A release of a notice, under its number, at its moment; it isn't kept yet.
+/// A release of a notice, with its number and its moment. It isn't stored yet.
 #[derive(Drop)]
 pub(crate) struct Released {
     pub(crate) notice: Id,
@@ -48,7 +48,7 @@ pub(crate) struct Released {
     pub(crate) release: Value,
 }
 
-// The number of the next release of a notice: 1 where it isn't there. None exactly where it has all its releases.
+// The number of the next release of a notice, or 1 if the notice doesn't exist. None exactly if the notice has all its releases.
 fn next_number(row: &Option<NoticeRow>) -> Option<Sequence>
     ensures next { IfSome result (λ seq. seq ≡ releases_in row.now + 1) }
     ensures none { IfNone result (has_all_releases row.now ≡ true) }
@@ -59,8 +59,8 @@ fn next_number(row: &Option<NoticeRow>) -> Option<Sequence>
     }
 }
 
-/// The release of a command's event at the command's moment, as the next one of this notice, by the notice's row. `Unavailable` also where
-/// the notice has all its releases, as of no command that isn't refused.
+/// The release of a command's event at the command's moment, with the next number of this notice. `Unavailable` also if the notice has all its releases; such a
+/// command is refused.
 pub(crate) fn make_release<'a>(
     alloc: Global,
     publisher: &'a Publisher,
@@ -89,7 +89,7 @@ pub(crate) fn make_release<'a>(
     }
 }
 
-// Whether the release in front of the one of this number is there; none is in front of the first.
+// Whether the release before this number exists. True for the first number, because no release comes before it.
 fn follows_another<H: Lookups>(
     shelf: &mut H,
     notice: &Id,
@@ -103,7 +103,7 @@ fn follows_another<H: Lookups>(
     }
 }
 
-// Whether a merge is kept, or, where none is, as many releases are there as stand in front of the one of this number.
+// Whether a merge is stored, or else whether the notice has as many releases as the numbers before this one.
 fn is_whole(kept: &Kept, seq: Sequence) -> bool
     ensures { result ≡ true → (notice : List ℕ) (s : Tables) → IsKeptOf notice s kept.now → AreSoMany notice (seq - 1) s }
 {
@@ -113,9 +113,9 @@ fn is_whole(kept: &Kept, seq: Sequence) -> bool
     }
 }
 
-// The release as it is kept, and the merge that it joins. Reads the merge of the notice's releases, or all of them where none is kept.
-// `Unavailable` where the release in front of it is gone, the merge that is kept is no object, or none is kept and a release is gone or no
-// object: nothing is published behind a gap, nor over what can't be gone on from.
+// The release as it is stored, and the merge that it joins. Reads the notice's merge, or all its releases if no merge is stored. `Unavailable` if the previous
+// release is missing or the stored merge isn't an object. If no merge is stored, `Unavailable` also if a release is missing or isn't an object. So nothing is
+// published after a gap.
 fn keep<H: Lookups>(
     alloc: Global,
     shelf: &mut H,
@@ -146,7 +146,7 @@ fn keep<H: Lookups>(
     )
 }
 
-// These puts, a release and the merge that it joins, with the reply's text.
+// The plan with these changes, then the release and the merge that it joins, and with the reply's text.
 fn with_publication(
     puts: Vec<Put>,
     text: Vec<u8>,
@@ -162,9 +162,9 @@ fn with_publication(
     Ok(Planned::new(puts, text))
 }
 
-/// The plan of an accepted command that publishes: what it puts, the release, and the merge that this joins; and the reply's text.
-/// `Unavailable` also where the notice's last release is gone, its kept merge can't be carried on, or none is kept and a release is gone or no
-/// object: never so in a reached office.
+/// The plan of an accepted command that publishes: its changes, the release, the merge that this joins, and the reply's text. `Unavailable` also if the
+/// notice's last release is missing, or if its stored merge isn't an object. If no merge is stored, `Unavailable` also if a release is missing or isn't an
+/// object. None of this can happen in a reached office.
 pub(crate) fn published<H: Lookups>(
     alloc: Global,
     shelf: &mut H,
@@ -180,7 +180,7 @@ pub(crate) fn published<H: Lookups>(
     with_publication(puts, text, publication)
 }
 
-/// The plan of an accepted command that publishes nothing: what it puts, and the reply's text. Takes no memory.
+/// The plan of an accepted command that publishes nothing: its changes and the reply's text. Takes no memory.
 pub(crate) fn silent(puts: Vec<Put>, text: Vec<u8>) -> Planned
     ensures { (publisher : PublisherOf) (x : Given) → IsCommand x.command → refusal_of x ≡ None → event_of x.before x.command ≡ None → published_for x.before x.command ≡ None
         → puts.items ≡ effect office_readings x → text.items ≡ reply_text (accepted_reply x) → IsPlan publisher x result }

@@ -7,7 +7,7 @@ ghost use Rattle.office_machine.specs.Replies.{release_of_award};
 
 use office_base::records::{AwardRow, NoticeRow};
 
-/// The number of the next release of a notice: 1 where it isn't there.
+/// The number of the next release of a notice, or 1 if the notice doesn't exist.
 pub fn next_release(notice: &Option<NoticeRow>) -> u64
     ensures { result ≡ releases_in notice.now + 1 }
 {
@@ -17,7 +17,7 @@ pub fn next_release(notice: &Option<NoticeRow>) -> u64
     }
 }
 
-/// The number of the next release of an award's notice: 0 where the award isn't there.
+/// The number of the next release of an award's notice, or 0 if the award doesn't exist.
 pub fn release_of_award(award: &Option<AwardRow>, notice: &Option<NoticeRow>) -> u64
     ensures { (s : Tables) → notice.now ≡ notice_of_award award.now s → result ≡ release_of_award award.now s.notices }
 {

@@ -1,4 +1,4 @@
-//! The texts of replies that several commands have, in JSON.
+//! The JSON texts of replies that several commands have.
 ghost use Rattle.std.specs.Prelude.{◌≡◌, IfOk, max};
 ghost use Rattle.office_base.specs.Tables.{Tables, notice_at};
 ghost use Rattle.office_machine.specs.Replies.{OfContract, OfNotice, Received, release_of};
@@ -14,7 +14,7 @@ use office_values::moment::Moment;
 use std::alloc::{AllocError, Global};
 use tender_core::asking::Asking;
 
-// That the notice got a release of this number.
+// The text that says that the notice got the release of this number.
 fn notice_text(
     alloc: Global,
     notice: Id,
@@ -33,7 +33,7 @@ fn notice_text(
     )
 }
 
-/// What is told of an accepted command that publishes a release of this notice, by the notice's row and the clock.
+/// The text of the reply to an accepted command that publishes a release of this notice, by the notice's row and the clock.
 pub(crate) fn notice_reply(
     alloc: Global,
     asking: &Asking,
@@ -49,7 +49,7 @@ pub(crate) fn notice_reply(
     notice_text(alloc, notice, release, t)
 }
 
-/// What is outstanding of a contract now.
+/// The text that says how much of a contract is outstanding now.
 pub(crate) fn contract_text(
     alloc: Global,
     contract: AskedNumber,
@@ -70,7 +70,7 @@ pub(crate) fn contract_text(
     )
 }
 
-/// That a tender was received.
+/// The text that says that a tender was received.
 pub(crate) fn received_text(
     alloc: Global,
     digest: [u8; 32],

@@ -1,4 +1,4 @@
-//! Where the lines that a budget file names stand, looked up by their names, each once.
+//! The standings of the budget lines that a budget file names: appropriation and free money. Each line is looked up once.
 ghost use Rattle.std.specs.Prelude.{◌≡◌, ℕ, List, IfOk, OnOk, IsSome, map};
 ghost use Rattle.office_values.specs.Money.{total_limit};
 ghost use Rattle.office_base.specs.Shelves.{Looks};
@@ -16,7 +16,7 @@ use office_commands::budget::BudgetRow;
 use office_values::id::Id;
 use std::alloc::Global;
 
-// Where the line of this name stands.
+// The `Standing` of the line of this name, by the row that was found of it.
 fn standing_at(name: Id, found: &Option<LineRow>) -> Standing
     ensures value { result ≡ standing_at name found.now }
     ensures fits { IsAtMost total_limit result.columns }
@@ -33,7 +33,7 @@ fn standing_at(name: Id, found: &Option<LineRow>) -> Standing
     }
 }
 
-// Loads where a line stands.
+// Loads the `Standing` of a line.
 fn load_new<H: Lookups>(
     shelf: &mut H,
     lines: &mut Table<Standing>,
@@ -52,7 +52,7 @@ fn load_new<H: Lookups>(
     }
 }
 
-// Loads where a line stands, unless it is loaded.
+// Loads the `Standing` of a line, unless it is already loaded.
 fn load_standing<H: Lookups>(
     shelf: &mut H,
     lines: &mut Table<Standing>,
@@ -69,7 +69,7 @@ fn load_standing<H: Lookups>(
     load_new(shelf, lines, name)
 }
 
-/// Loads where the lines that the rows name stand.
+/// Loads the standings of the lines that these rows name.
 pub fn load_standings<H: Lookups>(
     alloc: Global,
     shelf: &mut H,

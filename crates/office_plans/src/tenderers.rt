@@ -1,4 +1,4 @@
-//! The tenderers of the sealed tenders of a notice, looked up by their identifiers, each once.
+//! The tenderers of the sealed tenders of a notice. Each is looked up once.
 ghost use Rattle.std.specs.Prelude.{◌≡◌, ℕ, List, IfErr, IfOk, OnOk, filter};
 ghost use Rattle.office_base.specs.Shelves.{Looks};
 ghost use Rattle.office_plans.specs.Opening.{tenders_read};
@@ -18,7 +18,7 @@ use office_values::refusal::Refusal;
 use std::alloc::Global;
 use tender_core::opening::OpenedTender;
 
-// Loads the tenderer of this identifier, where it isn't loaded yet.
+// Loads the tenderer of this identifier, unless it is already loaded.
 fn load_tenderer<H: Lookups>(
     shelf: &mut H,
     tenderers: &mut Table<TendererRow>,
@@ -33,7 +33,7 @@ fn load_tenderer<H: Lookups>(
     put_found(tenderers, found)
 }
 
-/// Looks up who has one of these tenders, which are the sealed ones of a notice: each tenderer once, in the order of their identifiers.
+/// Looks up the tenderers of these tenders, which are the sealed tenders of a notice. Each tenderer comes once, in the order of the identifiers.
 pub(crate) fn load_tenderers<H: Lookups>(
     alloc: Global,
     shelf: &mut H,

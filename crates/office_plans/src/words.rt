@@ -1,4 +1,4 @@
-//! The words for where tenders and securities are, what entries do, and how contracts ended.
+//! The words for the states of tenders and securities, for kinds of entries, and for how contracts ended.
 ghost use Rattle.std.specs.Prelude.{◌≡◌, option_map};
 ghost use Rattle.office_plans.specs.Words.{entry_word, how_word, security_word};
 ghost use Rattle.tender_papers.specs.Register.{state_word};
@@ -6,7 +6,7 @@ ghost use Rattle.tender_papers.specs.Register.{state_word};
 use office_base::records::{EntryKind, EnvelopeState, SecurityState};
 use office_commands::contract::How;
 
-/// The word for where a tender is.
+/// The word for the state of a tender.
 pub fn state_word(state: EnvelopeState) -> &'static str
     ensures { result.now ≡ state_word state }
 {
@@ -18,7 +18,7 @@ pub fn state_word(state: EnvelopeState) -> &'static str
     }
 }
 
-/// The word for where a security is.
+/// The word for the state of a security.
 pub fn security_word(state: SecurityState) -> &'static str
     ensures { result.now ≡ security_word state }
 {
@@ -29,7 +29,7 @@ pub fn security_word(state: SecurityState) -> &'static str
     }
 }
 
-/// The word for what an entry does to its contract.
+/// The word for the kind of an entry.
 pub fn entry_word(kind: EntryKind) -> &'static str
     ensures { result.now ≡ entry_word kind }
 {
@@ -40,7 +40,7 @@ pub fn entry_word(kind: EntryKind) -> &'static str
     }
 }
 
-/// The word for how a contract ended, where it has.
+/// The word for how a contract ended, if it has ended.
 pub fn how_word(how: Option<How>) -> Option<&'static str>
     ensures { option_map (λ word. word.now) result ≡ option_map how_word how }
 {

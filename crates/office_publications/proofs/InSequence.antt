@@ -1,4 +1,4 @@
--- Each release of a notice stands in its sequence at the place that its number says.
+-- Each release of a notice is at the place in the sequence that its number says.
 use Rattle.std.specs.Prelude.{◌≡◌, ◌≤◌, ◌<◌, ◌&&◌, zero, suc, nat_le, slice_get}
 use Rattle.std.proofs.Common.{ℕ, ◌+◌, Bool, true, false, cond, List, [], ◌∷◌, map, length, filter, Option, Some, None, is_some, refl, sym, ap, ◌∙◌, arith}
 use Rattle.std.proofs.lemmas.Bool.Decides.{nat_tests}

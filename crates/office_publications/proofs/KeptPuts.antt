@@ -1,4 +1,4 @@
--- What an accepted command puts, by what it publishes.
+-- The changes of an accepted command, by the release that it publishes.
 use Rattle.std.specs.Prelude.{◌≡◌, ℕ, List, [], ◌∷◌, ◌++◌, Option, Some, None, option_map, option_and_then}
 use Rattle.std.proofs.Common.{refl, sym, ◌∙◌, ap}
 use Rattle.std.proofs.lemmas.List.{append-nil, append_assoc}
@@ -20,7 +20,7 @@ module _ (publisher : Publisher) (x : Given) where
   abbrev means : Means
   means = publishing publisher
 
-  -- what it puts, where it publishes this
+  -- the changes of the command if it publishes this release
   abbrev puts_with : Option ReleaseRow → List Put
   puts_with p = (effect office_readings x ++ publication_puts p) ++ merge_puts x.before p
 
@@ -31,7 +31,7 @@ module _ (publisher : Publisher) (x : Given) where
       → kept_puts publisher x ≡ effect office_readings x ++ (puts.Release r ∷ puts.Compiled (merged_row x.before r) ∷ [])
   one_put r e = ap puts_with e ∙ append_assoc (effect office_readings x) (puts.Release r ∷ []) (puts.Compiled (merged_row x.before r) ∷ [])
 
-  -- what is published of an event of a notice
+  -- the release of an event of a notice
   abbrev published_as : Option (List ℕ) → Option Event → Option ReleaseRow
   published_as notice event = option_and_then (λ n. option_map (release_row x n) (option_map (text_by publisher x) event)) notice
 

@@ -1,4 +1,4 @@
--- What is kept of releases stays kept.
+-- Releases and merges are right after an accepted command if they were right before it.
 use Rattle.std.specs.Prelude.{◌≡◌, ℕ, Bool, true, false, cond, List, [], ◌∷◌, ◌++◌, map, filter, Option, Some, None, IsSome, option_to_list, All}
 use Rattle.std.proofs.Common.{refl, sym, ◌∙◌, ap, subst, inl, inr}
 use Rattle.std.proofs.lemmas.List.{append-nil}
@@ -27,7 +27,7 @@ use Rattle.office_publications.specs.Publishing.{publishing}
 use Rattle.office_publications.proofs.KeptPuts.{merges_stand_beside}
 use Rattle.office_publications.proofs.MergesKept.{merges_stay}
 
--- the merges, where this is published
+-- the merges after a release is published, if one is
 abbrev with_merge : Tables → Option ReleaseRow → List CompiledRow → List CompiledRow
 with_merge s None rows = rows
 with_merge s (Some r) rows = put_compiled rows (merged_row s r)
@@ -74,7 +74,7 @@ reaches keep sorted parents steps publisher xs x reached given allowed = record 
   is = merges_stand_beside publisher x;
 }
 
--- where the machine puts no merge itself
+-- if the specification's own changes put no merge
 module _ (publisher : Publisher) (x : Given) (no_merge : (next (publishing publisher) x).compiled ≡ x.before.compiled) where
   abbrev means : Means
   means = publishing publisher

@@ -1,4 +1,4 @@
--- Merges that are kept stay those of their notices' releases.
+-- Stored merges are still those of their notices' releases after a release is published.
 use Rattle.std.specs.Prelude.{◌≡◌, ℕ, Bool, true, false, cond, List, [], ◌∷◌, ◌++◌, map, Some}
 use Rattle.std.proofs.Common.{refl, sym, ◌∙◌, ap, subst}
 use Rattle.std.proofs.lemmas.List.{map-append}

@@ -1,4 +1,4 @@
--- Releases and packages are the same whatever merges stand beside the office.
+-- Releases and packages don't depend on the merges that are stored beside the office.
 use Rattle.std.proofs.Common.{◌≡◌, ℕ, List, refl, ◌∙◌, ap}
 use Rattle.office_commands.specs.declared.command.Caller.{Caller}
 use Rattle.office_commands.specs.declared.commands.Command.{Command}

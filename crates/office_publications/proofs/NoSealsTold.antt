@@ -1,4 +1,4 @@
--- Events and packages are the same whatever the digests of envelopes and the seals.
+-- Events and packages depend on no digest of an envelope and on no seal.
 use Rattle.std.specs.Prelude.{◌≡◌, ℕ, ◌+◌, Bool, true, false, cond, ◌&&◌, ◌||◌, List, [], ◌∷◌, map, filter, Option, Some, None, unwrap_or, option_map, option_and_then}
 use Rattle.std.specs.List.{list_any}
 use Rattle.std.proofs.Common.{refl, sym, ◌∙◌, ap}
@@ -39,12 +39,12 @@ same_bare [] (e' ∷ es') all = absurd all
 same_bare (e ∷ es) [] all = absurd all
 same_bare (e ∷ es) (e' ∷ es') all = λ i. bare (all.0 i) ∷ same_bare es es' all.1 i
 
--- what comes out the same of bare envelopes comes out the same of envelopes with other digests
+-- a result that bare envelopes don't change is the same for envelopes with other digests
 by_bare : {A : Type 0} (f : List EnvelopeRow → A) → ((es : List EnvelopeRow) → f (map bare es) ≡ f es)
     → (es es' : List EnvelopeRow) → Pairs ButDigest es es' → f es' ≡ f es
 by_bare f blind es es' all = sym (blind es') ∙ (ap f (same_bare es es' all) ∙ blind es)
 
--- bare envelopes are filtered as they were
+-- a test that reads no digest passes the same bare envelopes
 kept_bare : (b : Bool) (e : EnvelopeRow) (es : List EnvelopeRow) → cond b (bare e ∷ map bare es) (map bare es) ≡ map bare (cond b (e ∷ es) es)
 kept_bare true e es = refl
 kept_bare false e es = refl
@@ -57,7 +57,7 @@ any_bare : (p : EnvelopeRow → Bool) → ((e : EnvelopeRow) → p (bare e) ≡ 
 any_bare p blind [] = refl
 any_bare p blind (e ∷ es) = λ i. blind e i || any_bare p blind es i
 
--- the winner among them is the one that it was, bare
+-- the winner among bare envelopes is the winner, bare
 lowest_bare : (es : List EnvelopeRow) → lowest_price (map bare es) ≡ lowest_price es
 lowest_bare [] = refl
 lowest_bare (e ∷ es) = ap (λ l. cond (is_admissible e) (Some (lesser (price_of e) l)) l) (lowest_bare es)
@@ -103,7 +103,7 @@ opened_blind notice tenderers es =
     ap (λ fs. open_event notice fs tenderers) (filter_bare (λ (e : EnvelopeRow). same_id e.notice notice) (λ _. refl) es)
     ∙ opened_bare notice tenderers (filter (λ (e : EnvelopeRow). same_id e.notice notice) es)
 
--- and that of an award
+-- the event of an award, by all envelopes
 abbrev awarded_by : Tables → List ℕ → List ℕ → Option NoticeRow → List EnvelopeRow → Event
 awarded_by s notice lot n es = award_event s notice lot (winner n (filter (λ (e : EnvelopeRow). same_id e.notice notice && same_id e.lot lot) es))
 

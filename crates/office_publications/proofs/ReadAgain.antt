@@ -1,4 +1,4 @@
--- A release that is kept can be read again, and so can the merge that it joins.
+-- A stored release can be read again, and so can the merge that it joins.
 use Rattle.std.specs.Prelude.{◌≡◌, ℕ, List, [], ◌∷◌, ◌++◌, All, unwrap_or}
 use Rattle.std.proofs.Common.{sym, subst}
 use Rattle.std.proofs.lemmas.List.Elements.{All-append, All-cons, All-map, All-nil, All-weaker}
@@ -23,7 +23,7 @@ module _ (s : Tables) (r : ReleaseRow) (row : CompiledRow) where
   abbrev all : List Data
   all = bodies r.notice s ++ (body_in r ∷ [])
 
-  -- the merge that was made with this body is that with the release's
+  -- the merge that was made with this body is the merge with the release
   pub is_merge : KeepsReleasesOf r.notice s → CanBeMerged r → (body : Data) → body ≡ body_in r
       → (IsMergedOf r.notice s → All IsStorable (bodies r.notice s ++ (body ∷ [])) → IsMerge r.notice (bodies r.notice s ++ (body ∷ [])) row) → IsMerge r.notice all row
   is_merge keeps can body same made =

@@ -1,4 +1,4 @@
--- What a notice's releases compile to is their merge under a head, and has a text.
+-- The compiled release of a notice is the merge of its releases under a head, and has a text.
 use Rattle.std.specs.Prelude.{◌≡◌, ◌≤◌, ◌<◌, ℕ, Bool, true, false, cond, List, [], ◌∷◌, ◌++◌, map, length, unwrap_or, All, codes}
 use Rattle.std.proofs.Common.{refl, sym, ap, ◌∙◌, subst, arith}
 use Rattle.std.proofs.lemmas.Bool.{le-ltb}
@@ -30,7 +30,7 @@ use Rattle.office_publications.specs.Told.{IsCompiled, IsInRange}
 use Rattle.office_publications.proofs.ReadAgain.{bodies_storable}
 use Rattle.office_publications.proofs.WrittenAlike.{IsObject}
 
--- ---- they stand in the order of their dates
+-- ---- the releases are in the order of their dates
 
 not_less : (b : Bool) → is_lt (cond b Equal Greater) ≡ false
 not_less true = refl
@@ -53,7 +53,7 @@ in_date_order order (r ∷ q ∷ rows) (d ∷ e ∷ ds) kept never range =
       in_date_order order (q ∷ rows) (e ∷ ds) kept.1 never.1 range.1,
     )
 
--- ---- their merge is an object
+-- ---- the merge of the releases is an object
 
 -- a list that isn't empty has a last value
 record EndsIn (P : Data → Type 0) (ds : List Data) : Type 0 where
@@ -98,7 +98,7 @@ some_bodies : (rows : List ReleaseRow) → 0 < length rows → 0 < length (map b
 some_bodies [] some = some
 some_bodies (r ∷ rows) some = omega arith
 
--- ---- under a head it has a text
+-- ---- the merge under a head has a text
 
 headed : (ocid date : List ℕ) (d : Data) → IsObject d → IsStorable d → HasText (with_head ocid date d)
 headed ocid date null h can = absurd h

@@ -12,7 +12,7 @@ same_there : {X Y Z : Type 0} (f : X → Y) (g : X → Z) (o : Option X) → IsS
 same_there f g None h = h
 same_there f g (Some x) h = refl
 
--- where something is published, it is of an event
+-- a command that publishes is an event
 has_event : (s : Tables) (command : Command) → IsSome (published_for s command) → IsSome (event_of s command)
 has_event s (Fail award) h = same_there _ _ (award_at award s) h
 has_event s (Sign award named) h = same_there _ _ (award_at award s) h

@@ -1,4 +1,4 @@
--- Releases that can be merged, and what they say without their heads.
+-- Releases that can be merged, and their bodies.
 use Rattle.std.specs.Prelude.{Bool, true, false, cond, [], ◌∷◌, All, unwrap_or}
 use Rattle.std.proofs.Common.{sym, ap, subst}
 use Rattle.std.proofs.lemmas.List.Elements.{All-append, All-from_recursion, All-map, All-weaker}

@@ -1,4 +1,4 @@
--- What is told of a notice's releases is what is kept of them.
+-- The releases that the office shows for a notice are those that its rows store.
 use Rattle.std.specs.Prelude.{◌≡◌, ℕ, ◌+◌, Bool, true, false, cond, List, [], ◌∷◌, map, filter, Option, Some, None, option_map, option_and_then, option_to_list, unwrap_or, All}
 use Rattle.std.proofs.Common.{refl, sym, ap, ◌∙◌, subst}
 use Rattle.std.proofs.lemmas.List.Elements.{All-append, All-cons, All-nil, recursion_from_All}
@@ -26,13 +26,13 @@ use Rattle.office_publications.specs.Publishing.{publishing, text_by, notice_pub
 use Rattle.office_publications.specs.Standing.{IsReached}
 use Rattle.office_publications.proofs.WrittenAlike.{IsObject, same_date, object_too}
 
--- the row is of an event, at its moment
+-- the row has the release of an event, with its moment
 pub record IsOfEvent (publisher : Publisher) (r : ReleaseRow) : Type 0 where
   pub event : Event
   pub seq : ℕ
   pub text : r.text ≡ compact_text (release_of_event publisher seq r.moment event)
 
--- each row that commands publish is
+-- each row that commands publish has the release of an event
 module _ (publisher : Publisher) where
   abbrev IsSome_of_event : Option ReleaseRow → Type 0
   IsSome_of_event None = Unit {0}
@@ -62,13 +62,13 @@ module _ (publisher : Publisher) where
       All-append (IsOfEvent publisher) (published_by (publishing publisher) xs notice) (published_of (publishing publisher) x notice) (all_published xs notice)
       (of_notice (publication (publishing publisher) x) notice (published_is x))
 
--- so the rows of an office are
+-- each row of a reached office has the release of an event
 pub all_of_events : ReleasesArePublished → (publisher : Publisher) (s : Tables) → IsReached publisher s → (notice : List ℕ)
     → All (IsOfEvent publisher) (releases_of_notice notice s)
 all_of_events published publisher s stands notice =
     subst (All (IsOfEvent publisher)) (sym (published (publishing publisher) stands.commands s stands.reaches notice)) (all_published publisher stands.commands notice)
 
--- ---- a row keeps what is told of it
+-- ---- a row stores the release that is shown
 
 pub told_object : (publisher : Publisher) (seq t : ℕ) (event : Event) → IsObject (release_of_event publisher seq t event)
 told_object publisher seq t (Publish e) = tt

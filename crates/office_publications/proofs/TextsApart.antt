@@ -1,4 +1,4 @@
--- A compact text without floats has one outline alone.
+-- A compact text without floats has exactly one outline.
 use Rattle.std.proofs.Common.{◌≡◌, ℕ, zero, suc, pos, negsuc, ◌+◌, ◌/◌, ◌%◌, ◌<◌, ◌==◌, List, [], ◌∷◌, ◌++◌, Bool, true, false, cond, Some, decimal, refl, sym, ap, ap₂, ◌∙◌, arith, append_assoc, append-nil}
 use Rattle.std.specs.Prelude.{◌&&◌, nat_lt}
 use Rattle.std.proofs.lemmas.Bool.{or_parts, and_from, lt-ltb}
@@ -15,11 +15,11 @@ use Rattle.serde_json.specs.Written.{number_text, outline, items_outline, member
 
 -- ---- numbers
 
--- a digit, a minus, or one of the two between
+-- a digit, a minus, a dot or a slash
 abbrev is_figure : ℕ → Bool
 is_figure c = nat_lt 44 c && nat_lt c 58
 
--- the figures at the head
+-- the figures at the beginning of a text
 abbrev figures : List ℕ → List ℕ
 figures [] = []
 figures (c ∷ cs) = cond (is_figure c) (c ∷ figures cs) []
@@ -35,7 +35,7 @@ before (c ∷ cs) r h stop = rw h.0 (ap (λ (l : List ℕ). c ∷ l) (before cs 
 digit_figure : (d : ℕ) → d < 10 → is_figure (digit_glyph false d) ≡ true
 digit_figure d low = rw (lt-ltb d 10 low) (and_from _ _ (lt-ltb 44 (48 + d) (omega arith)) (lt-ltb (48 + d) 58 (omega arith)))
 
--- figures, and at least one
+-- a text of at least one figure, and of nothing else
 abbrev IsInteger : List ℕ → Type 0
 IsInteger [] = ⊥
 IsInteger (c ∷ cs) = (is_figure c ≡ true) × AreFigures cs
@@ -74,7 +74,7 @@ same_number n m s t hn hm es et e =
     sym (before (number_text n) s (all_figures _ (number_integer n hn)) es) ∙ ap figures e ∙ before (number_text m) t (all_figures _ (number_integer m hm)) et in
     (same, append_cancel_left (number_text m) s t (sym (ap (λ (l : List ℕ). l ++ s) same) ∙ e))
 
--- ---- what a text begins with
+-- ---- the beginning of a text
 
 -- by the first character: 0 null, 1 a boolean, 2 a number, 3 a text, 4 an array, 5 an object, 6 no value
 abbrev other_kind : ℕ → ℕ
@@ -157,7 +157,7 @@ comma_then later a b s = append_assoc (comma_if later) (a ++ b) s ∙ ap (λ (l 
 colon_then : (later : Bool) (a b c s : List ℕ) → (comma_if later ++ (a ++ 58 ∷ (b ++ c))) ++ s ≡ comma_if later ++ (a ++ 58 ∷ (b ++ (c ++ s)))
 colon_then later a b c s = comma_then later a (58 ∷ (b ++ c)) s ∙ ap (λ (l : List ℕ). comma_if later ++ (a ++ 58 ∷ l)) (append_assoc b c s)
 
--- an item does not begin as the end of its list
+-- an item doesn't begin with the end of its list
 no_item : (later : Bool) (d : Data) (r s : List ℕ) → has_float d ≡ false → 93 ∷ s ≡ comma_if later ++ (compact_text d ++ r) → ⊥
 no_item true d r s hd e = falling 93 44 _ _ (omega arith) e
 no_item false d r s hd e = let k : 6 ≡ kind_in d = ap kind e ∙ kind_value d r hd in no_value d k

@@ -1,4 +1,4 @@
--- Releases whose texts are the same have the same date, and are objects both.
+-- Releases with equal texts have equal dates, and both are objects if one is.
 use Rattle.std.specs.Prelude.{◌≡◌, ℕ, List, [], codes, false, Option, Some, None, option_map, option_and_then, unwrap_or}
 use Rattle.std.proofs.Common.{refl, sym, ap, ◌∙◌, subst}
 use Rattle.std.specs.Ordering.{nat_cmp, match_ordering}
@@ -55,7 +55,7 @@ same_member k (member l d ms) =
     chosen (slice_cmp nat_cmp k l) (get_member k ms) (Some d) (get_member k ms)
     ∙ ap (λ (o : Option json.Json). match_ordering (slice_cmp nat_cmp k l) o (Some (outline d)) o) (same_member k ms)
 
--- the date stands in the outline
+-- the date is in the outline
 date_there : (d : Data) → date_of d ≡ date_in (outline d)
 date_there null = refl
 date_there (boolean b) = refl

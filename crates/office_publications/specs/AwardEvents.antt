@@ -1,4 +1,4 @@
--- What happens to the awards of a lot, as the release of it tells.
+-- The events of a lot's awards, as releases describe them.
 use Rattle.std.specs.Prelude.{ℕ, ◌+◌, List, [], map, Option, Some, None}
 use Rattle.award_core.specs.Rules.Award.{price_of}
 use Rattle.office_base.specs.Tables.{Tables, tenderer_at, lots_of_notice}
@@ -13,19 +13,20 @@ use Rattle.ocds_release.specs.declared.event.Party.{Party}
 use Rattle.ocds_release.specs.declared.event.Event.{Event}
 use Rattle.ocds_release.specs.declared.event.Event.TheVariants as events
 
--- the name of a tenderer; none where there is no such tenderer, as of no tender that commands lead to
+-- The name of a tenderer; empty if the tenderer doesn't exist, which no tender in a reached office allows.
 abbrev pub name_in : Option TendererRow → List ℕ
 name_in None = []
 name_in (Some r) = r.name
 
+-- The tenderer as a party in a release, with identifier and name.
 abbrev pub party_of : Tables → List ℕ → Party
 party_of s tenderer = record { id = tenderer; name = name_in (tenderer_at tenderer s) }
 
--- the status of a notice's tender once one of its lots has come to a state
+-- The status of a notice's tender in OCDS, after one of its lots got this state.
 abbrev pub status_with : Tables → List ℕ → List ℕ → LotState → TenderStatus
 status_with s notice lot state = tender_status_of (map (state_with lot state) (lots_of_notice notice s))
 
--- a lot is awarded to the best tender, or found to have none
+-- A lot is awarded to the best tender, or has no winner.
 abbrev pub award_event : Tables → List ℕ → List ℕ → Option EnvelopeRow → Event
 award_event s notice lot None = events.NoAward (record { notice = notice; lot = lot; status = status_with s notice lot Unsuccessful })
 award_event s notice lot (Some e) = events.Award (record {
@@ -36,10 +37,10 @@ award_event s notice lot (Some e) = events.Award (record {
   price = price_of e;
 })
 
--- the winner fails to sign
+-- The winner doesn't sign.
 abbrev pub fail_event : AwardRow → Event
 fail_event a = events.Fail (record { notice = a.notice; award = a.award })
 
--- the award is signed: its number is the contract's
+-- The award is signed. The contract has the number of the award.
 abbrev pub sign_event : Tables → AwardRow → Event
 sign_event s a = events.Sign (record { notice = a.notice; contract = a.award; lot = a.lot; price = a.price; status = status_with s a.notice a.lot Contracted })

@@ -10,7 +10,7 @@ use Rattle.office_publications.specs.NoticeEvents.{publish_event, amend_notice_e
 use Rattle.office_publications.specs.AwardEvents.{award_event, fail_event, sign_event}
 use Rattle.office_publications.specs.ContractEvents.{amend_contract_event, pay_event, end_event}
 
--- by the office before it; none where the command publishes nothing, or the award or contract that it names isn't there
+-- The event of a command in the office before it. None if the command publishes nothing, or if the award or the contract that it names doesn't exist.
 abbrev pub event_of : Tables → Command → Option Event
 event_of s (Publish notice content) = Some (publish_event notice content)
 event_of s (AmendNotice notice deadline rationale) = Some (amend_notice_event notice (notice_at notice s) deadline rationale)

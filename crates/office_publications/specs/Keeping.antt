@@ -1,4 +1,4 @@
--- What an accepted command puts: what the machine puts, and the merge that its release joins.
+-- The changes that an accepted command makes in an office that publishes: those of the specification, and the merge that its release joins.
 use Rattle.std.specs.Prelude.{◌≡◌, ℕ, Bool, true, ◌||◌, nat_eq, List, ◌∷◌, [], ◌++◌, Option, Some, None, is_some}
 use Rattle.serde_json.specs.Written.{compact_text}
 use Rattle.ocds_merge.specs.Merge.{merge_or_null}
@@ -18,96 +18,97 @@ use Rattle.office_publications.specs.Events.{event_of}
 use Rattle.office_publications.specs.Merges.{CanBeMerged, AreMerged, AreReleases, AreReleasesOf, AreSoMany, HasMerge, IsMergedOf, bodies, body_in}
 use Rattle.office_publications.specs.Publishing.{publishing, text_by}
 
--- the row that keeps the merge of a notice's releases and one more
+-- The row of the merge of a notice's releases and one more.
 abbrev pub merged_row : Tables → ReleaseRow → CompiledRow
 merged_row s r = record { notice = r.notice; text = compact_text (merge_or_null (bodies r.notice s ++ (body_in r ∷ []))) }
 
+-- The change that stores the merge with a release, if there is a release.
 abbrev pub merge_puts : Tables → Option ReleaseRow → List Put
 merge_puts s None = []
 merge_puts s (Some r) = puts.Compiled (merged_row s r) ∷ []
 
--- what an accepted command puts, with the merge that its release joins
+-- All changes that an accepted command makes, with the merge that its release joins.
 abbrev pub kept_puts : Publisher → Given → List Put
 kept_puts publisher x = puts_of (publishing publisher) x ++ merge_puts x.before (publication (publishing publisher) x)
 
--- the office after it, with the merges beside it
+-- The office after an accepted command, with the merges beside it.
 abbrev pub next_with_merges : Publisher → Given → Tables
 next_with_merges publisher x = after_puts (kept_puts publisher x) x.before
 
--- all releases can be merged, and each merge that is kept is that of its notice's releases
+-- All releases can be merged, and each stored merge is that of its notice's releases.
 pub record KeepsReleases (t : Tables) : Type 0 where
   pub releases : AreReleases t
   pub merged : AreMerged t
 
--- the same of the releases of one notice
+-- All releases of this notice can be merged, and its merge, if stored, is that of these releases.
 pub record KeepsReleasesOf (notice : List ℕ) (t : Tables) : Type 0 where
   pub releases : AreReleasesOf notice t
   pub merged : IsMergedOf notice t
 
--- it is so of the notice of which a command publishes a release; of a command that publishes nothing, nothing is asked
+-- This is true of the notice for which the command publishes a release. A command that publishes nothing needs nothing.
 abbrev pub KeepsItsReleases : Given → Type 0
 KeepsItsReleases x = (notice : List ℕ) → published_for x.before x.command ≡ Some notice → KeepsReleasesOf notice x.before
 
--- the last release of a notice is there, where the notice has any
+-- The last release of the notice exists, unless the notice has none.
 abbrev pub has_last_release : List ℕ → ℕ → Tables → Bool
 has_last_release notice releases t = nat_eq releases 0 || is_some (release_at (notice, releases) t)
 
--- what is kept of a notice can be gone on from: its last release is there, and the merge, where one is kept, is an object; where none is, all
--- releases that its row counts are there, and objects
+-- A new release can follow in this notice. Its last release exists, and its merge, if stored, is an object. If no merge is stored, all counted releases exist
+-- and are objects.
 pub record CanBeFollowed (notice : List ℕ) (t : Tables) : Type 0 where
   pub last : has_last_release notice (releases_in (notice_at notice t)) t ≡ true
   pub merge : HasMerge notice t
   pub counted : AreSoMany notice (releases_in (notice_at notice t)) t
 
--- so is what is kept of the notice of which a command publishes a release; of a command that publishes nothing, nothing is asked
+-- This is true of the notice for which the command publishes a release. A command that publishes nothing needs nothing.
 abbrev pub FollowsReleases : Given → Type 0
 FollowsReleases x = (notice : List ℕ) → published_for x.before x.command ≡ Some notice → CanBeFollowed notice x.before
 
--- a release can be read and merged, and so can the merge that it joins. It is said of what was made: the definitions have numbers of any size, and
--- a number of more than 64 bits in a text is read as a float.
+-- The release and the merge that it joins can be read back. The definitions have numbers of any size, but a number of more than 64 bits in a text is read as a
+-- float. So this isn't true of every release, only of those that code made.
 pub record ReadsBack (s : Tables) (r : ReleaseRow) : Type 0 where
   pub release : CanBeMerged r
   pub merge : KeepsMerge (merged_row s r).text (bodies r.notice s ++ (body_in r ∷ []))
 
--- so can what a command publishes, where it publishes
+-- The release that a command publishes can be read back, and so can its merge.
 abbrev pub PublicationReadsBack : Publisher → Given → Type 0
 PublicationReadsBack publisher x = (r : ReleaseRow) → publication (publishing publisher) x ≡ Some r → ReadsBack x.before r
 
 -- ---- laws
 
--- a command that is no event publishes nothing
+-- The law: a command that is no event publishes nothing.
 abbrev pub NoEventPublishesNothing : Type 0
 NoEventPublishesNothing = (publisher : Publisher) (x : Given) → event_of x.before x.command ≡ None → publication (publishing publisher) x ≡ None
 
--- one that is an event of a notice publishes its release, under the notice's next number, at the command's moment
+-- The law: a command that is an event of a notice publishes the event's release, with the notice's next number and the command's moment.
 abbrev pub EventsAreReleased : Type 0
 EventsAreReleased = (publisher : Publisher) (x : Given) (e : Event) (notice : List ℕ) → event_of x.before x.command ≡ Some e
     → published_for x.before x.command ≡ Some notice → publication (publishing publisher) x ≡ Some (release_row x notice (text_by publisher x e))
 
--- a command that is no event puts its effect alone
+-- The law: a command that is no event makes no change besides its effect.
 abbrev pub NoEventPutsItsEffect : Type 0
 NoEventPutsItsEffect = (publisher : Publisher) (x : Given) → event_of x.before x.command ≡ None → kept_puts publisher x ≡ effect office_readings x
 
--- a command that is an event of a notice puts its effect, its release, and the merge that this joins
+-- The law: a command that is an event of a notice makes its effect, and puts its release and the merge that this joins.
 abbrev pub EventsPutReleases : Type 0
 EventsPutReleases = (publisher : Publisher) (x : Given) (e : Event) (notice : List ℕ) → event_of x.before x.command ≡ Some e
     → published_for x.before x.command ≡ Some notice → kept_puts publisher x ≡ effect office_readings x
     ++ (puts.Release (release_row x notice (text_by publisher x e)) ∷ puts.Compiled (merged_row x.before (release_row x notice (text_by publisher x e))) ∷ [])
 
--- the office after it is the machine's, with the merges beside it
+-- The law: the office after a command is that of the specification, with the merges beside it.
 abbrev pub MergesStandBeside : Type 0
 MergesStandBeside = (publisher : Publisher) (x : Given) → next_with_merges publisher x ≡ with_merges (next_with_merges publisher x).compiled (next (publishing publisher) x)
 
--- so accepted commands lead there
+-- The law: accepted commands lead to this office.
 abbrev pub KeptStepsReach : Type 0
 KeptStepsReach = (publisher : Publisher) (xs : List Given) (x : Given) → Reaches (publishing publisher) xs x.before → CanBeGiven x → refusal_of x ≡ None
     → Reaches (publishing publisher) (x ∷ xs) (next_with_merges publisher x)
 
--- what is kept of releases stays kept
+-- The law: if releases and merges are right before an accepted command, they are right after it, provided that its release and merge can be read back.
 abbrev pub ReleasesStayKept : Type 0
 ReleasesStayKept = (publisher : Publisher) (xs : List Given) (x : Given) → Reaches (publishing publisher) xs x.before → CanBeGiven x → refusal_of x ≡ None
     → PublicationReadsBack publisher x → KeepsReleases x.before → KeepsReleases (next_with_merges publisher x)
 
--- in the empty office nothing is published
+-- The law: in the empty office releases and merges are right.
 abbrev pub NothingIsKeptAtFirst : Type 0
 NothingIsKeptAtFirst = KeepsReleases no_tables

@@ -1,4 +1,4 @@
--- What happens to a notice up to its opening, as the release of it tells.
+-- The events of a notice up to its opening, as releases describe them.
 use Rattle.std.specs.Prelude.{ℕ, Bool, ◌&&◌, List, map, filter, Option, Some, None}
 use Rattle.std.specs.List.{list_any}
 use Rattle.office_values.specs.Ids.{same_id}
@@ -16,31 +16,32 @@ use Rattle.ocds_release.specs.Tenderers.{tenderer_shown}
 use Rattle.ocds_release.specs.declared.event.Event.{Event}
 use Rattle.ocds_release.specs.declared.event.Event.TheVariants as events
 
--- a notice is published as it was given
+-- A notice is published with the given content.
 abbrev pub publish_event : List ℕ → NewNotice → Event
 publish_event notice new = events.Publish (record { notice = notice; title = new.title; deadline = new.deadline; criteria = new.criteria; lots = new.lots })
 
--- the deadline that stood before; 0 where the notice isn't there
+-- The deadline of a notice; 0 if the notice doesn't exist.
 abbrev pub deadline_in : Option NoticeRow → ℕ
 deadline_in None = 0
 deadline_in (Some n) = n.deadline
 
--- its deadline moves
+-- The deadline of a notice moves.
 abbrev pub amend_notice_event : List ℕ → Option NoticeRow → ℕ → List ℕ → Event
 amend_notice_event notice row deadline rationale = events.Amend (record { notice = notice; before = deadline_in row; after = deadline; rationale = rationale })
 
--- a tenderer has a sealed tender among these
+-- The tenderer has a sealed tender among these envelopes.
 abbrev pub has_sealed : List EnvelopeRow → TendererRow → Bool
 has_sealed envelopes tenderer = list_any (λ (e : EnvelopeRow). is_sealed_envelope e && same_id e.tenderer tenderer.tenderer) envelopes
 
--- its sealed tenders are opened: each tenderer who has one is named once, in the order of their identifiers
+-- The sealed tenders of a notice are opened. Each tenderer with a sealed tender is named once, in the order of their identifiers.
 abbrev pub open_event : List ℕ → List EnvelopeRow → List TendererRow → Event
 open_event notice envelopes tenderers = events.Open (record { notice = notice; tenderers = map tenderer_shown (filter (has_sealed envelopes) tenderers) })
 
+-- The identifier of a lot.
 abbrev pub lot_name : LotRow → List ℕ
 lot_name l = l.lot
 
--- its open lots are cancelled, and the active awards of these
+-- The open lots of a notice are cancelled, and the active awards of these lots.
 abbrev pub cancel_event : List ℕ → List LotRow → List AwardRow → List ℕ → Event
 cancel_event notice lots awards rationale = events.Cancel (record {
   notice = notice;

@@ -1,4 +1,4 @@
--- The packages of a notice's releases and of its record, as they are told.
+-- The packages of a notice's releases and of its record.
 use Rattle.std.specs.Prelude.{ℕ, List, [], map}
 use Rattle.serde_json.specs.Data.{Data}
 use Rattle.serde_json.specs.Written.{compact_text}
@@ -11,15 +11,15 @@ use Rattle.ocds_release.specs.Packages.{release_package, record_package}
 use Rattle.ocds_release.specs.Texts.{ocid_text}
 use Rattle.office_publications.specs.Merges.{data_in}
 
--- the releases of a notice in their sequence, as data
+-- The releases of a notice in their sequence, as data.
 abbrev pub releases_told : List ℕ → Tables → List Data
 releases_told notice s = map data_in (releases_of_notice notice s)
 
--- what they compile to (OCDS 1.1, "Merging")
+-- The compiled release of a notice (OCDS 1.1, "Merging").
 abbrev pub compiled_told : Publisher → List ℕ → Tables → Data
 compiled_told publisher notice s = compiled_release (ocid_text publisher.prefix notice) (releases_told notice s)
 
--- the text of the package that a query asks for; none where it asks for no package
+-- The text of the package that a query asks for; empty if the query asks for none.
 abbrev pub packages : Publisher → Packages
 packages publisher (queries.Releases notice) s = compact_text (release_package publisher notice (releases_told notice s))
 packages publisher (queries.Record notice) s = compact_text (record_package publisher notice (releases_told notice s) (compiled_told publisher notice s))

@@ -1,4 +1,4 @@
--- What an office publishes: the release of each command that publishes, by the publisher.
+-- The release of each command that publishes.
 use Rattle.std.specs.Prelude.{ℕ, ◌+◌, List, Option, option_map, option_and_then}
 use Rattle.serde_json.specs.Data.{Data}
 use Rattle.serde_json.specs.Written.{compact_text}
@@ -14,25 +14,26 @@ use Rattle.ocds_release.specs.Events.{release_of_event}
 use Rattle.ocds_release.specs.declared.event.Event.{Event}
 use Rattle.office_publications.specs.Events.{event_of}
 
--- the row of the notice of which a command publishes a release
+-- The notice's row, if the command publishes a release for a notice.
 abbrev pub notice_published : Given → Option NoticeRow
 notice_published x = option_and_then (λ notice. notice_at notice x.before) (published_for x.before x.command)
 
--- the release of an event that a command is, under the notice's next number, at the command's moment
+-- The release of a command's event, with the notice's next number and the command's moment.
 abbrev pub release_by : Publisher → Given → Event → Data
 release_by publisher x e = release_of_event publisher (releases_in (notice_published x) + 1) (time_of x) e
 
+-- The text of the release of a command's event.
 abbrev pub text_by : Publisher → Given → Event → List ℕ
 text_by publisher x e = compact_text (release_by publisher x e)
 
--- the text of a command's release; none where it publishes nothing
+-- The text of a command's release; none if the command publishes nothing.
 abbrev pub release_text : Publisher → Given → Option (List ℕ)
 release_text publisher x = option_map (text_by publisher x) (event_of x.before x.command)
 
--- the office's machine, which publishes
+-- The parameters of the specification for an office that publishes.
 abbrev pub publishing : Publisher → Means
 publishing publisher = office_means (release_text publisher)
 
--- it makes a release of each command that publishes
+-- The law: a release is made of each command that publishes.
 abbrev pub ReleasesAreMade : Type 0
 ReleasesAreMade = (publisher : Publisher) → MakesReleases (publishing publisher)

@@ -1,4 +1,4 @@
--- An office that stands as its commands left it.
+-- An office that its commands made.
 use Rattle.std.specs.Prelude.{List, Option, Some, None}
 use Rattle.office_values.specs.declared.refusal.Refusal.{Refusal}
 use Rattle.office_values.specs.declared.settings.Publisher.{Publisher}
@@ -7,13 +7,13 @@ use Rattle.office_machine.specs.Machine.{Given, Reaches}
 use Rattle.office_publications.specs.Keeping.{KeepsReleases, next_with_merges}
 use Rattle.office_publications.specs.Publishing.{publishing}
 
--- accepted commands lead to it, under one publisher, and it keeps its releases
+-- Accepted commands lead to this office, under one publisher, and its releases and merges are right.
 pub record IsReached (publisher : Publisher) (s : Tables) : Type 0 where
   pub commands : List Given
   pub reaches : Reaches (publishing publisher) commands s
   pub keeps : KeepsReleases s
 
--- the office after a command that was given, with the merges beside it; as it was where the command is refused
+-- The office after a given command, with the merges beside it. A refused command leaves the office as it was.
 abbrev pub office_kept : Option Refusal → Publisher → Given → Tables
 office_kept None publisher x = next_with_merges publisher x
 office_kept (Some why) publisher x = x.before

@@ -1,4 +1,4 @@
--- What is told of a notice's releases, by the rows that keep them.
+-- The published releases of a notice, and the rows that store them.
 use Rattle.std.specs.Prelude.{◌≡◌, ◌≤◌, ◌<◌, ◌+◌, ℕ, List, Some, length, slice_get, All}
 use Rattle.ocds_merge.specs.Compile.{with_head}
 use Rattle.ocds_merge.specs.Merge.{merge_or_null}
@@ -16,45 +16,44 @@ use Rattle.office_publications.specs.Merges.{bodies}
 use Rattle.office_publications.specs.Packages.{releases_told, compiled_told}
 use Rattle.office_publications.specs.Standing.{IsReached}
 
--- it is a moment that has a text
+-- The moment has a text: it isn't after 2099.
 abbrev pub IsInRange : ReleaseRow → Type 0
 IsInRange r = r.moment ≤ last_moment
 
--- each row keeps the release that is told: its text is the compact text of it, and its moment the release's date
+-- The law: each row has the compact text of its release, and the release's date is its moment.
 abbrev pub ReleasesAreTold : Type 0
 ReleasesAreTold = (publisher : Publisher) (s : Tables) → IsReached publisher s → (notice : List ℕ)
     → AreKept (releases_of_notice notice s) (releases_told notice s)
 
--- what a notice's releases compile to is their merge under the head of the last release's moment, and its text is known
+-- The compiled release of a notice is the merge of its releases, under a head with the last release's moment. It can be written as a text.
 pub record IsCompiled (publisher : Publisher) (notice : List ℕ) (s : Tables) : Type 0 where
   pub is : compiled_told publisher notice s
       ≡ with_head (ocid_text publisher.prefix notice) (moment_text (moment_of_last (releases_of_notice notice s))) (merge_or_null (bodies notice s))
   pub has_text : HasText (compiled_told publisher notice s)
 
--- it does where there are releases, each at a moment that has a text: they stand in the order of their dates
+-- The law: this is true if the notice has releases, each at a moment that has a text.
 abbrev pub RecordsAreCompiled : Type 0
 RecordsAreCompiled = (publisher : Publisher) (s : Tables) → IsReached publisher s → (notice : List ℕ) → 0 < length (releases_of_notice notice s)
     → All IsInRange (releases_of_notice notice s) → IsCompiled publisher notice s
 
--- each release of the notice stands in its sequence where its number says; there are as many as the notice's row counts, and no more than there are
--- numbers for
+-- Each release of a notice is at the place that its number says. There are as many as the notice's row counts, and at most `release_limit`.
 pub record AreInSequence (notice : List ℕ) (s : Tables) : Type 0 where
   pub place : (k : ℕ) → slice_get (releases_of_notice notice s) k ≡ release_at (notice, k + 1) s
   pub counted : releases_in (notice_at notice s) ≡ length (releases_of_notice notice s)
   pub within : length (releases_of_notice notice s) ≤ release_limit
 
--- they do
+-- The law: this is true of every notice in an office that its commands made.
 abbrev pub ReleasesAreInSequence : Type 0
 ReleasesAreInSequence = (publisher : Publisher) (s : Tables) → IsReached publisher s → (notice : List ℕ) → AreInSequence notice s
 
--- the release of this number is there, and its text is a JSON object, so that it can be merged
+-- The release with this number exists, and its text is a JSON object, so it can be merged.
 abbrev pub CanBeShown : List ℕ → ℕ → Tables → Type 0
 CanBeShown notice seq s = (r : ReleaseRow) × (release_at (notice, seq) s ≡ Some r) × IsObjectText r.text
 
--- so is each of the notice's releases up to the one of this number
+-- This is true of each release of the notice up to this number.
 abbrev pub AreAllThere : List ℕ → ℕ → Tables → Type 0
 AreAllThere notice count s = (k : ℕ) → k < count → CanBeShown notice (k + 1) s
 
--- so is each release that the notice's row counts: of any office, be it one that no commands lead to
+-- This is true of each release that the notice's row counts. It is asked of any office, even of one to which no commands lead.
 abbrev pub HasReleases : List ℕ → Tables → Type 0
 HasReleases notice s = AreAllThere notice (releases_in (notice_at notice s)) s

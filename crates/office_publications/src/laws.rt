@@ -1,4 +1,4 @@
-//! Laws of what an office publishes: each function does nothing, and its contract is the law.
+//! The laws of the publications of an office. Each function does nothing, and its contract is the law.
 ghost use Rattle.office_publications.specs.Keeping.{NoEventPublishesNothing, EventsAreReleased};
 ghost use Rattle.office_publications.specs.Keeping.{NoEventPutsItsEffect, EventsPutReleases};
 ghost use Rattle.office_publications.specs.Keeping.{MergesStandBeside, KeptStepsReach, ReleasesStayKept, NothingIsKeptAtFirst};
@@ -12,28 +12,28 @@ use ocds_release::laws::releases_can_be_kept;
 use office_base::laws::changes_keep_order;
 use office_values::moment::texts_keep_order;
 
-/// Where each merge that is kept is that of its notice's releases, and a release is put with the merge that it joins, each is so again.
+/// A release is put with the merge that it joins. If each stored merge is that of its notice's releases before, it is so afterwards.
 pub fn merges()
     ensures { MergesStay }
 {}
 
-/// Where all releases can be merged, and one more that can be is put with the merge that it joins, all can be again. What they say without
-/// their heads can be stored.
+/// A release that can be merged is put with the merge that it joins. If all releases can be merged before, all can be merged afterwards. Releases that can be
+/// merged can also be stored without their heads.
 pub fn releases_can_be_merged()
     ensures stay { ReleasesStay }
     ensures storable { BodiesAreStorable }
 {}
 
-/// The machine that publishes makes a release of each command that publishes.
+/// The specification of the office that publishes makes a release of each command that publishes.
 pub fn releases()
     ensures { ReleasesAreMade }
 {}
 
-/// A command that is an event of a notice publishes its release, and puts its effect, that release, and the merge that this joins; another
-/// publishes nothing and puts its effect alone.
+/// A command that is an event of a notice publishes its release. It makes its changes, and puts that release and the merge that the release joins. Any other
+/// command publishes nothing and only makes its changes.
 ///
-/// The office afterwards is the machine's, with the merges beside it, and so accepted commands lead there. Where releases and merges can be
-/// read, they can be read afterwards, if what the command published can be, as all that `publication::keep_release` makes.
+/// The office afterwards is that of the specification, with the merges beside it. So accepted commands lead there. If releases and merges can be read before,
+/// they can be read afterwards, provided that the new release and its merge can be, as all can that `publication::keep_release` makes.
 pub fn keeping()
     ensures silent { NoEventPublishesNothing }
     ensures released { EventsAreReleased }
@@ -51,8 +51,8 @@ pub fn keeping()
     office_machine::laws::releases();
 }
 
-/// The merges that stand beside the office are no part of what it tells and becomes: its releases and packages are told without them, whoever
-/// looks sees the same whatever merges there are, and an accepted command leads to the machine's next office, with some merges beside it.
+/// The merges that are stored beside the office don't change its releases, its packages and the replies to queries. An accepted command leads to the
+/// specification's next office, with some merges beside it.
 pub fn merges_apart()
     ensures releases { ReleasesTellNoMerges }
     ensures packages { PackagesTellNoMerges }
@@ -63,9 +63,8 @@ pub fn merges_apart()
     office_machine::laws::merges();
 }
 
-/// In an office that stands as its commands left it, the text of each release that is kept is that of the release that is told of it, and its
-/// moment that release's date. What a notice's releases compile to is their merge, as it is kept, under a head. The releases of a notice stand
-/// in its sequence by their numbers, from 1 on.
+/// In an office that its commands made, the text of each stored release is that of the release, and its moment is the release's date. The compiled release of a
+/// notice is the stored merge under a head. The releases of a notice are in its sequence by their numbers, from 1 on.
 pub fn told()
     ensures releases { ReleasesAreTold }
     ensures records { RecordsAreCompiled }

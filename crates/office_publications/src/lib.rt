@@ -1,4 +1,4 @@
-//! What an office publishes: the release of each command that publishes, and the merge of a notice's releases that is kept beside them.
+//! The publications of an office: the release of each command that publishes, and the merge of a notice's releases, which is stored beside them.
 #![tactic(auto)]
 
 pub mod laws;

@@ -1,4 +1,4 @@
-//! The merge of a notice's releases, kept and carried on.
+//! The merge of a notice's releases, as it is stored and continued.
 ghost use Rattle.std.specs.Prelude.{◌≡◌, ℕ, ◌∷◌, [], ◌++◌, List, map, All, IfOk, OnOk, IfErr};
 ghost use Rattle.serde_json.specs.Data.{Data};
 ghost use Rattle.serde_json.specs.View.{view};
@@ -21,14 +21,14 @@ use office_values::refusal::Refusal;
 use serde_json::Value;
 use std::alloc::Global;
 
-/// What an office keeps of a notice's releases: their merge, or, where none is kept, they themselves, in their sequence.
+/// The stored form of a notice's releases: their merge or, if none is stored, the releases in their sequence.
 #[derive(Drop)]
 pub enum Kept {
     Merge(CompiledRow),
     Releases(Rows<ReleaseRow>),
 }
 
-/// Looks up what is kept of a notice's releases: all of them are read only where their merge isn't kept.
+/// Looks up the stored form of a notice's releases. It reads all releases only if their merge isn't stored.
 pub fn load_kept<H: Lookups>(shelf: &mut H, notice: &Id) -> Result<Kept, ShelfFault>
     ensures { LooksUp H.meaning shelf.old shelf.new result (λ t kept. IsKeptOf notice.now t kept) }
 {
@@ -38,7 +38,7 @@ pub fn load_kept<H: Lookups>(shelf: &mut H, notice: &Id) -> Result<Kept, ShelfFa
     }
 }
 
-// A stored release without its head. None is one that is no object: it has no part in a merge, and would be lost.
+// A stored release without its head. `Unavailable` if memory is too small, or if the release isn't an object: it would be lost in a merge.
 fn body_of(alloc: Global, row: &ReleaseRow) -> Result<Value, Refusal>
     ensures body { IfOk result (λ body. view body ≡ body_in row.now) }
     ensures object { OnOk result (IsObjectText row.now.text) }
@@ -54,7 +54,7 @@ fn body_of(alloc: Global, row: &ReleaseRow) -> Result<Value, Refusal>
     }
 }
 
-// The merge of stored releases without their heads.
+// The merge of stored releases without their heads. `Unavailable` if memory is too small, or if a release isn't an object.
 fn merge_of(alloc: Global, rows: &[ReleaseRow]) -> Result<Value, Refusal>
     ensures merge { IfOk result (λ merge. view merge ≡ merge_or_null (map body_in rows.now)) }
     ensures objects { OnOk result (AreObjects rows.now) }
@@ -70,7 +70,7 @@ fn merge_of(alloc: Global, rows: &[ReleaseRow]) -> Result<Value, Refusal>
     Ok(merge)
 }
 
-// The text of the merge of stored releases and one body more.
+// The text of the merge of stored releases and one more body. `Unavailable` if memory is too small, or if a release isn't an object.
 fn merged_anew(alloc: Global, rows: &[ReleaseRow], body: &Value) -> Result<JsonText, Refusal>
     ensures keeps { IfOk result (λ text. All IsStorable (map body_in rows.now ++ (view body.now ∷ []))
         → KeepsMerge text (map body_in rows.now ++ (view body.now ∷ []))) }
@@ -87,7 +87,7 @@ fn merged_anew(alloc: Global, rows: &[ReleaseRow], body: &Value) -> Result<JsonT
     }
 }
 
-// The text of a merge that is kept, and one body more. A merge that is no object isn't begun anew.
+// The text of a stored merge and one more body. `Unavailable` if memory is too small, or if the merge isn't an object: it isn't replaced by a new one.
 fn carried_on(alloc: Global, kept: &CompiledRow, body: &Value) -> Result<JsonText, Refusal>
     ensures keeps { IfOk result (λ text. (vs : List Data) → KeepsMerge kept.now.text vs → All IsStorable (vs ++ (view body.now ∷ []))
         → KeepsMerge text (vs ++ (view body.now ∷ []))) }
@@ -103,7 +103,7 @@ fn carried_on(alloc: Global, kept: &CompiledRow, body: &Value) -> Result<JsonTex
     }
 }
 
-// The merge that a row keeps. None is one that is no object.
+// The merge in a row. `Unavailable` if memory is too small, or if the merge isn't an object.
 fn merge_in(alloc: Global, kept: &CompiledRow) -> Result<Value, Refusal>
     ensures merge { IfOk result (λ merge. (vs : List Data) → KeepsMerge kept.now.text vs → view merge ≡ merge_or_null vs) }
     ensures object { OnOk result (IsObjectText kept.now.text) }
@@ -119,8 +119,8 @@ fn merge_in(alloc: Global, kept: &CompiledRow) -> Result<Value, Refusal>
     }
 }
 
-/// The merge of a notice's releases without their heads. `Unavailable` also where the merge that is kept is no object, or, where none is kept, a
-/// release isn't one: no office that commands lead to keeps such a one.
+/// The merge of a notice's releases without their heads. `Unavailable` if memory is too small, if the stored merge isn't an object or, if none is stored, if a
+/// release isn't one. No office that its commands made stores such a merge or release.
 pub fn merge_kept(alloc: Global, kept: &Kept) -> Result<Value, Refusal>
     ensures merge { IfOk result (λ merge. (notice : List ℕ) (t : Tables) → IsKeptOf notice t kept.now → IsMergedOf notice t
         → view merge ≡ merge_or_null (bodies notice t)) }
@@ -133,8 +133,8 @@ pub fn merge_kept(alloc: Global, kept: &Kept) -> Result<Value, Refusal>
     }
 }
 
-/// The row that keeps the merge of a notice's releases and one more, which is given without its head. `Unavailable` also where the merge that is
-/// kept is no object, or, where none is kept, a release isn't one, so that nothing is published over what can't be gone on from.
+/// The row of the merge of a notice's releases and one more, which is given without its head. `Unavailable` if memory is too small, if the stored merge isn't
+/// an object or, if none is stored, if a release isn't one. So nothing is published on top of a text that can't be continued.
 pub fn merge_with(
     alloc: Global,
     kept: &Kept,

@@ -1,4 +1,4 @@
-//! What an event of a notice publishes: its release, as it is kept, and the merge that it joins.
+//! The rows that an event of a notice publishes: its release and the merge that this joins.
 ghost use Rattle.std.specs.Prelude.{◌≡◌, IfOk, OnOk, IfErr};
 ghost use Rattle.serde_json.specs.View.{view};
 ghost use Rattle.serde_json.specs.Written.{compact_text};
@@ -19,17 +19,17 @@ use office_values::refusal::Refusal;
 use serde_json::Value;
 use std::alloc::Global;
 
-/// A release and the merge that it joins, as they are kept.
+/// A release and the merge that it joins, as they are stored.
 #[derive(Drop)]
 pub struct Publication {
     pub release: ReleaseRow,
     pub merge: CompiledRow,
 }
 
-/// A release of a notice as it is kept, as compact text under a number, with its moment, and the merge that it joins. Time and memory grow
-/// with the release and the merge, and not with the number of releases, where their merge is kept. A release can be stored where it has no
-/// floats and isn't nested more than 127 levels deep. `Unavailable` where the merge that is kept, or, where none
-/// is, a release, is no object.
+/// The row of a release, with its number, its moment and its compact text, and the row of the merge that it joins. A release can be stored if it has no floats
+/// and isn't nested more than 127 levels deep.
+/// If the merge is stored, time and memory grow with the release and the merge, and not with the number of releases. `Unavailable` if memory is too small, if
+/// the stored merge isn't an object or, if none is stored, if a release isn't one.
 pub fn keep_release(
     alloc: Global,
     notice: Id,

@@ -1,4 +1,4 @@
-//! What a contract is worth once it is raised or cut.
+//! The value of a contract after it is raised or cut.
 ghost use Rattle.std.specs.Prelude.{◌≡◌, ◌<◌, ◌^◌, IfSome, IfNone};
 ghost use Rattle.office_values.specs.Money.{total_limit};
 ghost use Rattle.office_base.specs.Joined.{entry_sum};
@@ -11,7 +11,7 @@ use office_commands::contract::ChangeKind;
 use office_values::given::GivenNumber;
 use office_values::money::Total;
 
-// What the entries of the contract cut it by.
+// The amount by which the entries of the contract cut it.
 fn cut(entries: &[EntryRow], contract: GivenNumber) -> u128
     ensures sum { result ≡ entry_sum is_contract_cut entries.now contract }
     ensures small { result < 2 ^ 110 }
@@ -25,8 +25,8 @@ fn cut(entries: &[EntryRow], contract: GivenNumber) -> u128
     sum
 }
 
-/// What the contract is worth once it is raised or cut by this amount: what was signed and raised, less what was cut. None exactly
-/// where that is above 10^15, as of no contract that commands lead to.
+/// The value of the contract after it is raised or cut by this amount: the signed amount and the raises, less the cuts. None exactly if it is above 10^15,
+/// which no contract has that commands made.
 pub fn contract_value_after(
     entries: &[EntryRow],
     contract: &ContractRow,

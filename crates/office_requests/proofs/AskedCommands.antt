@@ -1,4 +1,4 @@
--- What a request asks can be given: the lots of a new notice have an identifier each.
+-- A command that a request asks for can be given: no two lots of a new notice have the same identifier.
 use Rattle.std.proofs.Common.{◌≡◌, ℕ, Bool, true, false, List, Option, Some, None, Result, Ok, Err, refl, sym, subst, ◌⊎◌, inl, inr}
 use Rattle.std.specs.Prelude.{◌^◌, not, ◌&&◌, nat_le, length, if◌then◌else◌, IfOk}
 use Rattle.serde_json.specs.Data.{Data}
@@ -34,7 +34,7 @@ use Rattle.office_requests.specs.declared.route.Place.{Place}
 use Rattle.office_requests.specs.declared.route.Place.TheVariants.{Nowhere, Named, Within, Numbered}
 use Rattle.office_requests.specs.declared.route.Route.{Route}
 
--- what is read, if it isn't refused, is so
+-- the read value has the property, or a refusal was read
 unfoldable IsRead : {A : Type 0} → (A → Type 0) → Result A Refusal → Type 0
 IsRead P (Ok value) = P value
 IsRead P (Err why) = Unit {0}
@@ -47,7 +47,7 @@ why_read : {A : Type 0} (P : A → Type 0) (why : Refusal) → IsRead P (Err why
 unfolding IsRead
 why_read P why = tt
 
--- a step whose value doesn't matter, and one whose value is so
+-- a step whose value doesn't matter
 bound : {A B : Type 0} (P : B → Type 0) (read : Result A Refusal) (next : A → Result B Refusal) → ((value : A) → IsRead P (next value))
     → IsRead P (read >>= next)
 bound P (Ok value) next each = each value
@@ -59,7 +59,7 @@ unfolding IsRead
 bound_by Q P (Ok value) next is each = each value is
 bound_by Q P (Err why) next is each = tt
 
--- several steps, none of which needs the values before it
+-- several steps that don't need the values of earlier steps
 bound_two : {A B C : Type 0} (P : C → Type 0) (first : Result A Refusal) (second : Result B Refusal) (next : A → B → Result C Refusal)
     → ((a : A) (b : B) → IsRead P (next a b)) → IsRead P (first >>= λ a. second >>= λ b. next a b)
 bound_two P first second next each = bound P first (λ a. second >>= λ b. next a b) (λ a. bound P second (next a) (each a))
@@ -222,7 +222,7 @@ asked_is caller route request =
     (where_so CanBeAsked (may_ask caller route.endpoint) (asked_by route.endpoint route.place (query_of request.head.target) request.body) Forbidden
     (by_read route.endpoint route.place (query_of request.head.target) request.body))
 
--- so can what was read of it, unless memory was refused
+-- a command that was read can be given, even if memory was too small for the rest
 pub read_is : (caller : Caller) (route : Route) (request : RequestView) (read : Result Asked Refusal)
     → (read ≡ asked_by_route caller route request) ⊎ (read ≡ Err Unavailable) → IfOk read CanBeAsked
 read_is caller route request read (inl is) = subst (λ (r : Result Asked Refusal). IfOk r CanBeAsked) (sym is) (asked_is caller route request)

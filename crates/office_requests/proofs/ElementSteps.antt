@@ -9,7 +9,7 @@ use Rattle.office_values.specs.declared.refusal.Refusal.{Refusal}
 use Rattle.office_requests.specs.Fields.{◌>>=◌}
 use Rattle.office_requests.specs.Publications.{each_of}
 
--- the elements that were read, and those that are still to be
+-- the read elements, followed by those that are still to be read
 abbrev pub with_done : {A : Type 0} → List A → Result (List A) Refusal → Result (List A) Refusal
 with_done done more = more >>= λ xs. Ok (done ++ xs)
 
@@ -20,7 +20,7 @@ from_here values i value h at =
     let e : drop i values ≡ value ∷ drop (i + 1) values = rw add-one (drop-cons values i value h ∙ ap (λ x. x ∷ drop (suc i) values) (sym at)) in
     rw e refl
 
--- what is wanted, after so many values
+-- after this many values were read, these elements followed by the rest give the whole result
 abbrev pub IsSoFar : {A : Type 0} → (Data → Result A Refusal) → List Value → ℕ → List A → Type 0
 IsSoFar read values i things = with_done things (each_of read (items_view (drop i values))) ≡ each_of read (items_view values)
 

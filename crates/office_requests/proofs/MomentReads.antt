@@ -1,4 +1,4 @@
--- A moment is named by its text.
+-- Each moment is read from its own text.
 use Rattle.std.proofs.Common.{◌≡◌, ℕ, zero, suc, ◌+◌, ◌-◌, ◌*◌, ◌/◌, ◌%◌, ◌≤◌, Bool, true, false, List, Option, Some, None, IfSome, IfNone, refl, sym, arith, ◌∙◌, pos}
 use Rattle.std.specs.Prelude.{nat_lt, nat_le, ◌&&◌, nat_eq, if◌then◌else◌}
 use Rattle.std.specs.Cmp.Lexicographic.{pointwise}
@@ -80,7 +80,7 @@ named_is second =
     let rest : two_at (moment_text second) 17 ≡ second % 86400 % 60 = omega arith in
     rw (year, month, day, hour, minute, rest, day_kept (second / 86400)) (omega arith)
 
--- what is read of a text is the moment that it writes
+-- if the read moment has this text, and none is read only if no moment has it, the definition gives the read moment
 pub moment_read : (text : List ℕ) (read : Option ℕ) → IfSome read (λ m. IsMomentText m text) → IfNone read ((second : ℕ)
     → ¬ (IsMomentText second text)) → read ≡ moment_of text
 unfolding moment_of
@@ -100,7 +100,7 @@ moment_read text None found none = by (nat_le (second_named text) last_moment &&
 some_same : {a b : ℕ} → Some a ≡ Some b → a ≡ b
 some_same e = cc
 
--- what is a moment is the moment of its text
+-- a moment that is read from a text has this text
 kept_moment : (named second : ℕ) (text : List ℕ) → moment_if named text ≡ Some second → IsMomentText second text
 kept_moment named second text is = by (nat_le named last_moment && pointwise nat_eq (moment_text named) text) refl
   where
@@ -114,7 +114,7 @@ kept_moment named second text is = by (nat_le named last_moment && pointwise nat
         let (small, written) = and_parts _ _ e in
         rw (sym (some_same same)) (record { in_range = leb-true _ _ small; written = sym ((bytes_eq-Decides _ text).0 written) })
 
--- a text writes the moment whose text it is, and no other text writes one
+-- each moment is read from its own text, and from no other
 pub moments : MomentsAreTheirTexts
 unfolding moment_of
 moments = record {

@@ -8,7 +8,7 @@ use Rattle.form_urlencoded.specs.Form.{decode}
 use Rattle.office_requests.specs.Parameters.{decoded, with_pair, given_from}
 use Rattle.office_requests.specs.declared.parameters.Given.{Given}
 
--- text that was decoded
+-- a text as it was decoded
 decoded_is : (bytes text : List ℕ) → text ≡ utf8_lossy (decode bytes) → text ≡ decoded bytes
 decoded_is bytes text is = by (is_utf8 (decode bytes)) refl
   where

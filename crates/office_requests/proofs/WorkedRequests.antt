@@ -1,4 +1,4 @@
--- Requests whose meaning is known, computed.
+-- Worked examples of requests, computed.
 use Rattle.std.proofs.Common.{refl}
 use Rattle.office_requests.proofs.OnLiterals.{requests_on_literals}
 use Rattle.office_requests.specs.WorkedRequests.{RoutesAreTaken, PathsAreRefused, BodiesAreRefused, PublicationsAreRefused, TendersAreRefused, LooksAreRefused}

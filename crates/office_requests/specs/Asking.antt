@@ -1,4 +1,4 @@
--- What a request asks of the office: by its route, the query of its target, and its body.
+-- The command or query that a request asks for, by its route, its query string and its body.
 use Rattle.std.specs.Prelude.{ℕ, Bool, true, false, if◌then◌else◌, List, Result, Ok, Err, IfOk}
 use Rattle.office_values.specs.declared.refusal.Refusal.{Refusal}
 use Rattle.office_values.specs.declared.refusal.Refusal.TheVariants.{NoRoute, Forbidden}
@@ -31,24 +31,24 @@ use Rattle.office_requests.specs.declared.route.Place.{Place}
 use Rattle.office_requests.specs.declared.route.Place.TheVariants.{Nowhere, Named, Within, Numbered}
 use Rattle.office_requests.specs.declared.route.Route.{Route}
 
--- whether the caller may ask this
+-- The caller has the right to ask this.
 abbrev pub may_ask : Caller → Endpoint → Bool
 may_ask caller (Commands kind) = may caller kind
 may_ask caller (Queries kind) = may_look caller kind
 
--- nothing else of the request is read
+-- Neither the query string nor the body is read.
 abbrev pub reads_nothing : Reads → Bool
 reads_nothing table.Nothing = true
 reads_nothing table.Query = false
 reads_nothing table.Body = false
 reads_nothing table.QueryAndBody = false
 
--- the path alone says what is asked: no query and no body are read
+-- The path alone says what is asked: neither the query string nor the body is read.
 abbrev pub is_told_by_path : Endpoint → Bool
 is_told_by_path (Commands kind) = reads_nothing (command_row kind).reads
 is_told_by_path (Queries kind) = reads_nothing (query_row kind).reads
 
--- the command of a route with this query and this body; a place of another shape than the command's is that of no route
+-- The command of a route, with this query string and this body. A path with the parameters of another command has no route.
 unfoldable pub command_at : CommandKind → Place → List ℕ → List ℕ → Result Command Refusal
 command_at kinds.Import (Named batch) query body = import_of batch (budget_of (csv_records body))
 command_at kinds.Register (Named tenderer) query body = object_in_body body >>= registration_in tenderer
@@ -71,7 +71,7 @@ command_at kinds.Pay (Numbered contract) query body = object_in_body body >>= pa
 command_at kinds.End (Numbered contract) query body = object_in_body body >>= ending_in contract
 command_at _ _ query body = Err NoRoute
 
--- the query of a route with this query of its target; a place of another shape than the query's is that of no route
+-- The query of a route, with this query string. A path with the parameters of another query has no route.
 unfoldable pub query_at : QueryKind → Place → List ℕ → Result Query Refusal
 query_at looks.Line (Named line) query = Ok (queries.Line line)
 query_at looks.Ledger Nowhere query = Ok queries.Ledger
@@ -91,27 +91,27 @@ query_at looks.Tenderers Nowhere query = after_in query >>= λ after. Ok (querie
 query_at looks.Contract (Numbered contract) query = Ok (queries.Contract contract)
 query_at _ _ query = Err NoRoute
 
--- what a route asks with this query and this body
+-- The command or query of a route, with this query string and this body.
 unfoldable pub asked_by : Endpoint → Place → List ℕ → List ℕ → Result Asked Refusal
 asked_by (Commands kind) place query body = command_at kind place query body >>= λ command. Ok (Does command)
 asked_by (Queries kind) place query body = query_at kind place query >>= λ look. Ok (Looks look)
 
--- what the caller asks by a route with this request: the caller's rights come before the query and the body
+-- The command or query that the caller asks for by a route and this request. The right is checked before the query string and the body are read.
 abbrev pub asked_by_route : Caller → Route → RequestView → Result Asked Refusal
 asked_by_route caller route request =
     if may_ask caller route.endpoint then asked_by route.endpoint route.place (query_of request.head.target) request.body
     else Err Forbidden
 
--- of which kind that is which is asked
+-- The kind of the command or query.
 abbrev pub endpoint_of : Asked → Endpoint
 endpoint_of (Does command) = Commands (of_commands.kind_of command)
 endpoint_of (Looks look) = Queries (of_queries.query_kind_of look)
 
--- what is asked is a query, or a command that can be given
+-- A query can always be asked; a command must be one that can be given.
 abbrev pub CanBeAsked : Asked → Type 0
 CanBeAsked (Does command) = of_commands.IsCommand command
 CanBeAsked (Looks look) = Unit {0}
 
--- whatever a request asks by a route can be given
+-- The law: every command that a request asks for can be given.
 abbrev pub WhatIsAskedCanBeGiven : Type 0
 WhatIsAskedCanBeGiven = (caller : Caller) (route : Route) (request : RequestView) → IfOk (asked_by_route caller route request) CanBeAsked

@@ -1,4 +1,4 @@
--- The bodies of requests, as commands: the fields are read in their order, and the first that is missing or wrong is named.
+-- The bodies of requests, as commands. The fields are read in their order, and the first that is missing or wrong is named.
 use Rattle.std.specs.Prelude.{ℕ, ◌^◌, ◌&&◌, not, nat_eq, List, length, if◌then◌else◌, Option, Some, None, is_some, Result, Ok, Err}
 use Rattle.std.specs.Option.{option_map_or}
 use Rattle.std.specs.Str.{is_utf8}
@@ -17,23 +17,24 @@ use Rattle.office_requests.specs.Forms.{identifier_of, digest_of, change_of, end
 use Rattle.office_requests.specs.Moments.{moment_of}
 use Rattle.office_requests.specs.Fields.{◌>>=◌, has, text_in, text_line_in, flag_in, number_in, perhaps_number_in}
 
--- the JSON value that a body is; nothing that is not UTF-8 is one
+-- The JSON value of a body. A body that isn't UTF-8 has none.
 abbrev pub json_of : List ℕ → Option Data
 json_of body = if is_utf8 body then read body else None
 
--- a value that is an object
+-- The value, if it is an object.
 abbrev pub object_if : Data → Result Data Refusal
 object_if value = if is_some (as_object value) then Ok value else Err (BadBody Body)
 
--- the JSON object that a body is
+-- The JSON object in a body.
 unfoldable pub object_in_body : List ℕ → Result Data Refusal
 object_in_body body = option_map_or object_if (json_of body) (Err (BadBody Body))
 
--- the import of a budget file's rows, or its first faulty record
+-- The import of a budget file's rows, or the refusal that names its first faulty record.
 abbrev pub import_of : List ℕ → Result (List BudgetRow) ℕ → Result Command Refusal
 import_of batch (Ok rows) = Ok (commands.Import batch rows)
 import_of batch (Err number) = Err (BadBody (Row number))
 
+-- The registration of this tenderer.
 unfoldable pub registration_in : List ℕ → Data → Result Command Refusal
 registration_in tenderer body = do
   name ← text_line_in fields.Name body
@@ -41,7 +42,7 @@ registration_in tenderer body = do
   key ← text_in digest_of fields.Key body
   Ok (commands.Register tenderer name address key)
 
--- the performance security that is named, and its amount: both or neither
+-- The performance security with its amount; none if both are missing. If one is missing, it is refused.
 unfoldable pub named_in : Data → Result (Option NamedSecurity) Refusal
 named_in body =
     if not (has fields.Security body) && not (has fields.Amount body) then Ok None
@@ -50,27 +51,31 @@ named_in body =
       amount ← number_in 1 (10 ^ 12) fields.Amount body
       Ok (Some (record { reference = reference; amount = amount }))
 
--- neither where the body is empty
+-- The performance security that the body of a signing names; none if the body is empty.
 unfoldable pub performance_of : List ℕ → Result (Option NamedSecurity) Refusal
 performance_of body = if nat_eq (length body) 0 then Ok None else object_in_body body >>= named_in
 
+-- The amendment of this notice.
 unfoldable pub notice_amendment_in : List ℕ → Data → Result Command Refusal
 notice_amendment_in notice body = do
   deadline ← text_in moment_of fields.Deadline body
   rationale ← text_line_in fields.Rationale body
   Ok (commands.AmendNotice notice deadline rationale)
 
+-- The cancellation of this notice.
 unfoldable pub cancellation_in : List ℕ → Data → Result Command Refusal
 cancellation_in notice body = do
   rationale ← text_line_in fields.Rationale body
   Ok (commands.Cancel notice rationale)
 
+-- The examination of the tender with this receipt.
 unfoldable pub examination_in : ℕ → Data → Result Command Refusal
 examination_in receipt body = do
   responsive ← flag_in fields.Responsive body
   quality ← perhaps_number_in 0 100 fields.Quality body
   Ok (commands.Examine receipt responsive quality)
 
+-- The amendment of this contract.
 unfoldable pub contract_amendment_in : ℕ → Data → Result Command Refusal
 contract_amendment_in contract body = do
   entry ← text_in identifier_of fields.Id body
@@ -79,17 +84,19 @@ contract_amendment_in contract body = do
   rationale ← text_line_in fields.Rationale body
   Ok (commands.AmendContract contract entry kind amount rationale)
 
+-- The payment under this contract.
 unfoldable pub payment_in : ℕ → Data → Result Command Refusal
 payment_in contract body = do
   entry ← text_in identifier_of fields.Id body
   amount ← number_in 1 (10 ^ 12) fields.Amount body
   Ok (commands.Pay contract entry amount)
 
+-- The end of this contract.
 unfoldable pub ending_in : ℕ → Data → Result Command Refusal
 ending_in contract body = do
   how ← text_in ending_of fields.How body
   Ok (commands.End contract how)
 
--- the sealed bytes that a body is: 1 to 32,768
+-- The sealed bytes in a body: 1 to 32,768 of them.
 unfoldable pub sealed_in : List ℕ → Result (List ℕ) Refusal
 sealed_in body = if is_between 1 32768 (length body) then Ok body else Err (BadBody Body)

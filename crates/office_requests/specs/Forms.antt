@@ -1,4 +1,4 @@
--- Values of the office, as the texts and numbers of a request write them. What has another form is none.
+-- Values of the office, as texts and numbers of a request write them. A text or number in another form is none.
 use Rattle.std.specs.Prelude.{ℕ, ◌^◌, Bool, ◌&&◌, nat_le, List, codes, if◌then◌else◌, Option, Some, None, option_and_then}
 use Rattle.std.specs.Result.{result_ok}
 use Rattle.hex.specs.Hex.{decode_sized}
@@ -14,45 +14,46 @@ use Rattle.office_commands.specs.declared.notice.LateWithdrawal.TheVariants as w
 use Rattle.office_requests.specs.declared.publication.Basis.{Basis}
 use Rattle.office_requests.specs.declared.publication.Basis.TheVariants as bases
 
--- a value, where it passes a test
+-- The value, if it passes the test.
 abbrev pub passing : {A : Type 0} → (A → Bool) → A → Option A
 passing test value = if test value then Some value else None
 
--- an identifier
+-- The text as an identifier, if it is one.
 unfoldable pub identifier_of : List ℕ → Option (List ℕ)
 identifier_of text = passing is_id text
 
--- a line of text
+-- The text as a line, if it is one.
 unfoldable pub line_of : List ℕ → Option (List ℕ)
 line_of text = passing is_text_line text
 
--- a number from `low` to `high`
+-- The number is from `low` to `high`.
 abbrev pub is_between : ℕ → ℕ → ℕ → Bool
 is_between low high number = nat_le low number && nat_le number high
 
+-- The number, if it is from `low` to `high`.
 unfoldable pub number_between : ℕ → ℕ → ℕ → Option ℕ
 number_between low high number = passing (is_between low high) number
 
--- an amount of money in 1 to 16 decimal digits: 1 to 10^12
+-- An amount of money in 1 to 16 decimal digits, from 1 to 10^12.
 unfoldable pub amount_of : List ℕ → Option ℕ
 amount_of text = option_and_then (number_between 1 (10 ^ 12)) (number_of text)
 
--- the 32 bytes that 64 hexadecimal digits of either case write
+-- The 32 bytes that 64 hexadecimal digits write, in upper or lower case.
 unfoldable pub digest_of : List ℕ → Option (List ℕ)
 digest_of text = result_ok (decode_sized text 32)
 
--- how a contract changes: `raise` or `cut`
+-- The kind of a change of a contract: `raise` or `cut`.
 unfoldable pub change_of : List ℕ → Option ChangeKind
 change_of text = if is_word (codes "raise") text then Some changes.Raise else if is_word (codes "cut") text then Some changes.Cut else None
 
--- how a contract ends: `regular` or `default`
+-- The way in which a contract ends: `regular` or `default`.
 unfoldable pub ending_of : List ℕ → Option How
 ending_of text = if is_word (codes "regular") text then Some endings.Regular else if is_word (codes "default") text then Some endings.ForDefault else None
 
--- what decides between tenders: `price` or `points`
+-- The criteria of a notice: `price` or `points`.
 unfoldable pub basis_of : List ℕ → Option Basis
 basis_of text = if is_word (codes "price") text then Some bases.Price else if is_word (codes "points") text then Some bases.Points else None
 
--- what becomes of a tender that is withdrawn late: `refused` or `forfeits`
+-- The rule on late withdrawals: `refused` or `forfeits`.
 unfoldable pub lateness_of : List ℕ → Option LateWithdrawal
 lateness_of text = if is_word (codes "refused") text then Some withdrawals.Refused else if is_word (codes "forfeits") text then Some withdrawals.Forfeits else None

@@ -1,4 +1,4 @@
--- What the query of a target says: the security that is named with a tender, and where a page of a list begins.
+-- The query string of a target: the security that is named with a tender, and the place where a page of a list begins.
 use Rattle.std.specs.Prelude.{ℕ, Bool, true, false, ◌&&◌, nat_eq, List, [], ◌∷◌, codes, if◌then◌else◌, Option, Some, None, Result, Ok}
 use Rattle.std.specs.Str.{is_utf8}
 use Rattle.std.specs.Str.Lossy.{utf8_lossy}
@@ -13,49 +13,51 @@ use Rattle.office_requests.specs.Paths.{behind}
 use Rattle.office_requests.specs.declared.parameters.Given.{Given}
 use Rattle.office_requests.specs.declared.parameters.Given.TheVariants.{Absent, Wrong, Right}
 
--- the query of a target: what stands behind the first question mark (RFC 3986, section 3.4)
+-- The query string of a target: the part after the first question mark (RFC 3986, section 3.4).
 abbrev pub query_of : List ℕ → List ℕ
 query_of target = behind 63 target
 
--- what stands there as text: what is no UTF-8 becomes U+FFFD
+-- Bytes of a query string, decoded to a text. Bytes that aren't UTF-8 become U+FFFD.
 abbrev pub decoded : List ℕ → List ℕ
 decoded bytes = if is_utf8 (form.decode bytes) then form.decode bytes else utf8_lossy (form.decode bytes)
 
--- a pair's name and value as text
+-- The name and the value of a pair, as texts.
 abbrev pub pair_text : List ℕ × List ℕ → List ℕ × List ℕ
 pair_text pair = (decoded pair.0, decoded pair.1)
 
--- one more value: the first is what it reads as, a second makes the parameter wrong
+-- The parameter after one more value. A first value counts if it has the right form; a second one makes the parameter wrong.
 abbrev pub with_value : {A : Type 0} → Given A → Option A → Given A
 with_value Absent (Some value) = Right value
 with_value Absent None = Wrong
 with_value Wrong value = Wrong
 with_value (Right other) value = Wrong
 
--- one more pair, which may have the name
+-- The parameter after one more pair, which counts if it has the name.
 abbrev pub with_pair : {A : Type 0} → (List ℕ → Option A) → List ℕ → Given A → List ℕ × List ℕ → Given A
 with_pair read name given pair = if pointwise nat_eq pair.0 name then with_value given (read pair.1) else given
 
--- what the pairs give for a name, behind what was given before
+-- The parameter after these pairs.
 unfoldable pub given_from : {A : Type 0} → (List ℕ → Option A) → List ℕ → Given A → List (List ℕ × List ℕ) → Given A
 given_from read name given [] = given
 given_from read name given (pair ∷ pairs) = given_from read name (with_pair read name given (pair_text pair)) pairs
 
--- what a query gives for a name
+-- The value that a query string gives for a name.
 abbrev pub given_in : {A : Type 0} → (List ℕ → Option A) → List ℕ → List ℕ → Given A
 given_in read name query = given_from read name Absent (form.raw_pairs query)
 
+-- No value is given.
 abbrev pub is_absent : {A : Type 0} → Given A → Bool
 is_absent Absent = true
 is_absent Wrong = false
 is_absent (Right value) = false
 
+-- The value, if one is given in the right form.
 abbrev pub right : {A : Type 0} → Given A → Option A
 right Absent = None
 right Wrong = None
 right (Right value) = Some value
 
--- a security and its amount: both or neither
+-- A security with its amount; none if both are missing. If one is missing or wrong, it is refused.
 abbrev pub security_with : Given (List ℕ) → Given ℕ → Result (Option NamedSecurity) Refusal
 security_with security amount =
     if is_absent security && is_absent amount then Ok None
@@ -64,10 +66,11 @@ security_with security amount =
       worth ← field_or_refusal fields.Amount (right amount)
       Ok (Some (record { reference = reference; amount = worth }))
 
+-- The security that a query string names with its amount.
 unfoldable pub security_in : List ℕ → Result (Option NamedSecurity) Refusal
 security_in query = security_with (given_in identifier_of (codes "security") query) (given_in amount_of (codes "amount") query)
 
--- the identifier behind which a page of a list begins; where it is absent, the page is the first
+-- The identifier after which a page of a list begins; none for the first page.
 abbrev pub after_with : Given (List ℕ) → Result (Option (List ℕ)) Refusal
 after_with after =
     if is_absent after then Ok None
@@ -75,5 +78,6 @@ after_with after =
       key ← field_or_refusal fields.After (right after)
       Ok (Some key)
 
+-- The identifier that a query string names for the beginning of a page.
 unfoldable pub after_in : List ℕ → Result (Option (List ℕ)) Refusal
 after_in query = after_with (given_in identifier_of (codes "after") query)

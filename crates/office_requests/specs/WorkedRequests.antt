@@ -1,4 +1,4 @@
--- Worked examples: requests whose meaning is known, one for each route, and one for each kind of fault.
+-- Worked examples: a request for each route, and one for each kind of fault, with the commands, queries and refusals that they lead to.
 use Rattle.std.specs.Prelude.{◌≡◌, ℕ, true, List, [], ◌∷◌, ◌++◌, codes, replicate, Option, Some, None, Result, Ok, Err}
 use Rattle.office_values.specs.declared.refusal.BadPart.{BadPart}
 use Rattle.office_values.specs.declared.refusal.BadPart.TheVariants as parts
@@ -25,64 +25,66 @@ use Rattle.office_requests.specs.declared.route.Allow.{Allow}
 use Rattle.office_requests.specs.declared.route.Allow.TheVariants.{Get, Post}
 use Rattle.office_requests.specs.declared.route.Route.{Route}
 
--- a request of this method, target and body
+-- A request with this method, target and body.
 abbrev pub request_with : List ℕ → List ℕ → List ℕ → RequestView
 request_with method target body = record { head = record { method = method; target = target; fields = [] }; body = body }
 
--- what a caller asks by a route, where the request takes one
+-- The command or query that a caller asks for by a route, if the request has one.
 abbrev pub by_route : Caller → RequestView → Result Route (Refusal × Option Allow) → Result Asked Refusal
 by_route caller request (Ok route) = asked_by_route caller route request
 by_route caller request (Err why) = Err why.0
 
--- what a caller asks by a request
+-- The command or query that a caller asks for by a request.
 abbrev pub meaning : Caller → RequestView → Result Asked Refusal
 meaning caller request = by_route caller request (routed request.head.method request.head.target)
 
--- the clerk gives this command
+-- The clerk gives this command.
 abbrev pub ClerkDoes : List ℕ → List ℕ → Command → Type 0
 ClerkDoes target body command = meaning Clerk (request_with (codes "POST") target body) ≡ Ok (Does command)
 
--- a tenderer gives this command
+-- A tenderer gives this command.
 abbrev pub TendererDoes : List ℕ → List ℕ → Command → Type 0
 TendererDoes target body command = meaning (Tenderer (codes "T1")) (request_with (codes "POST") target body) ≡ Ok (Does command)
 
--- a caller asks this query
+-- A caller asks this query.
 abbrev pub Sees : Caller → List ℕ → Query → Type 0
 Sees caller target query = meaning caller (request_with (codes "GET") target []) ≡ Ok (Looks query)
 
--- the clerk's body is refused for this part of it
+-- A body from the clerk is refused, and the refusal names this part.
 abbrev pub Refuses : List ℕ → List ℕ → BadPart → Type 0
 Refuses target body part = meaning Clerk (request_with (codes "POST") target body) ≡ Err (BadBody part)
 
--- a tenderer's tender is refused for this part of its query or its body
+-- A tender is refused, and the refusal names this part of its query string or its body.
 abbrev pub RefusesTender : List ℕ → List ℕ → BadPart → Type 0
 RefusesTender target body part = meaning (Tenderer (codes "T1")) (request_with (codes "POST") target body) ≡ Err (BadBody part)
 
--- a look is refused for this part of its query
+-- A query is refused, and the refusal names this part of its query string.
 abbrev pub RefusesLook : Caller → List ℕ → BadPart → Type 0
 RefusesLook caller target part = meaning caller (request_with (codes "GET") target []) ≡ Err (BadBody part)
 
--- a path that no route has
+-- No route has this path.
 abbrev pub IsNoPath : List ℕ → Type 0
 IsNoPath target = routed (codes "GET") target ≡ Err (NoRoute, None)
 
--- the body of a publication, with these criteria and these lots
+-- The body of a publication with these criteria and these lots.
 abbrev pub publication_with : List ℕ → List ℕ → List ℕ
 publication_with criteria lots =
     codes "{\"title\":\"Road repair\",\"deadline\":\"2026-03-01T12:00:00Z\",\"validity_days\":90,\"standstill_days\":10,"
     ++ criteria ++ codes ",\"lots\":[" ++ lots ++ codes "]}"
 
+-- The price alone decides.
 abbrev pub by_price : List ℕ
 by_price = codes "\"criteria\":\"price\""
 
--- a lot with these items
+-- A lot with these items.
 abbrev pub lot_with : List ℕ → List ℕ
 lot_with items = codes "{\"id\":\"L1\",\"title\":\"North\",\"line\":\"1000\",\"estimate\":600,\"security\":50,\"items\":[" ++ items ++ codes "]}"
 
+-- An item of a lot.
 abbrev pub one_item : List ℕ
 one_item = codes "{\"id\":\"I1\",\"title\":\"Paving\",\"quantity\":3}"
 
--- what a publication by the price says, of one lot with one item; 1772366400 is 2026-03-01T12:00:00Z
+-- The content of a publication with one lot of one item, of which the price alone decides; 1772366400 is 2026-03-01T12:00:00Z.
 abbrev pub published : NewNotice
 published = record {
   title = codes "Road repair";
@@ -102,7 +104,7 @@ published = record {
   } ∷ [];
 }
 
--- each route is taken
+-- Each route is taken.
 pub record RoutesAreTaken : Type 0 where
   pub imports : ClerkDoes (codes "/budget/B1") (codes "line,kind,amount,title\n") (commands.Import (codes "B1") [])
   pub registers : ClerkDoes (codes "/tenderers/T1")
@@ -152,7 +154,7 @@ pub record RoutesAreTaken : Type 0 where
   pub sees_tenderers_behind : Sees Clerk (codes "/tenderers?after=T1") (queries.Tenderers (Some (codes "T1")))
   pub sees_contracts : Sees (Tenderer (codes "T1")) (codes "/contracts/17") (queries.Contract 17)
 
--- no other path is one, another method is refused with the one of the path, and rights come before the body
+-- Any other path has no route. A wrong method is refused with the right one. A caller's right is checked before the body is read.
 pub record PathsAreRefused : Type 0 where
   pub no_path : IsNoPath (codes "/tenders")
   pub no_notice : IsNoPath (codes "/notices/")
@@ -168,7 +170,7 @@ pub record PathsAreRefused : Type 0 where
   pub rights_first : meaning Public (request_with (codes "POST") (codes "/notices/N1") (codes "[]")) ≡ Err Forbidden
   pub rights_before_queries : meaning Public (request_with (codes "GET") (codes "/tenderers?after=!") []) ≡ Err Forbidden
 
--- the first field that is missing or wrong is named
+-- The first field that is missing or wrong is named.
 pub record BodiesAreRefused : Type 0 where
   pub bad_row : Refuses (codes "/budget/B1") (codes "line,kind,amount,title\n1000,add,0,Roads\n") (parts.Row 2)
   pub empty_body : Refuses (codes "/notices/N1") [] parts.Body
@@ -190,8 +192,7 @@ pub record BodiesAreRefused : Type 0 where
   pub one_space : Refuses (codes "/awards/17/sign") (codes " ") parts.Body
   pub no_ending : Refuses (codes "/contracts/17/end") (codes "{\"how\":null}") (parts.Field fields.How)
 
--- a publication's weight goes with points alone, what it says of late withdrawals is one of two words, and any fault inside its lots is one of
--- its lots
+-- Only points have a weight, a rule on late withdrawals is one of two words, and any fault inside the lots is one of the field `lots`.
 pub record PublicationsAreRefused : Type 0 where
   pub weight_missing : Refuses (codes "/notices/N1") (publication_with (codes "\"criteria\":\"points\"") []) (parts.Field fields.PriceWeight)
   pub weight_with_price : Refuses (codes "/notices/N1")
@@ -210,7 +211,7 @@ pub record PublicationsAreRefused : Type 0 where
   pub same_lots : Refuses (codes "/notices/N1")
       (publication_with by_price (lot_with one_item ++ codes "," ++ lot_with one_item)) (parts.Field fields.Lots)
 
--- a security and its amount go together, each once, and come before the sealed bytes
+-- A security and its amount go together, each is given once, and both are read before the sealed bytes.
 pub record TendersAreRefused : Type 0 where
   pub no_amount : RefusesTender (codes "/notices/N1/lots/L1/tenders?security=G1") (codes "abc") (parts.Field fields.Amount)
   pub no_security : RefusesTender (codes "/notices/N1/lots/L1/tenders?amount=50") (codes "abc") (parts.Field fields.Security)
@@ -219,7 +220,7 @@ pub record TendersAreRefused : Type 0 where
   pub two_amounts : RefusesTender (codes "/notices/N1/lots/L1/tenders?security=G1&amount=50&amount=50") [] (parts.Field fields.Amount)
   pub nothing_sealed : RefusesTender (codes "/notices/N1/lots/L1/tenders") [] parts.Body
 
--- a page begins behind one identifier, or is the first
+-- A page begins after one identifier, or is the first page.
 pub record LooksAreRefused : Type 0 where
   pub no_identifier : RefusesLook Public (codes "/notices?after=!") (parts.Field fields.After)
   pub nothing : RefusesLook Public (codes "/notices?after=") (parts.Field fields.After)

@@ -1,4 +1,4 @@
-//! What a request asks.
+//! The command or query that a request asks for.
 ghost use Rattle.std.specs.Prelude.{◌≡◌, ◌≤◌, ◌⊎◌, true, false, length, Err, IfOk};
 ghost use Rattle.office_values.specs.declared.refusal.Refusal.TheVariants.{Forbidden, Unavailable};
 ghost use Rattle.office_commands.specs.Commands.{kind_of};
@@ -24,16 +24,16 @@ use office_values::refusal::Refusal;
 use office_wire::request::Request;
 use std::alloc::Global;
 
-/// What is asked of the office. Sealed bytes are a slice of the request's body.
+/// A request asks for a command or for a query. Sealed bytes are a slice of the request's body.
 #[derive(Drop)]
 pub enum Asked<'a> {
-    /// A command is given.
+    /// The request gives a command.
     Does(Command<'a>),
-    /// Only a look is asked for.
+    /// The request asks a query.
     Looks(Query),
 }
 
-// Whether the caller may ask this.
+// Whether the caller has the right to ask this.
 fn may_ask(caller: &Caller, endpoint: Endpoint) -> bool
     ensures { result ≡ may_ask caller.now endpoint }
 {
@@ -43,7 +43,7 @@ fn may_ask(caller: &Caller, endpoint: Endpoint) -> bool
     }
 }
 
-// The command of a route with this query and this body.
+// The command of a route, with this query string and this body.
 #[tactic(auto, unfolding(crate::specs::Asking::command_at))]
 fn command_at<'a>(
     alloc: Global,
@@ -118,7 +118,7 @@ fn command_at<'a>(
     }
 }
 
-// The query of a route with this query of its target.
+// The query of a route, with this query string.
 #[tactic(auto, unfolding(crate::specs::Asking::query_at))]
 fn query_at(alloc: Global, kind: QueryKind, place: Place, query: &[u8]) -> Result<Query, Refusal>
     ensures read { ReadsAs result (query_at kind place query.now) }
@@ -150,7 +150,7 @@ fn query_at(alloc: Global, kind: QueryKind, place: Place, query: &[u8]) -> Resul
     }
 }
 
-// What a route asks with this query and this body.
+// The command or query of a route, with this query string and this body.
 #[tactic(auto, unfolding(crate::specs::Asking::asked_by))]
 fn asked_by<'a>(
     alloc: Global,
@@ -171,9 +171,9 @@ fn asked_by<'a>(
     }
 }
 
-/// What the caller asks by a route and a request: `Forbidden` where the caller may not, and so no memory is taken; else `BadBody`
-/// where the query or the body is wrong; `Unavailable` where memory was refused, and none is taken where the path alone says what is asked. The route is that of
-/// this request.
+/// The command or query that the caller asks for, by a request and its route. `Forbidden` if the caller may not ask for it, without taking memory. `BadBody` if
+/// the query string or the body is wrong.
+/// `Unavailable` if memory is too small. No memory is taken if the path alone says what is asked. The route must be that of the request.
 #[tactic(auto, using(crate::proofs::FieldSteps::read_or_wanting, crate::proofs::AskedCommands::read_is))]
 pub fn command_of<'a>(
     alloc: Global,
@@ -193,7 +193,7 @@ pub fn command_of<'a>(
     asked_by(alloc, route, behind(request.target(), b'?'), request.body())
 }
 
-/// A law: what a request asks can be given.
+/// The law: a command that a request asks for can be given.
 #[tactic(auto, using(crate::proofs::AskedCommands::asked_is))]
 pub fn can_be_given()
     ensures { WhatIsAskedCanBeGiven }

@@ -1,4 +1,4 @@
-//! The bodies of requests. Each reader takes the fields in their order; the first that is missing or wrong is named.
+//! The bodies of requests. Each reader reads the fields in their order, and names the first that is missing or wrong.
 ghost use Rattle.std.specs.Prelude.{◌≡◌, ◌≤◌, ◌⊎◌, IfOk, length};
 ghost use Rattle.serde_json.specs.Errors.{IsMemory};
 ghost use Rattle.serde_json.specs.View.{view};
@@ -22,7 +22,7 @@ use serde_json::Value;
 use std::alloc::Global;
 use tender_papers::budget::{BudgetFault, read_budget};
 
-// The refusal of a body that isn't JSON.
+// The refusal of a body that isn't JSON; `Unavailable` if only memory was too small to read it.
 fn json_fault(error: &serde_json::Error) -> Refusal
     ensures memory { IsMemory error.now → result ≡ Unavailable }
     ensures wrong { ¬ (IsMemory error.now) → result ≡ BadBody Body }
@@ -35,7 +35,7 @@ fn json_fault(error: &serde_json::Error) -> Refusal
     }
 }
 
-/// The JSON object that a body is; `BadBody` of the body where it is none, and `Unavailable` where memory was refused.
+/// The JSON object in a body. `BadBody` of the body if it isn't an object, and `Unavailable` if memory is too small.
 pub fn object_in_body(alloc: Global, body: &[u8]) -> Result<Value, Refusal>
     ensures { ReadsObject result (object_in_body body.now) }
 {
@@ -50,7 +50,7 @@ pub fn object_in_body(alloc: Global, body: &[u8]) -> Result<Value, Refusal>
     }
 }
 
-/// The import of the budget file that a body is, into this batch.
+/// The import of the budget file in a body, with this name.
 pub fn import_of<'a>(alloc: Global, batch: Id, body: &[u8]) -> Result<Command<'a>, Refusal>
     requires { length body.now ≤ 65536 }
     ensures body { ReadsAs result (import_of batch (budget_of (csv_records body.now))) }
@@ -134,7 +134,7 @@ pub fn contract_amendment<'a>(
     })
 }
 
-// The performance security that is named, and its amount: both or neither.
+// The performance security with its amount; None if both are missing. If one is missing, it is refused.
 #[tactic(auto, unfolding(crate::specs::Bodies::named_in))]
 fn named(body: &Value) -> Result<Option<NamedSecurity>, Refusal>
     ensures { result ≡ named_in (view body.now) }
@@ -148,7 +148,7 @@ fn named(body: &Value) -> Result<Option<NamedSecurity>, Refusal>
     }))
 }
 
-/// The performance security that the body of a signing names; None where it is empty, or says nothing of one.
+/// The performance security that the body of a signing names; None if the body is empty or has neither a security nor an amount.
 #[tactic(auto, unfolding(crate::specs::Bodies::performance_of))]
 pub fn performance_of(alloc: Global, body: &[u8]) -> Result<Option<NamedSecurity>, Refusal>
     ensures { ReadsAs result (performance_of body.now) }
@@ -185,7 +185,7 @@ pub fn ending<'a>(contract: AskedNumber, body: &Value) -> Result<Command<'a>, Re
     })
 }
 
-/// The sealed bytes that a body is. They borrow it.
+/// The sealed bytes in a body, which they borrow.
 #[tactic(auto, unfolding(crate::specs::Bodies::sealed_in))]
 pub fn sealed(body: &[u8]) -> Result<Sealed<'_>, Refusal>
     ensures { result ≡ sealed_in body.now }

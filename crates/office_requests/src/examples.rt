@@ -1,8 +1,8 @@
-//! What holds of the definitions: a law, and requests whose meaning is known.
+//! A law and worked examples: requests, and the commands and queries that they ask for.
 ghost use Rattle.office_requests.specs.Moments.{MomentsAreTheirTexts};
 ghost use Rattle.office_requests.specs.WorkedRequests.{BodiesAreRefused, LooksAreRefused, PathsAreRefused, PublicationsAreRefused, RoutesAreTaken, TendersAreRefused};
 
-/// A text writes the moment whose text it is.
+/// Each moment is read from its own text, and from no other.
 pub fn moments()
     ensures { MomentsAreTheirTexts }
 {}
@@ -12,23 +12,23 @@ pub fn worked_routes()
     ensures { RoutesAreTaken }
 {}
 
-/// Requests whose path, method or caller is refused.
+/// Requests that are refused for their path, method or caller.
 pub fn refused_paths()
     ensures { PathsAreRefused }
 {}
 
-/// Requests whose body is refused, and the part that is named.
+/// Requests that are refused for their body, and the part that the refusal names.
 pub fn refused_bodies()
     ensures bodies { BodiesAreRefused }
     ensures publications { PublicationsAreRefused }
 {}
 
-/// Tenders whose query or bytes are refused.
+/// Tenders that are refused for their query string or their bytes.
 pub fn refused_tenders()
     ensures { TendersAreRefused }
 {}
 
-/// Looks whose query is refused.
+/// Queries that are refused for their query string.
 pub fn refused_looks()
     ensures { LooksAreRefused }
 {}

@@ -1,5 +1,5 @@
-//! The fields of a JSON body: each reader takes the body's object and the field, and answers the value, or the refusal that names the
-//! field. Members of other names are ignored.
+//! The fields of a JSON body. Each reader takes the object and the field, and returns the value or the refusal that names the field. Members with other names
+//! are ignored.
 ghost use Rattle.std.specs.Prelude.{◌≡◌, IfOk, is_some, option_map, option_and_then};
 ghost use Rattle.serde_json.specs.Find.{get, as_number, as_str, as_u64};
 ghost use Rattle.serde_json.specs.View.{view};
@@ -15,14 +15,14 @@ use office_values::text::TextLine;
 use serde_json::Value;
 use std::alloc::{AllocError, Global};
 
-/// Whether there is a member of this name, be it right or wrong.
+/// Whether the object has a member with this name, right or wrong.
 pub fn has(body: &Value, name: &str) -> bool
     ensures { result ≡ is_some (get name.now (view body.now)) }
 {
     body.get(name).is_some()
 }
 
-// The text of a member.
+// The text of a member; None if the member is missing or isn't a text.
 fn find_text<'a>(body: &'a Value, name: &str) -> Option<&'a str>
     ensures { option_map (λ s. s.now) result ≡ option_and_then as_str (get name.now (view body.now)) }
 {
@@ -32,7 +32,7 @@ fn find_text<'a>(body: &'a Value, name: &str) -> Option<&'a str>
     }
 }
 
-// The number of a member that is written without sign, point and exponent.
+// The number of a member, written without sign, point and exponent; None if the member is missing or isn't such a number.
 fn find_number(body: &Value, name: &str) -> Option<u64>
     ensures { result ≡ option_and_then as_u64 (option_and_then as_number (get name.now (view body.now))) }
 {
@@ -42,7 +42,7 @@ fn find_number(body: &Value, name: &str) -> Option<u64>
     }
 }
 
-/// What the text of a member writes.
+/// The value that the text of a member writes; None if it is missing or wrong.
 #[tactic(auto, unfolding(crate::specs::Fields::text_at))]
 pub fn text_at<T: FromText>(body: &Value, name: &str) -> Option<T>
     ensures { result ≡ text_at T.of_text name.now (view body.now) }
@@ -53,7 +53,7 @@ pub fn text_at<T: FromText>(body: &Value, name: &str) -> Option<T>
     }
 }
 
-/// A member that is a line of text.
+/// The line of text of a member; None if it is missing or wrong.
 #[tactic(auto, unfolding(crate::specs::Fields::text_at))]
 pub fn line_at(alloc: Global, body: &Value, name: &str) -> Result<Option<TextLine>, AllocError>
     ensures { IfOk result (λ line. line ≡ text_at forms.line_of name.now (view body.now)) }
@@ -64,7 +64,7 @@ pub fn line_at(alloc: Global, body: &Value, name: &str) -> Result<Option<TextLin
     }
 }
 
-// A member that is true or false.
+// The truth value of a member; None if it is missing or wrong.
 #[tactic(auto, unfolding(crate::specs::Fields::flag_at))]
 fn flag_at(body: &Value, name: &str) -> Option<bool>
     ensures { result ≡ flag_at name.now (view body.now) }
@@ -75,7 +75,7 @@ fn flag_at(body: &Value, name: &str) -> Option<bool>
     }
 }
 
-/// A member that is a number within bounds, written without sign, point and exponent.
+/// The number of a member, within bounds and written without sign, point and exponent; None if it is missing or wrong.
 #[tactic(auto, unfolding(crate::specs::Fields::number_at))]
 pub fn number_at<const LOW: u64, const HIGH: u64>(
     body: &Value,
@@ -100,28 +100,28 @@ pub fn field_or_refusal<T: Drop>(field: Field, value: Option<T>) -> Result<T, Re
     }
 }
 
-/// What the text of a field writes.
+/// The value that the text of a field writes.
 pub fn text<T: FromText>(body: &Value, field: Field) -> Result<T, Refusal>
     ensures { result ≡ text_in T.of_text field (view body.now) }
 {
     field_or_refusal(field, text_at(body, field.name()))
 }
 
-/// A line of text. `Unavailable` where memory was refused.
+/// The line of text of a field. `Unavailable` if memory is too small.
 pub fn line(alloc: Global, body: &Value, field: Field) -> Result<TextLine, Refusal>
     ensures { ReadsAs result (text_line_in field (view body.now)) }
 {
     field_or_refusal(field, line_at(alloc, body, field.name())?)
 }
 
-/// True or false.
+/// The truth value of a field.
 pub fn flag(body: &Value, field: Field) -> Result<bool, Refusal>
     ensures { result ≡ flag_in field (view body.now) }
 {
     field_or_refusal(field, flag_at(body, field.name()))
 }
 
-/// A number within bounds.
+/// The number of a field, within bounds.
 pub fn number<const LOW: u64, const HIGH: u64>(
     body: &Value,
     field: Field,
@@ -131,7 +131,7 @@ pub fn number<const LOW: u64, const HIGH: u64>(
     field_or_refusal(field, number_at(body, field.name()))
 }
 
-/// A number within bounds that may be absent.
+/// The number of a field, within bounds; None if the field is missing.
 #[tactic(auto, unfolding(crate::specs::Fields::perhaps_number_in))]
 pub fn perhaps_number<const LOW: u64, const HIGH: u64>(
     body: &Value,
@@ -146,7 +146,7 @@ pub fn perhaps_number<const LOW: u64, const HIGH: u64>(
     }
 }
 
-/// Whether the field is absent, as it must be.
+/// Refuses the field if the object has it.
 #[tactic(auto, unfolding(crate::specs::Fields::absent_in))]
 pub fn absent(body: &Value, field: Field) -> Result<(), Refusal>
     ensures { result ≡ absent_in field (view body.now) }

@@ -1,4 +1,4 @@
-//! Values of the office, as the texts and numbers of a request write them. What has another form is None.
+//! Values of the office, as texts and numbers of a request write them. A text or number in another form is None.
 ghost use Rattle.std.specs.Prelude.{◌≡◌, IfOk};
 ghost use Rattle.office_requests.specs.Forms.{line_of, number_between};
 
@@ -14,13 +14,13 @@ use office_values::number::read_number;
 use office_values::text::TextLine;
 use std::alloc::{AllocError, Global};
 
-/// A value that a text writes, and that takes no memory.
+/// A value that a text writes and that takes no memory.
 pub trait FromText: Copy {
     ghost use Rattle.std.specs.Prelude.{ℕ, List, Option};
 
     ghost of_text: { List ℕ → Option Self };
 
-    /// What the text writes.
+    /// The value that the text writes, if it is in the right form.
     fn from_text(text: &[u8]) -> Option<Self>
         ensures { result ≡ of_text text.now };
 }
@@ -135,7 +135,7 @@ impl FromText for LateWithdrawal {
     }
 }
 
-/// A line of text.
+/// The text as a line, if it is one.
 #[tactic(auto, using(crate::proofs::FormSteps::line_kept))]
 pub fn line_of(alloc: Global, text: &[u8]) -> Result<Option<TextLine>, AllocError>
     ensures { IfOk result (λ line. line ≡ line_of text.now) }
@@ -143,7 +143,7 @@ pub fn line_of(alloc: Global, text: &[u8]) -> Result<Option<TextLine>, AllocErro
     TextLine::read(alloc, text)
 }
 
-/// A number within bounds.
+/// The number, if it is within the bounds.
 pub fn number_between<const LOW: u64, const HIGH: u64>(number: u64) -> Option<Bounded<LOW, HIGH>>
     ensures { result ≡ number_between LOW HIGH number }
 {

@@ -1,4 +1,4 @@
-//! What requests ask of the office: their routes, their bodies and their queries.
+//! Requests to the office: their routes, their bodies and their query strings.
 #![tactic(auto)]
 
 pub mod asked;

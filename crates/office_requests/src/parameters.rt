@@ -1,4 +1,4 @@
-//! The query of a target.
+//! The query string of a target.
 ghost use Rattle.std.specs.Prelude.{◌≡◌, IfOk};
 ghost use Rattle.office_requests.specs.Inside.Answers.{ReadsAs};
 ghost use Rattle.office_requests.specs.Parameters.{with_value, with_pair, given_in, is_absent, right, security_in, after_in};
@@ -11,17 +11,17 @@ use office_values::id::Id;
 use office_values::refusal::{Field, Refusal};
 use std::alloc::{AllocError, Global};
 
-/// What a query gives for a parameter.
+/// The value that a query string gives for a parameter.
 #[derive(Clone, Copy)]
 pub enum Given<T> {
     Absent,
-    /// It has another form, or is given more than once.
+    /// The value has a wrong form, or is given more than once.
     Wrong,
     Right(T),
 }
 
 impl<T: Copy> Given<T> {
-    // With one more value.
+    // The parameter after one more value: a second one makes it wrong.
     fn with_value(self, value: Option<T>) -> Given<T>
         ensures { result ≡ with_value self value }
     {
@@ -47,7 +47,7 @@ impl<T: Copy> Given<T> {
     }
 }
 
-// What is given, with a pair that may have the name.
+// The parameter after one more pair, which counts if it has the name.
 fn with_pair<T: FromText>(given: Given<T>, name: &str, key: &str, value: &str) -> Given<T>
     ensures { result ≡ with_pair T.of_text name.now given (key.now, value.now) }
 {
@@ -58,7 +58,7 @@ fn with_pair<T: FromText>(given: Given<T>, name: &str, key: &str, value: &str) -
     }
 }
 
-// A parameter of a query.
+// The value of a parameter in a query string.
 fn given_in<T: FromText>(alloc: Global, query: &[u8], name: &str) -> Result<Given<T>, AllocError>
     ensures { IfOk result (λ given. given ≡ given_in T.of_text name.now query.now) }
 {
@@ -70,8 +70,8 @@ fn given_in<T: FromText>(alloc: Global, query: &[u8], name: &str) -> Result<Give
     Ok(given)
 }
 
-/// The security that a query names with its amount, if it names one; both must be given, or neither. Other parameters are ignored, a
-/// repeated one is wrong.
+/// The security that a query string names, with its amount; None if it names neither. If one of the two is missing, or if one is given twice, it is refused.
+/// Other parameters are ignored.
 #[tactic(auto, unfolding(crate::specs::Parameters::security_in))]
 pub fn security(alloc: Global, query: &[u8]) -> Result<Option<NamedSecurity>, Refusal>
     ensures { ReadsAs result (security_in query.now) }
@@ -87,7 +87,8 @@ pub fn security(alloc: Global, query: &[u8]) -> Result<Option<NamedSecurity>, Re
     }))
 }
 
-/// The identifier behind which a page of a list begins, if the query names one. Other parameters are ignored, a repeated one is wrong.
+/// The identifier after which a page of a list begins; None if the query string names none. An identifier that is given twice is refused. Other parameters are
+/// ignored.
 #[tactic(auto, unfolding(crate::specs::Parameters::after_in))]
 pub fn after(alloc: Global, query: &[u8]) -> Result<Option<Id>, Refusal>
     ensures { ReadsAs result (after_in query.now) }

@@ -2,7 +2,7 @@
 ghost use Rattle.std.specs.Prelude.{◌≡◌, ◌==◌, ◌<◌, length, position, IfSome};
 ghost use Rattle.office_requests.specs.Paths.{before, behind, segment};
 
-// The place of the first such byte.
+// The place of the first byte that equals this one.
 fn place_of(text: &[u8], byte: u8) -> Option<usize>
     ensures place { result ≡ position (λ b. b == byte) text.now }
     ensures within { IfSome result (λ at. at < length text.now) }
@@ -10,7 +10,7 @@ fn place_of(text: &[u8], byte: u8) -> Option<usize>
     text.iter().position(|b| *b == byte)
 }
 
-// The text up to the first such byte, or all of it.
+// The text before the first byte that equals this one; the whole text if there is none.
 pub fn before(text: &[u8], byte: u8) -> &[u8]
     ensures { result.now ≡ before byte text.now }
 {
@@ -20,7 +20,7 @@ pub fn before(text: &[u8], byte: u8) -> &[u8]
     }
 }
 
-// The text behind the first such byte, or nothing.
+// The text after the first byte that equals this one; empty if there is none.
 pub fn behind(text: &[u8], byte: u8) -> &[u8]
     ensures { result.now ≡ behind byte text.now }
 {
@@ -30,7 +30,7 @@ pub fn behind(text: &[u8], byte: u8) -> &[u8]
     }
 }
 
-// The segment of a path with this number; number 0 stands before the first slash.
+// The segment of a path with this number. Number 0 is the part before the first slash.
 #[tactic(auto, using(crate::proofs::SegmentSteps::segment_behind, crate::proofs::SegmentSteps::segment_here))]
 pub fn segment(path: &[u8], number: usize) -> &[u8]
     ensures { result.now ≡ segment number path.now }

@@ -21,7 +21,7 @@ use office_values::refusal::{BadPart, Field, Refusal};
 use serde_json::Value;
 use std::alloc::Global;
 
-/// What decides between tenders, as a word says it.
+/// The criteria of a notice, as a word says them.
 #[derive(Clone, Copy)]
 pub enum Basis {
     /// The price alone.
@@ -30,7 +30,7 @@ pub enum Basis {
     Points,
 }
 
-/// What is read of an element of an array.
+/// A value that is read from an element of an array.
 trait Element: Sized + Drop {
     ghost use Rattle.std.specs.Prelude.{Result};
     ghost use Rattle.serde_json.specs.Data.{Data};
@@ -44,14 +44,14 @@ trait Element: Sized + Drop {
         ensures { ReadsAs result (element_of (view value.now)) };
 }
 
-// A part of a lot; where it is missing or wrong, the lots are.
+// A part of a lot. If it is missing or wrong, the field `lots` is refused.
 fn in_lots<T: Drop>(part: Option<T>) -> Result<T, Refusal>
     ensures { result ≡ spec.in_lots part }
 {
     field_or_refusal(Field::Lots, part)
 }
 
-// The elements of an array, in their order.
+// The values of an array's elements, in their order.
 fn each_of<T: Element>(alloc: Global, values: &[Value]) -> Result<Vec<T>, Refusal>
     ensures { ReadsList result (each_of T.element_of (items_view values.now)) }
 {
@@ -65,7 +65,7 @@ fn each_of<T: Element>(alloc: Global, values: &[Value]) -> Result<Vec<T>, Refusa
     Ok(things)
 }
 
-// The array of a member.
+// The array of a member; None if the member is missing or isn't an array.
 #[tactic(auto, unfolding(crate::specs::Publications::array_at))]
 fn array_at<'a>(body: &'a Value, name: &str) -> Option<&'a Vec<Value>>
     ensures { option_map (λ v. items_view v.now.items) result ≡ array_at name.now (view body.now) }
@@ -76,7 +76,7 @@ fn array_at<'a>(body: &'a Value, name: &str) -> Option<&'a Vec<Value>>
     }
 }
 
-// The elements of the array of a member.
+// The values of the elements of a member's array.
 #[tactic(auto, unfolding(crate::specs::Publications::elements_at, crate::specs::Fields::field_or_refusal))]
 fn elements_at<T: Element>(alloc: Global, body: &Value, name: &str) -> Result<Vec<T>, Refusal>
     ensures { ReadsList result (elements_at T.element_of name.now (view body.now)) }
@@ -110,7 +110,7 @@ fn items_of(alloc: Global, lot: &Value) -> Result<Items, Refusal>
     in_lots(Items::read(elements_at(alloc, lot, "items")?))
 }
 
-// A sum of money that may be nothing.
+// An amount of money that may be 0.
 fn amount_of(number: Bounded<0, AMOUNT_LIMIT>) -> Amount
     ensures { result ≡ number }
 {
@@ -143,7 +143,7 @@ fn lots(alloc: Global, body: &Value) -> Result<NewLots, Refusal>
     in_lots(NewLots::read(elements_at(alloc, body, "lots")?))
 }
 
-// What decides: the price has a weight with points, and none alone.
+// The criteria: points need a weight of the price, and the price alone may have none.
 #[tactic(auto, unfolding(crate::specs::Publications::criteria_with))]
 fn criteria_with(basis: Basis, body: &Value) -> Result<Criteria, Refusal>
     ensures { result ≡ criteria_with basis (view body.now) }
@@ -164,7 +164,7 @@ fn criteria(body: &Value) -> Result<Criteria, Refusal>
     criteria_with(text(body, Field::Criteria)?, body)
 }
 
-// Whether tenders may be withdrawn after the deadline: not where nothing is said of it.
+// Whether tenders may be withdrawn after the deadline; refused if the field is missing.
 #[tactic(auto, unfolding(crate::specs::Publications::late_in))]
 fn late_withdrawal(body: &Value) -> Result<LateWithdrawal, Refusal>
     ensures { result ≡ late_in (view body.now) }
@@ -176,7 +176,7 @@ fn late_withdrawal(body: &Value) -> Result<LateWithdrawal, Refusal>
     }
 }
 
-// What the performance security of each contract must come to: nothing where nothing is said of it.
+// The amount of the performance security that each contract needs; 0 if the field is missing.
 #[tactic(auto, unfolding(crate::specs::Publications::performance_in))]
 fn performance(body: &Value) -> Result<Amount, Refusal>
     ensures { result ≡ performance_in (view body.now) }
@@ -188,7 +188,7 @@ fn performance(body: &Value) -> Result<Amount, Refusal>
     }
 }
 
-// What the body of a publication says.
+// The content of a notice, from the body of its publication.
 #[tactic(auto, unfolding(crate::specs::Publications::new_notice_in))]
 fn new_notice(alloc: Global, body: &Value) -> Result<NewNotice, Refusal>
     ensures { ReadsAs result (new_notice_in (view body.now)) }

@@ -1,4 +1,4 @@
-//! Routes: what a path asks for.
+//! Routes: the command or query that a path names.
 ghost use Rattle.std.specs.Prelude.{◌≡◌};
 ghost use Rattle.office_requests.specs.Routing.{method_of, method_name};
 
@@ -6,7 +6,7 @@ use office_commands::command::{CommandKind, QueryKind};
 use office_values::given::AskedNumber;
 use office_values::id::Id;
 
-/// What is asked at a path.
+/// The kind of command or query at a path.
 #[derive(Clone, Copy, Debug, PartialEq, Eq)]
 pub enum Endpoint {
     Commands(CommandKind),
@@ -29,7 +29,7 @@ pub enum Place {
     Numbered(AskedNumber),
 }
 
-/// A route: what is asked, with the parameters of its path.
+/// A route: the kind of command or query, with the parameters of its path.
 #[derive(Clone, Copy)]
 pub struct Route {
     pub endpoint: Endpoint,
@@ -37,7 +37,7 @@ pub struct Route {
 }
 
 impl Endpoint {
-    /// The one method of its path: commands are posted, queries are got.
+    /// The one method of its path: `POST` for commands, `GET` for queries.
     pub fn method(self) -> Allow
         ensures { result ≡ method_of self }
     {
@@ -49,7 +49,7 @@ impl Endpoint {
 }
 
 impl Allow {
-    /// Its name in a request.
+    /// The name of the method in a request.
     pub fn name(self) -> &'static str
         ensures { result.now ≡ method_name self }
     {

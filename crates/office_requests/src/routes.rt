@@ -25,7 +25,7 @@ pub struct Routes {
     ghost built: { router ≡ inserted route_table [] },
 }
 
-// Adds what is asked at a pattern to a router.
+// Adds the kind of command or query at a pattern to a router.
 fn with_row(
     router: Router<(Endpoint, Shape)>,
     row: RouteRow,
@@ -68,14 +68,14 @@ fn with_queries(
     Ok(router)
 }
 
-// The identifier that stands in a segment of a path.
+// The identifier in a segment of a path.
 fn id_in(path: &[u8], number: usize) -> Option<Id>
     ensures { result ≡ id_in number path.now }
 {
     Id::from_text(segment(path, number))
 }
 
-// The number that stands in a segment of a path.
+// The number in a segment of a path. It has no leading zeros.
 fn number_in_path(path: &[u8], number: usize) -> Option<AskedNumber>
     ensures { result ≡ number_in_path number path.now }
 {
@@ -86,7 +86,7 @@ fn number_in_path(path: &[u8], number: usize) -> Option<AskedNumber>
     number_between(read_number(text)?)
 }
 
-// The parameters of a path.
+// The parameters of a path, by the shape of its pattern.
 fn place_at(path: &[u8], shape: Shape) -> Option<Place>
     ensures { result ≡ place_at shape path.now }
 {
@@ -103,14 +103,14 @@ fn place_at(path: &[u8], shape: Shape) -> Option<Place>
 }
 
 impl Routes {
-    /// The routes of the office.
+    /// Makes the table of routes.
     pub fn new(alloc: Global) -> Result<Routes, AllocError> {
         let router = with_commands(Router::new(alloc), &COMMANDS)?;
         let router = with_queries(router, &QUERIES)?;
         Ok(Routes { router })
     }
 
-    // What is asked at a path, and the parameters that its pattern has.
+    // The kind of command or query at a path, and the parameters that its pattern has.
     fn asked_at(&self, path: &str) -> Option<(Endpoint, Shape)>
         ensures { result ≡ asked_at path.now }
     {
@@ -120,7 +120,7 @@ impl Routes {
         }
     }
 
-    // The route of a path that is text.
+    // The route of a path that is text; None if a parameter has a wrong form.
     fn route_in(&self, path: &str) -> Option<Route>
         ensures { result ≡ option_and_then (route_with path.now) (asked_at path.now) }
     {
@@ -129,7 +129,7 @@ impl Routes {
         Some(Route { endpoint, place })
     }
 
-    // The route of a path.
+    // The route of a path; None if the path isn't UTF-8, isn't in the table, or has a parameter in a wrong form.
     fn route_at(&self, path: &[u8]) -> Option<Route>
         ensures { result ≡ route_at path.now }
     {
@@ -139,8 +139,8 @@ impl Routes {
         }
     }
 
-    /// The route that a request takes, by its method and the path of its target. `NoRoute` where the path is none of the table's, or
-    /// a parameter in it is not of its form; `WrongMethod` where the path has another method, which is told. Takes no memory.
+    /// The route of a request, by its method and the path of its target. `NoRoute` if the table doesn't have the path, or if a parameter in it has a wrong
+    /// form. `WrongMethod` with the right method, if the path has another one. Takes no memory.
     pub fn route_of(&self, request: &Request) -> Result<Route, (Refusal, Option<Allow>)>
         ensures { result ≡ routed request.now.head.method request.now.head.target }
     {

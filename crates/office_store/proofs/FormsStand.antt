@@ -1,4 +1,4 @@
--- A table that stands in its form is one of the office's.
+-- A table that has its form is a table of the office.
 use Rattle.std.proofs.Common.{◌≡◌, ◌⊎◌, inl, inr, ℕ, zero, suc, ◌+◌, ◌<◌, ◌==◌, ◌^◌, true, false, List, [], ◌∷◌, Option, Some, None, length, filter, slice_get, nat_le, refl, sym, ap, subst, ◌∙◌, IsTrue, arith}
 use Rattle.std.proofs.lemmas.Bool.Decides.{nat_tests}
 use Rattle.std.proofs.lemmas.Bool.{eq-eqb}
@@ -45,7 +45,7 @@ HasKey table = ((table.key ≡ None) × (table.uniques ≡ table.primary ∷ [])
 keyed : (k : OfficeTable) → HasKey (table_of k)
 keyed k = elim (each k).bare.key [ inl index ↦ inl (index.key, index.uniques) | inr rowid ↦ inr rowid.key ]
 
--- ---- what was found is the table
+-- ---- the table that was found has the form
 
 low : (n : ℕ) → n < 65536 → nat_le (2 ^ 31) n ≡ false
 low n h = grind (arith, nat_tests)
@@ -63,7 +63,7 @@ module _ (db : Database) (sound : IsDatabase db) (form : Table) (key : HasKey fo
       (has_kept (λ (t : Table). t.tree == it.tree) db.schema.tables table there (eq-eqb it.tree it.tree refl))
       (has_kept (λ (t : Table). t.tree == it.tree) db.schema.tables other h (eq-eqb other.tree it.tree same))
 
-  -- the index of its key, which each such table has
+  -- the index of the key, which each such table has
   own : form.key ≡ None → form.uniques ≡ form.primary ∷ [] → (index : ℕ) × (filter (λ i. guards i table) db.schema.indexes ≡ automatic table 0 table.primary index ∷ [])
   own plainly uniques =
       let guarded : IsGuarded db.schema.indexes table = all_has (IsGuarded db.schema.indexes) db.schema.tables table sound.lists.guarded there in

@@ -1,4 +1,4 @@
--- Making an office in a transaction, and entering one.
+-- An office is made in a transaction, or entered.
 use Rattle.std.proofs.Common.{◌≡◌, inl, inr, Bool, true, false, List, [], Ok, Err, Result, refl, sym, ap, subst, ◌∙◌, IsTrue, true≢false}
 use Rattle.sqlite_tied.specs.Compute.{everything}
 use Rattle.sqlite_value.specs.Order.{Row}
@@ -26,7 +26,7 @@ use Rattle.office_store.specs.SqlMeaning.{LeavesShown}
 sound_now : (old : State) → (IsTrue old.is_open → old.now ≡ old.committed) → IsSoundOpen old → IsTrue old.is_open → IsDatabase old.now
 sound_now old settled sound o = subst IsDatabase (sym (settled o)) (sound o)
 
--- a look that was refused leaves the last commit sound
+-- a query that failed leaves the last commit sound
 pub sound_after : (old mid : State) → Refused old mid → IsLive old → IsSoundOpen mid
 sound_after old mid kept live o = subst IsDatabase (sym (kept.committed o)) (live (kept.was_open o)).1
 
@@ -43,7 +43,7 @@ module _ (old mid : State) (settled : IsTrue old.is_open → old.now ≡ old.com
   pub found_leaves : (db : Trees) → db ≡ mid.now.trees → LeavesNew old db
   found_leaves db is = (it.goes.was_open, λ sound. (mid.now, is, it.tables (sound_now old settled (λ _. sound) it.goes.was_open)))
 
--- after a look that was refused
+-- an office was made after a query that failed
 pub founded_after : (old mid new : State) → Refused old mid → Founded mid new → Founded old new
 founded_after old mid new kept it = record {
   was_open = kept.was_open it.was_open;
@@ -57,14 +57,14 @@ pub leaves_before : {S : Type 0} (g : Ghosts S) (old mid : Held S) (db : Trees) 
     → IsSoundOpen (state g mid) → LeavesNew (state g mid) db → LeavesOffice g old db
 leaves_before g old mid db none free kept sound it = inl (kept.was_open it.0, none, free, it.1 (sound it.0))
 
--- two calls that commit nothing, one after the other
+-- two calls, one after the other, that commit nothing
 pub refused_on : (a b c : State) → Refused a b → Refused b c → Refused a c
 refused_on a b c first second = record {
   was_open = λ o. first.was_open (second.was_open o);
   committed = λ o. second.committed o ∙ first.committed (second.was_open o);
 }
 
--- a stop of a store that is open leaves what it shows
+-- a stop of an open store leaves the content that it shows
 pub shown_is_left : (s : State) → IsTrue s.is_open → (IsTrue s.is_open → (db : Trees) → s.may_leave db → db ≡ s.committed.trees) → LeavesShown s
 shown_is_left s open_now settled t shows db left = (t, (s.committed, settled open_now db left, shows open_now))
 
@@ -81,7 +81,7 @@ unanswered : is_understood (understood no_schema get_version) ≡ false
 unfolding understood everything listing_schema is_understood
 unanswered = refl
 
--- there nothing answers
+-- in an empty database the query for the version fails
 no_version : {S : Type 0} (g : Ghosts S) (old : Held S) (rows : List Row) → old.schema ≡ no_schema → IsAsked g get_version [] old rows → ⊥
 unfolding Shown is_understood
 no_version g old rows none asked = true≢false (sym (ap is_understood asked.shown.1.is) ∙ ap (λ s. is_understood (understood s get_version)) none ∙ unanswered)

@@ -1,4 +1,4 @@
--- A database that holds an office holds the tables that are joined.
+-- A database that holds an office has the tables of the join.
 use Rattle.std.specs.Prelude.{map}
 use Rattle.std.proofs.Common.{◌≡◌, ℕ, true, List, [], ◌∷◌, refl, sym, subst}
 use Rattle.sqlite_value.specs.declared.value.Value.TheVariants.{Text}

@@ -1,4 +1,4 @@
--- An office of an earlier edition becomes one as this program makes it as it is opened.
+-- An office of an earlier edition is migrated when it is opened.
 use Rattle.std.proofs.Common.{◌≡◌, inl, inr, ℕ, zero, suc, Bool, true, false, List, [], refl, sym, ap, subst, ◌∙◌, IsTrue, true≢false, arith}
 use Rattle.std.specs.Prelude.{not, ◌&&◌, cond, nat_lt, nat_le}
 use Rattle.std.proofs.lemmas.Bool.{and_from, and_parts, leb-true, le-leb, lt-ltb, ltb-false, ltb-true, not-false}
@@ -25,12 +25,12 @@ use Rattle.office_store.proofs.Founding.{refused_on}
 use Rattle.office_store.proofs.RestKept.{keeps_rest}
 use Rattle.office_store.proofs.Shelves.{still_shows}
 
--- ---- after a look that was refused
+-- ---- after a query that committed nothing
 
 earlier_after : (edition : ℕ) (old mid : State) (t : Tables) → Refused old mid → IsTrue mid.is_open → HoldsEdition edition old.committed t → HoldsEdition edition mid.committed t
 earlier_after edition old mid t kept open_now = subst (λ (d : Database). HoldsEdition edition d t) (sym (kept.committed open_now))
 
--- what came of it came of what stood before the look
+-- a migration after a query that committed nothing is a migration of the office before the query
 moved_after : (edition : ℕ) (old mid : State) (t : Tables) (new : Database) → Refused old mid → IsTrue mid.is_open → IsMigrated edition t mid.committed new → IsMigrated edition t old.committed new
 moved_after edition old mid t new kept open_now = subst (λ (d : Database). IsMigrated edition t d new) (kept.committed open_now)
 
@@ -66,14 +66,14 @@ pub leaves_readied_before : {S : Type 0} (g : Ghosts S) (old mid : Held S) (rows
 leaves_readied_before g old mid rows edition db asked known is kept it =
     inr (edition, (rows, asked, known, is), (it.0, leaves_migrated_before edition (state g old) (state g mid) db kept it.1))
 
--- ---- with the clock and the notices that stood there
+-- ---- with the clock and the notices that were read
 
 module _ (edition : ℕ) (clock : ClockRow) (notices : List NoticeRow) (old mid : State) (kept : Refused old mid) (apart : IsTrue old.is_open → leads_there edition old.committed.schema ≡ false)
     (clock_is : (t : Tables) → ShowsEdition edition old t → clock ≡ t.clock) (notices_are : (t : Tables) → ShowsEdition edition old t → notices ≡ former_part (had_former edition) t.notices) where
   as_told : IsTrue mid.is_open → (t : Tables) → HoldsEdition edition old.committed t → HoldsThese edition clock notices mid.committed t
   as_told open_now t was = record { held = earlier_after edition old mid t kept open_now was; clock_is = sym (clock_is t (λ _. was)); notices_are = sym (notices_are t (λ _. was)) }
 
-  -- what came of it, and what stayed beside it
+  -- the migrated office, and the other tables, which keep their rows
   moved : (new : Database) (t : Tables) → IsTrue mid.is_open → IsMigrated edition t mid.committed new → IsMigrated edition t old.committed new × KeepsRest edition old.committed new
   moved new t open_now it =
       let whole = moved_after edition old mid t new kept open_now it in
@@ -95,32 +95,32 @@ module _ (edition : ℕ) (clock : ClockRow) (notices : List NoticeRow) (old mid 
     λ t was. let left = it.1 t (as_told it.0 t was) in let both = moved left.0 t it.0 left.2 in (left.0, left.1, both.0, both.1),
   )
 
--- what the schema says of what others have is what the last commit's says
+-- the schema that the connection knows has the same foreign keys and views as that of the last commit
 pub apart_committed : {S : Type 0} (g : Ghosts S) (edition : ℕ) (old : Held S) → (IsTrue (state g old).is_open → (state g old).now ≡ (state g old).committed) → leads_there edition old.schema ≡ false
     → IsTrue (state g old).is_open → leads_there edition (state g old).committed.schema ≡ false
 apart_committed g edition old settled is open_now = sym (ap (λ (d : Database). leads_there edition d.schema) (settled open_now)) ∙ is
 
--- and so of the table of late withdrawals
+-- the schema that the connection knows has the table of late withdrawals exactly if the last commit has it
 pub late_committed : {S : Type 0} (g : Ghosts S) (old : Held S) → (IsTrue (state g old).is_open → (state g old).now ≡ (state g old).committed) → IsTrue (state g old).is_open
     → has_late old.schema ≡ has_late (state g old).committed.schema
 late_committed g old settled open_now = ap (λ (d : Database). has_late d.schema) (settled open_now)
 
--- ---- which version answers
+-- ---- the version in the answer
 
--- that of an earlier edition is known
+-- this program knows the version of each earlier edition
 knows_earlier : (edition : ℕ) → nat_lt edition this_version ≡ true → is_other_version (one_version (version_of edition)) ≡ false
 knows_earlier zero early = refl
 knows_earlier (suc edition) early = ap not (and_from _ _ (lt-ltb 0 (suc edition) (omega arith)) (le-leb (suc edition) this_version (omega (arith, ltb-true (suc edition) this_version early))))
 
 module _ {S : Type 0} (g : Ghosts S) (old : Held S) (rows : List Row) (one : (n : ℕ) (clock : ClockRow) → ShowsVersion n clock (state g old) → rows ≡ one_version n) where
-  -- an office of any of these versions is no other
+  -- an office of any of these versions has a version that the program knows
   pub never_other : (t : Tables) → ShowsOffice (state g old) t → IsTrue (state g old).is_open → is_other_version rows ≡ true → ⊥
   never_other t shows open_now other = elim (shows open_now) [
     | inl was ↦ true≢false (sym other ∙ ap is_other_version (one this_version t.clock (λ _. current_version (state g old).committed t was)))
     | inr was ↦ true≢false (sym other ∙ ap is_other_version (one (version_of was.0) t.clock (λ _. edition_version was.0 (state g old).committed t was.2)) ∙ knows_earlier was.0 was.1)
   ]
 
-  -- what stood is shown after it was used as it was or migrated
+  -- the content is shown, whether the office was used as it was or migrated
   module _ (edition : ℕ) (is : edition_of (version_in rows) (has_late old.schema) ≡ edition) (late : has_late old.schema ≡ has_late (state g old).committed.schema) where
     told : (n e : ℕ) → rows ≡ one_version n → edition_of n (has_late (state g old).committed.schema) ≡ e → edition ≡ e
     told n e answer so = sym is ∙ ap (λ r. edition_of (version_in r) (has_late old.schema)) answer ∙ ap (edition_of n) late ∙ so
@@ -138,12 +138,12 @@ module _ {S : Type 0} (g : Ghosts S) (old : Held S) (rows : List Row) (one : (n 
           λ _. (moved.1.tables t was.2).held)
     ]
 
--- where this program knows the version, and the edition isn't earlier, it is this program's
+-- if the program knows the version and the edition isn't earlier, the edition is that of the program
 not_earlier : (first : Bool) (version : ℕ) → nat_le version this_version ≡ true → nat_lt (cond first 0 version) this_version ≡ false → cond first 0 version ≡ this_version
 not_earlier true version known later = absurd (true≢false later)
 not_earlier false version known later = omega (arith, leb-true version this_version known, ltb-false version this_version later)
 
--- what answered was one that this program knows
+-- the version in the answer was one that this program knows
 pub readied_enters : {S : Type 0} (g : Ghosts S) (old new : Held S) (rows : List Row) → IsAsked g get_version [] old rows → is_other_version rows ≡ false
     → (edition : ℕ) → edition_of (version_in rows) (has_late old.schema) ≡ edition → (earlier : Bool) → nat_lt edition this_version ≡ earlier → IsMadeCurrent earlier edition (state g old) (state g new)
     → Enters g (origin_of earlier) old new
@@ -155,7 +155,7 @@ readied_enters g old new rows asked known edition is false later it =
     not_earlier (not (has_late old.schema) && nat_lt (version_in rows) 2) (version_in rows) low (ap (λ e. nat_lt e this_version) is ∙ later) in
     ((rows, asked, known, same), subst (λ e. IsMadeCurrent false e (state g old) (state g new)) (sym is ∙ same) it)
 
--- an office that stands there has one of them
+-- an office in the database has one of these versions
 pub shown_version : {S : Type 0} (g : Ghosts S) (old : Held S) (t : Tables) → ShowsOffice (state g old) t → ((n : ℕ) (clock : ClockRow) → ShowsVersion n clock (state g old) → ⊥) → ⊥
 shown_version g old t shows none = by_open (state g old).is_open refl
   where

@@ -1,4 +1,4 @@
--- Trees list one schema.
+-- Equal trees list the same schema.
 use Rattle.std.proofs.Common.{◌≡◌, sym, subst}
 use Rattle.sqlite_trees.specs.Tree.{Trees}
 use Rattle.sqlite_trees.specs.Objects.{catalog_tree}

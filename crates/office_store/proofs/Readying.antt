@@ -1,4 +1,4 @@
--- A query of the ledger's rows that begins, or is refused.
+-- A query for the ledger's rows begins, or fails.
 use Rattle.std.proofs.Common.{◌≡◌, inl, inr, ℕ, List, Result, Ok, Err, [], refl, sym, subst, ◌∙◌, arith}
 use Rattle.std.specs.Prelude.{IfOk}
 use Rattle.sqlite_value.specs.Order.{Row}
@@ -32,12 +32,12 @@ plain_refused sql params old new e plain (inr h) =
     let shown = subst (FailsToShow old new sql h.0 _ e) returning h.2 in
     unchanged old new shown.3
 
--- whatever stands in the store, the select commits nothing
+-- in any store, the select commits nothing
 commits_nothing : JoinIsNoWrite → (s : State) (db : Trees) → CommitsShowing list_joined [] s db → ⊥
 unfolding CommitsShowing
 commits_nothing law s db h = absurd (let none = rw (law s.now.schema h.0 h.1.is) at h.2 in cc)
 
--- a connection that was found ready, and what a query then left
+-- a connection that is ready, and its state after the query
 module _ {S : Type 0} (g : Ghosts S) (old mid new : Held S) (plain : JoinIsPlain) (unwritten : JoinIsNoWrite) (show : StoredRowsShow)
     (same : HasCleanDisk (state g mid) → IsUnchanged (state g old) (state g mid)) (settled : HasCleanDisk (state g mid) → (state g mid).now ≡ (state g mid).committed)
     (first : Survives (state g old) (state g mid) (λ _. ⊥)) (then : Survives (state g mid) (state g new) (CommitsShowing list_joined [] (state g mid))) where
@@ -53,14 +53,14 @@ module _ {S : Type 0} (g : Ghosts S) (old mid new : Held S) (plain : JoinIsPlain
     reads : IsPlain (understood mid.schema list_joined)
     reads = plain (state g mid).now.schema stands.at stands.four
 
-  -- whatever was held, a stop leaves nothing new
+  -- whatever the store held, a stop can leave nothing new
   adds_nothing : HasCleanDisk (state g new) → (db : Trees) → (state g new).may_leave db → (state g old).may_leave db
   adds_nothing clean db left = elim (then.crash clean db left) [
     | inl before ↦ elim (first.crash (earlier clean) db before) [ inl long ↦ long | inr none ↦ absurd none ]
     | inr commits ↦ absurd (commits_nothing unwritten (state g mid) db commits)
   ]
 
-  -- nothing was committed, so that the office is as it was
+  -- nothing was committed, so the office is as it was
   kept_office : (HasCleanDisk (state g new) → (t : Tables) → IsSorted t → ShowsTables (state g old) t → Refused (state g mid) (state g new)) → KeepsOffice g old new
   kept_office kept n = record {
     before = λ clean. omega (arith, earlier clean, first.clean);
@@ -75,11 +75,11 @@ module _ {S : Type 0} (g : Ghosts S) (old mid new : Held S) (plain : JoinIsPlain
     sound = λ clean was db left. was db (adds_nothing clean db left);
   }
 
-  -- it did not begin
+  -- the query failed
   pub refused_keeps : (e : Error) → (HasCleanDisk (state g new) → FailsToQuery list_joined [] (state g mid) (state g new) e) → KeepsOffice g old new
   refused_keeps e failed = kept_office (λ clean t sorted shows. plain_refused list_joined [] (state g mid) (state g new) e (reads clean t sorted shows) (failed clean))
 
-  -- it began
+  -- the query began
   module _ (begun : HasCleanDisk (state g new) → HasBegun g list_joined [] mid new) where
     module _ (clean : HasCleanDisk (state g new)) (t : Tables) (sorted : IsSorted t) (shows : ShowsTables (state g old) t) where
       given : HasGiven g list_joined [] new [] × IsUnchanged (state g mid) (state g new)

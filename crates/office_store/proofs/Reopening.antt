@@ -1,4 +1,4 @@
--- The last commit, found again, files with no database, and what a refused opening leaves.
+-- The last commit is found again, files may hold no database, and a refused opening leaves the files or their store.
 use Rattle.std.proofs.Common.{arith, ◌≡◌, inl, inr, [], refl, sym, ap, subst, ◌∙◌}
 use Rattle.std.proofs.Math.Logic.{∥∥₁_elim, ∥∥₁_map}
 use Rattle.std.specs.Prelude.{length, IsTrue}
@@ -45,12 +45,12 @@ use Rattle.office_store.proofs.Shelves.{has_cause}
 pub finds_in : {D : Type 0} {g : Ghosts D} (files : Files D) (now : Held (FileStore D g)) → Finds files now → FindsIn (image_of g files) (file_state now)
 finds_in files now found = record { holds = found.holds; reads = found.reads }
 
--- an office of any version stands in a sound database
+-- a database that holds an office of any version is sound
 sound_of : (db : Database) (t : Tables) → HasOffice db t → IsDatabase db
 sound_of db t (inl was) = was.sound
 sound_of db t (inr was) = was.2.sound
 
--- the office that files hold is in what was opened there
+-- an opening shows the office that the files hold
 pub held_shown : {D : Type 0} {g : Ghosts D} (image : Image) (now : Held (FileStore D g)) → IsOpened now → FindsIn image (file_state now)
     → (t : Tables) → FilesHoldOffice image t → ShowsOffice (file_state now) t
 held_shown image now opened found t (db, held, (d, is, holds)) is_open =
@@ -59,13 +59,13 @@ held_shown image now opened found t (db, held, (d, is, holds)) is_open =
     let same : d ≡ (file_state now).committed = λ i. record { schema = (sym schema) i; trees = (sym trees) i } in
     subst (λ (x : Database). HasOffice x t) same holds
 
--- what was shown as files were closed is held by them
+-- the files hold the content that the office had when they were closed
 pub closed_holds : {D : Type 0} {g : Ghosts D} (old : Held (FileStore D g)) (files : Files D) → IsCopied old files
     → (t : Tables) → ShowsOffice (file_state old) t → FilesHoldOffice (image_of g files) t
 closed_holds old files copied t shows =
     ((file_state old).committed.trees, copied.seen.both, ((file_state old).committed, refl, shows copied.was_open))
 
--- no database is found in a file with no bytes, so that what was opened lists nothing
+-- a file without bytes holds no database, so the opened database has an empty schema
 pub bare_schema : {D : Type 0} {g : Ghosts D} (image : Image) (new : Held (FileStore D g)) → length image.db ≡ 0 → IsOpened new → FindsIn image (file_state new) → new.schema ≡ no_schema
 bare_schema image new none opened found =
     let now = file_state new in
@@ -76,12 +76,12 @@ bare_schema image new none opened found =
     ap (λ (d : Database). d.schema) opened.0.clean
     ∙ schema_once now.committed (record { schema = no_schema; trees = now.committed.trees }) (opened.1 opened.0.is_open).1 (empty_is_sound now.committed.trees bare) refl
 
--- what an opening finds has only its last commit to lose
+-- a stop right after the opening leaves the last commit alone
 pub found_now : {D : Type 0} {g : Ghosts D} (image : Image) (now : Held (FileStore D g)) → SeenMayStay g → IsOpened now → FindsIn image (file_state now) → Found image now
 found_now image now stays opened found =
     record { opened = opened; finds = found; only = λ db may. settled_at now.store stays db opened.0.is_open may }
 
--- a stop of an open store leaves what it shows
+-- a stop of an open store leaves the content that it shows
 pub leaves_no_other : {D : Type 0} {g : Ghosts D} (now : Held (FileStore D g)) → TreesTellOneOffice → SeenMayStay g → IsTrue (file_state now).is_open
     → LeavesNoOther (file_state now)
 leaves_no_other now once stays is_open t shows u (db, may, holds) =
@@ -130,7 +130,7 @@ still before now files kept copied =
       left = λ image may. subst (HoldsAlone image) same (copied.left image may);
     }
 
--- a store that couldn't be closed has been left by a connection whose disk is clean
+-- a store that couldn't be closed has a clean disk only if the connection had one
 closed_clean : {D : Type 0} {g : Ghosts D} (now : Held (FileStore D g)) (rest : Leftover D g) → IsLeftOf now rest → IsCleanLeft rest → HasCleanDisk (file_state now)
 closed_clean now (left.Files files) it clean = (it.1 clean).was_clean
 closed_clean now (left.Unopened files) it clean = absurd it
@@ -150,7 +150,7 @@ leaves_found Commits before now (left.Unopened files) only kept stops it clean =
 leaves_found Commits before now (left.Store store) only kept stops it clean = λ db may.
     elim (stops.crash (closed_clean now (left.Store store) it clean) db (it.quiet.outcomes db may)) [ inl was ↦ inl (only db was) | inr made ↦ inr made ]
 
--- what an opening says that was refused once something was found
+-- the facts about an opening that was refused after something was found
 pub record Turned {D : Type 0} {g : Ghosts D} (why : OpenFault) (before now : Held (FileStore D g)) : Type 0 where
   pub kept : HasCleanDisk (file_state now) → Refused (file_state before) (file_state now)
   pub stops : Survives (file_state before) (file_state now) (LeavesOffice over_files before)

@@ -1,4 +1,4 @@
--- Where nothing of others leads to what a migration changes, all else keeps its rows.
+-- If nothing of other programs leads to the tables that a migration changes, all other tables keep their rows.
 use Rattle.std.proofs.Common.{◌≡◌, ◌⊎◌, inl, inr, ℕ, ◌==◌, ◌||◌, Bool, true, false, cond, List, [], ◌∷◌, Option, Some, None, find, refl, sym, ap, ◌∙◌, subst, true≢false}
 use Rattle.std.specs.Prelude.{not, ◌&&◌, option_and_then, option_map, slice_get}
 use Rattle.std.specs.List.{list_any}
@@ -28,7 +28,7 @@ or_false true b h = absurd (true≢false h)
 none_passes : {X : Type 0} (p : X → Bool) (xs : List X) (x : X) → list_any p xs ≡ false → Has xs x → p x ≡ false
 none_passes p xs x fails h = elim (cases_Bool (p x)) [ inl passes ↦ absurd (true≢false (sym (some_from p xs x h passes) ∙ fails)) | inr fails ↦ fails ]
 
--- ---- the name of what is changed
+-- ---- the names of the changed tables
 
 changed : (had : Bool) (k : OfficeTable) → Has (changed_where had) k → is_changed_where had (table_of k).name ≡ true
 unfolding same_name
@@ -39,7 +39,7 @@ changed true k (inr (inr (inr none))) = absurd none
 changed false k (inl e) = ap (λ (j : OfficeTable). is_changed_where false (table_of j).name) e
 changed false k (inr none) = absurd none
 
--- a name that is found as one of these is one of them
+-- a name that finds one of these tables is one of the changed names
 as_changed : (had : Bool) (k : OfficeTable) → Has (changed_where had) k → (name : List ℕ) → same_name (table_of k).name name ≡ true → is_changed_where had name ≡ true
 as_changed true k (inl e) name same = or_left _ _ (subst (λ (j : OfficeTable). same_name (table_of j).name name ≡ true) e same)
 as_changed true k (inr (inl e)) name same = or_right _ _ (or_left _ _ (subst (λ (j : OfficeTable). same_name (table_of j).name name ≡ true) e same))
@@ -109,7 +109,7 @@ module _ (edition : ℕ) (t : Tables) (old new : Database) (it : IsMigrated edit
   abbrev marked : ℕ → Bool
   marked n = not (unmarked n)
 
-  -- whatever is unmarked is one of those that are changed
+  -- a table that isn't marked is one of the changed tables
   of_changed : (u : Table) → Has new.schema.tables u → unmarked u.tree ≡ true → (k : OfficeTable) × Has (changed_tables edition) k × (u ≡ at_tree (table_of k) u.tree)
   of_changed u there h =
       let one = which had place u.tree h in

@@ -1,4 +1,4 @@
--- What the calls of the shelf do to what it holds.
+-- The effect of each call of the store on its content.
 use Rattle.std.proofs.Common.{Ok, Err, Result, ℕ, arith, ◌≡◌, ◌⊎◌, inl, inr, List, refl, sym, subst, IsTrue}
 use Rattle.std.specs.Prelude.{⊤, IfErr}
 use Rattle.sqlite_trees.specs.declared.store.Store.{Ghosts}
@@ -40,7 +40,7 @@ applied_stops once old new puts u clean survives left = elim (survives.crash cle
 
 -- ---- whole offices
 
--- a stop of a store that is open leaves its last commit, which holds an office where a stop leaves no others
+-- a stop of an open store may leave its last commit, which holds an office if stops leave only offices
 last_office : (s : State) → IsLive s → (IsTrue s.is_open → s.may_leave s.committed.trees) → LeavesOffices s → IsTrue s.is_open → (u : Tables) × Holds s.committed u
 last_office s live stays was open_now =
     let it = was s.committed.trees (stays open_now) in
@@ -59,7 +59,7 @@ puts_leave old new puts live stays clean survives was db left = elim (survives.c
   | inr commits ↦ (let last = last_office old live stays was commits.0 in (after_puts puts last.0, commits.1 last.0 last.1))
 ]
 
--- an error that has a cause is told as a fault that has it
+-- an error with a cause is reported as a fault with this cause
 caused : {Cause : Type 0} (fault : ShelfFault) → Cause → IsFaultOf Cause fault
 caused NoMemory cause = tt
 caused Store cause = cause
@@ -74,7 +74,7 @@ no_sums NoMemory right Fits t = tt
 no_sums Store right Fits t = inl tt
 
 module _ {S : Type 0} (g : Ghosts S) (old new : Held S) where
-  -- ---- a call that looks
+  -- ---- a query
 
   pub keeps : (n m : ℕ) → (HasCleanDisk (state g new) → Refused (state g old) (state g new)) → Survives (state g old) (state g new) (λ _. ⊥) → Keeps (sql_meaning g) (old, n) (new, m)
   keeps n m kept survives = record {
@@ -84,7 +84,7 @@ module _ {S : Type 0} (g : Ghosts S) (old new : Held S) where
     sound = λ clean was. looks_leave (state g old) (state g new) clean survives was;
   }
 
-  -- a call's answer, with its count; the shelf is told by its view
+  -- the answer of a call, with the count of faults; the store is known by its view
   pub looked_sorted : {T : Type 0} (entry : Held S × ℕ) (n : ℕ) (value : T) (right : Tables → T → Type 0) → (old, n) ≡ entry
       → (HasCleanDisk (state g new) → Refused (state g old) (state g new)) → Survives (state g old) (state g new) (λ _. ⊥)
       → (HasCleanDisk (state g new) → (t : Tables) → IsSorted t → ShowsTables (state g old) t → right t value) → LooksUp (sql_meaning g) entry (new, n) (Ok value) right
@@ -103,7 +103,7 @@ module _ {S : Type 0} (g : Ghosts S) (old new : Held S) where
       subst (λ e. LooksUp (sql_meaning g) e after (Err fault) right) is
       ((subst (λ h. Keeps (sql_meaning g) (old, n) (h, after.1)) (sym same) (keeps n after.1 kept survives), λ clean t h. tt), record { counted = counted; cause = cause })
 
-  -- what the tables tell, with a fault counted
+  -- the answer stays right when a fault is counted
   recounts : {T : Type 0} (entry after : Held S × ℕ) (n : ℕ) (answer : Result T ShelfFault) (right : Tables → T → Type 0) → (old, n) ≡ entry → after.0 ≡ new → after.1 ≡ count_after answer n
       → IfErr answer (IsFaultOf ⊤) → TellsOnly g old new answer right → LooksUp (sql_meaning g) entry after answer right
   recounts entry after n (Ok value) right is same counted cause tells =
@@ -116,9 +116,9 @@ module _ {S : Type 0} (g : Ghosts S) (old new : Held S) where
   told_counted {entry} {after} {n} {result} right is answered same counted cause tells =
       recounts entry after n result right is same counted cause (subst (λ r. TellsOnly g old new r right) (sym answered) tells)
 
-  -- ---- a call that adds up
+  -- ---- a call that adds up amounts
 
-  -- a count of faults is no part of what an office is
+  -- the count of faults isn't part of the office
   recounted : (n m : ℕ) → KeepsOffice g old new → Keeps (sql_meaning g) (old, n) (new, m)
   recounted n m kept = record { before = (kept n).before; same = (kept n).same; stop = (kept n).stop; sound = (kept n).sound }
 
@@ -133,7 +133,7 @@ module _ {S : Type 0} (g : Ghosts S) (old new : Held S) where
       subst (λ e. AddsUp (sql_meaning g) e after (Err fault) right Fits) is
       ((subst (λ h. Keeps (sql_meaning g) (old, n) (h, after.1)) (sym same) (recounted n after.1 kept), λ clean t h. no_sums fault right Fits t), counted)
 
-  -- ---- a call that changes
+  -- ---- a change
 
   module _ (once : TreesTellOneOffice) (sorted : ChangesKeepOrder) (live : IsLive (state g old)) (stays : IsTrue (state g old).is_open → (state g old).may_leave (state g old).committed.trees)
       (puts : List Put) (survives : Survives (state g old) (state g new) (LeavesPuts (state g old) puts)) where

@@ -1,4 +1,4 @@
--- What is told of a store by a statement that it reads, or refuses to read.
+-- The result of preparing a statement shows whether the store was shut.
 use Rattle.std.proofs.Common.{◌≡◌, inl, inr, ℕ, List, Bool, true, false, not, Ok, refl, sym, ap, subst, ◌∙◌, IsTrue}
 use Rattle.sqlite_value.specs.Order.{Row}
 use Rattle.sqlite_trees.specs.declared.error.StoreError.{StoreError}
@@ -10,14 +10,14 @@ use Rattle.office_store.specs.Shutting.{IsTold, told_by}
 pub told_open : (old new : State) → IsUnchanged old new → IsTold old new (Ok false)
 told_open old new same = (ap not (sym same.0.was_open), same.0.is_open ∙ sym same.0.was_open, tt)
 
--- a text that is no statement is refused by a store that is open
+-- an open store rejects a text that is no statement
 no_statement : (old new : State) (sql : List ℕ) (params : Row) (e : Error) → IsUnchanged old new → IsNoStatement old sql params e → IsTold old new (told_by e)
 no_statement old new sql params e same (inl it) = subst (λ x. IsTold old new (told_by x)) (sym it.2) (told_open old new same)
 no_statement old new sql params e same (inr (c, is, inl it)) = subst (λ x. IsTold old new (told_by x)) (sym it.1) (told_open old new same)
 no_statement old new sql params e same (inr (c, is, inr (inl it))) = subst (λ x. IsTold old new (told_by x)) (sym it.1) (told_open old new same)
 no_statement old new sql params e same (inr (c, is, inr (inr it))) = subst (λ x. IsTold old new (told_by x)) (sym it.1) (told_open old new same)
 
--- a store that was shut stays so
+-- a store that was shut stays shut
 shut_after : (before after : Bool) → (IsTrue after → IsTrue before) → before ≡ false → after ≡ before
 shut_after before false back shut = sym shut
 shut_after before true back shut = absurd (let up : before ≡ true = back refl in cc)

@@ -1,4 +1,4 @@
--- The rows that were taken of a join, and the next.
+-- The rows of a join that were taken, and the next row.
 use Rattle.std.proofs.Common.{◌≡◌, List, [], ◌∷◌, ◌++◌, map, Some, None, refl, sym, ap, subst, ◌∙◌}
 use Rattle.sqlite_value.specs.Order.{Row}
 use Rattle.sqlite_trees.specs.declared.store.Store.{Ghosts}
@@ -24,7 +24,7 @@ map_push : {X Y : Type 0} (f : X → Y) (xs : List X) (x : X) → map f (xs ++ x
 map_push f [] x = refl
 map_push f (y ∷ xs) x = ap (λ l. f y ∷ l) (map_push f xs x)
 
--- a row more of what is shown is that of the next joined row
+-- one more row of the answer is the row of the next joined row
 next_is : (taken more : List JoinedRow) (row : Row) (rest : List Row) → (map joined_cells taken ++ row ∷ []) ++ rest ≡ map joined_cells (taken ++ more)
     → (x : JoinedRow) × (left : List JoinedRow) × (more ≡ x ∷ left) × (row ≡ joined_cells x)
 next_is [] [] row rest e = absurd cc

@@ -1,4 +1,4 @@
--- Whether the tables of an office stand in a schema in the form in which this program makes them.
+-- When the tables of an office in a database have the form in which this program makes them.
 use Rattle.std.specs.Prelude.{◌≡◌, ◌⊎◌, ◌==◌, ℕ, false, IsTrue, Option, Some, None, [], length, filter, slice_get}
 use Rattle.sqlite_schema.specs.declared.schema.Schema.{Schema}
 use Rattle.sqlite_schema.specs.declared.schema.Table.{Table}
@@ -8,21 +8,21 @@ use Rattle.office_tables.specs.Editions.{came_later, has_table}
 use Rattle.office_tables.specs.Known.{IsIn, at_tree}
 use Rattle.office_tables.specs.Schema.{OfficeTable, table_of}
 
--- the table of an office stands there in its form
+-- the schema has this table of the office in its form
 abbrev pub HasForm : Schema → OfficeTable → Type 0
 HasForm schema k = (n : ℕ) × IsIn schema (table_of k) n
 
--- each of its tables does; in an office of an earlier edition those that came later may be missing
+-- each table of the office has its form; in an office of an earlier edition, tables that came later may be missing
 abbrev pub HasForms : ℕ → Schema → Type 0
 HasForms edition schema =
     (k : OfficeTable) → HasForm schema k ⊎ (IsTrue (came_later edition (table_of k).name) × (has_table schema (table_of k).name ≡ false))
 
--- how many unique indexes such a table has: that of its key, where this isn't its rowid
+-- the number of unique indexes of a table: one for its key, or none if the key is the rowid
 abbrev pub index_count : Option ℕ → ℕ
 index_count None = 1
 index_count (Some key) = 0
 
--- the name finds a table of this form, no other has its tree, and of its rows nothing has to differ but the key
+-- the name finds a table of this form, no other table has its tree, and rows must differ in their key alone
 pub record StandsAlike (schema : Schema) (form : Table) : Type 0 where
   pub place : ℕ
   pub tree : ℕ
@@ -31,7 +31,7 @@ pub record StandsAlike (schema : Schema) (form : Table) : Type 0 where
   pub alone : length (filter (λ t. t.tree == tree) schema.tables) ≡ 1
   pub guarded : length (filter (λ i. guards i (at_tree form tree)) schema.indexes) ≡ index_count form.key
 
--- it does; or it came later than this edition, and no table has its name
+-- the table has its form; or it came after this edition, and no table has its name
 abbrev pub StandsOrLacks : ℕ → Schema → Table → Type 0
 StandsOrLacks edition schema form = StandsAlike schema form ⊎ (IsTrue (came_later edition form.name) × (table_named schema form.name ≡ None))
 

@@ -1,5 +1,5 @@
--- What the ledger's rows are, one at a time: the rows so far are the first of the join of an office's lines, lots, contracts and entries, and at
--- the end the whole. They borrow the shelf's connection, which keeps the office at each of them.
+-- The joined rows of the ledger, one at a time: the rows so far are the first rows of the join. They borrow the store's connection, which keeps the office
+-- after each row.
 use Rattle.std.specs.Prelude.{◌≡◌, ℕ, List, [], ◌∷◌, ◌++◌, map, Option, Some, None, IsTrue}
 use Rattle.sqlite_trees.specs.declared.store.Store.{Ghosts}
 use Rattle.sqlite.specs.Given.{HasGiven, IsEnded}
@@ -15,8 +15,8 @@ use Rattle.office_store.specs.SqlMeaning.{sql_meaning}
 use Rattle.office_store.specs.declared.ledger_rows.LedgerRows.{LedgerRows}
 
 module _ {S : Type 0} (g : Ghosts S) where
-  -- the shelf's view while its rows are read: their connection, with the faults that it had counted. No clause says yet that a shelf
-  -- whose rows are dropped ends as this.
+  -- The view of the store while its ledger rows are read: their connection, and the faults that the store had counted. No clause says yet that a store whose
+  -- rows are dropped ends like this.
   abbrev pub shelf_left : LedgerRows S g → ℕ → Held S × ℕ
   shelf_left it faults = (it.rows.conn.now, faults)
 
@@ -24,21 +24,21 @@ module _ {S : Type 0} (g : Ghosts S) where
   abbrev pub IsBroken : LedgerRows S g → Type 0
   IsBroken it = IsTrue it.is_broken
 
-  -- no row is to come
+  -- there are no more rows
   abbrev pub IsAtEnd : LedgerRows S g → Type 0
   IsAtEnd it = IsEnded it.rows.conn.now
 
-  -- of a connection: these rows were taken so far, and they are the first of the join of these tables
+  -- the connection has given exactly these rows, which are the first rows of the join of this content
   pub record HasTaken (h : Held S) (t : Tables) (taken : List JoinedRow) : Type 0 where
     pub given : HasGiven g list_joined [] h (map joined_cells taken)
     pub held : HoldsJoined (state g h).now t
     pub first : (rest : List JoinedRow) × (taken ++ rest ≡ joined t)
 
-  -- one more row is taken, or those so far are the whole join
+  -- one more row is given; or there is none, because the rows so far are the whole join
   abbrev pub TakesOn : Held S → Tables → List JoinedRow → Option JoinedRow → Type 0
   TakesOn h t taken (Some row) = HasTaken h t (taken ++ row ∷ [])
   TakesOn h t taken None = taken ≡ joined t
 
-  -- the connection shows what it showed, and a stop leaves nothing that it could not have left before
+  -- the connection keeps the office that it had, and a stop can leave only what it could leave before
   abbrev pub KeepsOffice : Held S → Held S → Type 0
   KeepsOffice old new = (faults : ℕ) → Keeps (sql_meaning g) (old, faults) (new, faults)

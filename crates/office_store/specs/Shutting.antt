@@ -1,4 +1,4 @@
--- Whether a store was shut for good, as it is told by a statement that it reads or refuses.
+-- Whether a store was shut for good. The answer to a statement shows it.
 use Rattle.std.specs.Prelude.{◌≡◌, ◌⊎◌, Bool, true, false, not, Result, Ok, Err, IfOk, IfErr, OnOk}
 use Rattle.sqlite_disk.specs.Disk.{MoreFaults}
 use Rattle.sqlite.specs.declared.error.Error.{Error}
@@ -8,7 +8,7 @@ use Rattle.sqlite.specs.State.{State}
 use Rattle.office_base.specs.declared.shelf.ShelfFault.{ShelfFault}
 use Rattle.office_base.specs.declared.shelf.ShelfFault.TheVariants.{NoMemory, Store}
 
--- what a statement's refusal tells of its store: a store that was shut says so; want of memory and a fault of the disk tell nothing
+-- The error of a statement shows whether its store was shut. Too little memory and a fault of the disk show nothing about that.
 abbrev pub told_by : Error → Result Bool ShelfFault
 told_by (SqliteFailure code.Closed) = Ok true
 told_by (SqliteFailure code.OutOfMemory) = Err NoMemory
@@ -17,7 +17,7 @@ told_by (SqliteFailure code.DatabaseCorrupt) = Err Store
 told_by (SqliteFailure code.DiskFull) = Err Store
 told_by _ = Ok false
 
--- it is told whether the store is open, and asking shuts none; or there was no memory to ask, or the disk failed meanwhile
+-- The answer says whether the store is open, and asking doesn't shut it. Or memory was too small to ask, or the disk failed meanwhile.
 abbrev pub IsTold : State → State → Result Bool ShelfFault → Type 0
 IsTold old new result =
     IfOk result (λ shut. shut ≡ not old.is_open)

@@ -9,20 +9,20 @@ use Rattle.office_base.specs.Shelves.{Meaning}
 use Rattle.office_tables.specs.Failing.{ChangeFails}
 use Rattle.office_tables.specs.Steps.{ShowsTables, Leaves, MayLeave}
 
--- whatever trees a stop may leave stand for the tables of some office
+-- all trees that a stop may leave hold some office
 abbrev pub LeavesOffices : State → Type 0
 LeavesOffices s = (db : Trees) → s.may_leave db → (u : Tables) × Leaves u db
 
--- they do where the last commit shows the tables of an office
+-- if the last commit holds an office, all trees that a stop may leave hold one
 abbrev pub LeavesShown : State → Type 0
 LeavesShown s = (t : Tables) → ShowsTables s t → LeavesOffices s
 
--- where the last commit shows the tables of an office, a stop leaves these and no others
+-- if the last commit holds an office, a stop can leave no other office
 abbrev pub LeavesNoOther : State → Type 0
 LeavesNoOther s = (t : Tables) → ShowsTables s t → (u : Tables) → MayLeave s u → u ≡ t
 
--- A store that was shut shows no tables; what it held is in the order of its keys in any case. A question may break at any time; a change fails for
--- causes of its own.
+-- The content of an office in SQL is that of the last commit of an open store, in the order of its keys. A query may fail at any time; a change fails only
+-- for the causes of `ChangeFails`.
 abbrev pub sql_meaning : {S : Type 0} → Ghosts S → Meaning (Held S × ℕ)
 sql_meaning g = record {
   holds = λ s t. IsSorted t × ShowsTables (state g s.0) t;
@@ -34,7 +34,7 @@ sql_meaning g = record {
   has_failed = λ old new puts. ChangeFails (state g old.0) (state g new.0) puts;
 }
 
--- how to read what has a shelf inside
+-- how to read a value that has a store inside
 abbrev pub inside : {S T : Type 0} → (S → T) → Meaning T → Meaning S
 inside part M = record {
   holds = λ s t. M.holds (part s) t;

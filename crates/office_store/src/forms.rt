@@ -1,4 +1,4 @@
-//! Whether the tables of an office stand in a database in their form.
+//! Checks whether the tables of an office in a database have their form.
 ghost use Rattle.std.specs.Prelude.{◌≡◌, ◌&&◌, ◌==◌, ℕ, List, false, IsTrue, IfOk, IfErr, OnOk, length, filter, map};
 ghost use Rattle.sqlite_schema.specs.declared.schema.Table.{Table as Form};
 ghost use Rattle.sqlite_rules.specs.Lists.{Has};
@@ -16,7 +16,7 @@ use sqlite::{Alter, Connection, MemStore};
 use sqlite_schema::schema::{Schema, Table};
 use std::alloc::Global;
 
-// An empty office in memory, whose tables show the form of an office's. Nothing but memory can be missing for it.
+// An empty office in memory, whose tables show the form of all offices. It fails only for want of memory.
 fn blank(alloc: Global) -> Result<Connection<MemStore>, OpenFault>
     ensures forms { IfOk result (λ conn. ListsForms conn.schema) }
     ensures cause { IfErr result (λ e. e ≡ OpenFault.NoMemory) }
@@ -35,7 +35,7 @@ fn blank(alloc: Global) -> Result<Connection<MemStore>, OpenFault>
     }
 }
 
-// How many tables have this tree.
+// The number of tables that have this tree.
 fn tables_at(schema: &Schema, tree: u32) -> usize
     ensures { result ≡ length (filter (λ t. t.tree == tree) schema.now.tables) }
 {
@@ -43,7 +43,7 @@ fn tables_at(schema: &Schema, tree: u32) -> usize
     tables.iter().filter(|table| table.tree == tree).count()
 }
 
-// How many unique indexes stand on it.
+// The number of unique indexes on the table of this tree.
 fn guards_at(schema: &Schema, tree: u32) -> usize
     ensures { result ≡ length (filter (λ i. i.is_unique && (i.table == tree)) schema.now.indexes) }
 {
@@ -63,7 +63,7 @@ fn index_count(key: Option<usize>) -> usize
     }
 }
 
-// Whether a table of this form stands in the schema, with the index of its key alone.
+// Whether the schema has a table of this form, guarded by the index of its key alone.
 fn stands(schema: &Schema, form: &Table) -> bool
     ensures alike { IsTrue result → StandsAlike schema.now form.now }
     ensures found { HasPlainRules form.now → StandsAlike schema.now form.now → IsTrue result }
@@ -93,7 +93,7 @@ fn stands_or_lacks(schema: &Schema, form: &Table, edition: u64) -> bool
     stands(schema, form) || (came_later(edition, name) && schema.table_named(name).is_none())
 }
 
-// Whether the table of this name among the forms stands in the schema in its form; in an office of an earlier edition it may be missing if it came later.
+// Whether the schema has the table of this name in its form. In an office of an earlier edition, a table that came later may be missing.
 fn form_stands(schema: &Schema, forms: &Schema, name: &[u8], edition: u64) -> bool
     ensures right { IsTrue result → (form : Form) (n : ℕ) → name.now ≡ form.name → IsIn forms.now form n → StandsOrLacks edition schema.now form }
     ensures found { (form : Form) (n : ℕ) → name.now ≡ form.name → IsIn forms.now form n → HasPlainRules form → StandsOrLacks edition schema.now form → IsTrue result }
@@ -105,7 +105,7 @@ fn form_stands(schema: &Schema, forms: &Schema, name: &[u8], edition: u64) -> bo
     place < tables.len() && stands_or_lacks(schema, &tables[place], edition)
 }
 
-// Whether each of the tables of these names does.
+// Whether the schema has each table of these names so.
 fn named_stand(schema: &Schema, forms: &Schema, names: &[&[u8]], edition: u64) -> bool
     ensures right { IsTrue result → (form : Form) (n : ℕ) → Has (map (λ name. name.now) names.now) form.name → IsIn forms.now form n → StandsOrLacks edition schema.now form }
     ensures found { ((name : List ℕ) → Has (map (λ name. name.now) names.now) name → (form : Form) × (n : ℕ) × (name ≡ form.name) × IsIn forms.now form n × HasPlainRules form × StandsOrLacks edition schema.now form) → IsTrue result }
@@ -126,7 +126,7 @@ fn all_stand(schema: &Schema, forms: &Schema, edition: u64) -> bool
     named_stand(schema, forms, &names, edition)
 }
 
-/// Looks whether each table of the office stands in its form: `Store` where one doesn't. Nothing is read but the schema.
+/// Checks that each table of the office has its form, and returns `Store` if one hasn't. It reads only the schema.
 pub(crate) fn check_forms<S: Alter>(
     alloc: Global,
     conn: &Connection<S>,

@@ -1,4 +1,4 @@
-//! Entering an office that is there, and making one.
+//! Enters the office in a database, or makes one there.
 ghost use Rattle.std.specs.Prelude.{◌≡◌, nat_lt, IsTrue, OnOk, OnErr, IfOk, IfErr};
 ghost use Rattle.std.specs.List.{list_any};
 ghost use Rattle.sqlite_catalog.specs.Change.{is_used};
@@ -31,18 +31,20 @@ use std::alloc::Global;
 /// Why no office was opened.
 #[derive(Clone, Copy, Debug, PartialEq, Eq)]
 pub enum OpenFault {
-    /// Memory was refused.
+    /// Too little memory.
     NoMemory,
-    /// The store failed; or a table of the office's is missing, in another form than this program makes, or has a trigger or a unique index of others;
-    /// or the name of an index of the office's is taken; or, in an office of an earlier edition, the name of a table which it lacks is, or something of
-    /// others leads to a table that a migration changes.
+    /// The store failed, or the file can't be used as it is:
+    /// - a table of the office is missing, has another form, or has a trigger or a unique index of another program;
+    /// - something else has the name of an index of the office or, in an office of an earlier edition, of a table that must be made;
+    /// - in an office of an earlier edition, something of another program leads to a table that a migration changes.
     Store,
-    /// What stands there is no office of a version up to this program's: it has another version or no single row of one, or its schema takes no question for
-    /// the version, and has the name of a table of the office's for a table, an index or a view.
+    /// The file holds no office of a version that this program knows:
+    /// - the table `office` has another version or not exactly one row;
+    /// - or no table can answer the query for the version, and something has the name of a table of the office.
     NotAnOffice,
 }
 
-/// The fault of a shelf, as one of an opening.
+/// A fault of the store, as a fault of an opening.
 pub(crate) fn opening(fault: ShelfFault) -> OpenFault
     ensures is { result ≡ opening_of fault }
     ensures office { result ≡ OpenFault.NotAnOffice → ⊥ }
@@ -53,7 +55,7 @@ pub(crate) fn opening(fault: ShelfFault) -> OpenFault
     }
 }
 
-/// The fault of a store, as one of an opening.
+/// An error of the database, as a fault of an opening.
 pub(crate) fn open_fault(error: Error) -> OpenFault
     ensures is { result ≡ opening_of (fault_of error) }
     ensures office { result ≡ OpenFault.NotAnOffice → ⊥ }
@@ -61,7 +63,7 @@ pub(crate) fn open_fault(error: Error) -> OpenFault
     opening(fault(error))
 }
 
-/// Makes an office, in one transaction.
+/// Makes an empty office, in one transaction.
 pub(crate) fn found<S: Alter>(conn: &mut Connection<S>) -> Result<(), Error>
     ensures founded { HasCleanDisk (state S.Store conn.new) → IsSoundOpen (state S.Store conn.old) → OnOk result (Founded (state S.Store conn.old) (state S.Store conn.new)) }
     ensures refused { HasCleanDisk (state S.Store conn.new) → OnErr result (Refused (state S.Store conn.old) (state S.Store conn.new)) }
@@ -75,7 +77,7 @@ pub(crate) fn found<S: Alter>(conn: &mut Connection<S>) -> Result<(), Error>
     tx.commit()
 }
 
-// Whether one of the names is used.
+// Whether the schema uses one of the names.
 fn any_is_used(schema: &Schema, names: &[&[u8]]) -> bool
     ensures { result ≡ list_any (λ name. is_used schema.now name.now) names.now }
 {
@@ -87,7 +89,7 @@ fn any_is_used(schema: &Schema, names: &[&[u8]]) -> bool
     false
 }
 
-// Names of indexes are left out: where one of them is taken, and no table's, the office can't be made, and that is the store's fault.
+// Whether the schema uses the name of a table. Names of indexes aren't checked: if one is taken, making the office fails as a fault of the store.
 fn takes_a_name(schema: &Schema) -> bool
     ensures { result ≡ takes_a_name schema.now }
 {
@@ -95,7 +97,7 @@ fn takes_a_name(schema: &Schema) -> bool
     any_is_used(schema, &names)
 }
 
-// The version of the one row; 0 where there is no such row.
+// The version in the one row, or 0 if there is no such row.
 fn version_in(rows: &[Row]) -> u64
     ensures { result ≡ version_in rows.now }
 {
@@ -115,7 +117,7 @@ fn is_other_version(rows: &[Row]) -> bool
     !(0 < version && version <= VERSION)
 }
 
-// A store that answered may have been shut by the end of the transaction in which it was asked: this one is open.
+// Fails if the store was shut at the end of the transaction in which it answered.
 pub(crate) fn still_open<S: Alter>(conn: &mut Connection<S>) -> Result<(), OpenFault>
     ensures is_open { HasCleanDisk (state S.Store conn.new) → OnOk result (IsTrue (state S.Store conn.new).is_open) }
     ensures cause { IfErr result (λ e. e ≡ OpenFault.NotAnOffice → ⊥) }
@@ -140,8 +142,8 @@ fn origin_of(edition: u64) -> Origin
     }
 }
 
-/// Enters the office that is there, where one of an earlier edition becomes one as this program makes it; or makes an office where no name of its tables
-/// is taken. The store is open then.
+/// Enters the office in the database, and migrates it if it is of an earlier edition. It makes an office if there is none and no name of its tables is taken.
+/// After success the store is open.
 pub(crate) fn enter<S: Alter>(alloc: Global, conn: &mut Connection<S>) -> Result<Origin, OpenFault>
     ensures enters { HasCleanDisk (state S.Store conn.new) → IfOk result (λ origin. Enters S.Store origin conn.old conn.new) }
     ensures none { HasCleanDisk (state S.Store conn.new) → IfErr result (λ e. e ≡ OpenFault.NotAnOffice → IsNoOffice S.Store conn.old) }

@@ -1,4 +1,4 @@
-//! A joined row that is taken off a query.
+//! Takes joined rows from a query, one at a time.
 ghost use Rattle.std.specs.Prelude.{◌≡◌, List, IsNone, IfNone, IfOk};
 ghost use Rattle.sqlite.specs.Given.{IsEnded};
 ghost use Rattle.sqlite.specs.Held.{state};
@@ -14,7 +14,7 @@ use office_ledger::select::{join_is_begun, join_is_shown};
 use office_tables::faults::fault;
 use sqlite::{Alter, Rows};
 
-/// The next of the joined rows; None past the last.
+/// The next joined row, or `None` after the last.
 pub(crate) fn take_row<S: Alter>(rows: &mut Rows<'_, S>) -> Result<Option<JoinedRow>, ShelfFault>
     ensures same_reference { rows.new.conn.ghost_name ≡ rows.old.conn.ghost_name }
     ensures kept { KeepsOffice S.Store rows.old.conn.now rows.new.conn.now }

@@ -1,4 +1,4 @@
-//! The ledger's joined rows, one at a time.
+//! The joined rows of the ledger, one at a time.
 ghost use Rattle.std.specs.Prelude.{◌≡◌, false, [], List, IsTrue, IsNone, IfNone, IfOk, OnOk, OnErr};
 ghost use Rattle.sqlite.specs.Held.{state};
 ghost use Rattle.sqlite.specs.State.{HasCleanDisk, IsUnchanged, Survives};
@@ -16,14 +16,14 @@ use office_ledger::select::{join_is_no_write, join_is_plain, list_joined, stored
 use office_tables::faults::fault;
 use sqlite::{Alter, Connection, Rows};
 
-/// The joined rows of the ledger, in the order of their keys. They may be dropped at any row.
+/// The joined rows of the ledger, in the order of their keys. They may be dropped after any row.
 #[derive(Drop)]
 pub struct LedgerRows<'a, S: Alter> {
     rows: Rows<'a, S>,
     is_broken: bool,
 }
 
-// A store that was shut, and one in a transaction, refuse.
+// Fails if the store was shut or is in a transaction.
 pub(crate) fn ready<S: Alter>(conn: &mut Connection<S>) -> Result<(), ShelfFault>
     ensures unchanged { HasCleanDisk (state S.Store conn.new) → OnOk result (IsUnchanged (state S.Store conn.old) (state S.Store conn.new)) }
     ensures settled { HasCleanDisk (state S.Store conn.new) → OnOk result ((state S.Store conn.new).now ≡ (state S.Store conn.new).committed) }
@@ -61,7 +61,7 @@ impl<'a, S: Alter> LedgerRows<'a, S> {
         }
     }
 
-    /// The next row; None past the last. After a fault each further call answers `Store`.
+    /// The next row, or `None` after the last. After a fault, each further call returns `Store`.
     pub fn next(&mut self) -> Result<Option<JoinedRow>, ShelfFault>
         ensures same_reference { self.new.rows.conn.ghost_name ≡ self.old.rows.conn.ghost_name }
         ensures kept { KeepsOffice S.Store self.old.rows.conn.now self.new.rows.conn.now }
@@ -87,7 +87,7 @@ impl<'a, S: Alter> LedgerRows<'a, S> {
 impl<S: Alter> SqlShelf<S> {
     ghost use Rattle.office_store.specs.LedgerRows.{HasTaken, shelf_left};
 
-    /// The ledger's joined rows, one at a time. The faults that they answer are not counted.
+    /// The joined rows of the ledger, one at a time. `faults` doesn't count the faults that they return.
     pub fn ledger_rows(&mut self) -> Result<LedgerRows<'_, S>, ShelfFault>
         ensures begun { IfOk result (λ it. HasCleanDisk (state S.Store it.rows.conn.now) → (t : Tables) → IsSorted t → ShowsTables (state S.Store self.old.0) t → HasTaken S.Store it.rows.conn.now t []) }
         ensures kept { IfOk result (λ it. Keeps (sql_meaning S.Store) self.old (shelf_left S.Store it self.old.1)) }

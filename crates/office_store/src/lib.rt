@@ -1,4 +1,4 @@
-//! An office in SQL, in memory or in files: the shelf over its tables, and how it is made, opened and closed.
+//! An office in SQL, in memory or in files: its store, and how the office is made, opened, migrated and closed.
 #![tactic(auto)]
 
 mod forms;

@@ -1,4 +1,4 @@
-//! Offices of earlier editions, which become ones as this program makes them as they are opened.
+//! Migrates offices of earlier editions when they are opened.
 ghost use Rattle.std.specs.Prelude.{◌≡◌, ◌⊎◌, false, nat_lt, IsTrue, OnOk, OnErr, IfErr, map};
 ghost use Rattle.sqlite.specs.Held.{state};
 ghost use Rattle.sqlite.specs.State.{HasCleanDisk, Survives};
@@ -22,14 +22,14 @@ use office_tables::tables::office::VERSION;
 use sqlite::{Alter, Connection};
 use std::alloc::Global;
 
-// What this program keeps otherwise.
+// The content that an office of an earlier edition keeps in other tables or rows.
 #[derive(Drop)]
 struct FormerContent {
     clock: ClockRow,
     notices: Vec<FormerNotice>,
 }
 
-// The clock and the notices that stand in `notices`, all at once.
+// Reads the clock and the notices in `notices`, all into memory.
 fn former<S: Alter>(alloc: Global, conn: &mut Connection<S>) -> Result<FormerContent, ShelfFault>
     ensures got { TellsEdition S.Store conn.old conn.new result (λ edition t stood. (stood.clock ≡ t.clock) × (map (λ (r : FormerNotice). r.row) stood.notices.items ≡ former_part (had_former edition) t.notices)) }
     ensures kept { HasCleanDisk (state S.Store conn.new) → Refused (state S.Store conn.old) (state S.Store conn.new) }
@@ -40,9 +40,8 @@ fn former<S: Alter>(alloc: Global, conn: &mut Connection<S>) -> Result<FormerCon
     Ok(FormerContent { clock, notices })
 }
 
-// Of an office of this edition makes one as this program does, with its content, in one transaction. A name of a table that it lacks, taken by something else,
-// lets it be refused, and so does what of others leads to the tables that it changes: their rows would go with those, or their views show nothing.
-// Then nothing is committed.
+// Migrates an office of this edition, with its content, in one transaction. It fails and commits nothing if something else has the name of a missing table.
+// It also fails if a foreign key or a view of another program leads to a changed table: rows would be lost with it, or the view would be empty.
 fn migrated<S: Alter>(
     alloc: Global,
     conn: &mut Connection<S>,
@@ -65,8 +64,8 @@ fn migrated<S: Alter>(
     }
 }
 
-/// Makes an office as this program does of one of an earlier edition; one of this program's is used as it is. Where its tables don't stand in their form,
-/// neither is done. The store is open then.
+/// Migrates an office of an earlier edition, and leaves one of this program as it is. If a table doesn't have its form, it does neither. After success the
+/// store is open.
 pub(crate) fn ready<S: Alter>(
     alloc: Global,
     conn: &mut Connection<S>,

@@ -1,4 +1,4 @@
-//! Opening and closing an office.
+//! Opens and closes an office.
 ghost use Rattle.std.specs.Prelude.{◌≡◌, IsTrue, IfOk, IfErr};
 ghost use Rattle.sqlite_wal.specs.Reads.{AreClean};
 ghost use Rattle.sqlite.specs.Closing.{IsCopied};
@@ -24,7 +24,7 @@ use sqlite::{Connection, FileStore, Files, Leftover, MemStore, Options};
 use sqlite_disk::Disk;
 use std::alloc::Global;
 
-// Closes a connection, and gives back what is left of its files.
+// Closes a connection, and returns what is left: its files or its store.
 fn let_go<D: Disk + Drop>(conn: Connection<FileStore<D>>) -> Leftover<D>
     ensures left { IsLeftOf conn result }
 {
@@ -57,11 +57,12 @@ impl SqlShelf<MemStore> {
 }
 
 impl<D: Disk + Drop> SqlShelf<FileStore<D>> {
-    /// The office in two files, or a new one where no name of the office's tables is taken there; and which of these. Other tables stay, with
-    /// their rows. An office of an earlier version becomes one of this program's, with its content. Each table of an office that is opened stands in
-    /// its form: else it is refused, and so is one of an earlier version where a foreign key or a view of others leads to what is changed. Where it
-    /// shows the tables of an office, a stop leaves one. A refusal comes with what is left of the files: they are closed, or, where they can't be, it is
-    /// their store.
+    /// Opens the office in two files, or makes one there, and returns which of these it did.
+    /// - It makes a new office if there is none and no name of its tables is taken. Other tables keep their rows.
+    /// - It migrates an office of an earlier version, with its content. It refuses if a foreign key or a view of another program leads to a changed table.
+    /// - It refuses an office if a table doesn't have its form.
+    /// - If the store shows an office, a stop leaves an office.
+    /// - A refusal returns what is left of the files: they are closed, or it is their store if they can't be closed.
     pub fn open_files(
         alloc: Global,
         files: Files<D>,
@@ -98,16 +99,16 @@ impl<D: Disk + Drop> SqlShelf<FileStore<D>> {
         }
     }
 
-    /// Puts the office down without closing it, as a stop of the program does, and gives its store back. Nothing is written. Whatever a stop
-    /// then leaves of the store's files holds an office that a stop could leave of the shelf: so the next opening finds one.
+    /// Gives back the store without closing the office, as a stop of the program does. Nothing is written. The files that a stop then leaves hold an office
+    /// that it could leave before, so the next opening finds one.
     pub fn put_down(self) -> FileStore<D>
         ensures left { IsPutDown self.0 result }
     {
         self.into_connection().into_store()
     }
 
-    /// Closes the office, and gives its files back. If that fails it gives back the store, which isn't closed; so it does if the disk takes nothing from some
-    /// call on, as when the program is stopped there. The office stays in it.
+    /// Closes the office and returns its files. If that fails, it returns the store, which isn't closed, and in which the office stays. So it does if the
+    /// disk accepts no call from some moment on, as at a stop.
     pub fn close_files(self) -> Result<Files<D>, (ShelfFault, FileStore<D>)>
         ensures copied { IfOk result (λ files. AreClean D.Disk files.log files.db → IsCopied self.0 files) }
         ensures usable { IfOk result (λ files. AreUsable D.Disk files) }

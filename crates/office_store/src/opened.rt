@@ -1,20 +1,20 @@
-//! What an opening gives.
+//! The result of an opening.
 use crate::shelf::SqlShelf;
 use sqlite::FileStore;
 use sqlite_disk::Disk;
 
-/// Where an office that was opened comes from.
+/// How an opening got the office.
 #[derive(Clone, Copy, Debug, PartialEq, Eq)]
 pub enum Origin {
-    /// It stood there as this program makes it. Nothing was written.
+    /// The file had an office of this program. Nothing was written.
     Found,
-    /// It stood there as an earlier program made it, and stands there as this program does now.
+    /// The file had an office of an earlier program, which was migrated.
     Migrated,
-    /// No name of its tables was taken there, and it was made, with no content.
+    /// The file had no office and none of the names of its tables, so an empty office was made.
     Made,
 }
 
-/// An office in two files, and where it comes from.
+/// An office in two files, and how the opening got it.
 #[derive(Drop)]
 pub struct Opened<D: Disk + Drop> {
     pub shelf: SqlShelf<FileStore<D>>,

@@ -1,4 +1,4 @@
-//! What others have in a file that leads to the tables which a migration changes.
+//! Things of other programs in a file that lead to tables which a migration changes.
 ghost use Rattle.std.specs.Prelude.{◌≡◌, false};
 ghost use Rattle.std.specs.List.{list_any};
 ghost use Rattle.office_store.specs.Others.{begins_with, goes_on, is_changed, is_of_word, leads_there, mentions, mentions_from, refers_there, shows_there};
@@ -7,7 +7,7 @@ use office_tables::editions::had_former;
 use sqlite_schema::names::same_name;
 use sqlite_schema::schema::{Schema, Table, View};
 
-// The notices go from one table to another where an office is of an edition before version 2.
+// The notices move from one table to another if the edition is before version 2.
 fn is_changed(edition: u64, name: &[u8]) -> bool
     ensures { result ≡ is_changed edition name.now }
 {
@@ -46,7 +46,7 @@ fn begins_with(word: &[u8], text: &[u8]) -> bool
     }
 }
 
-// Whether the word is one of the words of the text, in either case: `officers` isn't `office`.
+// Whether the word is one of the words of the text, in any case of its letters. `officers` doesn't contain the word `office`.
 fn mentions(word: &[u8], text: &[u8]) -> bool
     ensures { result ≡ mentions word.now text.now }
 {
@@ -62,7 +62,7 @@ fn mentions(word: &[u8], text: &[u8]) -> bool
     false
 }
 
-// What is kept as it is, and isn't read, is no view.
+// A text that the database keeps but doesn't read is no view.
 fn shows_there(edition: u64, view: &View) -> bool
     ensures { result ≡ shows_there edition view.now }
 {

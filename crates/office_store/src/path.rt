@@ -1,4 +1,4 @@
-//! Opening the office in a file of the host.
+//! Opens the office in a file of the host.
 ghost use Rattle.std.specs.Prelude.{◌≡◌, true, false, None, IfErr, IfOk, IfSome, IsTrue};
 ghost use Rattle.sqlite_wal.specs.Files.{image_at};
 ghost use Rattle.sqlite_std_file.specs.File.{file_is_usable, IsFresh};
@@ -16,16 +16,16 @@ use std::hash::{BuildHasher, RandomState};
 use std::io::ErrorKind;
 use std::rt::HostRuntime;
 
-/// How much of an office's file is kept at hand.
+/// How much of an office's file is kept in memory and in the log.
 #[derive(Clone, Copy, Debug)]
 pub struct Room {
-    /// How many of its pages stay in memory. The memory is taken as the file is opened.
+    /// The number of pages that stay in memory. The memory is taken when the file is opened.
     pub pages: usize,
-    /// How many pages the log grows by before they are copied into the file.
+    /// The number of pages by which the log grows before they are copied into the file.
     pub frames: usize,
 }
 
-// The two files at a path, which are made where they are missing. A name that the ported `sqlite` keeps for another purpose is refused.
+// The two files at a path; missing files are made. Names that the ported `sqlite` uses for another purpose fail.
 fn files_at<S: Start>(
     rt: &HostRuntime,
     path: &str,
@@ -48,7 +48,7 @@ fn files_at<S: Start>(
     }
 }
 
-// Options of the store, with a random seed for its log's salts.
+// The options of the store, with a random seed for the salts of its log.
 fn options_for(rt: &HostRuntime, room: Room) -> Result<Options, OpenFault>
     ensures { IfErr result (λ fault. fault ≡ OpenFault.NotAnOffice → ⊥) }
 {
@@ -62,9 +62,8 @@ fn options_for(rt: &HostRuntime, room: Room) -> Result<Options, OpenFault>
 }
 
 impl<S: Start> SqlShelf<FileStore<FileFrom<S>>> {
-    /// The office in a file of the host, or a new one where no name of the office's tables is taken there. An office of an earlier version becomes one
-    /// of this program's, with its content. No clause can tie the path to a file: `S` stands for what the two files there hold, and the clauses are
-    /// proved for all that they may hold. `main` passes `Unknown`. A refusal comes with what is left of the files, once they were opened.
+    /// Opens the office in a file of the host, or makes or migrates one, like `open_files`. No clause can tie the path to a file: `S` has the bytes of the
+    /// two files, and the clauses are proved for any bytes. `main` passes `Unknown`. After the files were opened, a refusal returns what is left of them.
     pub fn open_from(
         rt: &HostRuntime,
         path: &str,

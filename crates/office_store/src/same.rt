@@ -1,4 +1,4 @@
-//! Whether two tables of schemas are one but for their trees.
+//! Whether two tables of schemas are equal except for their trees.
 ghost use Rattle.std.specs.Prelude.{◌≡◌, ◌↔◌, ◌<◌, false, IsTrue, [], length};
 ghost use Rattle.sqlite_value.specs.declared.value.Value.TheVariants.{Null};
 ghost use Rattle.sqlite_sql.specs.Term.{lit};
@@ -173,7 +173,7 @@ fn same_keys(a: &[Items<usize>], b: &[Items<usize>]) -> bool
     true
 }
 
-// It has no rules but types, NOT NULL, CHECK and keys.
+// Whether a table has no rules except types, NOT NULL, CHECK and keys.
 fn is_plain(table: &Table) -> bool
     ensures { IsTrue result ↔ HasPlainRules table.now }
 {
@@ -189,7 +189,7 @@ fn same_keyed(a: &Table, b: &Table) -> bool
         && same_orders(a.orders.as_slice(), b.orders.as_slice())
 }
 
-/// Whether two tables are one but for their trees: the same columns, keys and conditions, and no rules of another kind.
+/// Whether two tables are equal except for their trees: the same columns, keys and conditions, and no rules of other kinds.
 pub(crate) fn same_form(a: &Table, b: &Table) -> bool
     ensures same { IsTrue result → a.now ≡ record b.now { tree = a.now.tree } }
     ensures found { HasPlainRules b.now → a.now ≡ record b.now { tree = a.now.tree } → IsTrue result }

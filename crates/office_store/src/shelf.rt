@@ -1,4 +1,4 @@
-//! The shelf of an office in SQL.
+//! The store of an office in SQL: `SqlShelf` is a `Shelf`.
 ghost use Rattle.std.specs.Prelude.{◌≡◌, ⊤, IfErr};
 ghost use Rattle.sqlite.specs.Held.{state};
 ghost use Rattle.sqlite.specs.State.{IsLive};
@@ -28,7 +28,7 @@ use sqlite::{Alter, Connection};
 use std::alloc::Global;
 use std::marker::Model;
 
-/// An office in a database: its connection, and how many faults it answered.
+/// An office in a database: its connection, and the number of faults that it returned.
 pub struct SqlShelf<S: Alter> {
     pub(crate) alloc: Global,
     pub(crate) conn: Connection<S>,
@@ -58,7 +58,7 @@ impl<S: Alter + Drop> Drop for SqlShelf<S> {
 }
 
 impl<S: Alter> SqlShelf<S> {
-    /// Its connection, as for a store that can't be closed.
+    /// The connection alone, for a caller that can't close the store.
     pub fn into_connection(self) -> Connection<S>
         ensures { result ≡ self.0 }
     {
@@ -70,7 +70,7 @@ impl<S: Alter> SqlShelf<S> {
         conn
     }
 
-    // Counts a fault.
+    // Counts a fault, and returns it.
     pub(crate) fn count(&mut self, fault: ShelfFault) -> ShelfFault
         ensures fault { result ≡ fault }
         ensures kept { self.new.0 ≡ self.old.0 }
@@ -84,7 +84,7 @@ impl<S: Alter> SqlShelf<S> {
         }
     }
 
-    // The same answer; a fault is counted.
+    // Returns the answer, and counts a fault.
     fn told<T>(&mut self, answer: Result<T, ShelfFault>) -> Result<T, ShelfFault>
         ensures same { result ≡ answer }
         ensures kept { self.new.0 ≡ self.old.0 }

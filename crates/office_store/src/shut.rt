@@ -12,7 +12,7 @@ use crate::shelf::SqlShelf;
 use office_base::shelf::{Lookups, ShelfFault};
 use sqlite::{Alter, Connection, Error, ErrorCode};
 
-// What the refusal of a statement tells of its store.
+// Whether the error of a statement shows that its store was shut.
 fn tell(error: Error) -> Result<bool, ShelfFault>
     ensures { result ≡ told_by error }
 {
@@ -26,7 +26,7 @@ fn tell(error: Error) -> Result<bool, ShelfFault>
     }
 }
 
-/// Whether the store was shut: one that is open reads a statement, and one that was shut says that it is.
+/// Whether the store was shut. It prepares a statement: an open store reads it, and a store that was shut says so.
 pub(crate) fn ask<S: Alter>(conn: &mut Connection<S>) -> Result<bool, ShelfFault>
     ensures told { HasCleanDisk (state S.Store conn.new) → IsTold (state S.Store conn.old) (state S.Store conn.new) result }
     ensures kept { HasCleanDisk (state S.Store conn.new) → Refused (state S.Store conn.old) (state S.Store conn.new) }
@@ -39,8 +39,8 @@ pub(crate) fn ask<S: Alter>(conn: &mut Connection<S>) -> Result<bool, ShelfFault
 }
 
 impl<S: Alter> SqlShelf<S> {
-    /// Whether a fault of the disk shut its store for good: from then on it answers nothing but faults, until the office is opened anew.
-    /// Nothing changes. `NoMemory` where there is none to ask, and `Store` where the disk failed meanwhile.
+    /// Whether a fault of the disk shut the store for good. Then it returns only faults, until the office is opened again. The call changes nothing.
+    /// `NoMemory` means that memory was too small to ask, `Store` that the disk failed meanwhile.
     pub fn is_shut(&mut self) -> Result<bool, ShelfFault>
         ensures told { HasCleanDisk (state S.Store self.new.0) → IfOk result (λ shut. shut ≡ not (state S.Store self.old.0).is_open) }
         ensures lasts { HasCleanDisk (state S.Store self.new.0) → OnOk result ((state S.Store self.new.0).is_open ≡ (state S.Store self.old.0).is_open) }

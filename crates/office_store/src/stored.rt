@@ -1,4 +1,4 @@
-//! An office in SQL, as a shelf over a store that outlives the program.
+//! An office in SQL as a store that outlives the program.
 ghost use Rattle.sqlite.specs.Held.{state};
 
 use crate::shelf::SqlShelf;

@@ -1,4 +1,4 @@
-//! What an office comes to, from one select of joined rows each.
+//! The sums of an office, each from one select of joined rows.
 ghost use Rattle.std.specs.Prelude.{◌≡◌, [], IfOk};
 ghost use Rattle.sqlite.specs.Held.{state};
 ghost use Rattle.sqlite.specs.State.{HasCleanDisk, Survives};
@@ -24,7 +24,7 @@ use sqlite::{Alter, Connection, Rows};
 use sqlite_value::value::ValueRef;
 use std::alloc::Global;
 
-// Adds up the rows to the last. A sum out of its range is a fault of the store.
+// Adds up all remaining rows. A sum out of its range is a fault of the store.
 fn add_up<S: Alter>(alloc: Global, rows: &mut Rows<'_, S>) -> Result<Vec<LedgerRow>, ShelfFault>
     ensures same_reference { rows.new.conn.ghost_name ≡ rows.old.conn.ghost_name }
     ensures got { HasCleanDisk (state S.Store rows.new.conn.now) → (t : Tables) → IsSorted t → HasTaken S.Store rows.old.conn.now t [] → IfOk result (λ ledger. (ledger.items ≡ ledger_of t) × LinesFit t) }
@@ -40,7 +40,7 @@ fn add_up<S: Alter>(alloc: Global, rows: &mut Rows<'_, S>) -> Result<Vec<LedgerR
     Err(ShelfFault::Store)
 }
 
-/// The ledger, added up as its rows come, so that no more than one of them is held. A sum out of its range is a fault of the store.
+/// The ledger, added up while its rows come, so that only one row is in memory. A sum out of its range is a fault of the store.
 pub(crate) fn ledger<S: Alter>(
     alloc: Global,
     conn: &mut Connection<S>,
@@ -58,7 +58,7 @@ pub(crate) fn ledger<S: Alter>(
     }
 }
 
-/// What each lot of a line has reserved, and what each contract of these lots comes to.
+/// The reserved amount of each lot of a line, and the sums of each contract of these lots.
 pub(crate) fn amounts_of_line<S: Alter>(
     alloc: Global,
     conn: &mut Connection<S>,

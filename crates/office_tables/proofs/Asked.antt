@@ -1,4 +1,4 @@
--- An answer over the last commit is one over the tables that it holds.
+-- An answer over the last commit is an answer over the content that this commit holds.
 use Rattle.std.proofs.Common.{◌≡◌, ◌⊎◌, inl, inr, ℕ, List, [], ◌∷◌, map, slice_get, Option, Some, ap, Result, Ok, Err, true, IsTrue, sym, subst, ◌∙◌}
 use Rattle.std.specs.Prelude.{◌≤◌, IfOk, IfErr, OnOk, option_map}
 use Rattle.sqlite_value.specs.Order.{Row}
@@ -19,12 +19,12 @@ pub asked : {S : Type 0} (g : Ghosts S) (sql : List ℕ) (params : Row) (old : H
 asked g sql params old rows t Q h shows use_it =
     use_it (state g (record old { in_transaction = true })) (state g h.after) (subst (λ d. Holds d t) (sym h.settled) (shows h.was_open)) h.shown
 
--- the first of one row
+-- the first record of a single row
 pub only_one : {X Y : Type 0} (read : Y → X) (rows : List Y) (x : X) → map read rows ≡ x ∷ [] → option_map read (slice_get rows 0) ≡ Some x
 only_one read [] x h = absurd (cc)
 only_one read (r ∷ rows) x h = let same : read r ≡ x = cc in ap Some same
 
--- what was found is what was told
+-- the record that was found is the one that the rows mean
 pub same_found : {A E : Type 0} (r : Result A E) (found : Option A) (x : A) → IfOk r (λ a. found ≡ Some a) → found ≡ Some x → IfOk r (λ a. a ≡ x)
 same_found (Ok a) found x h e = let same : Some a ≡ Some x = sym h ∙ e in cc
 same_found (Err e) found x h k = tt
@@ -48,7 +48,7 @@ pub refused_by : {S A : Type 0} (g : Ghosts S) (sql : List ℕ) (params : Row) (
 refused_by g sql params old mid new (Ok a) up h = tt
 refused_by g sql params old mid new (Err e) up h = inl (mid, up, h)
 
--- what was found in the rows of an answer is right, where the rows are
+-- the answer that was found in the rows is right, because every answer in these rows is right
 told : {S A E : Type 0} (g : Ghosts S) (sql : List ℕ) (params : Row) (old : Held S) (r : Result A E) (From : A → List Row → Type 0) (t : Tables) (Right : A → Type 0)
     → IfOk r (λ a. (rows : List Row) × IsAsked g sql params old rows × From a rows) → ShowsTables (state g old) t
     → ((before after : Held S) (rows : List Row) (a : A) → Holds (state g before).now t → Shown sql params (state g before) (state g after) rows → From a rows → Right a) → IfOk r Right
@@ -56,7 +56,7 @@ told g sql params old (Ok a) From t Right h shows right =
     right (record old { in_transaction = true }) h.1.after h.0 a (subst (λ d. Holds d t) (sym h.1.settled) (shows h.1.was_open)) h.1.shown h.2
 told g sql params old (Err e) From t Right h shows right = tt
 
--- the record that was found is the one that was asked for, and so are all records that were found
+-- the record or the records that were found are right, and so is the whole result of a look-up
 pub tells_one : {S X E : Type 0} (g : Ghosts S) (sql : List ℕ) (params : Row) (old new : Held S) (r : Result (Option X) E) (read : Row → X) (part : Tables → Option X)
     → (HasCleanDisk (state g new) → IfOk r (λ found. (rows : List Row) × IsAsked g sql params old rows × (found ≡ option_map read (slice_get rows 0))))
     → FindsPart g sql params (λ rows. option_map read (slice_get rows 0)) part → Tells g old new r (λ t found. found ≡ part t)
@@ -69,19 +69,19 @@ pub tells_all : {S A X E : Type 0} (g : Ghosts S) (sql : List ℕ) (params : Row
 tells_all g sql params old new r items read part asked finds clean t shows =
     told g sql params old r (λ found rows. items found ≡ map read rows) t (λ found. items found ≡ part t) (asked clean) shows (λ before after rows found holds shown from. from ∙ finds before after rows t holds shown)
 
--- what was found in the rows that were asked for
+-- an answer that was found in some rows of the query is one found in rows of the query
 pub from_rows : {S A E : Type 0} (g : Ghosts S) (sql : List ℕ) (params : Row) (old : Held S) (rows : List Row) (r : Result A E) (From : A → List Row → Type 0)
     → IsAsked g sql params old rows → IfOk r (λ a. From a rows) → IfOk r (λ a. (rows : List Row) × IsAsked g sql params old rows × From a rows)
 from_rows g sql params old rows (Ok a) From h found = (rows, h, found)
 from_rows g sql params old rows (Err e) From h found = tt
 
--- why the rows that were asked for aren't read
+-- the reason why the rows of the query aren't read
 pub rows_unread : {S A : Type 0} (g : Ghosts S) (sql : List ℕ) (params : Row) (old : Held S) (rows : List Row) (r : Result A ShelfFault) (unwritten : List Row → Type 0)
     → IsAsked g sql params old rows → IfErr r (IsFaultOf (unwritten rows)) → IfErr r (IsUnread g sql params old unwritten)
 rows_unread g sql params old rows (Ok a) unwritten h why = tt
 rows_unread g sql params old rows (Err e) unwritten h why = inr (rows, h, why)
 
--- the same of what else the last commit holds
+-- an answer is right if the last commit has any property `P` that makes every answer right
 pub told_of : {S A E : Type 0} (P : Database → Type 0) (g : Ghosts S) (sql : List ℕ) (params : Row) (old : Held S) (r : Result A E) (From : A → List Row → Type 0) (Right : A → Type 0)
     → IfOk r (λ a. (rows : List Row) × IsAsked g sql params old rows × From a rows) → (IsTrue (state g old).is_open → P (state g old).committed)
     → ((before after : State) (rows : List Row) (a : A) → P before.now → Shown sql params before after rows → From a rows → Right a) → IfOk r Right

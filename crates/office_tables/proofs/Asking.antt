@@ -1,4 +1,4 @@
--- What a select over one table of the office shows.
+-- The rows that a select over one table of the office shows.
 use Rattle.std.proofs.Common.{◌≡◌, ℕ, Bool, true, false, cond, List, [], ◌∷◌, map, filter, slice_get, option_map, Some, None, refl, sym, ap, ap₂, subst, ◌∙◌, Ordering, Less, Equal, Greater}
 use Rattle.std.specs.Prelude.{nat_le, ◌^◌, unwrap_or, take}
 use Rattle.std.specs.List.Sorted.{IsPermutation}
@@ -45,7 +45,7 @@ slice_get-map : {X Y : Type 0} (f : X → Y) (xs : List X) → slice_get (map f 
 slice_get-map f [] = refl
 slice_get-map f (x ∷ xs) = refl
 
--- a stored tree is none that a statement computes
+-- a stored tree isn't one that a statement computes
 pub overlaid : (db : Trees) (n : ℕ) → overlay db [] n ≡ db n
 overlaid db n = by (nat_le (2 ^ 31) n)
   where
@@ -54,7 +54,7 @@ overlaid db n = by (nat_le (2 ^ 31) n)
     by false = refl
 
 module _ {K X : Type 0} (R : K → K → Ordering) (total : IsTotalOrder R) (same : IsAntisymmetric R) (key : X → K) where
-  -- the first of the rows with a key is the row at that key
+  -- the first row with a key is the row at that key
   first_at : (p : X → Bool) (k : K) → ((x : X) → p x ≡ eq_by_cmp R k (key x)) → (xs : List X) → IsInOrder R key xs → slice_get (filter p xs) 0 ≡ row_at R key xs k
   unfolding row_at
   first_at p k is [] o = refl
@@ -67,7 +67,7 @@ module _ {K X : Type 0} (R : K → K → Ordering) (total : IsTotalOrder R) (sam
       by Equal e h = ap (λ b. slice_get (cond b (x ∷ filter p xs) (filter p xs)) 0) (is x ∙ ap is_eq e)
       by Greater e h = ap (λ b. slice_get (cond b (x ∷ filter p xs) (filter p xs)) 0) (is x ∙ ap is_eq e) ∙ h
 
-  -- all rows with one key tie
+  -- rows with the same key tie in the order
   tied_keys : (p : X → Bool) (k : K) → ((x : X) → p x ≡ eq_by_cmp R k (key x)) → (x y : X) → p x ≡ true → p y ≡ true → false ≡ is_lt (R (key x) (key y))
   tied_keys p k is x y a b =
       let one : k ≡ key x = equal_keys same k (key x) (sym (is x) ∙ a) in
@@ -82,7 +82,7 @@ module _ {K X : Type 0} (R : K → K → Ordering) (total : IsTotalOrder R) (sam
     module _ (old new : State) (rows : List Row) (n : ℕ) (xs : List X) (stand : Stand R key form decode (old.now.trees n) xs)
         (text : List ℕ) (params : Row) (tests shown order : List ℕ) (names : List (List ℕ)) (means : StatementMeans old.now.schema text (Select (record { lets = []; body = select n tests shown order }) names))
         (p : X → Bool) (passing : (v : Value) (x : X) → list_all (holds (params ∷ form v x ∷ [])) (tested 0 tests) ≡ p x) where
-      -- what is shown of the rows that pass
+      -- the rows that are shown of those that pass the tests
       pub shows_rows : (out : X → Output) → ((v : Value) (x : X) → output (select n tests shown order) (params ∷ form v x ∷ []) ≡ out x)
           → ((x y : X) → p x ≡ true → p y ≡ true → is_lt (output_cmp (select n tests shown order) (out x) (out y)) ≡ is_lt (R (key x) (key y)))
           → Shown text params old new rows → rows ≡ map (λ (o : Output). o.1) (map out (filter p xs))
@@ -96,7 +96,7 @@ module _ {K X : Type 0} (R : K → K → Ordering) (total : IsTotalOrder R) (sam
       back : AllByRecursion (λ x. read (encode x) ≡ x) (filter p xs)
       back = all_filter _ p xs (subst (AllByRecursion (λ x. read (encode x) ≡ x)) stand.is (comes_back R total same key form decode (old.now.trees n) stand.kept encode read reads))
 
-      -- the records that pass, in the order of their keys
+      -- the records that pass the tests, in the order of their keys
       pub lists : (sorts : X → Row) → ((v : Value) (x : X) → output (select n tests shown order) (params ∷ form v x ∷ []) ≡ (sorts x, encode x))
           → ((x y : X) → is_lt (output_cmp (select n tests shown order) (sorts x, encode x) (sorts y, encode y)) ≡ is_lt (R (key x) (key y)))
           → Shown text params old new rows → map read rows ≡ filter p xs
@@ -110,7 +110,7 @@ module _ {K X : Type 0} (R : K → K → Ordering) (total : IsTotalOrder R) (sam
           ∙ ap (λ (l : List X). slice_get l 0) (ap (map read) (shows_rows (λ x. ([], encode x)) shows (λ x y a b. ap is_lt (unordered ([], encode x) ([], encode y)) ∙ tied_keys p k is x y a b) h) ∙ read_back (λ x. []) (filter p xs) back)
           ∙ first_at p k is xs (subst (IsInOrder R key) stand.is (in_order-rows_kept R total same key form decode (old.now.trees n)))
 
-    -- the first of the rows that pass some tests
+    -- the first rows that pass the tests
     module _ (old new : State) (rows : List Row) (n : ℕ) (xs : List X) (stand : Stand R key form decode (old.now.trees n) xs)
         (text : List ℕ) (params : Row) (tests : List Term) (shown order : List ℕ) (limit : Term) (names : List (List ℕ)) (means : StatementMeans old.now.schema text (Select (record { lets = []; body = capped_select n tests shown order limit }) names))
         (p : X → Bool) (passing : (v : Value) (x : X) → list_all (holds (params ∷ form v x ∷ [])) tests ≡ p x) (most : ℕ) (counts : as_count (eval limit (params ∷ [])) ≡ Some most) where

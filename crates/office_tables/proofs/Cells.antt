@@ -79,7 +79,7 @@ above_is Less = refl
 above_is Equal = refl
 above_is Greater = refl
 
--- a column of text stands above a parameter as an identifier stands behind another
+-- a column of text is greater than a parameter exactly if its identifier comes after the other one
 pub text_above : (a b : List ℕ) → is_true (binary (by.Compare Gt Binary) (Text a) (Text b)) ≡ is_lt (id_cmp b a)
 unfolding binary
 text_above a b = truth_is (is_gt (value_cmp (Text a) (Text b))) ∙ ap is_gt (value_cmp-Text a b ∙ nat_list_cmp_total.antisymm a b) ∙ above_is (id_cmp b a)
@@ -159,6 +159,6 @@ both_equal Less r = refl
 both_equal Equal r = refl
 both_equal Greater r = refl
 
--- the same number, the other way round
+-- whether two numbers are equal, with the sides exchanged
 pub same_number_is : (a b : ℕ) → same_number a b ≡ eq_by_cmp nat_cmp b a
 same_number_is a b = grind (arith, nat_tests)

@@ -1,4 +1,4 @@
--- A write leaves each table whose foreign keys don't lead to its own, whatever actions the foreign keys of other tables set off.
+-- A write changes no table whose foreign keys don't lead to the written table, whatever actions the foreign keys of other tables cause.
 use Rattle.std.proofs.Common.{◌≡◌, ◌≢◌, inl, inr, ℕ, zero, suc, Bool, true, false, List, [], ◌∷◌, ◌++◌, Option, Some, None, Ok, Err, Result, refl, sym, ap, subst, ◌∙◌, cond, ◌&&◌, nat_lt, ◌+◌, ℤ, true≢false}
 use Rattle.std.specs.Prelude.{◌==◌, length, flat_map, filter_map}
 use Rattle.std.specs.List.{AllByRecursion, list_any, cons_option}
@@ -18,14 +18,14 @@ use Rattle.sqlite_rules.specs.Action.{Work, work_by, work_for, works, loses, pai
 use Rattle.sqlite_rules.proofs.ListLemmas.{all_has}
 use Rattle.office_tables.specs.Apart.{LeadsInside, KeepsMarked}
 
--- a table has the tree, and each that has it has no foreign key
+-- some table has this tree, and no table with this tree has a foreign key
 pub record IsOwn (schema : Schema) (n : ℕ) : Type 0 where
   pub table : Table
   pub there : Has schema.tables table
   pub tree : table.tree ≡ n
   pub childless : (t : Table) → Has schema.tables t → t.tree ≡ n → t.references ≡ []
 
--- marked tables, from whose foreign keys none leads to another, keep their rows where this tree isn't marked
+-- every set of marked tables whose foreign keys lead to marked tables alone keeps its rows, unless this tree is marked
 abbrev pub SparesMarked : Schema → ℕ → Trees → Trees → Type 0
 SparesMarked schema n old new = (marked : ℕ → Bool) → LeadsInside schema marked → marked n ≡ false → KeepsMarked schema marked old new
 
@@ -107,7 +107,7 @@ module _ (schema : Schema) (keys : Keys) (marked : ℕ → Bool) (inside : Leads
   applied db next edit out it t there is_marked =
       all_has (λ (t : Table). t.tree ≢ edit.table.tree → next t.tree ≡ db t.tree) schema.tables t it.tables there (λ same. true≢false (sym is_marked ∙ ap marked same ∙ out))
 
-  -- the rest of the actions, once one more is done
+  -- the remaining actions leave the marked tables as they are, after one more step
   abbrev LeadsOn : ℕ → Trees → Type 0
   LeadsOn count next = (db : Trees) (stack : List Work) → AllByRecursion (IsElsewhere marked) stack → Leads schema keys count db stack (Ok next) → KeepsMarked schema marked db next
 
@@ -140,7 +140,7 @@ module _ (schema : Schema) (keys : Keys) (marked : ℕ → Bool) (inside : Leads
       let parts = all-front (IsElsewhere marked) h.0 (h.1 ∷ []) (subst (AllByRecursion (IsElsewhere marked)) h.2 all) in
       acts count db next h.0 h.1 (λ db stack all h. leads count db next stack all h) parts.0 parts.1.0 h.3 t there is_marked
 
--- marked, a table without foreign keys leads nowhere
+-- a table without foreign keys, as the only marked one, has no foreign key that leads out
 module _ (schema : Schema) (n : ℕ) (own : IsOwn schema n) where
   abbrev alone : ℕ → Bool
   alone m = m == n
@@ -157,7 +157,7 @@ module _ (schema : Schema) (n : ℕ) (own : IsOwn schema n) where
   alone_kept : (old new : Trees) → KeepsMarked schema alone old new → new n ≡ old n
   alone_kept old new kept = subst (λ m. new m ≡ old m) own.tree (kept own.table own.there (ap alone own.tree ∙ eq-eqb n n refl))
 
--- what a write leaves: of a table that has no foreign key what its own step does, and of tables apart all
+-- A write changes a table without foreign keys only by its own step. It leaves sets of tables that are apart as they are.
 pub record IsWritten (schema : Schema) (keys : Keys) (db : Trees) (edit : Edit) (next : Trees) : Type 0 where
   pub mid : Trees
   pub applies : Applies schema keys db edit mid
@@ -179,7 +179,7 @@ writes schema keys db next edit (inr (inr went)) = record {
       ∙ applied schema keys marked inside db went.0 edit out went.1 t there is_marked;
 }
 
--- so of another table that has no foreign key
+-- another table without foreign keys keeps its rows
 pub spared_own : (schema : Schema) (n m : ℕ) (old new : Trees) → SparesMarked schema n old new → IsOwn schema m → n ≢ m → new m ≡ old m
 spared_own schema n m old new spares own away = alone_kept schema m own old new (spares (alone schema m own) (alone_inside schema m own) unmarked)
   where

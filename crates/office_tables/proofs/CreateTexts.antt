@@ -1,4 +1,4 @@
--- A text that makes a table or an index does so wherever it is understood.
+-- A text that creates a table or an index does so in every schema that understands it.
 use Rattle.std.proofs.Common.{◌≡◌, inl, inr, [], ◌+◌, ◌==◌, ◌&&◌, not, List, Ok, Err, None, Some, Option, refl, false, true, Bool, cond, ℕ, length, ap, sym, subst, ◌∙◌}
 use Rattle.std.specs.Prelude.{slice_range, is_some}
 use Rattle.std.specs.Option.{option_or}
@@ -24,7 +24,7 @@ use Rattle.sqlite.specs.Listing.{understood, listing_schema, misses_table, if_se
 use Rattle.office_tables.specs.Known.{IsIn, at_tree}
 use Rattle.office_tables.specs.Making.{Says, IsCreate, IsIndexing}
 
--- what the grammar makes of the text of a table
+-- the parts that the grammar finds in the text of a table
 pub record ReadsTable (text : List ℕ) (table : Table) (p : Parsed) : Type 0 where
   pub def : CreateTable
   pub is : first text ≡ Ok p
@@ -35,7 +35,7 @@ pub record ReadsTable (text : List ℕ) (table : Table) (p : Parsed) : Type 0 wh
   pub whole : (length table.computed == length table.stamps.places && not def.resolves) ≡ true
   pub covers : slice_range text p.start p.end ≡ text
 
--- and of an index
+-- the parts that the grammar finds in the text of an index
 pub record ReadsIndex (text : List ℕ) (table : Table) (index : Index) (p : Parsed) : Type 0 where
   pub def : CreateIndex
   pub is : first text ≡ Ok p
@@ -47,7 +47,7 @@ pub record ReadsIndex (text : List ℕ) (table : Table) (index : Index) (p : Par
   pub covers : slice_range text p.start p.end ≡ text
   pub unlisted : compiled listing_schema text ≡ Err NoSuchTable
 
--- what is new is made, since no text here says IF NOT EXISTS
+-- the table or index must be new, since no text here says IF NOT EXISTS
 new_is : (name : List ℕ) (same other : Option ℕ) (b : Bool) → creates false name same other ≡ Ok b → b ≡ true
 unfolding creates
 new_is name same other b h = by (is_reserved name) (is_some other) (is_some same) h
@@ -61,7 +61,7 @@ new_is name same other b h = by (is_reserved name) (is_some other) (is_some same
 new_if : (missing : Bool) → missing ≡ false → (name : List ℕ) (same other : Option ℕ) (b : Bool) → creates missing name same other ≡ Ok b → b ≡ true
 new_if missing plainly name same other b h = new_is name same other b (subst (λ m. creates m name same other ≡ Ok b) plainly h)
 
--- the answer is the one that is known, whichever way it was come to
+-- a text is understood as the command that is known, by either way of understanding it
 understood_by : (made : Compiled) → is_select made.command ≡ false → (a b : Checked Compiled) → ((c : Compiled) → a ≡ Ok c → c ≡ made) → ((c : Compiled) → b ≡ Ok c → c ≡ made)
     → (c : Compiled) → cond (misses_table a) (if_select b) a ≡ Ok c → c ≡ made
 understood_by made unread (Ok d) b ha hb c e = ha c e

@@ -22,7 +22,7 @@ use Rattle.office_tables.proofs.Simple.{scope}
 use Rattle.office_tables.proofs.Meanings.{StatementMeans, means_by}
 use Rattle.office_tables.proofs.Selecting.{select}
 
--- what the grammar makes of the text
+-- the parts that the grammar finds in the text
 pub record IsDelete (text name : List ℕ) (test : Option Expr) (p : Parsed) : Type 0 where
   pub is : first text ≡ Ok p
   pub statement : p.statement ≡ written.Delete name test []

@@ -89,7 +89,7 @@ each Performances = performances_made
 pub bare : (k : OfficeTable) → IsBare (table_of k)
 bare k = (each k).bare
 
--- its records come back from their rows
+-- the records of each table are read back from their rows
 pub all_come_back : (k : OfficeTable) → ComeBack k
 all_come_back Lines = record { row = λ x. refl; entry = λ rowid x. refl }
 all_come_back Batches = record { row = λ x. refl; entry = λ rowid x. refl }
@@ -190,7 +190,7 @@ known old places tables (put.Clock x) = known_by old places tables Office clock_
 abbrev pub Found : Database → OfficeTable → Type 0
 Found db k = (n : ℕ) × IsIn db.schema (table_of k) n × (db.trees n ≡ [])
 
--- each table is one of all, at the place of its name
+-- each table is in the list of all tables, at the place of its name
 abbrev place_of : OfficeTable → ℕ
 place_of k = position_or_len (λ (j : OfficeTable). bytes_eq (table_of j).name (table_of k).name) all_tables
 
@@ -201,11 +201,11 @@ at_place k = refl
 pub listed : (k : OfficeTable) → Has all_tables k
 listed k = place_has all_tables (place_of k) k (at_place k)
 
--- and so of those that were made
+-- a property of all tables in the list is one of each table
 pub found : {db : Database} (k : OfficeTable) → AllByRecursion (Found db) all_tables → Found db k
 found {db} k all = all_has (Found db) all_tables k all (listed k)
 
--- no rows stand for no records
+-- no rows hold no records
 pub nothing : {K X : Type 0} {R : K → K → Ordering} {key : X → K} {form : Value → X → Row} {decode : Row → X} {rows : List Row} → rows ≡ [] → Stand R key form decode rows []
 nothing {R} {key} {form} {decode} e = subst (λ r. Stand R key form decode r []) (sym e) (record { kept = record { rising = tt; each = tt; one = λ a b h k s. absurd h }; is = refl })
 
@@ -222,6 +222,6 @@ same a b = sym a.is ∙ b.is
 one_of : {X : Type 0} {x y : X} → ◌≡◌ {A = List X} (x ∷ []) (y ∷ []) → x ≡ y
 one_of e = cc
 
--- rows stand for one content alone
+-- the rows of all tables hold one content alone
 pub one_content : (rows : OfficeTable → List Row) (t u : Tables) → Stands rows t → Stands rows u → t ≡ u
 one_content rows t u a b = λ i. record { lines = same (a Lines) (b Lines) i; batches = same (a Batches) (b Batches) i; tenderers = same (a Tenderers) (b Tenderers) i; notices = same (a Notices) (b Notices) i; lots = same (a Lots) (b Lots) i; envelopes = same (a Envelopes) (b Envelopes) i; seals = same (a Seals) (b Seals) i; securities = same (a Securities) (b Securities) i; awards = same (a Awards) (b Awards) i; contracts = same (a Contracts) (b Contracts) i; entries = same (a Entries) (b Entries) i; releases = same (a Releases) (b Releases) i; compiled = same (a Compiled) (b Compiled) i; late_rules = same (a LateRules) (b LateRules) i; performances = same (a Performances) (b Performances) i; clock = one_of (same (a Office) (b Office)) i }

@@ -64,7 +64,7 @@ use Rattle.office_tables.proofs.TableTools.{put_means}
 
 -- ---- its edition and its notices
 
--- none lacks a table that was there from the beginning
+-- every edition has the tables of edition 0
 none_lacks : (edition : ℕ) → nat_lt edition 0 ≡ false
 none_lacks edition = le-ltb edition 0 (omega arith)
 
@@ -80,7 +80,7 @@ edition_version edition db t was =
 pub current_version : (db : Database) (t : Tables) → Holds db t → HasVersion this_version t.clock db
 current_version db t was = record { place = was.places Office; table = was.tables Office; stand = was.stands Office }
 
--- the table of late withdrawals is there from edition 1 on
+-- edition 0 has no table of late withdrawals; each later edition has it
 no_late : (db : Database) (t : Tables) (n : ℕ) → StandsOrMissing 0 db t LateRules n → has_late db.schema ≡ false
 no_late db t n (inl it) = absurd (true≢false it.0)
 no_late db t n (inr it) = it.1
@@ -89,7 +89,7 @@ late_there : (edition : ℕ) (db : Database) (t : Tables) (n : ℕ) → StandsOr
 late_there edition db t n (inl it) = ap is_some it.1.named
 late_there edition db t n (inr it) = absurd (omega (arith, ltb-true (suc edition) 1 it.0))
 
--- so its version and that table tell the edition
+-- the edition follows from its version and from whether that table exists
 pub edition_is : (edition : ℕ) (db : Database) (t : Tables) → HoldsEdition edition db t → edition_of (version_of edition) (has_late db.schema) ≡ edition
 edition_is zero db t was = ap (edition_of 1) (no_late db t (was.places LateRules) (was.each LateRules))
 edition_is (suc edition) db t was = ap (edition_of (suc edition)) (late_there edition db t (was.places LateRules) (was.each LateRules))
@@ -97,7 +97,7 @@ edition_is (suc edition) db t was = ap (edition_of (suc edition)) (late_there ed
 pub current_is : (db : Database) (t : Tables) → Holds db t → edition_of this_version (has_late db.schema) ≡ this_version
 current_is db t was = ap (λ (o : Option ℕ). edition_of this_version (is_some o)) (was.tables LateRules).named
 
--- the notices in `notices`
+-- the records of `notices` are its notices, if the edition uses it; else none
 former_rows : (had : Bool) (rows : List Row) (notices : List NoticeRow) → FormerStand had rows notices → RowsStand former_form rows (former_part had notices)
 former_rows true rows notices stand = stand
 former_rows false rows notices none = no_rows none
@@ -107,13 +107,13 @@ pub former_there : (edition : ℕ) (db : Database) (t : Tables) (n : ℕ) → St
 former_there edition db t n (inl it) = (it.1, former_rows (had_former edition) (db.trees n) t.notices it.2)
 former_there edition db t n (inr it) = absurd (true≢false (sym it.0 ∙ none_lacks edition))
 
--- in the order of their identifiers
+-- they are in the order of their identifiers
 pub former_sorted : (edition : ℕ) (db : Database) (t : Tables) → HoldsEdition edition db t → IsInOrder id_cmp notice_key (former_part (had_former edition) t.notices)
 former_sorted edition db t was =
     let stand = (former_there edition db t (was.places FormerNotices) (was.each FormerNotices)).1 in
     subst (IsInOrder id_cmp notice_key) stand.is (in_order-rows_kept id_cmp nat_list_cmp_total ids_exact notice_key former_form.stored former_form.back (db.trees (was.places FormerNotices)))
 
--- and ask for no performance securities, of which there are none
+-- they ask for no performance security, and none exists
 asks_none : (rows : List Row) → AllByRecursion (λ (n : NoticeRow). n.performance ≡ 0) (records_of former_form.cmp former_form.key former_form.stored former_form.back rows)
 asks_none [] = tt
 asks_none (r ∷ rows) =
@@ -132,7 +132,7 @@ no_performances edition db t early was =
       securities = has_no_performances edition db t (was.places Performances) early (was.each Performances);
     }
 
--- the clock of the row that was found
+-- the clock in the row that was found
 abbrev pub former_clock_in : Row → FormerClock
 former_clock_in r = record { version = number_in_value (column r 0); row = clock_read r }
 
@@ -140,7 +140,7 @@ pub clock_found : (o : Option Row) → option_map (λ (c : FormerClock). c.row) 
 clock_found None = refl
 clock_found (Some r) = refl
 
--- the notices of the rows
+-- the notice in a row
 abbrev pub former_notice_in : Row → FormerNotice
 former_notice_in r = record { row = former_read r }
 
@@ -150,7 +150,7 @@ notices_read (r ∷ rows) = ap (λ l. former_read r ∷ l) (notices_read rows)
 
 -- ---- the tables that it lacks are made
 
--- the rows of a table stand as they stood; or it was made, has no rows, and the content has nothing of it
+-- The rows of a table hold its part as before. Or the table was made: then it has no rows, and the content nothing for it.
 abbrev StandsOrMade : ℕ → OfficeTable → List Row → Tables → Type 0
 StandsOrMade edition k rows t =
     ((lacks_table edition k ≡ false) × StandForEdition edition k rows t) ⊎ ((lacks_table edition k ≡ true) × (rows ≡ []) × StandFor k [] (besides_former edition t))
@@ -176,7 +176,7 @@ ready edition old new t ks all made stays was =
     let stands : (k : OfficeTable) → (m : ℕ) × IsIn new.schema (table_of k) m × StandsOrMade edition k (new.trees m) t = λ k. stands_or_made edition old new t ks all made stays k (was.places k) (was.each k) in
     record { sound = made.sound; places = λ k. (stands k).0; tables = λ k. (stands k).1; stands = λ k. (stands k).2 }
 
--- `notices` and `office` were there
+-- `notices` and `office` existed before
 former_stands : (edition : ℕ) (rows : List Row) (t : Tables) → StandsOrMade edition FormerNotices rows t → FormerStand (had_former edition) rows t.notices
 former_stands edition rows t (inl it) = it.1
 former_stands edition rows t (inr it) = absurd (true≢false (sym it.0 ∙ none_lacks edition))
@@ -185,7 +185,7 @@ clock_stands : (edition : ℕ) (rows : List Row) (t : Tables) → StandsOrMade e
 clock_stands edition rows t (inl it) = it.1
 clock_stands edition rows t (inr it) = absurd (true≢false (sym it.0 ∙ none_lacks edition))
 
--- ---- what stood in two of them is dropped
+-- ---- the rows of two tables are deleted
 
 drop_notices_read : IsDelete drop_notices (codes "notices") None (parsed_in (parsed drop_notices))
 unfolding everything parsed_in
@@ -207,11 +207,11 @@ drop_version_means schema n it =
     delete_means schema office n it refl drop_version None _ drop_version_read [] _ _ (no_test schema it.place (at_tree office n) it.found office.name [] max_budget nothing)
     (rw (it.stored, found_by_tree schema office n it))
 
--- the rows of records are numbered
+-- the rowids of rows that hold records are numbers
 numbered : {K X : Type 0} {R : K → K → Ordering} {key : X → K} {form : Value → X → Row} {decode : Row → X} {rows : List Row} {xs : List X} → Stand R key form decode rows xs → (r : Row) → Has rows r → is_int (rowid r) ≡ true
 numbered {rows} stand r there = (all_has _ rows r stand.kept.each there).0
 
--- `notices` has no rows any more, and the office's other tables and those apart are as they were
+-- `notices` has no rows any more; the other tables of the office and the tables apart are as before
 record IsCleared (had : Bool) (old new : Database) (p : Places) : Type 0 where
   schema : new.schema ≡ old.schema
   sound : IsDatabase new
@@ -234,7 +234,7 @@ cleared {S} g false from to p notices tables sound none same =
       apart = λ marked inside out u there is_marked. ap (λ (h : Held S). (state g h).now.trees u.tree) same;
     }
 
--- which of the changed tables are some of an edition's
+-- the tables that the migration changes have these among them
 office_changes : (had : Bool) → Has (changed_where had) Office
 office_changes true = inl refl
 office_changes false = inl refl
@@ -247,9 +247,9 @@ pub notices_change : (had : Bool) → had ≡ true → Has (changed_where had) N
 notices_change true is = inr (inr (inl refl))
 notices_change false is = absurd (true≢false (sym is))
 
--- ---- and this program's version is put
+-- ---- this program's version is put
 
--- what stands then is an office without the notices that stood in `notices`
+-- the rows now hold an office without the notices that were in `notices`
 renewed_stands : (edition : ℕ) (rows : OfficeTable → List Row) (now : List Row) (t : Tables) → ((k : OfficeTable) → StandsOrMade edition k (rows k) t) → StandFor Office now t
     → Stands (with_rows (with_rows (with_rows rows FormerNotices []) Office []) Office now) (besides_former edition t)
 renewed_stands edition rows now t stood clock FormerNotices = refl
@@ -320,7 +320,7 @@ module _ {S : Type 0} (g : Ghosts S) (edition : ℕ) (clock : ClockRow) (old : S
         added = subst (AddsNoReference old.now.schema) (sym (done.schema ∙ schema_2)) made.2.added;
       }
 
--- ---- where `notices` has none, nothing is dropped there
+-- ---- if the edition doesn't use `notices`, nothing is deleted there
 
 drops_goes : {S : Type 0} (g : Ghosts S) (had : Bool) (a : State) (b c : Held S) → Goes a (state g b) → DropsFormer g had b c → Goes a (state g c)
 drops_goes g true a b c goes it = goes_then a (state g b) (state g c) goes (goes_on (state g b) (state g c) it.1.1)

@@ -37,7 +37,7 @@ none_there : {A : Type 0} (xs : List A) → ((x : A) → Has xs x → ⊥) → x
 none_there [] none = refl
 none_there (x ∷ xs) none = absurd (none x (inl refl))
 
--- where all rows pass, the rows whose rowids were not among those of the answer are none
+-- if all rows pass, no row is left whose rowid isn't in the answer
 module _ (rows : List Row) (numbered : (r : Row) → Has rows r → is_int (rowid r) ≡ true) (p : Row → Bool) (all : (r : Row) → Has rows r → p r ≡ true) (env : Row → Env) (out : Env → Output)
     (shown : (r : Row) → (out (env r)).1 ≡ rowid r ∷ []) (ordered : List Output) (same_rows_are : IsPermutation (map out (picked p env rows)) ordered) where
   abbrev answer : List Row
@@ -56,7 +56,7 @@ module _ (rows : List Row) (numbered : (r : Row) → Has rows r → is_int (rowi
       let l = left_from (ids_of answer) rows r h in
       true≢false (sym (at_itself r (numbered r l.0)) ∙ l.1 (id_in (rowid r)) (mapped_has (λ y. id_in (rowid y)) answer (rowid r ∷ []) (listed r l.0))))
 
--- the table has no rows any more, and the office's others and those apart are as they were
+-- the table has no rows any more; the other tables of the office and the tables apart are as before
 pub record IsEmptied (k : OfficeTable) (old new : Database) (p : Places) : Type 0 where
   pub schema : new.schema ≡ old.schema
   pub sound : IsDatabase new

@@ -1,4 +1,4 @@
--- Why a change of an office was not made, as its statement was understood.
+-- Why a change of an office wasn't made, although its statement was understood.
 use Rattle.std.proofs.Common.{◌≡◌, ◌⊎◌, inl, inr, ℕ, List, [], ◌∷◌, None, Some, Ok, Err, Result, true, false, refl, sym, ap, subst, ◌∙◌, length, append-nil, true≢false}
 use Rattle.std.specs.Prelude.{IsErrAnd, IfErr, ◌≤◌}
 use Rattle.std.proofs.lemmas.Bool.{leb-true}
@@ -28,7 +28,7 @@ pub if_err_with : {A E : Type 0} (r : Result A E) (P Q : E → Type 0) → IfErr
 if_err_with (Ok a) P Q h f = tt
 if_err_with (Err e) P Q h f = f e h
 
--- what the exit of a `?` answers
+-- a `?` returns the error of the call
 pub same_err : {T E : Type 0} (r : Result T E) (e : E) (P : E → Type 0) → IsErrAnd r (λ y. y ≡ e) → P e → IfErr r P
 same_err (Ok a) e P same h = tt
 same_err (Err y) e P same h = subst P (sym same) h
@@ -53,7 +53,7 @@ never_escapes held s k change (inr (name, inr back, at)) = other change refl bac
 
 -- ---- one statement
 
--- why a store failed, but for want of memory
+-- why a store failed, if memory was large enough
 by_store : (old new : State) (too_big Declined : Type 0) → (too_big → Declined) → (e : Error) → Fails old new too_big e → IsExcused (DiskFails old new ⊎ ((old.is_open ≡ false) ⊎ Declined)) e
 by_store old new too_big Declined big e (cause, is, why, back, tells) = by cause is why
   where
@@ -114,7 +114,7 @@ put_fails old new put t was e h =
     let it = known old was.places was.tables put in
     excused_with _ _ e (statement_fails (statement_of put) (values_of_put put) old new it.command it.means it.one it.change it.silent e h) (alone old new put)
 
--- ---- the question of the version
+-- ---- the query for the version
 
 pub begin_fails : (old new : State) (t : Tables) → Holds old.now t → (e : Error) → IsNotRun old new get_version [] e → IsExcused (StoreFails old new old.now []) e
 begin_fails old new t was e h = not_run get_version [] old new _ (get_version_means old.now.schema (was.places Office) (was.tables Office)) get_version_one _ e h

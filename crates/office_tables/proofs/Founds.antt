@@ -1,4 +1,4 @@
--- The empty office, once its tables are made.
+-- The empty office, after its tables are made.
 use Rattle.std.proofs.Common.{◌≡◌, ◌≢◌, ℕ, [], Ok, refl, sym, ap, subst, ◌∙◌}
 use Rattle.sqlite.specs.Effect.{Database}
 use Rattle.sqlite.specs.State.{State, Executes}
@@ -21,7 +21,7 @@ use Rattle.office_tables.proofs.Each.{bare, found, listed, nothing, stands_empty
 use Rattle.office_tables.specs.Schema.OfficeTable.{Office}
 use Rattle.office_tables.proofs.TableTools.{put_means}
 
--- the row is put into a table of the office, so that all others stay
+-- the row is put into a table of the office, so all other tables keep their rows
 pub first_others : (start : Database) (old new : State) (x : ClockRow) (count : ℕ) → KeepsOthers start old.now → AreNew start all_tables → AreMade all_tables old.now → Executes upsert_office (clock_values x) old new (Ok count)
     → KeepsOthers start new.now
 first_others start old new x count kept fresh was h t there =

@@ -1,4 +1,4 @@
--- A schema that has one table or index more has all that it had.
+-- A schema with one more table or index still has everything that it had.
 use Rattle.std.proofs.Common.{◌≡◌, ◌⊎◌, inl, inr, ◌∷◌, [], ◌++◌, ◌+◌, ◌==◌, ◌&&◌, ◌<◌, ◌≢◌, ◌^◌, List, None, Some, refl, false, true, Bool, cond, ℕ, zero, suc, slice_get, filter, length, ap, sym, subst, ◌∙◌, append-nil, arith, nat_le}
 use Rattle.std.specs.List.{position_from}
 use Rattle.std.proofs.lemmas.Bool.Decides.{eqb_tells, nat_tests}
@@ -18,7 +18,7 @@ use Rattle.sqlite.specs.Effect.{Database, IsDatabase}
 use Rattle.office_tables.specs.Known.{IsIn, at_tree, key_indexes}
 use Rattle.office_tables.proofs.Keyed.{HasKey, HasIndex, IsRowid}
 
--- ---- lists with more behind
+-- ---- lists with more elements after them
 
 position-append : {A : Type 0} (q : A → Bool) (from i : ℕ) (xs ys : List A) → position_from q from xs ≡ Some i → position_from q from (xs ++ ys) ≡ Some i
 position-append q from i [] ys h = absurd (cc)
@@ -64,7 +64,7 @@ get_last : {A : Type 0} (xs : List A) (x : A) → slice_get (xs ++ x ∷ []) (le
 get_last [] x = refl
 get_last (y ∷ ys) x = get_last ys x
 
--- numbers that differ
+-- different numbers aren't equal by `==`
 other : (m n : ℕ) → (m ≡ n → ⊥) → (m == n) ≡ false
 other m n h = split (eqb_tells m n)
   where
@@ -72,9 +72,9 @@ other m n h = split (eqb_tells m n)
     split (inl e) = absurd (h e.1)
     split (inr e) = e.0
 
--- ---- what stood stands
+-- ---- tables that existed still exist
 
--- a further table, with the index of its key
+-- one more table, with the index of its key
 pub created_keeps : (schema : Schema) (t more : Table) (n : ℕ) (key : List ℕ) → (more.uniques ≡ key ∷ []) ⊎ (more.uniques ≡ []) → IsIn schema t n → IsIn (created schema more) t n
 created_keeps schema t more n key one it = record {
   place = it.place;
@@ -98,7 +98,7 @@ created_keeps schema t more n key one it = record {
       | inr bare ↦ (rw (bare, append-nil schema.indexes) it.guarded)
     ]
 
--- a further index that isn't unique
+-- one more index, which isn't unique
 pub indexed_keeps : (schema : Schema) (t on : Table) (i : Index) (n : ℕ) → i.is_unique ≡ false → IsIn schema t n → IsIn (indexed schema on i) t n
 indexed_keeps schema t on i n plain it = record {
   place = it.place;
@@ -110,7 +110,7 @@ indexed_keeps schema t on i n plain it = record {
   guarded = filter-append_none (λ j. guards j (at_tree t n)) schema.indexes _ (rw plain) ∙ it.guarded;
 }
 
--- ---- what was made stands
+-- ---- tables that were made exist
 
 low : (n : ℕ) → n < 65536 → nat_le (2 ^ 31) n ≡ false
 low n h = grind (arith, nat_tests)
@@ -119,7 +119,7 @@ low n h = grind (arith, nat_tests)
 pub low_tree : (db : Database) (t : Table) → IsDatabase db → Has db.schema.tables t → t.tree < 65536
 low_tree db t sound h = (zipped_left IsTableRow _ db.schema.tables t sound.lists.listed.tables h).2.described.low
 
--- and each index of it is on one of its tables
+-- each index of a sound database is on one of its tables
 owned : (db : Database) (i : Index) → IsDatabase db → Has db.schema.indexes i → i.table < next_tree db.schema
 owned db i sound h =
     let row = (zipped_left (IsIndexRow db.schema.tables) _ db.schema.indexes i sound.lists.listed.indexes h).2 in

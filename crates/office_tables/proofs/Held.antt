@@ -1,4 +1,4 @@
--- A database that held an office holds it after a change of one table.
+-- A database that held an office still holds one after a change of one table.
 use Rattle.std.proofs.Common.{true, List, [], ◌∷◌, refl, sym, subst, IsTrue}
 use Rattle.std.specs.declared.cmp.Ordering.{Ordering}
 use Rattle.sqlite_value.specs.declared.value.Value.{Value}

@@ -1,4 +1,4 @@
--- The items of a lot come back from their text.
+-- The items of a lot are read back from their text.
 use Rattle.std.proofs.Common.{◌≡◌, ℕ, zero, suc, ◌+◌, ◌<◌, ◌≤◌, ◌^◌, Bool, true, false, cond, List, [], ◌∷◌, ◌++◌, length, length-append, append_assoc, refl, sym, ap, subst, ◌∙◌, arith, true≢false}
 use Rattle.std.specs.Prelude.{◌==◌, IsTrue}
 use Rattle.std.specs.Fmt.{decimal}
@@ -21,7 +21,7 @@ pub behind_is : (stop : ℕ) (bytes rest : List ℕ) → Avoids stop bytes → t
 behind_is stop [] rest h = ap (λ b. cond b rest (text_behind stop rest)) (Rattle.std.proofs.lemmas.Bool.eq-eqb stop stop refl)
 behind_is stop (b ∷ bytes) rest h = ap (λ c. cond c (bytes ++ (stop ∷ rest)) (text_behind stop (bytes ++ (stop ∷ rest)))) h.0 ∙ behind_is stop bytes rest h.1
 
--- bytes of a kind avoid each byte that isn't of it
+-- bytes of a class avoid each byte outside it
 avoids : (stop : ℕ) (kind : ℕ → Bool) → kind stop ≡ false → (bytes : List ℕ) → AllByRecursion (λ b. IsTrue (kind b)) bytes → Avoids stop bytes
 avoids stop kind wrong [] h = tt
 avoids stop kind wrong (b ∷ bytes) h = (by (b == stop) refl, avoids stop kind wrong bytes h.1)
@@ -84,14 +84,14 @@ back (suc most) (item ∷ items) h small =
 pub items_back : (items : List Item) → AllByRecursion ItemFits items → items_in_text (items_text items) ≡ items
 items_back items h = back (length (items_text items)) items h (omega arith)
 
--- what stands behind an item's text
+-- the text after an item's text stays as it is
 pub behind_item : (x : Item) (text more : List ℕ) → item_then x (text ++ more) ≡ item_then x text ++ more
 behind_item x text more =
     ap (λ l. x.id ++ (9 ∷ (decimal x.quantity ++ (9 ∷ l)))) (sym (append_assoc x.title (10 ∷ text) more))
     ∙ ap (λ l. x.id ++ (9 ∷ l)) (sym (append_assoc (decimal x.quantity) (9 ∷ (x.title ++ (10 ∷ text))) more))
     ∙ sym (append_assoc x.id (9 ∷ (decimal x.quantity ++ (9 ∷ (x.title ++ (10 ∷ text))))) more)
 
--- one more item behind others
+-- the text with one more item after the others
 pub items_text-push : (items : List Item) (item : Item) → items_text (items ++ (item ∷ [])) ≡ items_text items ++ item_then item []
 items_text-push [] item = refl
 items_text-push (x ∷ items) item = ap (item_then x) (items_text-push items item) ∙ behind_item x (items_text items) (item_then item [])
@@ -100,7 +100,7 @@ pub all-push : (P : Item → Type 0) (items : List Item) (item : Item) → AllBy
 all-push P [] item h one = (one, tt)
 all-push P (x ∷ items) item h one = (h.0, all-push P items item h.1 one)
 
--- the six parts of an item, pushed one behind another
+-- the six parts of an item, added one after another
 pub six : (item : Item) (old s1 s2 s3 s4 s5 s6 a b t : List ℕ) → s1 ≡ old ++ a → s2 ≡ s1 ++ (9 ∷ []) → s3 ≡ s2 ++ b → s4 ≡ s3 ++ (9 ∷ []) → s5 ≡ s4 ++ t → s6 ≡ s5 ++ (10 ∷ [])
     → a ≡ item.id → b ≡ decimal item.quantity → t ≡ item.title → s6 ≡ old ++ item_then item []
 six item old s1 s2 s3 s4 s5 s6 a b t e1 e2 e3 e4 e5 e6 p q r =

@@ -1,4 +1,4 @@
--- A text is cut at the first of some bytes; and what the parts of an item's text say of the item.
+-- How a text is cut at the first of some bytes, and the item that the parts of the text mean.
 use Rattle.std.proofs.Common.{◌≡◌, inl, inr, ℕ, zero, suc, ◌+◌, ◌-◌, ◌<◌, ◌≤◌, ◌^◌, Bool, true, false, cond, List, [], ◌∷◌, ◌++◌, Option, Some, None, Result, Ok, Err, length, take, drop, get_or, append_assoc, append-nil, refl, sym, ap, subst, ◌∙◌, arith, true≢false}
 use Rattle.std.specs.Prelude.{◌==◌, not, position, nat_lt}
 use Rattle.std.specs.List.{AllByRecursion, position_or_len}
@@ -70,7 +70,7 @@ uncut stop text e = by (nat_lt (position_or_len (λ b. b == stop) text) (length 
     by true h = absurd (Rattle.std.proofs.lemmas.Option.none-some (position_or_len (λ b. b == stop) text) (sym e ∙ ap (λ c. cond c (Some (position_or_len (λ b. b == stop) text)) None) h))
     by false h = none_before stop text (ltb-false _ _ h)
 
--- a text in which the byte stands doesn't avoid it
+-- a text that contains the byte doesn't avoid it
 stands_there : (stop : ℕ) (a b : List ℕ) → Avoids stop (a ++ (stop ∷ b)) → ⊥
 stands_there stop [] b h = true≢false (sym (Rattle.std.proofs.lemmas.Bool.eq-eqb stop stop refl) ∙ h.0)
 stands_there stop (x ∷ a) b h = stands_there stop a b h.1
@@ -84,7 +84,7 @@ pub all_fit : (items : List Item) → AllByRecursion IsItem items → AllByRecur
 all_fit [] h = tt
 all_fit (item ∷ items) h = (fits_of item h.0, all_fit items h.1)
 
--- what is found where an item's text is cut
+-- the parts of a text that is cut as an item's text
 pub record HasParts (item : Item) (rest text : List ℕ) : Type 0 where
   pub id : text_before 9 text ≡ item.id
   pub behind_id : text_behind 9 text ≡ decimal item.quantity ++ (9 ∷ (item.title ++ (10 ∷ rest)))
@@ -113,7 +113,7 @@ parts_of item rest text h e = subst (HasParts item rest) e here
       title = ap (text_before 10) two ∙ before_is 10 item.title rest fits.title;
     }
 
--- where one of the three cuts can't be made, no item stands at the front
+-- if one of the three cuts fails, the text begins with no item
 pub no_id : (item : Item) (rest text : List ℕ) → item_then item rest ≡ text → Avoids 9 text → ⊥
 no_id item rest text e h = stands_there 9 item.id (decimal item.quantity ++ (9 ∷ (item.title ++ (10 ∷ rest)))) (subst (Avoids 9) (sym e) h)
 
@@ -123,9 +123,9 @@ no_quantity item rest text parts h = stands_there 9 (decimal item.quantity) (ite
 pub no_title : (item : Item) (rest text : List ℕ) → HasParts item rest text → Avoids 10 (text_behind 9 (text_behind 9 text)) → ⊥
 no_title item rest text parts h = stands_there 10 item.title rest (subst (Avoids 10) parts.behind_quantity h)
 
--- ---- items behind others
+-- ---- items after others
 
--- after some items more text follows, and it is items' text: an item is at its front
+-- if more text follows after some items of a text, it begins with an item
 pub continues : (found items : List Item) (rest : List ℕ) → AllByRecursion IsItem found → AllByRecursion IsItem items → 0 < length rest → items_text items ≡ items_text found ++ rest
     → (parts : Item × List ℕ) × IsItem parts.0 × (item_then parts.0 parts.1 ≡ rest)
 continues [] [] rest f h some e = absurd (omega (arith, some, ap length e))
@@ -135,7 +135,7 @@ continues (x ∷ found) (y ∷ items) rest f h some e =
     continues found items rest f.1 h.1 some
     (sym (rest_is y (items_text items) (fits_of y h.0)) ∙ ap item_rest (e ∙ sym (behind_item x (items_text found) rest)) ∙ rest_is x (items_text found ++ rest) (fits_of x f.0))
 
--- items have their text for themselves
+-- no two lists of items have the same text
 pub same_items : (xs ys : List Item) → AllByRecursion IsItem xs → AllByRecursion IsItem ys → items_text xs ≡ items_text ys → xs ≡ ys
 same_items xs ys f h e = sym (items_back xs (all_fit xs f)) ∙ ap items_in_text e ∙ items_back ys (all_fit ys h)
 

@@ -1,4 +1,4 @@
--- Which rows conflict, and what ON CONFLICT names, hang on the key of a table alone.
+-- The key of a table alone decides which rows conflict, and which columns ON CONFLICT names.
 use Rattle.std.proofs.Common.{◌≡◌, ◌⊎◌, inl, inr, ℕ, Bool, true, false, ◌&&◌, ◌||◌, ◌==◌, cond, List, [], ◌∷◌, length, filter, find, Option, Some, None, Ok, refl, sym, ap, subst, ◌∙◌}
 use Rattle.std.specs.Prelude.{bytes_eq}
 use Rattle.std.specs.List.{list_any}
@@ -14,7 +14,7 @@ use Rattle.sqlite_rules.specs.Keys.{conflicts, shares}
 use Rattle.sqlite_resolve.specs.Given.{are_among, is_key_at, key_at}
 use Rattle.office_tables.specs.Known.{IsIn, at_tree, key_indexes}
 
--- the key has an index of its own, in the order of bytes
+-- the key has an index of its own, which orders by bytes
 pub record HasIndex (table : Table) : Type 0 where
   pub key : table.key ≡ None
   pub plainly : table.orders ≡ plain ∷ []
@@ -56,7 +56,7 @@ last false = refl
 same_bytes : (a : List ℕ) → bytes_eq a a ≡ true
 same_bytes a = (bytes_eq-Decides a a).1 refl
 
--- a row conflicts with another in the key where both agree in its columns
+-- two rows conflict in the key exactly if they agree in its columns
 pub conflicts_key : (schema : Schema) (table : Table) (n : ℕ) (it : IsIn schema table n) → HasKey table → (new row : Row)
     → conflicts (Some table.primary) schema.indexes (at_tree table n) new row ≡ agree plain table.primary row table.primary new
 conflicts_key schema table n it (inl k) new row =
@@ -73,7 +73,7 @@ conflicts_key schema table n it (inr k) new row =
         own_shares (Some table.primary) (at_tree table n) new row schema.indexes
         ∙ ap (list_any (shares (Some table.primary) (at_tree table n) new row)) (it.guarded ∙ ap (λ key. key_indexes key (at_tree table n) it.index) k.key)
 
--- ---- what ON CONFLICT names
+-- ---- the columns that ON CONFLICT names
 
 finds : (table : Table) (at : List ℕ) (i : Index) → i.columns ≡ at → are_among at at ≡ true → (xs : List Index) → filter (λ j. guards j table) xs ≡ i ∷ [] → find (is_key_at table at) xs ≡ Some i
 unfolding is_key_at
@@ -89,7 +89,7 @@ finds table at i columns among (j ∷ more) h = by j.is_unique (j.table == table
     by true false l m n all on e = on e
     by false b l m n all on e = on e
 
--- the columns of the key name it
+-- ON CONFLICT finds the key by the names of its columns
 pub key_at_is : (schema : Schema) (table : Table) (n : ℕ) (it : IsIn schema table n) → HasKey table → key_at schema (at_tree table n) table.primary ≡ Ok table.primary
 unfolding key_at
 key_at_is schema table n it (inl k) = rw (k.apart, finds (at_tree table n) table.primary _ refl k.among schema.indexes (it.guarded ∙ ap (λ key. key_indexes key (at_tree table n) it.index) k.key))

@@ -1,4 +1,4 @@
--- The tables that an edition lacks, made one after another.
+-- The tables that are missing in an edition are made, one after another.
 use Rattle.std.proofs.Common.{◌≡◌, ◌⊎◌, inl, inr, ℕ, true, false, List, [], ◌∷◌, filter, map, sym, ap, subst, ◌∙◌, true≢false, arith}
 use Rattle.std.specs.Prelude.{nat_lt}
 use Rattle.std.proofs.lemmas.Bool.{cases_Bool, ltb-true, lt-ltb}
@@ -24,7 +24,7 @@ has_onto done (x ∷ ks) k (inl h) = has_onto (x ∷ done) ks k (inl (inr h))
 has_onto done (x ∷ ks) k (inr (inl same)) = has_onto (x ∷ done) ks k (inl (inl same))
 has_onto done (x ∷ ks) k (inr (inr h)) = has_onto (x ∷ done) ks k (inr h)
 
--- what an edition lacks wasn't there from the beginning
+-- a table that is missing in an edition came after edition 0
 pub is_later : (edition : ℕ) (k : OfficeTable) → lacks_table edition k ≡ true → Has later_tables k
 is_later edition k lacks =
     let late : lacks_table 0 k ≡ true = lt-ltb 0 (came_with k) (omega (arith, ltb-true edition (came_with k) lacks)) in
@@ -45,7 +45,7 @@ makes_none a b goes same = record {
 abbrev pub LaterLine : Type 0
 LaterLine = ℕ × List ℕ × List ℕ
 
--- some tables were made, of others these lines are left, and each that is missing is among them
+-- some tables were made, the lines of others are left, and each missing table is in one of these lists
 abbrev pub MadeLater : ℕ → State → State → List LaterLine → Type 0
 MadeLater edition old now left =
     (done : List OfficeTable) × (rest : List OfficeTable) × (map later_line rest ≡ left) × ((k : OfficeTable) → lacks_table edition k ≡ true → Has done k ⊎ Has rest k) × Makes old now done
@@ -54,7 +54,7 @@ pub later_first : (edition : ℕ) (a b : State) (ks : List OfficeTable) (left : 
     → MadeLater edition a b left
 later_first edition a b ks left goes same lines all = ([], ks, lines, (λ k h. inr (all k h)), makes_none a b goes same)
 
--- a line of a table that is there is passed over
+-- the line of a table that exists is skipped
 pub later_more : (edition : ℕ) (a b c : State) (line : LaterLine) (left : List LaterLine) → (nat_lt edition line.0 ≡ true → (k : OfficeTable) → IsCreate line.2 (table_of k) → Makes b c (k ∷ []))
     → (nat_lt edition line.0 ≡ false → c ≡ b) → MadeLater edition a b (line ∷ left) → MadeLater edition a c left
 later_more edition a b c line left one same (done, [], lines, all, made) = absurd (cc)

@@ -1,4 +1,4 @@
--- What a parameter, `a = c`, `a > c` and `a AND c` are lowered to, in whatever scope.
+-- The compiled form of a parameter, of `a = c`, of `a > c` and of `a AND c`, in any scope.
 use Rattle.std.proofs.Common.{◌≡◌, ◌-◌, Ok, true, ℕ, suc, nat_lt}
 use Rattle.sqlite_sql.specs.Term.{Term, col, op2}
 use Rattle.sqlite_sql.specs.declared.ops.BinaryOp.TheVariants as by
@@ -14,7 +14,7 @@ use Rattle.sqlite_resolve.specs.Compare.{compared}
 use Rattle.sqlite_resolve.specs.Expr.{node, opened, passes, operation, both, combine, wanted_truth, tests_truth, tests_alias, lower_to}
 use Rattle.office_tables.proofs.Whole.{at_budget}
 
--- an expression is lowered as its node is
+-- an expression is compiled as its node is
 abbrev pub lowered : (d : ℕ) (cx : Context) (e : Expr) (s : State) (r : Checked (Term × State)) → node (lower_to d) cx e s ≡ r → lower_to (suc d) cx e s ≡ r
 unfolding lower_to
 lowered d cx e s r h = h

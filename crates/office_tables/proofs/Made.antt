@@ -1,4 +1,4 @@
--- What a statement that changes rows makes of a database.
+-- A statement that changes rows turns one database into another.
 use Rattle.std.proofs.Common.{◌≡◌, ℕ, List, [], None, Option, Ok, true, false, Bool, ◌||◌, sym, ap, subst, subst₂, ◌∙◌, append-nil, true≢false}
 use Rattle.std.specs.Prelude.{is_some}
 use Rattle.sqlite_value.specs.Order.{Row}
@@ -13,7 +13,7 @@ use Rattle.sqlite.specs.State.{State, ExecutesIn, Runs, RunsCommand, is_pragma, 
 use Rattle.sqlite.proofs.Callers.{IsPlain, command_of}
 use Rattle.office_tables.proofs.Meanings.{StatementMeans}
 
--- commands that change rows: they show none, and end no transaction
+-- the commands that change rows: they return none, and end no transaction
 abbrev pub is_change : Command → Bool
 is_change (InsertOr at way from clauses) = true
 is_change (Delete at q) = true
@@ -31,7 +31,7 @@ wrote old new returning (InsertOr at way from clauses) text params count change 
 wrote old new returning (Delete at q) text params count change h = (h.tally, h.changed)
 wrote old new returning k text params count change h = absurd (true≢false (sym change))
 
--- what was executed made the new database of the old one
+-- the statement that ran turned the old database into the new one
 pub made_of : (text : List ℕ) (params : Row) (old new : State) (command : Command) → StatementMeans old.now.schema text command → is_change command ≡ true → shows command ≡ false
     → (count : ℕ) → ExecutesIn false text params old new (Ok count)
     → (c : Compiled) × (understood old.now.schema text ≡ Ok c) × (tally : Tally) × Does old.step_limit (mode_of old) params old.now (text_of text c) c.returning c.command (Ok (tally, new.now))

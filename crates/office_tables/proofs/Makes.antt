@@ -1,4 +1,4 @@
--- What a CREATE leaves of the tables of an office that were made.
+-- A CREATE keeps the tables of an office that were already made.
 use Rattle.std.proofs.Common.{◌≡◌, ◌⊎◌, inl, inr, ◌<◌, ◌||◌, ◌∷◌, [], List, Ok, Err, None, Some, Option, Result, refl, false, ℕ, ap, sym, subst, ◌∙◌, true≢false}
 use Rattle.std.specs.Prelude.{is_some}
 use Rattle.std.specs.List.{AllByRecursion}
@@ -43,9 +43,9 @@ wrote : (text : List ℕ) (old new : State) (count : ℕ) (c : Compiled) (comman
     → (command_of (understood old.now.schema text) ≡ command) × IsPlain (understood old.now.schema text) × (statement_of text (understood old.now.schema text) ≡ text)
 wrote text old new count c command e it = (ap command_of e ∙ it.is, subst IsPlain (sym e) (it.untold, it.untimed), ap (statement_of text) e ∙ it.whole)
 
--- ---- a schema with a table more
+-- ---- a schema with one more table
 
--- the database has one table more, and what it had
+-- the database has one more table, and everything that it had before
 record Grows (old new : Database) : Type 0 where
   more : Table
   schema : new.schema ≡ created old.schema more
@@ -66,7 +66,7 @@ grows_stays old new it k n was =
 pub stays_then : (a b c : Database) → KeepsOffice a b → KeepsOffice b c → KeepsOffice a c
 stays_then a b c p q k n was = let one = p k n was in let two = q k n one.0 in (two.0, two.1 ∙ one.1)
 
--- one that has no rows still has none
+-- a table of the office without rows still has none
 stands_on : (old new : Database) → KeepsOffice old new → (k : OfficeTable) → Stands old k → Stands new k
 stands_on old new stays k was = let kept = stays k was.0 was.1 in (was.0, kept.0, kept.1 ∙ was.2)
 
@@ -77,7 +77,7 @@ pub all_so : (P Q : OfficeTable → Type 0) (ks : List OfficeTable) → ((k : Of
 all_so P Q [] f h = tt
 all_so P Q (k ∷ ks) f h = (f k h.0, all_so P Q ks f h.1)
 
--- each has one key, with an index or without
+-- a table has one unique index, that of its primary key, or none
 one_key : (k : OfficeTable) → ((table_of k).uniques ≡ (table_of k).primary ∷ []) ⊎ ((table_of k).uniques ≡ [])
 one_key k = elim (each k).bare.key [ inl index ↦ inl index.uniques | inr rowid ↦ inr rowid.uniques ]
 
@@ -85,7 +85,7 @@ first_unused : (a b c : Option ℕ) → ((is_some a || is_some b) || is_some c) 
 first_unused None b c h = refl
 first_unused (Some x) b c h = absurd (true≢false h)
 
--- the sequence of AUTOINCREMENT, if another table wants it, is made with no key
+-- the unique keys of a table's definition; that of the table for AUTOINCREMENT has none
 abbrev uniques_in : Result Table CompileError → List (List ℕ)
 uniques_in (Ok t) = t.uniques
 uniques_in (Err e) = []
@@ -120,7 +120,7 @@ one_more k text old after defined mid made sequence =
       ];
     }
 
--- the table that was made stands, with no rows
+-- the table that was made exists, without rows
 made_stands : (k : OfficeTable) (old after : Database) → IsDatabase old → IsDatabase after → IsOneMore k old after → Stands after k
 made_stands k old after sound sound_after it =
     let n = next_tree old.schema in
@@ -165,7 +165,7 @@ one_more_others k old after it =
     let first = grows_others old it.mid it.first in
     elim it.then [ inl same ↦ subst (KeepsOthers old) (sym same) first | inr more ↦ others_then old it.mid after first (grows_others it.mid after more) ]
 
--- what came refers to none
+-- the new tables have no foreign keys
 grows_added : (old new : Database) → Grows old new → AddsNoReference old.schema new.schema
 grows_added old new it t h = elim (has-append old.schema.tables t (at_tree it.more (next_tree old.schema)) (subst (λ (s : Schema). Has s.tables t) it.schema h)) [
   | inl there ↦ inl there
@@ -180,7 +180,7 @@ one_more_added k old after it =
     let first = grows_added old it.mid it.first in
     elim it.then [ inl same ↦ subst (λ (d : Database). AddsNoReference old.schema d.schema) (sym same) first | inr more ↦ added_then old.schema it.mid.schema after.schema first (grows_added it.mid after more) ]
 
--- what is there stays, the name was none of its, and what came refers to none
+-- existing tables keep their rows, none of them had the new name, and the new table has no foreign keys
 pub table_others : (old new : State) (text : List ℕ) (k : OfficeTable) (count : ℕ) → IsCreate text (table_of k) → Executes text [] old new (Ok count)
     → KeepsOthers old.now new.now × AreNew old.now (k ∷ []) × KeepsOffice old.now new.now × AddsNoReference old.now.schema new.now.schema
 table_others old new text k count it h =

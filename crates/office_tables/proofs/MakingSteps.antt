@@ -1,4 +1,4 @@
--- One making after another.
+-- Tables are made one after another.
 use Rattle.std.proofs.Common.{◌≡◌, ℕ, Ok, List, [], ◌∷◌, ◌++◌, map, append_assoc, append-nil, refl, sym, subst, ◌∙◌, false}
 use Rattle.sqlite_schema.specs.declared.schema.Index.{Index}
 use Rattle.sqlite.specs.Effect.{IsDatabase}
@@ -33,7 +33,7 @@ makes_then a b c ks js p q = record {
   made = λ done was. subst (λ l. AreMade l c.now) (sym (append_assoc js ks done)) (q.made (ks ++ done) (p.made done was));
 }
 
--- of these tables some were made, and the texts of the others are left
+-- some of these tables were made, and the texts of the others are left
 abbrev pub MadeOf : State → State → List OfficeTable → List (List ℕ) → Type 0
 MadeOf old now all left = (done : List OfficeTable) × (rest : List OfficeTable) × (onto done rest ≡ all) × (map create_of rest ≡ left) × Makes old now done
 
@@ -65,7 +65,7 @@ indexed_one old new text k index count it plain h = record {
 pub indexes_then : (a b c : State) → Indexes a b → Indexes b c → Indexes a c
 indexes_then a b c p q = record { goes = goes_then a b c p.goes q.goes; others = λ was. others_then a.now b.now c.now (p.others was) (q.others (p.made was)); made = λ was. q.made (p.made was) }
 
--- a sound database has none of the tables to begin with
+-- in a sound database that has none of the tables, making them founds an office
 pub founded : (a b c d : State) (count : ℕ) → Makes a b all_tables → Indexes b c → ExecutesInside 0 upsert_office (clock_values first_clock) c d (Ok count) → Founds a d
 founded a b c d count p q h =
     let all : IsDatabase a.now → AreMade all_tables b.now = λ sound. subst (λ l. AreMade l b.now) (append-nil all_tables) (p.made [] (record { sound = sound; each = tt })) in

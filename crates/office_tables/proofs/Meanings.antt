@@ -1,4 +1,4 @@
--- What a caller asks of a statement's text, and what the grammar makes of it.
+-- The facts about a statement's text that a caller needs, and the parts that the grammar finds in it.
 use Rattle.std.proofs.Common.{◌≡◌, [], List, Ok, Err, Option, Result, ℕ, ap, subst, sym, length, true, false}
 use Rattle.std.specs.Prelude.{nat_le}
 use Rattle.sqlite_schema.specs.declared.schema.Schema.{Schema}
@@ -13,12 +13,12 @@ use Rattle.sqlite_resolve.specs.Lowering.{Checked, and_then}
 use Rattle.sqlite.specs.Listing.{understood, reads_listing}
 use Rattle.sqlite.proofs.Callers.{IsPlain, command_of}
 
--- the statement that was read
+-- the statement that was parsed
 unfoldable pub parsed_in : Result Parsed CompileError → Parsed
 parsed_in (Ok p) = p
 parsed_in (Err e) = record { statement = written.Empty; names = []; formats = []; start = 0; end = 0; tail = 0 }
 
--- all that a caller asks of a statement
+-- all facts about a statement that a caller needs
 pub record StatementMeans (schema : Schema) (text : List ℕ) (command : Command) : Type 0 where
   pub is : command_of (understood schema text) ≡ command
   pub plain : IsPlain (understood schema text)
@@ -35,7 +35,7 @@ pub means_by : (schema : Schema) (text : List ℕ) (c : Compiled) → IsPlain (O
 means_by schema text c plain h =
     let u = understands schema text c h in record { is = ap command_of u; plain = subst IsPlain (sym u) plain; unlisted = unlisted_by schema text c h }
 
--- the text is one statement with so many parameters
+-- the text is one statement with this number of parameters
 pub record IsOne (text : List ℕ) (n : ℕ) : Type 0 where
   pub whole : nat_le (length text) (parsed_in (first text)).tail ≡ true
   pub given : length (parsed_in (first text)).names ≡ n
@@ -50,7 +50,7 @@ unfolding parsed_in
 from_parsed schema (Ok p) c h = from_plan p (planned schema p) c h
 from_parsed schema (Err e) c h = absurd cc
 
--- a statement ends, and has the parameters, as its text was parsed
+-- a statement has the end and the parameters that the parser found
 pub from_text : (schema : Schema) (text : List ℕ) (c : Compiled) → reads_listing schema text ≡ false → understood schema text ≡ Ok c → (c.tail ≡ (parsed_in (first text)).tail) × (c.names ≡ (parsed_in (first text)).names)
 unfolding understood compiled
 from_text schema text c unlisted h = from_parsed schema (first text) c (rw unlisted at h)

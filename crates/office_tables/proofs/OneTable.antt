@@ -1,4 +1,4 @@
--- What stands in FROM of a SELECT over one known table, whatever else the schema has.
+-- The FROM of a SELECT over one known table, in any schema that has it.
 use Rattle.std.proofs.Common.{◌≡◌, ◌∷◌, [], List, Ok, None, Some, false, Bool, ℕ, slice_get}
 use Rattle.sqlite_schema.specs.declared.schema.Schema.{Schema}
 use Rattle.sqlite_schema.specs.declared.schema.Table.{Table}

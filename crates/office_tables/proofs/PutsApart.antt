@@ -1,4 +1,4 @@
--- What a put of a notice and one of the clock leave of tables apart.
+-- Puts of a notice and of the clock leave tables apart as they are.
 use Rattle.std.proofs.Common.{◌≡◌, ℕ, Option}
 use Rattle.sqlite.specs.Effect.{Database}
 use Rattle.office_base.specs.declared.puts.Put.TheVariants as puts

@@ -1,4 +1,4 @@
--- What a select leaves of a connection, and what its rows give.
+-- The state of a connection after a select, and the values of its rows.
 use Rattle.std.specs.Prelude.{OnOk, IfOk, IfErr}
 use Rattle.std.proofs.Common.{◌⊎◌, inl, inr, ℕ, List, Option, Some, None, Ok, Err, Result, IsTrue, ◌∙◌}
 use Rattle.sqlite_value.specs.Order.{Row}
@@ -14,7 +14,7 @@ unchanged old new same = record { was_open = λ _. same.0.was_open; committed = 
 back : (old new : State) → IsRolledBack old new → Refused old new
 back old new b = record { was_open = b.was_open; committed = λ o. (b.undone o).1 }
 
--- in a transaction nothing is committed, whatever the text is
+-- a query inside a transaction commits nothing, whatever its text
 module _ (sql : List ℕ) (params : Row) (old new : State) (inside : IsTrue old.in_transaction) where
   written : (rows : List Row) (returning : Option Returning) (c : Compiled) (full : Row) → ShowsRows old new sql c full rows returning → IsTrue old.is_open × Refused old new
   written rows None c full it = (it.3.0.was_open, unchanged old new it.3)

@@ -1,4 +1,4 @@
--- What an update of the row of one rowid shows.
+-- The rows that an update of the row with one rowid shows.
 use Rattle.std.proofs.Common.{◌≡◌, Some, inl, inr, ℕ, ℤ, Bool, true, false, List, [], ◌∷◌, zero, suc, ◌<◌, arith, refl, sym, ap, ap₂, ◌∙◌}
 use Rattle.std.specs.Ordering.{is_eq, ordering_reverse}
 use Rattle.std.specs.Cmp.{tied_itself}
@@ -28,7 +28,7 @@ numbers_tested : (m n : ℤ) → equal Binary (Int m) (Int n) ≡ is_eq (value_c
 unfolding binary
 numbers_tested m n = as_truth (is_eq (value_cmp (Int m) (Int n)))
 
--- a rowid is tested as rowids are ordered
+-- two rowids are equal exactly if they tie in the order
 pub rowids_tested : (a b : Value) → is_int a ≡ true → is_int b ≡ true → equal Binary a b ≡ is_eq (value_cmp a b)
 rowids_tested a b p q =
     ap₂ (equal Binary) (int_is a p) (int_is b q) ∙ numbers_tested (id_in a) (id_in b) ∙ ap is_eq (ap₂ value_cmp (sym (int_is a p)) (sym (int_is b q)))
@@ -38,7 +38,7 @@ module _ (p : Row → Bool) (env : Row → Env) where
   none_picked [] none = refl
   none_picked (r ∷ rows) none = rw (none r (inl refl)) (none_picked rows (λ x h. none x (inr h)))
 
-  -- of the rows of a table, a rowid picks its own
+  -- the test for a rowid finds its own row and no other
   pub picks_one : (rows : List Row) → IsTable rows → (there : Row) → Has rows there → ((r : Row) → Has rows r → p r ≡ is_eq (value_cmp (rowid r) (rowid there))) → picked p env rows ≡ env there ∷ []
   picks_one [] up there h is = absurd h
   picks_one (r ∷ rows) up there (inl same) is =
@@ -56,6 +56,6 @@ moved_alone x (m ∷ moves) h = ap (λ l. swap l m.0 m.1) (moved_alone x moves h
     by zero (suc j) p q = absurd (omega (arith, q))
     by (suc i) j p q = absurd (omega (arith, p))
 
--- one element has one order
+-- one element has one order alone
 pub in_one_order : {A : Type 0} (x : A) (ys : List A) → IsPermutation (x ∷ []) ys → ys ≡ x ∷ []
 in_one_order x ys h = h.is ∙ moved_alone x h.moves h.below

@@ -1,4 +1,4 @@
--- Each record comes back from its row: field by field, where a state, a reading or an optional value by cases.
+-- Each record is read back from its row: field by field, and by cases for a state, a reading or an optional value.
 use Rattle.std.proofs.Common.{◌≡◌, ℕ, Bool, true, false, List, Option, Some, None, refl}
 use Rattle.std.specs.Prelude.{option_map}
 use Rattle.office_commands.specs.declared.contract.How.{How}

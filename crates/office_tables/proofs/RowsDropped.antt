@@ -29,7 +29,7 @@ use Rattle.office_tables.proofs.KeptRows.{finds, in_order-rows_kept}
 use Rattle.office_tables.proofs.RowsPut.{left_from, unmapped, left_up, at_itself}
 use Rattle.office_tables.proofs.Selected.{picked, permuted_has}
 
--- the rows that pass, each shown by its rowid
+-- the rows that pass, each shown as its rowid
 module _ (p : Row → Bool) (env : Row → Env) where
   pub has_picked : (rows : List Row) (r : Row) → Has rows r → p r ≡ true → Has (picked p env rows) (env r)
   has_picked [] r h is = absurd h
@@ -94,7 +94,7 @@ module _ {K X : Type 0} (R : K → K → Ordering) (total : IsTotalOrder R) (sam
       finds R total same key form decode new q ∙ finds_drop old new k was it q
       ∙ sym (row_at-row_drop t (rows_kept R key form decode old) k q up ∙ ap (cond (eq_by_cmp R q k) None) (finds R total same key form decode old q)))
 
-  -- the rows whose rowids were not among those of an answer
+  -- the rows whose rowids aren't in the answer
   module _ (rows : List Row) (was : Kept rows) (k : K) (p : Row → Bool) (passing : (r : Row) → Has rows r → p r ≡ eq_by_cmp R k (key_of R key form decode r)) (env : Row → Env) (out : Env → Output)
       (shown : (r : Row) → (out (env r)).1 ≡ rowid r ∷ []) (ordered : List Output) (same_rows_are : IsPermutation (map out (picked p env rows)) ordered) where
     abbrev answer : List Row
@@ -103,7 +103,7 @@ module _ {K X : Type 0} (R : K → K → Ordering) (total : IsTotalOrder R) (sam
     abbrev left : List Row
     left = without_all rows (ids_of answer)
 
-    -- each row that passes is in the answer, and no other
+    -- each row that passes is in the answer, and no other row is
     listed : (r : Row) → Has rows r → p r ≡ true → Has answer (rowid r ∷ [])
     listed r h is =
         let o : Has ordered (out (env r)) = permuted_has ordered (map out (picked p env rows)) (out (env r)) (IsPermutation-sym (map out (picked p env rows)) ordered same_rows_are) (mapped_has out (picked p env rows) (env r) (has_picked p env rows r h is)) in

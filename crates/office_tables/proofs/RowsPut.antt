@@ -1,4 +1,4 @@
--- A new row in the place of those of its key, if there are any, is `row_put` of the table.
+-- A new row that replaces the row with its key, if there is one, is `row_put` of the table.
 use Rattle.std.proofs.Common.{◌≡◌, inl, inr, ℤ, true, false, not, List, [], ◌∷◌, map, refl, sym, ap, ap₂, ◌∙◌, Ordering, true≢false}
 use Rattle.std.proofs.lemmas.Bool.{not-true}
 use Rattle.std.specs.Ordering.{is_eq}
@@ -74,6 +74,6 @@ module _ {K X : Type 0} (R : K → K → Ordering) (total : IsTotalOrder R) (sam
   keeps : AreKept R key form decode after
   keeps = kept_put R total same key form decode rows after new was (IsTable-put_row new _ (left_up ids rows was.rising)) int (shaped ∙ ap (form (rowid new)) (sym is)) put
 
-  -- the rows stand for the table with the record
+  -- the rows hold the table with the new record
   pub stands : (xs : List X) → rows_kept R key form decode rows ≡ xs → Stand R key form decode after (row_put R key xs x)
   stands xs e = record { kept = keeps; is = put_is R total same key form decode rows after new was keeps put ∙ ap₂ (λ (ys : List X) y. row_put R key ys y) e is }

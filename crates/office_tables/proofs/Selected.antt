@@ -1,4 +1,4 @@
--- A SELECT .. ORDER BY over one table shows what passes of the table, in its order.
+-- A SELECT .. ORDER BY over one table shows the rows that pass its tests, in their order.
 use Rattle.std.proofs.Common.{◌≡◌, inl, inr, ℕ, ◌≤◌, Bool, true, false, cond, List, [], ◌∷◌, ◌++◌, map, flat_map, filter, Option, Some, None, refl, sym, ap, subst, ◌∙◌, Ordering, arith}
 use Rattle.std.proofs.lemmas.Bool.{cases_Bool}
 use Rattle.std.proofs.lemmas.List.{length-map, map-set}
@@ -53,7 +53,7 @@ cond_le : (b : Bool) → one b ≤ 1
 cond_le true = omega arith
 cond_le false = omega arith
 
--- a list that was shown and then shuffled shows the list shuffled
+-- if a list is shuffled, its image under a function is shuffled in the same way
 module _ {A B : Type 0} (f : A → B) where
   swap-map : (l : List A) (i j : ℕ) → swap (map f l) i j ≡ map f (swap l i j)
   swap-map [] i j = refl
@@ -71,7 +71,7 @@ module _ {A B : Type 0} (f : A → B) where
 pub permuted_has : {X : Type 0} (xs ys : List X) (x : X) → IsPermutation xs ys → Has ys x → Has xs x
 permuted_has xs ys x same = all_has (Has xs) ys x (all-permutation (Has xs) xs ys same (all_from (Has xs) xs (λ e h. h)))
 
--- what passes of a list
+-- the elements of a list that pass
 module _ {X Y : Type 0} (p : X → Bool) (f : Y → X) where
   filtered_has : (ys : List Y) (x : X) → Has (filter p (map f ys)) x → (y : Y) × Has ys y × (x ≡ f y) × (p (f y) ≡ true)
   filtered_has [] x h = absurd h
@@ -111,7 +111,7 @@ module _ {K X : Type 0} (R : K → K → Ordering) (total : IsTotalOrder R) (sam
     | inr apart ↦ omega (arith, ap one apart, none_counted q rows (λ y i e. h y (inr i) e))
   ]
 
-  -- no key comes twice
+  -- no key occurs twice
   counted : (q : K) (rows : List Row) → Kept rows → count_at t q (map decode rows) ≤ 1
   counted q [] k = omega arith
   counted q (r ∷ rows) k = elim (cases_Bool (eq_by_cmp R q (key (decode r)))) [
@@ -128,7 +128,7 @@ module _ {K X : Type 0} (R : K → K → Ordering) (total : IsTotalOrder R) (sam
     | inr none ↦ absurd (none.0 r h refl)
   ]
 
-  -- each record of the table comes back from its row
+  -- each record of the table is read back from its row
   pub comes_back : (rows : List Row) → Kept rows → (encode : X → Row) (read : Row → X) → ((v : Value) (x : X) → decode (form v x) ≡ read (encode x))
       → AllByRecursion (λ x. read (encode x) ≡ x) (rows_kept R key form decode rows)
   comes_back rows k encode read reads = all_from _ _ (λ x h.
@@ -228,7 +228,7 @@ module _ {K X : Type 0} (R : K → K → Ordering) (total : IsTotalOrder R) (sam
               with_test true i g = let s : Some z ≡ Some y = sym (ap (λ b. cond b (Some z) None) i) ∙ g in let at : z ≡ y = cc in from_table y (key y) (e ∙ s) (ap p (sym at) ∙ i)
               with_test false i g = absurd (let n : ◌≡◌ {A = Option X} None (Some y) = sym (ap (λ b. cond b (Some z) None) i) ∙ g in cc)
 
-      -- the rows shown are what passes of the table
+      -- the rows that are shown are the records that pass
       pub lists : ordered ≡ map out (filter p table)
       lists = shuffled.1 ∙ ap (map out) (same_members t ws (filter p table) in_order passing_in_order into out_of)
 

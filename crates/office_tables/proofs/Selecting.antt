@@ -1,4 +1,4 @@
--- SELECT of columns of one table, by name: the texts that the office has, and the queries that they mean.
+-- SELECT of columns of one table, by name: the texts of the office, and the queries that they mean.
 use Rattle.std.proofs.Common.{◌≡◌, ◌⊎◌, inl, inr, ◌∷◌, [], ◌+◌, ◌==◌, List, Ok, None, Some, Option, cond, pos, negsuc, refl, sym, ap, ◌∙◌, false, true, true≢false, Bool, ℕ, find, map}
 use Rattle.std.proofs.lemmas.Bool.{eqb-true, eq-eqb}
 use Rattle.sqlite_value.specs.declared.value.Value.TheVariants.{Int}
@@ -29,14 +29,14 @@ use Rattle.sqlite_resolve.specs.declared.scope.Output.{Output}
 use Rattle.sqlite_resolve.specs.Expr.{lower}
 use Rattle.sqlite_resolve.specs.Body as body
 
--- ---- what is asked
+-- ---- the queries
 
 -- the columns at these places equal the parameters, in order
 abbrev pub tested : ℕ → List ℕ → List Term
 tested n [] = []
 tested n (place ∷ places) = op2 (Compare Eq Binary) (col 1 place) (col 0 n) ∷ tested (n + 1) places
 
--- the columns of a table at some places, of the rows that pass some tests, in the order of columns, perhaps only the first of them
+-- columns of the rows that pass some tests, in the order of some columns, and perhaps only the first rows
 abbrev pub capped_select : ℕ → List Term → List ℕ → List ℕ → Term → Query
 capped_select tree filter shown order limit = record {
   from = inner tree end;
@@ -61,9 +61,9 @@ placed at (c ∷ cs) = (at, c) ∷ placed (at + 1) cs
 abbrev pub columns_of : Table → List (ℕ × Column)
 columns_of table = placed 0 table.columns
 
--- ---- what a text means
+-- ---- the meaning of a text
 
--- what the grammar makes of the text
+-- the parts that the grammar finds in the text
 pub record IsCapped (text name : List ℕ) (shown : List (List ℕ)) (test : Option Expr) (sorts : List (List ℕ)) (cap : Option Expr) : Type 0 where
   pub is : first text ≡ Ok (parsed_in (first text))
   pub statement : (parsed_in (first text)).statement ≡ written.Select (capped name shown test sorts cap)
@@ -85,7 +85,7 @@ find_only n x (y ∷ ys) there is alone = by (y.tree == n) refl there (λ more. 
 pub found_by_tree : (schema : Schema) (table : Table) (n : ℕ) → IsIn schema table n → find (λ t. t.tree == n) schema.tables ≡ Some (at_tree table n)
 found_by_tree schema table n it = find_only n (at_tree table n) schema.tables (place_has schema.tables it.place (at_tree table n) it.found) refl it.alone
 
--- what is left of the budget once the columns are read, and what was carried
+-- the budget that is left after the columns are read, and the collation of the last expression
 abbrev pub left : List (ℕ × Column) → ℕ
 left ps = spent max_budget ps
 

@@ -1,4 +1,4 @@
--- SELECT of columns of one table, by name, with no test or tests of columns against parameters, and in the order of columns.
+-- SELECT of columns of one table, by name, in the order of columns, without tests or with tests of columns against parameters.
 use Rattle.std.proofs.Common.{◌≡◌, ◌⊎◌, inl, inr, ◌∷◌, [], ◌++◌, ◌-◌, ◌==◌, List, Ok, None, Some, Option, cond, pos, negsuc, refl, sym, ap, subst, ◌∙◌, false, true, Bool, ℕ, suc, slice_get, nat_lt, map}
 use Rattle.sqlite_sql.specs.Term.{Term, col, op2}
 use Rattle.sqlite_sql.specs.declared.ops.BinaryOp.{BinaryOp}
@@ -50,7 +50,7 @@ use Rattle.office_tables.proofs.OneTable.{bounds_are, joins_are, sources_are}
 use Rattle.office_tables.proofs.LoweredColumns.{here, among_one, lower_is, then_shown, then_sorted}
 use Rattle.office_tables.proofs.LoweredTests.{parameter_is, equal_is, above_is, and_is}
 
--- ---- as a text is written
+-- ---- the parts of the text
 
 abbrev pub column_e : Name → Expr
 column_e name = roll-Expr (Expr-F.Column None name)
@@ -189,7 +189,7 @@ module _ (schema : Schema) (at : ℕ) (table : Table) (found : slice_get schema.
   abbrev pub IsPlainKind : Column → Type 0
   IsPlainKind c = (of_declared c ≡ affinity.Text) ⊎ (of_declared c ≡ affinity.Numeric)
 
-  -- such a column against a parameter
+  -- a column of texts or of numbers, compared with a parameter
   pub column_compares : (shown : List Output) (op : BinaryOp) (k m : ℕ) (c : Column) → slice_get table.columns k ≡ Some c → IsPlainKind c
       → compared (scope shown) op (col 1 (suc k)) (col 0 m) ≡ op2 op (col 1 (suc k)) (col 0 m)
   unfolding compared affinity_of converted spelled may_be_text
@@ -200,7 +200,7 @@ module _ (schema : Schema) (at : ℕ) (table : Table) (found : slice_get schema.
   unfolding of_column
   rowid_kind shown = refl
 
-  -- a rowid against a parameter
+  -- a rowid, compared with a parameter
   rowid_compares : (shown : List Output) (op : BinaryOp) (m : ℕ) → compared (scope shown) op (col 1 0) (col 0 m) ≡ op2 op (col 1 0) (col 0 m)
   unfolding compared affinity_of converted spelled may_be_text
   rowid_compares shown op m = rw (rowid_kind shown, bare shown m)
@@ -269,7 +269,7 @@ module _ (schema : Schema) (at : ℕ) (table : Table) (found : slice_get schema.
       and_is (scope shown) (both_e (equals_e p.1.name m) (equals_e q.1.name n)) (equals_e p.1.name m) (equals_e q.1.name n) _ _ 2 b _ _ l _ _ enough (suc (suc d)) (out_both (equals_e p.1.name m) (equals_e q.1.name n))
       (tested_lowers d shown p m (b - 1) nothing has₁ first₁ still₁ is₁) (tested_lowers d shown q n (b - 1 - 1 - 1 - 1) nothing has₂ first₂ still₂ is₂)
 
-  -- the first two are read together
+  -- the first two tests are read together
   pub three_tests : (shown : List Output) (p q r : ℕ × Column) (m n o b : ℕ) (l : Carried) → nat_lt 1 b ≡ true → nat_lt 1 (b - 1) ≡ true
       → Has table (b - 1 - 1 - 1) (p ∷ []) → nat_lt 1 (b - 1 - 1) ≡ true → nat_lt 1 (b - 1 - 1 - 1 - 1) ≡ true → IsTested p
       → Has table (b - 1 - 1 - 1 - 1 - 1 - 1) (q ∷ []) → nat_lt 1 (b - 1 - 1 - 1 - 1 - 1) ≡ true → nat_lt 1 (b - 1 - 1 - 1 - 1 - 1 - 1 - 1) ≡ true → IsTested q

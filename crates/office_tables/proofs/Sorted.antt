@@ -1,4 +1,4 @@
--- Rows in the order of their keys are told by their look-ups, and are what a sort leaves.
+-- Rows in the order of their keys are determined by their look-ups, and are the result of a sort.
 use Rattle.std.proofs.Common.{◌≡◌, ℕ, suc, slice_index_or, ◌+◌, ◌≤◌, false, cond, List, [], ◌∷◌, Option, Some, None, refl, sym, ◌∙◌, ap, subst, arith}
 use Rattle.std.specs.List.{AllByRecursion}
 use Rattle.std.specs.List.Sorted.{IsSorted}
@@ -12,7 +12,7 @@ use Rattle.office_base.proofs.RowLaws.Keyed.{IsKeyed, own_key, found_key}
 use Rattle.office_base.proofs.RowLaws.Starts.{above, tied, none_below}
 use Rattle.office_base.proofs.RowLaws.Found.{of_found}
 
--- no element below the one before it
+-- no element is less than the one before it
 abbrev pub Climbs : {X : Type 0} → (X → X → Ordering) → List X → Type 0
 Climbs cmp [] = Unit {0}
 Climbs cmp (x ∷ []) = Unit {0}
@@ -30,7 +30,7 @@ module _ {K X : Type 0} {R : K → K → Ordering} {key : X → K} (t : IsKeyed 
   no_row : (y : X) → ◌≡◌ {A = Option X} None (Some y) → ⊥
   no_row y e = cc
 
-  -- rows in order are told by their look-ups
+  -- two ordered lists of rows with the same look-ups are equal
   pub same_rows : (xs ys : List X) → IsInOrder R key xs → IsInOrder R key ys → ((q : K) → row_at R key xs q ≡ row_at R key ys q) → xs ≡ ys
   unfolding row_at
   same_rows [] [] o p h = refl
@@ -60,7 +60,7 @@ module _ {K X : Type 0} {R : K → K → Ordering} {key : X → K} (t : IsKeyed 
             | Greater ↦ λ e g. g
           ] refl (h q ∙ ap (λ k. by_order (R q k) None (Some y) (row_at R key ys q)) (sym k))
 
-  -- rows in order with the same rows are the same
+  -- two ordered lists with the same rows are equal
   pub same_members : (xs ys : List X) → IsInOrder R key xs → IsInOrder R key ys → AllByRecursion (λ x. row_at R key ys (key x) ≡ Some x) xs → AllByRecursion (λ y. row_at R key xs (key y) ≡ Some y) ys → xs ≡ ys
   same_members xs ys o p h k = same_rows xs ys o p (λ q. at q (row_at R key xs q) (row_at R key ys q) refl refl)
     where
@@ -72,7 +72,7 @@ module _ {K X : Type 0} {R : K → K → Ordering} {key : X → K} (t : IsKeyed 
   abbrev pub count_at : K → List X → ℕ
   count_at k xs = sum_over (λ x. cond (eq_by_cmp R k (key x)) 1 0) xs
 
-  -- what a sort leaves of rows of which no two have the same key is in order
+  -- a sort of rows that have different keys gives rows in order
   pub in_order_from_sorted : (xs : List X) → Climbs (λ x y. R (key x) (key y)) xs → ((k : K) → count_at k xs ≤ 1) → IsInOrder R key xs
   in_order_from_sorted [] s c = tt
   in_order_from_sorted (x ∷ []) s c = (tt, tt)

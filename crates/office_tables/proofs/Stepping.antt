@@ -1,4 +1,4 @@
--- What statements leave of a transaction.
+-- The state of a transaction after some statements.
 use Rattle.std.proofs.Common.{◌⊎◌, inl, inr, ℕ, Err, Ok, Result, List}
 use Rattle.std.specs.Prelude.{OnErr, OnOk}
 use Rattle.sqlite_value.specs.Order.{Row}

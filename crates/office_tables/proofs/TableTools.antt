@@ -1,4 +1,4 @@
--- What is shown of each table of an office, and with what. All that the files of `ByTable` share is found here.
+-- The facts to be shown of each table of an office, and the lemmas for them. The files of `ByTable` share this page.
 pub use Rattle.std.proofs.Common.{◌≡◌, inl, inr, ◌&&◌, ◌∷◌, [], List, ℕ, pos, None, Some, codes, refl, ap, ap₂, ◌∙◌, true, map, slice_get, drop, option_map}
 pub use Rattle.std.specs.List.{range_with_len}
 pub use Rattle.std.specs.Ordering.{nat_cmp, is_lt}
@@ -58,13 +58,13 @@ use Rattle.office_tables.proofs.Keyed.{HasKey}
 use Rattle.office_tables.proofs.Upserts.{IsUpsert, InsertsRows, NamesKey, Updates, updating, on_conflict, upserts_mean}
 use Rattle.office_tables.proofs.Writes.{IsBare}
 
--- its text makes it, it has a key and no foreign keys, and its name is found
+-- the table's text creates it, it has a key and no foreign keys, and its name finds it
 pub record IsOfficeTable (k : OfficeTable) : Type 0 where
   pub bare : IsBare (table_of k)
   pub named : same_name (table_of k).name (table_of k).name ≡ true
   pub created : IsCreate (create_of k) (table_of k)
 
--- what the grammar makes of the text that puts a record
+-- the parts that the grammar finds in the text that puts a record
 pub record IsPutText (k : OfficeTable) (s : Shape) (text : List ℕ) : Type 0 where
   pub read : IsUpsert text (table_of k).name
   pub unstamped : (table_of k).stamps.formats ≡ []
@@ -80,14 +80,14 @@ pub record IsPutOf (k : OfficeTable) {K X : Type 0} (f : Form K X) (s : Shape) (
   pub key : HasKey (table_of k)
   pub accepted : (schema : Schema) (n : ℕ) → IsIn schema (table_of k) n → accepts_program schema [] (updating n s.base s.cells) [] ≡ true
 
--- wherever the table stands
+-- in every schema that has the table, the text means this put
 pub put_means : {k : OfficeTable} {K X : Type 0} {f : Form K X} {s : Shape} {text : List ℕ} → IsPutOf k f s text → (schema : Schema) (n : ℕ) (it : IsIn schema (table_of k) n)
     → StatementMeans schema text (InsertOr it.place Abort (Values s.terms (length s.terms)) (on_conflict (at_tree (table_of k) n) s.base s.cells ∷ []))
 put_means {k} {s} {text} of schema n it =
     upserts_mean schema text (table_of k) n it of.reads.read of.reads.unstamped of.key _ (of.reads.rows schema n) (of.reads.names n) s.base s.cells (of.reads.update schema it.place n)
     (of.accepted schema n it)
 
--- where all tables stand for the content, and one is changed as the put changes it, all stand for the content behind the put
+-- If the rows hold a content and one table changes as the put says, all rows hold the content after the put.
 abbrev pub StaysBeside : OfficeTable → {K X : Type 0} → Form K X → Put → X → (Tables → List X) → Type 0
 StaysBeside k f p x part =
     (t : Tables) (rows : OfficeTable → List Row) (changed : List Row) → Stands rows t → RowsStand f changed (row_put f.cmp f.key (part t) x) → Stands (with_rows rows k changed) (after_put p t)

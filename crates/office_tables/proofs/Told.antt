@@ -1,4 +1,4 @@
--- Trees stand for one office alone.
+-- Trees hold one office alone.
 use Rattle.std.proofs.Common.{◌≡◌, Some, sym, ap, subst, ◌∙◌, slice_get, filter, ℕ}
 use Rattle.std.specs.List.{position_from, AllZip}
 use Rattle.sqlite_value.specs.Order.{Row}
@@ -30,12 +30,12 @@ reads row t h = record {
 listed : (db : Database) → IsDatabase db → AllZip ReadsTable (filter is_table_row (db.trees catalog_tree)) db.schema.tables
 listed db sound = zip_so IsTableRow ReadsTable _ db.schema.tables (λ row t a b h. reads row t h) sound.lists.listed.tables
 
--- one catalog lists the tables of one schema
+-- equal trees of two sound databases list the same tables
 pub same_tables : (d e : Database) → IsDatabase d → IsDatabase e → d.trees ≡ e.trees → d.schema.tables ≡ e.schema.tables
 same_tables d e p q same =
     tables_once _ d.schema.tables e.schema.tables (subst (λ (t : Trees). AllZip ReadsTable (filter is_table_row (t catalog_tree)) d.schema.tables) same (listed d p)) (listed e q)
 
--- in which a name finds one tree
+-- a name finds the same tree in two schemas that list the same tables
 same_place : (d e : Schema) (t : Table) (m n : ℕ) → d.tables ≡ e.tables → IsIn d t m → IsIn e t n → m ≡ n
 same_place d e t m n same a b =
     let places : Some a.place ≡ Some b.place = sym a.named ∙ ap (position_from (λ (u : Table). same_name u.name t.name) 0) same ∙ b.named in

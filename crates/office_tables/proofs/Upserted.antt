@@ -1,4 +1,4 @@
--- What INSERT .. ON CONFLICT (key) DO UPDATE of one row does to its own table, and to others that stand apart.
+-- An INSERT .. ON CONFLICT (key) DO UPDATE of one row changes its own table alone, and leaves tables apart as they are.
 use Rattle.std.proofs.Common.{◌≡◌, ◌≢◌, ◌⊎◌, inl, inr, ℕ, ℤ, true, false, cond, List, [], ◌∷◌, ◌++◌, ◌/◌, length, map, drop, Option, Some, None, Ok, Err, Result, refl, sym, ap, subst, ◌∙◌}
 use Rattle.sqlite_value.specs.Order.{Row}
 use Rattle.sqlite_trees.specs.Tree.{Trees, rowid}
@@ -21,7 +21,7 @@ use Rattle.sqlite_rules.proofs.ActionLemmas.{no_works}
 use Rattle.sqlite.proofs.Callers.{one_step}
 use Rattle.office_tables.proofs.Childless.{IsOwn, SparesMarked, writes}
 
--- a part that gave a value did not stop on the way
+-- a part that returned a value didn't stop on the way
 pub went : {B E R : Type 0} {b : B} {Stops : E → Type 0} → ((stop : E) × Stops stop × (Ok b ≡ Err stop)) ⊎ R → R
 went (inl stopped) = absurd (let e = stopped.2 in cc)
 went (inr on) = on
@@ -30,15 +30,15 @@ pub same_value : {B E : Type 0} {a b : B} → ◌≡◌ {A = Result B E} (Ok a) 
 same_value e = cc
 
 module _ (task : Task) where
-  -- the rows of tables apart are as before
+  -- the tables apart keep their rows
   abbrev pub Spares : Trees → Trees → Type 0
   Spares old new = SparesMarked task.schema task.table.tree old new
 
-  -- the row as it is tried
+  -- the row that the statement tries to insert
   abbrev pub tried : Trees → Row → Row
   tried db source = with_rowid Chosen (db task.table.tree) (cast_row task.table source)
 
-  -- the rows that are put in the place of those that an update shows
+  -- the table after an update: its new rows replace the rows that they update
   abbrev pub renewed : Trees → List Row → List Row
   renewed db answer = numbered Given (without_all (db task.table.tree) (ids_of answer)) (map (λ s. cast_row task.table (drop 1 s)) answer)
 
@@ -46,14 +46,14 @@ module _ (task : Task) where
     abbrev pub clause : Upsert
     clause = record { target = target; update = Some q }
 
-    -- no row has the key, and the row is put
+    -- no row has the key, and the new row is inserted
     pub record IsAdded (db next : Trees) (new : Row) : Type 0 where
       pub none : AreConflicts target task.schema.indexes task.table (db task.table.tree) new []
       pub fresh : are_fresh (db task.table.tree) (cast_row task.table new ∷ []) ≡ true
       pub rows : next task.table.tree ≡ put_all (db task.table.tree) (cast_row task.table new ∷ [])
       pub others : Spares db next
 
-    -- a row has the key, and what the update shows is put in its place
+    -- a row has the key, and the updated row replaces it
     pub record IsRenewed (db next : Trees) (new : Row) : Type 0 where
       pub there : Row
       pub more : List Row
@@ -67,7 +67,7 @@ module _ (task : Task) where
     abbrev pub IsUpserted : Trees → Trees → Row → Type 0
     IsUpserted db next source = IsAdded db next (tried db source) ⊎ IsRenewed db next (tried db source)
 
-    -- so they are of either
+    -- tables apart keep their rows, whether the row is new or replaces another
     pub spared : (db next : Trees) (source : Row) → IsUpserted db next source → Spares db next
     spared db next source (inl added) = added.others
     spared db next source (inr renewed) = renewed.others
@@ -80,7 +80,7 @@ module _ (task : Task) where
           let is : w.trees ≡ p.0 = ap (λ (it : Written). it.trees) (same_value p.2) in
           rw is (record { none = none; fresh = done.applies.fresh; rows = done.own task.table.tree own ∙ done.applies.rows; others = done.apart })
 
-      -- where OR says nothing, the row is put
+      -- without an OR clause, the row is inserted
       put_anyway : (db : Trees) (new : Row) (found : List Row) (w : Written) → Clears task Abort new db found (Ok w) → Puts task new db (Ok w)
       put_anyway db new [] w h = h
       put_anyway db new (x ∷ more) w h = h
@@ -122,7 +122,7 @@ module _ (task : Task) where
       uncounted : (db out : Trees) (counter : Option Row) (top : ℤ) → Counts task db counter top (Ok out) → out ≡ db
       uncounted db out counter top h = let k = rw counted at h in same_value k
 
-      -- the one row is tried, and its trees are the statement's
+      -- the statement tries one row, and leaves the trees of that try
       one_tried : (db : Trees) (terms : List Term) (width : ℕ) (source : Row) (w : Written)
           → value_rows (stamped task.table task.params) width (length terms / width) terms ≡ source ∷ []
           → InsertsOr task Abort (clause ∷ []) (Values terms width) db (Ok w)
@@ -143,7 +143,7 @@ module _ (task : Task) where
           let one = one_tried db terms width source w given h in
           subst (λ (trees : Trees). IsUpserted db trees source) (sym one.2) (met db (tried db source) one.1.0 one.0 one.1.1 one.1.2)
 
-      -- a put that adds to an empty table leaves all other tables as they were
+      -- an insert into an empty table leaves all other tables as they were
       adds : (db : Trees) (new : Row) (w : Written) → Puts task new db (Ok w) → AllByRecursion (λ t. t.tree ≢ task.table.tree → w.trees t.tree ≡ db t.tree) task.schema.tables
       adds db new w h =
           let p = went h in

@@ -1,4 +1,4 @@
--- INSERT .. ON CONFLICT (key) DO UPDATE of one row under a schema of which only its table is known.
+-- INSERT .. ON CONFLICT (key) DO UPDATE of one row, in any schema that has its table.
 use Rattle.std.proofs.Common.{◌≡◌, [], ◌∷◌, ◌++◌, ◌+◌, ◌-◌, ◌==◌, List, Ok, None, Some, pos, negsuc, refl, ℕ, length, false, true, slice_get, map}
 use Rattle.std.specs.List.{range_with_len}
 use Rattle.sqlite_value.specs.declared.value.Value.TheVariants.{Int, Null}
@@ -35,9 +35,9 @@ use Rattle.office_tables.specs.Known.{IsIn, at_tree}
 use Rattle.office_tables.proofs.Keyed.{HasKey, key_at_is}
 use Rattle.office_tables.proofs.Meanings.{StatementMeans, means_by, parsed_in}
 
--- ---- what is written
+-- ---- the command
 
--- over the row of one rowid, which stands behind `base` parameters: its rowid, and then a row at that rowid
+-- An update of the row that has one rowid: it shows the rowid, and then the row at that rowid. The rowid is the parameter after the first `base`.
 abbrev pub updating : ℕ → ℕ → List Term → Query
 updating tree base cells = record {
   from = inner tree end;
@@ -54,7 +54,7 @@ updating tree base cells = record {
 abbrev pub update_of : ℕ → ℕ → List Term → Program
 update_of tree base cells = record { lets = []; body = updating tree base cells }
 
--- on a conflict in the key, that update
+-- this update, on a conflict in the key
 abbrev pub on_conflict : Table → ℕ → List Term → Upsert
 on_conflict table base cells = record { target = Some table.primary; update = Some (update_of table.tree base cells) }
 
@@ -71,21 +71,21 @@ draft_of tree base cells = record {
   offset = lit (Int (pos 0));
 }
 
--- the terms of a put: how many parameters it has, the row that it tries, and the row that it sets
+-- the terms of a put: the number of its parameters, the row that it tries to insert, and the row that it sets
 pub record Shape : Type 0 where
   pub base : ℕ
   pub terms : List Term
   pub cells : List Term
 
--- so many parameters from one on
+-- `n` parameters, from this one on
 abbrev pub given_from : ℕ → ℕ → List Term
 given_from at n = map (col 0) (range_with_len at n)
 
--- of a table whose rows stand behind a rowid that is chosen: of so many columns so many are the key, which the row that is there keeps
+-- The put into a table whose rowids the database chooses. It has `n` columns; the first `keys` of them are the key, which an existing row keeps.
 abbrev pub behind_rowid : ℕ → ℕ → Shape
 behind_rowid n keys = record { base = n; terms = lit Null ∷ given_from 0 n; cells = map (col 1) (range_with_len 1 keys) ++ given_from keys (n - keys) }
 
--- of a table whose key is its rowid
+-- the put into a table whose key is its rowid
 abbrev pub at_rowid : ℕ → Shape
 at_rowid n = record { base = n; terms = col 0 0 ∷ lit Null ∷ given_from 1 (n - 1); cells = lit Null ∷ given_from 1 (n - 1) }
 
@@ -103,7 +103,7 @@ unfoldable pub clause_in : Statement → written_clause.Upsert
 clause_in (written.Insert how name columns rows (u ∷ more) shown) = u
 clause_in _ = record { target = []; sets = []; filter = None }
 
--- what the grammar makes of the text of a put
+-- the parts that the grammar finds in the text of a put
 pub record IsUpsert (text name : List ℕ) : Type 0 where
   pub is : first text ≡ Ok (parsed_in (first text))
   pub statement : (parsed_in (first text)).statement
@@ -174,7 +174,7 @@ InsertsRows schema table text s = new_rows schema table (small (parsed_in (first
 abbrev pub NamesKey : Table → List ℕ → Type 0
 NamesKey table text = places table (clause_in (parsed_in (first text)).statement).target ≡ Ok table.primary
 
--- and what it sets
+-- the update sets these cells
 abbrev pub Updates : Schema → ℕ → Table → List ℕ → ℕ → List Term → Type 0
 Updates schema at table text base cells = do_update schema at table (small (parsed_in (first text)).names + 0) (clause_in (parsed_in (first text)).statement) ≡ Ok (draft_of table.tree base cells)
 

@@ -1,4 +1,4 @@
--- Where an office stands its version is the answer, and the schema takes the question.
+-- In an office the query for its version is understood, and the version is the answer.
 use Rattle.std.proofs.Common.{◌≡◌, ◌⊎◌, inl, inr, ℕ, List, [], Option, Some, None, Ok, Err, Result, true, refl, sym, ap, subst, ◌∙◌, IsTrue}
 use Rattle.std.specs.Prelude.{IfOk, IfErr}
 use Rattle.sqlite_value.specs.Order.{Row}
@@ -31,7 +31,7 @@ store_no_input stores.Full why e = cc
 store_no_input stores.Broken why e = cc
 store_no_input stores.Unstorable why e = cc
 
--- a select that is understood is not refused as a text
+-- a select that is understood doesn't fail as a text
 never_read : (limit : Option ℕ) (q : Program) (names : List (List ℕ)) (db : Database) (full : Row) (e : Error) (why : CompileError) → e ≡ SqlInputError why → RefusesToRead limit (Select q names) db full e → ⊥
 never_read limit q names db full e why is (inl kind) = let x = sym kind.0 ∙ is in cc
 never_read limit q names db full e why is (inr (inl over)) = let x = sym over.0 ∙ is in cc

@@ -1,4 +1,4 @@
--- A SELECT over known tables, one or several that are joined, whatever else the schema has.
+-- A SELECT over known tables, one or several that are joined, in any schema that has them.
 use Rattle.std.proofs.Common.{◌≡◌, ◌∷◌, [], ◌++◌, ◌+◌, List, Ok, None, false, true, Bool, ℕ, negsuc, suc, map, Option, refl}
 use Rattle.sqlite_value.specs.declared.keys.Collation.{Collation}
 use Rattle.sqlite_value.specs.declared.keys.Key.{Key}
@@ -35,7 +35,7 @@ use Rattle.sqlite_resolve.specs.Program as program
 use Rattle.sqlite_resolve.specs.Compile.{first, compiled, planned, meaning, timed, returning, read, small}
 use Rattle.sqlite_resolve.specs.Compile as compile
 
--- the state while a SELECT is read: the next slot, what is left of the budget, and what was carried last
+-- the state while a SELECT is read: the next slot, the budget that is left, and the collation of the last expression
 abbrev pub at_budget : ℕ → ℕ → Carried → State
 at_budget next budget last = record { next = next; steps = []; aggregates = []; budget = budget; written = None; last = last }
 
@@ -43,7 +43,7 @@ at_budget next budget last = record { next = next; steps = []; aggregates = []; 
 abbrev pub among : Schema → List Bound → List Output → Bool → Bool → Context
 among schema bounds shown may_aggregate may_alias = record { schema = schema; levels = record { tables = bounds; shown = shown } ∷ []; may_aggregate = may_aggregate; may_alias = may_alias }
 
--- what a SELECT over known tables is drafted as
+-- the draft of a SELECT over known tables
 abbrev pub draft_of : List Step → List Term → List Output → List (Term × Key) → Term → Draft
 draft_of steps filter shown keys limit = record {
   from = chain steps;
@@ -57,7 +57,7 @@ draft_of steps filter shown keys limit = record {
   offset = number 0;
 }
 
--- what a text of such a SELECT is compiled to
+-- the compiled form of the text of such a SELECT
 abbrev pub compiled_to : Program → List Output → Parsed → Compiled
 compiled_to q shown p = record {
   command = command.Select q (map (λ (o : Output). o.name) shown);
@@ -126,7 +126,7 @@ module _ (schema : Schema) (core : Core) (bounds : List Bound) (n : ℕ) (steps 
   unfolding select.named select.assembled select.ungrouped
   named_is = rw (parts_are, undistinct)
 
-  -- no view, no part of a compound and no table of WITH comes into it
+  -- the SELECT uses no view, no part of a compound and no table of WITH
   module _ (s : Select) (core_is : (out-Select s).first ≡ core) (order_is : (out-Select s).order ≡ by_order) (unlet : (out-Select s).with ≡ []) (uncompound : (out-Select s).others ≡ [])
       (pages : select.paging schema s ≡ Ok (limit, number 0))
       (sources_are : (query : Schema → Select → program.Building program.Shown) → program.sources query schema (out-Core core).from [] ≡ Ok (schema, [])) where

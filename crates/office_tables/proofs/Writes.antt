@@ -61,9 +61,9 @@ use Rattle.office_tables.proofs.Upserts.{Shape, updating, update_of, on_conflict
 use Rattle.office_tables.proofs.Meanings.{StatementMeans}
 use Rattle.office_tables.proofs.RowsPut as put
 
--- ---- the tables of an office stand apart
+-- ---- the tables of an office are apart from each other
 
--- the rows with those of one table changed
+-- the rows of all tables, with those of one table replaced
 abbrev pub with_rows : (OfficeTable → List Row) → OfficeTable → List Row → OfficeTable → List Row
 with_rows rows k changed j = cond (bytes_eq (table_of j).name (table_of k).name) changed (rows j)
 
@@ -76,7 +76,7 @@ own_table schema table n childless it = record {
 }
 
 module _ (schema : Schema) (p : Places) (tables : HasTables schema p) where
-  -- two names find two tables
+  -- tables with different names have different trees
   apart : (j k : OfficeTable) → bytes_eq (table_of j).name (table_of k).name ≡ false → p k ≡ p j → ⊥
   apart j k other same =
       let there = place_has schema.tables (tables k).place (at_tree (table_of k) (p k)) (tables k).found in
@@ -84,7 +84,7 @@ module _ (schema : Schema) (p : Places) (tables : HasTables schema p) where
       let tie : bytes_eq (table_of j).name (table_of k).name ≡ true = (bytes_eq-Decides _ _).1 (sym (ap (λ (t : Table). t.name) one)) in
       true≢false (sym tie ∙ other)
 
-  -- and one name finds one
+  -- tables with the same name have the same tree
   together : (j k : OfficeTable) → bytes_eq (table_of j).name (table_of k).name ≡ true → p j ≡ p k
   together j k same =
       let name : (table_of j).name ≡ (table_of k).name = (bytes_eq-Decides _ _).0 same in
@@ -105,17 +105,17 @@ module _ (schema : Schema) (p : Places) (tables : HasTables schema p) where
 
 -- ---- one put
 
--- what computes of a put, whatever the record
+-- the facts about a put that compute, whatever the record
 pub record IsPlainPut (k : OfficeTable) {K X : Type 0} (f : Form K X) (s : Shape) : Type 0 where
-  -- the text's values are the record's, at a rowid that is chosen, or is the key
+  -- the values of the text are the record's, at a rowid that the database chooses or that is the key
   pub given : (n : ℕ) (x : X) → value_rows (stamped (at_tree (table_of k) n) (f.row x)) (length s.terms) (length s.terms / length s.terms) s.terms ≡ f.stored Null x ∷ []
   pub chosen : (rows : List Row) (x : X) → with_rowid Chosen rows (f.stored Null x) ≡ f.stored (Int (next_rowid rows)) x
   pub numbered : (m : ℤ) (x : X) → is_int (rowid (f.stored (Int m) x)) ≡ true
   pub kept : (m : ℤ) (x : X) → f.stored (rowid (f.stored (Int m) x)) x ≡ f.stored (Int m) x
-  -- the update finds the rowid behind the record's values
+  -- the update finds the rowid after the record's values
   pub finds : (x : X) (id : Value) (more : Row) → column (f.row x ++ id ∷ more) s.base ≡ id
 
--- what the columns and the key of a table ask of a put
+-- the facts about the columns and the key of a table that a put needs
 pub record IsStored (k : OfficeTable) {K X : Type 0} (f : Form K X) (s : Shape) : Type 0 where
   pub total : IsTotalOrder f.cmp
   pub exact : IsAntisymmetric f.cmp
@@ -123,20 +123,20 @@ pub record IsStored (k : OfficeTable) {K X : Type 0} (f : Form K X) (s : Shape) 
   -- its columns take the values as they are
   pub tries : (n : ℕ) (x : X) → cast_row (at_tree (table_of k) n) (f.stored Null x) ≡ f.stored Null x
   pub stores : (n : ℕ) (m : ℤ) (x : X) → cast_row (at_tree (table_of k) n) (f.stored (Int m) x) ≡ f.stored (Int m) x
-  -- rows agree in the columns of the key exactly where their records have one key
+  -- rows agree in the columns of the key exactly if their records have the same key
   pub meets : (u v : Value) (x y : X) → f.key x ≡ f.key y → agree plain (table_of k).primary (f.stored u x) (table_of k).primary (f.stored v y) ≡ true
   pub met : (u v : Value) (x y : X) → agree plain (table_of k).primary (f.stored u x) (table_of k).primary (f.stored v y) ≡ true → f.key x ≡ f.key y
   -- the update puts the record's values at that rowid
   pub updates : (n : ℕ) (x y : X) (v : Value) (more : Row) → f.key y ≡ f.key x
       → (output (updating n s.base s.cells) ((f.row x ++ more) ∷ f.stored v y ∷ [])).1 ≡ rowid (f.stored v y) ∷ f.stored (rowid (f.stored v y)) x
 
--- no table of the office has foreign keys, or counts its rowids, and each has a key
+-- no table of the office has foreign keys or counts its rowids, and each has a key
 pub record IsBare (table : Table) : Type 0 where
   pub childless : table.references ≡ []
   pub key : HasKey table
   pub uncounted : table.is_counted ≡ false
 
--- one table has one row more, or another row in place of one
+-- one table has one more row, or another row in place of one
 pub record IsPut (k : OfficeTable) {K X : Type 0} (R : K → K → Ordering) (key : X → K) (form : Value → X → Row) (decode : Row → X) (old new : Database) (p : Places) (after : List X) : Type 0 where
   pub schema : new.schema ≡ old.schema
   pub sound : IsDatabase new
@@ -189,7 +189,7 @@ module _ (k : OfficeTable) (bare : (j : OfficeTable) → IsBare (table_of j)) {K
       let done = went (subst (λ o. AtPlace (λ table. OnRows (record { limit = old.step_limit; keys = Enforced; schema = old.now.schema; table = table; params = params }) (mode_of old) None puts old.now.trees) o (Ok (w.tally, new.now))) (tables k).found w.changed) in
       (done.0, done.1, ap (λ (p : Tally × Database). p.1) (same_value (went (went done.2).2).2), w.sound)
 
-  -- the row of a record at a rowid of a number
+  -- the row of a record, at a rowid that is a number
   at_number : (v : Value) (x : X) → is_int v ≡ true → (cast_row own (form v x) ≡ form v x) × (is_int (rowid (form v x)) ≡ true) × (form v x ≡ form (rowid (form v x)) x)
   at_number v x int = subst (λ v. (cast_row own (form v x) ≡ form v x) × (is_int (rowid (form v x)) ≡ true) × (form v x ≡ form (rowid (form v x)) x)) (sym (int_is v int)) (it.stores (p k) (id_in v) x, it.computes.numbered (id_in v) x, sym (it.computes.kept (id_in v) x))
 
@@ -197,7 +197,7 @@ module _ (k : OfficeTable) (bare : (j : OfficeTable) → IsBare (table_of j)) {K
     abbrev rows : List Row
     rows = db (p k)
 
-    -- the row that is tried
+    -- the row that the put tries to insert
     abbrev first : Row
     first = form (Int (next_rowid rows)) x
 
@@ -210,13 +210,13 @@ module _ (k : OfficeTable) (bare : (j : OfficeTable) → IsBare (table_of j)) {K
     form_of : (r : Row) → Has rows r → r ≡ form (rowid r) (decode r)
     form_of r h = (all_has _ rows r was.each h).1
 
-    -- a row with the record's key conflicts
+    -- a row that has the record's key conflicts
     conflicting : (r : Row) → Has rows r → key_of R key form decode r ≡ key x → conflicts target old.now.schema.indexes own first r ≡ true
     conflicting r h e =
         conflicts_key old.now.schema (table_of k) (p k) (tables k) (bare k).key first r
         ∙ ap (λ y. agree plain (table_of k).primary y (table_of k).primary first) (form_of r h) ∙ it.meets (rowid r) (Int (next_rowid rows)) (decode r) x e
 
-    -- and no other row does
+    -- no other row conflicts
     conflicted : (r : Row) → Has rows r → conflicts target old.now.schema.indexes own first r ≡ true → key_of R key form decode r ≡ key x
     conflicted r h e =
         it.met (rowid r) (Int (next_rowid rows)) (decode r) x
@@ -231,7 +231,7 @@ module _ (k : OfficeTable) (bare : (j : OfficeTable) → IsBare (table_of j)) {K
         subst (λ rs. Stand R key form decode rs (row_put R key xs x)) (sym after)
         (put.stands R it.total it.exact key form decode rows was x first (decodes (Int (next_rowid rows))) shape.1 shape.2 [] free (λ r there e. h.none.complete r there (conflicting r there e)) (λ id none. absurd none) xs is)
 
-    -- the row of the key has another in its place
+    -- the row that has the key is replaced
     renewed : (xs : List X) → table_of_rows R key form decode rows ≡ xs → IsRenewed (task (encode x)) target q db next first → Stand R key form decode (next (p k)) (row_put R key xs x)
     renewed xs is h =
         let met = h.conflicting.sound h.there (inl refl) in
@@ -281,7 +281,7 @@ module _ (k : OfficeTable) (bare : (j : OfficeTable) → IsBare (table_of j)) {K
         stand = subst (λ (d : Database). Stand R key form decode (d.trees (p k)) (row_put R key xs x)) (sym w.2) (upserted_stands x decodes db next was.kept xs was.is one);
       }
 
-  -- where the table was empty, all other tables are as before
+  -- if the table was empty, all other tables keep their rows
   pub puts_others : (text : List ℕ) (x : X) (count : ℕ) → StatementMeans old.now.schema text puts → old.now.trees (p k) ≡ [] → Executes text (encode x) old new (Ok count)
       → (new.now.schema ≡ old.now.schema) × AllByRecursion (λ t. t.tree ≢ p k → new.now.trees t.tree ≡ old.now.trees t.tree) old.now.schema.tables
   puts_others text x count means empty h =
@@ -289,7 +289,7 @@ module _ (k : OfficeTable) (bare : (j : OfficeTable) → IsBare (table_of j)) {K
       let same = others (task (encode x)) target q (bare k).uncounted (is_own k) old.now.trees terms (length terms) (form Null x) w.0 empty (it.computes.given (p k) x) w.1 in
       (ap (λ (d : Database). d.schema) w.2, subst (λ (d : Database). AllByRecursion (λ t. t.tree ≢ p k → d.trees t.tree ≡ old.now.trees t.tree) old.now.schema.tables) (sym w.2) same)
 
--- whatever the text makes of the office, tables apart are as before
+-- tables apart keep their rows, whatever the text does to the office
 module _ (k : OfficeTable) (bare : (j : OfficeTable) → IsBare (table_of j)) {K X : Type 0} (f : Form K X) (s : Shape) (it : IsStored k f s) (limit : Option ℕ) (first second : Database) (n : ℕ) (at : IsIn first.schema (table_of k) n) where
   abbrev upsert : Command
   upsert = InsertOr at.place Abort (Values s.terms (length s.terms)) (on_conflict (at_tree (table_of k) n) s.base s.cells ∷ [])

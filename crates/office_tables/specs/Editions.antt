@@ -1,4 +1,4 @@
--- The editions of an office's tables: which tables came with each, and the version that stands in its row.
+-- The editions of an office's tables: which tables came with each, and the version that its row has.
 use Rattle.std.specs.Prelude.{◌&&◌, ℕ, zero, suc, Bool, cond, not, List, [], filter, nat_lt, is_some}
 use Rattle.std.specs.List.{list_any}
 use Rattle.sqlite_schema.specs.declared.schema.Schema.{Schema}
@@ -8,23 +8,23 @@ use Rattle.office_tables.specs.Schema.{OfficeTable, table_of, create_of, all_tab
 use Rattle.office_tables.specs.Schema.OfficeTable.{Notices, LateRules, Performances}
 use Rattle.office_tables.specs.Tables.LateRules.{late_rules}
 
--- The edition that a table came with; those of edition 0 were there from the beginning.
+-- The edition that a table came with. Tables of edition 0 existed from the beginning.
 abbrev pub came_with : OfficeTable → ℕ
 came_with LateRules = 1
 came_with Notices = 2
 came_with Performances = 2
 came_with k = 0
 
--- an office of this edition lacks the table
+-- an office of this edition doesn't have the table, because the table came later
 abbrev pub lacks_table : ℕ → OfficeTable → Bool
 lacks_table edition k = nat_lt edition (came_with k)
 
--- an edition is a version, but that edition 0 has version 1 too: the table of edition 1 came with a later program of that version
+-- The version that offices of an edition have in their row. Editions 0 and 1 both have version 1: the table of edition 1 came without a new version.
 abbrev pub version_of : ℕ → ℕ
 version_of zero = 1
 version_of (suc edition) = suc edition
 
--- so the edition is told by the version and by whether that table is there; later versions tell it by themselves
+-- The edition follows from the version and, in version 1, from whether the table `late_rules` exists.
 abbrev pub edition_of : ℕ → Bool → ℕ
 edition_of version has_late = cond (not has_late && nat_lt version 2) 0 version
 
@@ -36,14 +36,14 @@ has_table schema name = is_some (table_named schema name)
 abbrev pub has_late : Schema → Bool
 has_late schema = has_table schema late_rules.name
 
--- the tables that weren't there from the beginning, in the order in which they are made
+-- the tables that came after edition 0, in the order in which they are made
 abbrev pub later_tables : List OfficeTable
 later_tables = onto [] (filter (lacks_table 0) all_tables)
 
--- what the program has of each: its edition, its name, and the text that makes it
+-- the line of the program's list for a table: its edition, its name, and the text that creates it
 abbrev pub later_line : OfficeTable → ℕ × List ℕ × List ℕ
 later_line k = (came_with k, (table_of k).name, create_of k)
 
--- a table that it lacks has this name
+-- the name is that of a table that came after this edition
 abbrev pub came_later : ℕ → List ℕ → Bool
 came_later edition name = list_any (λ k. lacks_table edition k && same_name (table_of k).name name) later_tables

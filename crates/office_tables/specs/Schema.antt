@@ -1,4 +1,4 @@
--- The tables of an office: what makes each, its part of an office's content, and the statement of each change.
+-- The tables of an office: the text that creates each, the part of the content that it holds, and the statement of each put.
 use Rattle.std.specs.Prelude.{◌≡◌, List, ℕ, [], ◌∷◌, pos, ⊤}
 use Rattle.sqlite_value.specs.declared.value.Value.TheVariants.{Int}
 use Rattle.sqlite_value.specs.Order.{Row}
@@ -26,7 +26,7 @@ use Rattle.office_tables.specs.Tables.Office.{office, create_office, upsert_offi
 use Rattle.office_tables.specs.Tables.LateRules.{late_rules, create_late_rules, upsert_late_rules, late_values, late_form}
 use Rattle.office_tables.specs.Tables.Performances.{performance, create_performance, upsert_performance, performance_values, performance_form}
 
--- the name of a table of the office
+-- a table of the office
 pub data OfficeTable : Type 0 where
   Lines : OfficeTable
   Batches : OfficeTable
@@ -65,7 +65,7 @@ table_of LateRules = late_rules
 table_of FormerNotices = former_notices
 table_of Performances = performance
 
--- the text that makes it
+-- the text that creates a table
 abbrev pub create_of : OfficeTable → List ℕ
 create_of Lines = create_lines
 create_of Batches = create_batches
@@ -85,13 +85,13 @@ create_of LateRules = create_late_rules
 create_of FormerNotices = create_former_notices
 create_of Performances = create_performance
 
--- all of them, the last that is made first
+-- all tables of the office; the one that is made last comes first
 abbrev pub all_tables : List OfficeTable
 all_tables =
     Performances ∷ Notices ∷ LateRules ∷ Office ∷ Compiled ∷ Releases ∷ Entries ∷ Contracts ∷ Awards ∷ Securities ∷ Seals ∷ Envelopes ∷ Lots ∷ FormerNotices
     ∷ Tenderers ∷ Batches ∷ Lines ∷ []
 
--- the rows of a table stand for its part of an office's content; the clock stands in the one row of `office`
+-- The rows of a table hold its part of the office's content. The clock is the one row of `office`, and `notices` is empty since version 2.
 abbrev pub StandFor : OfficeTable → List Row → Tables → Type 0
 StandFor Lines rows t = RowsStand line_form rows t.lines
 StandFor Batches rows t = RowsStand batch_form rows t.batches
@@ -111,7 +111,7 @@ StandFor LateRules rows t = RowsStand late_form rows t.late_rules
 StandFor FormerNotices rows t = rows ≡ []
 StandFor Performances rows t = RowsStand performance_form rows t.performances
 
--- its records come back from their rows
+-- the records of a table are read back from their rows
 abbrev pub ComeBack : OfficeTable → Type 0
 ComeBack Lines = ComesBack line_form
 ComeBack Batches = ComesBack batch_form
@@ -131,11 +131,11 @@ ComeBack LateRules = ComesBack late_form
 ComeBack FormerNotices = FormerComesBack
 ComeBack Performances = ComesBack performance_form
 
--- and so of each table
+-- the records of every table are read back from their rows
 abbrev pub RecordsComeBack : Type 0
 RecordsComeBack = (k : OfficeTable) → ComeBack k
 
--- the text of a change
+-- the SQL text of a put
 abbrev pub statement_of : Put → List ℕ
 statement_of (put.Line row) = upsert_lines
 statement_of (put.Batch row) = upsert_batches
@@ -155,7 +155,7 @@ statement_of (put.Late row) = upsert_late_rules
 statement_of (put.Performance row) = upsert_performance
 statement_of (put.Clock row) = upsert_office
 
--- its values: the record, column by column
+-- the parameters of that text: the record's columns in order, or the receipt whose bytes are deleted
 abbrev pub values_of_put : Put → Row
 values_of_put (put.Line row) = line_values row
 values_of_put (put.Batch row) = batch_values row
@@ -175,12 +175,12 @@ values_of_put (put.Late row) = late_values row
 values_of_put (put.Performance row) = performance_values row
 values_of_put (put.Clock row) = clock_values row
 
--- what is put is read back from its row: a lot where its items are from their text
+-- the record of a put is read back from its row; only a lot needs a proof, because of the text of its items
 abbrev pub IsReadBack : Put → Type 0
 IsReadBack (put.Lot row) = items_in_text (items_text row.items) ≡ row.items
 IsReadBack p = ⊤
 
--- the statement of the put has this text and these values, and what is put is read back
+-- the statement of the put has this text and these values, and its record is read back
 pub record IsStatementOf (p : Put) (sql : List ℕ) (params : Row) : Type 0 where
   pub text : statement_of p ≡ sql
   pub values : values_of_put p ≡ params

@@ -1,4 +1,4 @@
--- The question for the version of an office.
+-- The query for the version of an office.
 use Rattle.std.specs.Prelude.{ℕ, List, [], ◌∷◌, codes, pos, IsTrue}
 use Rattle.sqlite_value.specs.declared.value.Value.TheVariants.{Int}
 use Rattle.sqlite_value.specs.Order.{Row}
@@ -17,20 +17,20 @@ use Rattle.office_tables.specs.Steps.{IsRefusal}
 abbrev pub get_version : List ℕ
 get_version = codes "SELECT version FROM office"
 
--- one row, and it is this version
+-- one row that has this version
 abbrev pub one_version : ℕ → List Row
 one_version n = (Int (pos n) ∷ []) ∷ []
 
--- the table `office` is there, with one row, of this version, and has this clock
+-- the table `office` exists and has one row, with this version and this clock
 pub record HasVersion (n : ℕ) (clock : ClockRow) (db : Database) : Type 0 where
   pub place : ℕ
   pub table : IsIn db.schema office place
   pub stand : RowsStand (clock_form_of n) (db.trees place) (clock ∷ [])
 
--- in the last commit of an open store
+-- the last commit of an open store has the table `office` with one row, with this version and this clock
 abbrev pub ShowsVersion : ℕ → ClockRow → State → Type 0
 ShowsVersion n clock s = IsTrue s.is_open → HasVersion n clock s.committed
 
--- the schema has no table that answers
+-- the schema rejects the text of the query: it has no table that could answer it
 abbrev pub HasNoVersion : {S : Type 0} → Ghosts S → Held S → Type 0
 HasNoVersion g old = (why : CompileError) × IsRefusal g get_version [] old (SqlInputError why)

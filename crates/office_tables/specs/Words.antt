@@ -1,4 +1,4 @@
--- States and kinds as words, and the words as states: each word that isn't one of the others is taken for the last.
+-- States and kinds as words, and back. Any word that isn't one of the others is read as the last one.
 use Rattle.std.specs.Prelude.{ℕ, if◌then◌else◌, List, codes}
 use Rattle.office_commands.specs.declared.contract.How.{How}
 use Rattle.office_commands.specs.declared.contract.How.TheVariants as how
@@ -16,7 +16,7 @@ use Rattle.office_base.specs.declared.records.EntryKind.{EntryKind}
 use Rattle.office_base.specs.declared.records.EntryKind.TheVariants as entry
 use Rattle.office_tables.specs.Values.{same_text}
 
--- how far a notice has come
+-- the state of a notice as a word
 abbrev pub notice_state_text : NoticeState → List ℕ
 notice_state_text notice.Receiving = codes "receiving"
 notice_state_text notice.Opened = codes "opened"
@@ -28,7 +28,7 @@ notice_state_in word =
     else if same_text word (codes "opened") then notice.Opened
     else notice.Cancelled
 
--- how far a lot has come
+-- the state of a lot as a word
 abbrev pub lot_state_text : LotState → List ℕ
 lot_state_text lot.Undecided = codes "undecided"
 lot_state_text lot.Awarded = codes "awarded"
@@ -44,7 +44,7 @@ lot_state_in word =
     else if same_text word (codes "unsuccessful") then lot.Unsuccessful
     else lot.Cancelled
 
--- where a tender is
+-- the state of a tender as a word
 abbrev pub envelope_state_text : EnvelopeState → List ℕ
 envelope_state_text envelope.Sealed = codes "sealed"
 envelope_state_text envelope.Withdrawn = codes "withdrawn"
@@ -58,7 +58,7 @@ envelope_state_in word =
     else if same_text word (codes "returned") then envelope.Returned
     else envelope.Opened
 
--- where a security is
+-- the state of a security as a word
 abbrev pub security_state_text : SecurityState → List ℕ
 security_state_text security.Held = codes "held"
 security_state_text security.Returned = codes "returned"
@@ -70,7 +70,7 @@ security_state_in word =
     else if same_text word (codes "returned") then security.Returned
     else security.Forfeited
 
--- how far an award has come
+-- the state of an award as a word
 abbrev pub award_state_text : AwardState → List ℕ
 award_state_text award.Active = codes "active"
 award_state_text award.Failed = codes "failed"
@@ -84,7 +84,7 @@ award_state_in word =
     else if same_text word (codes "cancelled") then award.Cancelled
     else award.Signed
 
--- how a contract ended
+-- the way in which a contract ended, as a word
 abbrev pub how_text : How → List ℕ
 how_text how.Regular = codes "regular"
 how_text how.ForDefault = codes "default"
@@ -92,7 +92,7 @@ how_text how.ForDefault = codes "default"
 abbrev pub how_in : List ℕ → How
 how_in word = if same_text word (codes "regular") then how.Regular else how.ForDefault
 
--- what an entry does to its contract
+-- the kind of an entry as a word
 abbrev pub entry_kind_text : EntryKind → List ℕ
 entry_kind_text entry.Raise = codes "raise"
 entry_kind_text entry.Cut = codes "cut"

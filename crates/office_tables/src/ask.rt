@@ -1,4 +1,4 @@
-//! Queries over the last commit.
+//! Queries over the last commit, inside a transaction of their own.
 ghost use Rattle.std.specs.Prelude.{◌≡◌, ◌⊎◌, false, List, Option, IsTrue, IfOk, IfErr, IfSome, OnOk, map, slice_get, option_map};
 ghost use Rattle.std.specs.List.{AllByRecursion};
 ghost use Rattle.sqlite_value.specs.Order.{Row as Values};
@@ -17,7 +17,7 @@ use sqlite::{Alter, Connection, Error, Row, Transaction};
 use sqlite_value::value::ValueRef;
 use std::alloc::Global;
 
-// The rows, asked for in a transaction.
+// The rows of a query, inside a transaction that is open.
 fn ask_inside<S: Alter>(
     tx: &mut Transaction<'_, S>,
     sql: &str,
@@ -34,8 +34,7 @@ fn ask_inside<S: Alter>(
     tx.query_all(sql, values)
 }
 
-/// The rows of a query over the last commit. It is asked in a transaction that is rolled back, so that nothing is added to what a stop
-/// may leave, whatever the text is.
+/// The rows of a query over the last commit. It runs in a transaction that is rolled back, so that a stop can't leave anything new, whatever the text says.
 pub fn ask<S: Alter>(
     conn: &mut Connection<S>,
     sql: &str,
@@ -57,7 +56,7 @@ pub fn ask<S: Alter>(
     rows
 }
 
-/// The record of an answer's first row, if it has one.
+/// The record of an answer's first row, or `None` if there are no rows.
 pub fn ask_first<S: Alter, R: Stored>(
     alloc: Global,
     conn: &mut Connection<S>,
@@ -77,7 +76,7 @@ pub fn ask_first<S: Alter, R: Stored>(
     }
 }
 
-/// The records of an answer's rows.
+/// The records of all rows of an answer.
 pub fn ask_all<S: Alter, R: Stored + Drop>(
     alloc: Global,
     conn: &mut Connection<S>,

@@ -1,4 +1,4 @@
-//! One column of a row. What no office writes there is a fault of the store.
+//! One column of a row. A value that no office writes is a fault of the store.
 ghost use Rattle.std.specs.Prelude.{◌≡◌, ◌≢◌, ℕ, ◌<◌, ◌≤◌, ◌↔◌, List, [], ◌∷◌, length, IsTrue, IsUtf8, IfOk, IfErr, IfSome, option_map};
 ghost use Rattle.sqlite_value.specs.Value.{owned};
 ghost use Rattle.sqlite_value.specs.declared.value.Value.TheVariants.{Null, Text, Blob};
@@ -25,14 +25,14 @@ use sqlite::Row;
 use sqlite_value::value::ValueRef;
 use std::alloc::Global;
 
-// Whether two texts are the same.
+// Whether two texts are equal.
 pub(crate) fn is_same(text: &[u8], other: &[u8]) -> bool
     ensures { IsTrue result ↔ (text.now ≡ other.now) }
 {
     text == other
 }
 
-/// Nothing where a row has so many columns.
+/// Checks that a row has this number of columns.
 pub fn has_columns(row: &Row, count: usize) -> Result<(), ShelfFault>
     ensures exact { IfOk result (λ _. length row.now ≡ count) }
     ensures cause { IfErr result (IsFaultOf (length row.now ≢ count)) }
@@ -44,7 +44,7 @@ pub fn has_columns(row: &Row, count: usize) -> Result<(), ShelfFault>
     }
 }
 
-// What stands there; NULL past the last column.
+// The value of a column; NULL past the last column.
 fn value_at(row: &Row, at: usize) -> ValueRef<'_>
     ensures { owned result ≡ column row.now at }
 {
@@ -54,14 +54,14 @@ fn value_at(row: &Row, at: usize) -> ValueRef<'_>
     }
 }
 
-// Whether NULL stands there.
+// Whether a column is NULL.
 fn is_null(row: &Row, at: usize) -> bool
     ensures { IsTrue result ↔ (Null ≡ column row.now at) }
 {
     matches!(value_at(row, at), ValueRef::Null)
 }
 
-/// Whether NULL stands in these three columns.
+/// Whether these three columns are NULL.
 pub fn are_null(row: &Row, at: usize) -> bool
     requires { at ≤ 1000 }
     ensures { IsTrue result ↔ (Null ∷ Null ∷ Null ∷ [] ≡ three_from row.now at) }
@@ -69,7 +69,7 @@ pub fn are_null(row: &Row, at: usize) -> bool
     is_null(row, at) && is_null(row, at + 1) && is_null(row, at + 2)
 }
 
-// The bytes of a text.
+// The bytes of a column that has a text.
 pub(crate) fn text_at(row: &Row, at: usize) -> Result<&[u8], ShelfFault>
     ensures exact { IfOk result (λ text. Text text.now ≡ column row.now at) }
     ensures cause { IfErr result (IsFaultOf (IsUnwritten Text Anything (column row.now at))) }
@@ -80,7 +80,7 @@ pub(crate) fn text_at(row: &Row, at: usize) -> Result<&[u8], ShelfFault>
     }
 }
 
-// The bytes of a text, or NULL.
+// The bytes of a column that has a text or NULL.
 pub(crate) fn perhaps_text_at(row: &Row, at: usize) -> Result<Option<&[u8]>, ShelfFault>
     ensures exact { IfOk result (λ text. text_or_null (option_map (λ t. t.now) text) ≡ column row.now at) }
     ensures cause { IfErr result (IsFaultOf (IsUnwritten text_or_null Anything (column row.now at))) }
@@ -123,7 +123,7 @@ fn perhaps_number_at(row: &Row, at: usize) -> Result<Option<u64>, ShelfFault>
     }
 }
 
-/// An identifier.
+/// The identifier in a column.
 pub fn id_at(row: &Row, at: usize) -> Result<Id, ShelfFault>
     ensures exact { IfOk result (λ id. Text id ≡ column row.now at) }
     ensures cause { IfErr result (IsFaultOf (IsUnwritten Text IsId (column row.now at))) }
@@ -131,7 +131,7 @@ pub fn id_at(row: &Row, at: usize) -> Result<Id, ShelfFault>
     Id::read(text_at(row, at)?).ok_or(ShelfFault::Store)
 }
 
-// The line of text that these bytes are.
+// The line of text that has these bytes.
 pub(crate) fn line_of(alloc: Global, text: &[u8]) -> Result<TextLine, ShelfFault>
     ensures exact { IfOk result (λ line. line ≡ text.now) }
     ensures cause { IfErr result (IsFaultOf (IsUnwritten (λ (t : List ℕ). t) IsTextLine text.now)) }
@@ -143,7 +143,7 @@ pub(crate) fn line_of(alloc: Global, text: &[u8]) -> Result<TextLine, ShelfFault
     }
 }
 
-// A line of text.
+// The line of text in a column.
 pub(crate) fn line_at(alloc: Global, row: &Row, at: usize) -> Result<TextLine, ShelfFault>
     ensures exact { IfOk result (λ line. Text line ≡ column row.now at) }
     ensures cause { IfErr result (IsFaultOf (IsUnwritten Text IsTextLine (column row.now at))) }
@@ -151,7 +151,7 @@ pub(crate) fn line_at(alloc: Global, row: &Row, at: usize) -> Result<TextLine, S
     line_of(alloc, text_at(row, at)?)
 }
 
-// A line of text, or NULL.
+// The line of text in a column, or `None` for NULL.
 pub(crate) fn perhaps_line_at(
     alloc: Global,
     row: &Row,
@@ -166,7 +166,7 @@ pub(crate) fn perhaps_line_at(
     }
 }
 
-// A text of JSON.
+// The text of JSON in a column.
 pub(crate) fn json_at(alloc: Global, row: &Row, at: usize) -> Result<JsonText, ShelfFault>
     ensures exact { IfOk result (λ text. Text text ≡ column row.now at) }
     ensures cause { IfErr result (IsFaultOf (IsUnwritten Text IsUtf8 (column row.now at))) }
@@ -180,7 +180,7 @@ pub(crate) fn json_at(alloc: Global, row: &Row, at: usize) -> Result<JsonText, S
     }
 }
 
-// A digest or a key.
+// The 32 bytes of a digest or of a key's digest in a column.
 pub(crate) fn digest_at(row: &Row, at: usize) -> Result<[u8; 32], ShelfFault>
     ensures exact { IfOk result (λ digest. Blob digest ≡ column row.now at) }
     ensures cause { IfErr result (IsFaultOf (IsUnwritten Blob (λ digest. length digest ≡ 32) (column row.now at))) }
@@ -188,7 +188,7 @@ pub(crate) fn digest_at(row: &Row, at: usize) -> Result<[u8; 32], ShelfFault>
     <[u8; 32]>::try_from(blob_at(row, at)?).map_err(|_| ShelfFault::Store)
 }
 
-// Sealed bytes.
+// The sealed bytes of a tender in a column.
 pub(crate) fn sealed_at(alloc: Global, row: &Row, at: usize) -> Result<SealedBytes, ShelfFault>
     ensures exact { IfOk result (λ sealed. Blob sealed ≡ column row.now at) }
     ensures cause { IfErr result (IsFaultOf (IsUnwritten Blob IsSealed (column row.now at))) }
@@ -199,7 +199,7 @@ pub(crate) fn sealed_at(alloc: Global, row: &Row, at: usize) -> Result<SealedByt
     }
 }
 
-/// A sum of money, up to the most that a line may have.
+/// The sum of money in a column, up to the limit of a budget line.
 pub fn total_at(row: &Row, at: usize) -> Result<Total, ShelfFault>
     ensures exact { IfOk result (λ total. whole total ≡ column row.now at) }
     ensures cause { IfErr result (IsFaultOf (IsUnwritten whole (λ total. total ≤ total_limit) (column row.now at))) }
@@ -207,7 +207,7 @@ pub fn total_at(row: &Row, at: usize) -> Result<Total, ShelfFault>
     Total::read(number_at(row, at)?).ok_or(ShelfFault::Store)
 }
 
-/// An amount of money.
+/// The amount of money in a column.
 pub fn amount_at(row: &Row, at: usize) -> Result<Amount, ShelfFault>
     ensures exact { IfOk result (λ amount. whole amount ≡ column row.now at) }
     ensures cause { IfErr result (IsFaultOf (IsUnwritten whole (λ amount. amount ≤ amount_limit) (column row.now at))) }
@@ -215,7 +215,7 @@ pub fn amount_at(row: &Row, at: usize) -> Result<Amount, ShelfFault>
     Amount::read(number_at(row, at)?).ok_or(ShelfFault::Store)
 }
 
-// A moment.
+// The moment in a column.
 pub(crate) fn moment_at(row: &Row, at: usize) -> Result<Moment, ShelfFault>
     ensures exact { IfOk result (λ moment. whole moment ≡ column row.now at) }
     ensures cause { IfErr result (IsFaultOf (IsUnwritten whole (λ moment. moment ≤ last_moment) (column row.now at))) }
@@ -223,7 +223,7 @@ pub(crate) fn moment_at(row: &Row, at: usize) -> Result<Moment, ShelfFault>
     Moment::from_second(number_at(row, at)?).ok_or(ShelfFault::Store)
 }
 
-// A moment, or NULL.
+// The moment in a column, or `None` for NULL.
 pub(crate) fn perhaps_moment_at(row: &Row, at: usize) -> Result<Option<Moment>, ShelfFault>
     ensures exact { IfOk result (λ moment. or_null moment ≡ column row.now at) }
     ensures cause { IfErr result (IsFaultOf (IsUnwritten or_null (λ moment. IfSome moment (λ second. second ≤ last_moment)) (column row.now at))) }
@@ -237,7 +237,7 @@ pub(crate) fn perhaps_moment_at(row: &Row, at: usize) -> Result<Option<Moment>, 
     }
 }
 
-/// A number within bounds.
+/// The number in a column, if it is within the bounds of its type.
 pub fn bounded_at<const LOW: u64, const HIGH: u64>(
     row: &Row,
     at: usize,
@@ -248,7 +248,7 @@ pub fn bounded_at<const LOW: u64, const HIGH: u64>(
     Bounded::read(number_at(row, at)?).ok_or(ShelfFault::Store)
 }
 
-// A number within bounds, or NULL.
+// The number in a column, if it is within the bounds of its type, or `None` for NULL.
 pub(crate) fn perhaps_bounded_at<const LOW: u64, const HIGH: u64>(
     row: &Row,
     at: usize,
@@ -265,7 +265,7 @@ pub(crate) fn perhaps_bounded_at<const LOW: u64, const HIGH: u64>(
     }
 }
 
-// Nothing where this version of the office's tables stands there.
+// Checks that a column has this version of the office's tables.
 pub(crate) fn version_at(row: &Row, at: usize, version: u64) -> Result<(), ShelfFault>
     ensures exact { IfOk result (λ _. whole version ≡ column row.now at) }
     ensures cause { IfErr result (IsFaultOf (IsUnwritten whole (λ n. n ≡ version) (column row.now at))) }
@@ -277,7 +277,7 @@ pub(crate) fn version_at(row: &Row, at: usize, version: u64) -> Result<(), Shelf
     }
 }
 
-// A version of the office's tables before this one.
+// The version in a column, which must be below this one.
 pub(crate) fn earlier_at(row: &Row, at: usize, version: u64) -> Result<u64, ShelfFault>
     ensures exact { IfOk result (λ earlier. whole earlier ≡ column row.now at) }
     ensures cause { IfErr result (IsFaultOf (IsUnwritten whole (λ n. n < version) (column row.now at))) }
@@ -290,7 +290,7 @@ pub(crate) fn earlier_at(row: &Row, at: usize, version: u64) -> Result<u64, Shel
     }
 }
 
-// Yes or no.
+// Yes or no: 1 or 0 in a column.
 pub(crate) fn truth_at(row: &Row, at: usize) -> Result<bool, ShelfFault>
     ensures exact { IfOk result (λ yes. whole (as_number yes) ≡ column row.now at) }
     ensures cause { IfErr result (IsFaultOf (IsUnwritten (λ yes. whole (as_number yes)) Anything (column row.now at))) }
@@ -302,7 +302,7 @@ pub(crate) fn truth_at(row: &Row, at: usize) -> Result<bool, ShelfFault>
     }
 }
 
-// Yes, no or NULL.
+// Yes or no in a column, or `None` for NULL.
 pub(crate) fn perhaps_yes_at(row: &Row, at: usize) -> Result<Option<bool>, ShelfFault>
     ensures exact { IfOk result (λ yes. or_null (option_map as_number yes) ≡ column row.now at) }
     ensures cause { IfErr result (IsFaultOf (IsUnwritten (λ yes. or_null (option_map as_number yes)) Anything (column row.now at))) }

@@ -1,4 +1,4 @@
-//! Offices of earlier editions: what stands in them that this program keeps otherwise, and the first half of their migration.
+//! Offices of earlier editions: how to read their former notices and their clock, and the first half of their migration.
 ghost use Rattle.std.specs.Prelude.{◌≡◌, ℕ, [], Some, Ok, IfOk, IsTrue, OnOk, OnErr, map, option_map};
 ghost use Rattle.sqlite.specs.Held.{state};
 ghost use Rattle.sqlite.specs.State.{HasCleanDisk, Survives, ExecutesInside};
@@ -19,7 +19,7 @@ use office_base::shelf::ShelfFault;
 use sqlite::{Alter, Connection, Error, Transaction};
 use std::alloc::Global;
 
-/// The notices that stand in `notices`, in the order of their identifiers.
+/// The notices that are stored in `notices`, in the order of their identifiers.
 pub fn former_notices<S: Alter>(
     alloc: Global,
     conn: &mut Connection<S>,
@@ -36,7 +36,7 @@ pub fn former_notices<S: Alter>(
     )
 }
 
-// The clock of its one row.
+// The clock of the one row of `office`. No row is a fault of the store.
 fn clock_of(found: Option<FormerClock>) -> Result<ClockRow, ShelfFault>
     ensures { IfOk result (λ clock. option_map (λ (former : FormerClock). former.row) found ≡ Some clock) }
 {
@@ -46,7 +46,7 @@ fn clock_of(found: Option<FormerClock>) -> Result<ClockRow, ShelfFault>
     }
 }
 
-/// The clock.
+/// The clock of an office of an earlier version.
 pub fn former_clock<S: Alter>(
     alloc: Global,
     conn: &mut Connection<S>,
@@ -66,7 +66,7 @@ pub fn former_clock<S: Alter>(
     }
 }
 
-// Drops the notices that stand in `notices`, where an edition has them there.
+// Deletes the notices that are stored in `notices`, if the edition has them there.
 fn drop_notices<S: Alter>(tx: &mut Transaction<'_, S>, edition: u64) -> Result<(), Error>
     ensures same_reference { tx.new.conn.ghost_name ≡ tx.old.conn.ghost_name }
     ensures dropped { HasCleanDisk (state S.Store tx.new.conn.now) → IsTrue (state S.Store tx.old.conn.now).in_transaction → OnOk result (DropsFormer S.Store (had_former edition) tx.old.conn.now tx.new.conn.now) }
@@ -80,7 +80,7 @@ fn drop_notices<S: Alter>(tx: &mut Transaction<'_, S>, edition: u64) -> Result<(
     }
 }
 
-// Drops the version, and the clock with it.
+// Deletes the version, and the clock with it.
 fn drop_version<S: Alter>(tx: &mut Transaction<'_, S>) -> Result<(), Error>
     ensures same_reference { tx.new.conn.ghost_name ≡ tx.old.conn.ghost_name }
     ensures ran { HasCleanDisk (state S.Store tx.new.conn.now) → IsTrue (state S.Store tx.old.conn.now).in_transaction → OnOk result ((count : ℕ) × ExecutesInside 0 drop_version [] (state S.Store tx.old.conn.now) (state S.Store tx.new.conn.now) (Ok count)) }
@@ -90,7 +90,7 @@ fn drop_version<S: Alter>(tx: &mut Transaction<'_, S>) -> Result<(), Error>
     execute_one(tx, "DELETE FROM office", &[])
 }
 
-// This program's version, with this clock.
+// Inserts this program's version, with this clock.
 fn put_version<S: Alter>(tx: &mut Transaction<'_, S>, clock: &ClockRow) -> Result<(), Error>
     ensures same_reference { tx.new.conn.ghost_name ≡ tx.old.conn.ghost_name }
     ensures ran { HasCleanDisk (state S.Store tx.new.conn.now) → IsTrue (state S.Store tx.old.conn.now).in_transaction → OnOk result ((count : ℕ) × ExecutesInside 0 upsert_office (clock_values clock.now) (state S.Store tx.old.conn.now) (state S.Store tx.new.conn.now) (Ok count)) }
@@ -100,7 +100,7 @@ fn put_version<S: Alter>(tx: &mut Transaction<'_, S>, clock: &ClockRow) -> Resul
     execute_one(tx, office::PUT, &office::clock_values(clock))
 }
 
-// The notices in `notices` and the version are dropped, and this program's version is put with the clock.
+// Deletes the notices in `notices` and the version, and inserts this program's version with the clock.
 fn renew<S: Alter>(tx: &mut Transaction<'_, S>, edition: u64, clock: &ClockRow) -> Result<(), Error>
     ensures same_reference { tx.new.conn.ghost_name ≡ tx.old.conn.ghost_name }
     ensures renewed { HasCleanDisk (state S.Store tx.new.conn.now) → IsTrue (state S.Store tx.old.conn.now).in_transaction → OnOk result (Renews S.Store edition clock.now tx.old.conn.now tx.new.conn.now) }
@@ -112,8 +112,8 @@ fn renew<S: Alter>(tx: &mut Transaction<'_, S>, edition: u64, clock: &ClockRow) 
     put_version(tx, clock)
 }
 
-/// Of an office of this edition with this clock makes one as this program does, to which the notices that stood in `notices` are still to be put: it
-/// makes the tables that lack, drops those notices and the version, and puts this program's version with the clock. Where it is refused nothing is committed.
+/// Turns an office of this edition into one of this program. It makes the missing tables, deletes the notices in `notices`, and renews the version with the
+/// clock. The caller must then put those notices again. If it fails, nothing is committed.
 pub fn begin_current<S: Alter>(
     tx: &mut Transaction<'_, S>,
     edition: u64,

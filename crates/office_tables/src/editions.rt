@@ -1,4 +1,4 @@
-//! The editions of an office's tables: which came later, and how those that one lacks are made.
+//! The editions of an office's tables: which tables came later, and how a migration makes those that are missing.
 ghost use Rattle.std.specs.Prelude.{◌≡◌, ◌&&◌, nat_lt, true, false, List, [], ◌∷◌, IsTrue, OnOk, OnErr, map};
 ghost use Rattle.std.specs.List.{list_any};
 ghost use Rattle.sqlite_schema.specs.Names.{same_name};
@@ -17,25 +17,25 @@ use sqlite::{Alter, Error, Transaction};
 use sqlite_schema::names::same_name;
 use sqlite_schema::schema::Schema;
 
-// A table that wasn't there from the beginning: the edition that it came with, its name, and the text that makes it.
+// A table that came after edition 0: the edition that it came with, its name, and the text that creates it.
 #[derive(Clone, Copy)]
 struct Later(u64, &'static str, &'static str);
 
-// In the order in which they are made.
+// The later tables, in the order in which they are made.
 const LATER: [Later; 3] = [
     Later(1, "late_rules", late_rules::CREATE),
     Later(2, "notices_2", notices::CREATE),
     Later(2, "performance", performances::CREATE),
 ];
 
-/// Whether the table of late withdrawals is there.
+/// Whether the table of late withdrawals exists.
 pub fn has_late(schema: &Schema) -> bool
     ensures { result ≡ has_late schema.now }
 {
     schema.table_named(b"late_rules").is_some()
 }
 
-/// The edition, by the version and by whether the table of late withdrawals is there.
+/// The edition of an office, by its version and by whether the table of late withdrawals exists.
 pub fn edition_of(version: u64, knows_late: bool) -> u64
     ensures { result ≡ edition_of version knows_late }
 {
@@ -65,14 +65,14 @@ fn some_named(edition: u64, tables: &[Later], name: &[u8]) -> bool
     tables.iter().any(|table| is_named(edition, table, name))
 }
 
-/// Whether one of the tables that an office of this edition lacks has this name.
+/// Whether this is the name of a table that came after this edition.
 pub fn came_later(edition: u64, name: &[u8]) -> bool
     ensures { result ≡ came_later edition name.now }
 {
     some_named(edition, &LATER, name)
 }
 
-// Makes the table where an office of this edition lacks it.
+// Makes the table if it came after this edition.
 fn make_missing<S: Alter>(
     tx: &mut Transaction<'_, S>,
     edition: u64,
@@ -91,7 +91,7 @@ fn make_missing<S: Alter>(
     }
 }
 
-// Makes those of these tables that an office of this edition lacks, in their order.
+// Makes those of these tables that came after this edition, in their order.
 fn make_among<S: Alter>(
     tx: &mut Transaction<'_, S>,
     edition: u64,
@@ -109,7 +109,7 @@ fn make_among<S: Alter>(
     Ok(())
 }
 
-// Makes the tables that an office of this edition lacks.
+// Makes all tables that came after this edition.
 pub(crate) fn make_later<S: Alter>(tx: &mut Transaction<'_, S>, edition: u64) -> Result<(), Error>
     ensures same_reference { tx.new.conn.ghost_name ≡ tx.old.conn.ghost_name }
     ensures made { HasCleanDisk (state S.Store tx.new.conn.now) → IsTrue (state S.Store tx.old.conn.now).in_transaction → OnOk result (MakesMissing edition (state S.Store tx.old.conn.now) (state S.Store tx.new.conn.now)) }

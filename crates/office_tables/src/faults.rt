@@ -1,11 +1,11 @@
-//! Failures of the database, as faults of a shelf.
+//! Errors of SQLite, as faults of a store.
 ghost use Rattle.std.specs.Prelude.{◌≡◌};
 ghost use Rattle.office_tables.specs.Failing.{fault_of};
 
 use office_base::shelf::ShelfFault;
 use sqlite::{Error, ErrorCode};
 
-/// Why a shelf does not answer, where its database did not: want of memory is `NoMemory`, and all else `Store`.
+/// The fault of the store for an error of the database: too little memory is `NoMemory`, any other error is `Store`.
 pub fn fault(error: Error) -> ShelfFault
     ensures { result ≡ fault_of error }
 {

@@ -17,7 +17,7 @@ use office_values::id::Id;
 use sqlite::Row;
 use std::alloc::{AllocError, Global};
 
-// An item's text, behind what is there.
+// Adds an item's line to the text.
 fn push_item(out: &mut Vec<u8>, item: &Item) -> Result<(), AllocError>
     ensures text { OnOk result (out.new.items ≡ out.old.items ++ item_then item.now []) }
     ensures right { OnOk result (IsItem item.now) }
@@ -31,7 +31,7 @@ fn push_item(out: &mut Vec<u8>, item: &Item) -> Result<(), AllocError>
     Ok(())
 }
 
-/// The text of a lot's items, from which they come back.
+/// The text of a lot's items. `back` says that the same items are read back from it.
 pub fn items_text(alloc: Global, items: &Items) -> Result<Vec<u8>, AllocError>
     ensures text { IfOk result (λ out. out.items ≡ items_text items.now) }
     ensures back { IfOk result (λ out. items_in_text out.items ≡ items.now) }
@@ -52,7 +52,7 @@ fn place_of(text: &[u8], stop: u8) -> Option<usize>
     text.iter().position(|b| *b == stop)
 }
 
-// What stands before the first such byte, and what stands behind it; None where there is none.
+// The bytes before and after the first such byte; `None` if there is no such byte.
 fn cut(text: &[u8], stop: u8) -> Option<(&[u8], &[u8])>
     ensures before { IfSome result (λ parts. parts.0.now ≡ text_before stop text.now) }
     ensures behind { IfSome result (λ parts. parts.1.now ≡ text_behind stop text.now) }
@@ -63,7 +63,7 @@ fn cut(text: &[u8], stop: u8) -> Option<(&[u8], &[u8])>
     Some((&text[..at], &text[at + 1..]))
 }
 
-// The quantity that these digits write.
+// The quantity that these digits mean. Digits that the office wouldn't write, such as `007`, are a fault of the store.
 fn quantity_of(digits: &[u8]) -> Result<Quantity, ShelfFault>
     ensures exact { IfOk result (λ quantity. decimal quantity ≡ digits.now) }
     ensures cause { IfErr result (IsFaultOf (IsUnwritten decimal (IsWithin 1 (10 ^ 6)) digits.now)) }
@@ -84,7 +84,7 @@ fn quantity_of(digits: &[u8]) -> Result<Quantity, ShelfFault>
     }
 }
 
-// The item at the front of a text, and the text behind it.
+// The item of a text's first line, and the text after it.
 fn front_item(alloc: Global, text: &[u8]) -> Result<(Item, &[u8]), ShelfFault>
     ensures exact { IfOk result (λ parts. item_then parts.0 parts.1.now ≡ text.now) }
     ensures right { IfOk result (λ parts. IsItem parts.0) }
@@ -114,7 +114,7 @@ fn front_item(alloc: Global, text: &[u8]) -> Result<(Item, &[u8]), ShelfFault>
     ))
 }
 
-/// The items that a text writes; a fault of the store where it isn't the text of items.
+/// The items of a text. A text that isn't the text of valid items is a fault of the store.
 pub fn read_items(alloc: Global, text: &[u8]) -> Result<Items, ShelfFault>
     ensures exact { IfOk result (λ items. items_text items ≡ text.now) }
     ensures read { IfOk result (λ items. items ≡ items_in_text text.now) }

@@ -1,5 +1,5 @@
-//! The tables of an office in SQL: its records as rows, and back; each look-up and each change of a record as a statement. Nothing is assumed
-//! of other tables in the database.
+//! The tables of an office in SQL: records as rows and back, and one statement for each look-up and each change of a record. The database may have any other
+//! tables.
 #![tactic(auto)]
 
 pub mod ask;

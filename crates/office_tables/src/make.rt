@@ -1,4 +1,4 @@
-//! Making an office in a database, whatever other tables stand there.
+//! Makes an office in a database, which may have other tables.
 ghost use Rattle.std.specs.Prelude.{◌≡◌, ℕ, List, false, [], ◌∷◌, Ok, IsTrue, OnOk, OnErr, map};
 ghost use Rattle.sqlite_schema.specs.declared.schema.Index.{Index};
 ghost use Rattle.sqlite.specs.Held.{state};
@@ -16,7 +16,7 @@ use office_values::given::LastNumber;
 use office_values::moment::Moment;
 use sqlite::{Alter, Error, Transaction};
 
-// One CREATE TABLE.
+// Runs one CREATE TABLE.
 pub(crate) fn make_table<S: Alter>(tx: &mut Transaction<'_, S>, sql: &str) -> Result<(), Error>
     ensures same_reference { tx.new.conn.ghost_name ≡ tx.old.conn.ghost_name }
     ensures made { HasCleanDisk (state S.Store tx.new.conn.now) → IsTrue (state S.Store tx.old.conn.now).in_transaction → (k : OfficeTable) → IsCreate sql.now (table_of k) → OnOk result (Makes (state S.Store tx.old.conn.now) (state S.Store tx.new.conn.now) (k ∷ [])) }
@@ -26,7 +26,7 @@ pub(crate) fn make_table<S: Alter>(tx: &mut Transaction<'_, S>, sql: &str) -> Re
     execute_one(tx, sql, &[])
 }
 
-// One CREATE INDEX.
+// Runs one CREATE INDEX.
 fn make_index<S: Alter>(tx: &mut Transaction<'_, S>, sql: &str) -> Result<(), Error>
     ensures same_reference { tx.new.conn.ghost_name ≡ tx.old.conn.ghost_name }
     ensures made { HasCleanDisk (state S.Store tx.new.conn.now) → IsTrue (state S.Store tx.old.conn.now).in_transaction → (k : OfficeTable) (index : Index) → IsIndexing sql.now (table_of k) index → index.is_unique ≡ false → OnOk result (Indexes (state S.Store tx.old.conn.now) (state S.Store tx.new.conn.now)) }
@@ -36,7 +36,7 @@ fn make_index<S: Alter>(tx: &mut Transaction<'_, S>, sql: &str) -> Result<(), Er
     execute_one(tx, sql, &[])
 }
 
-// Tables of the office by their texts, in this order.
+// Creates tables of the office by their texts, in this order.
 pub(crate) fn make_tables<S: Alter>(
     tx: &mut Transaction<'_, S>,
     first: &str,
@@ -54,7 +54,7 @@ pub(crate) fn make_tables<S: Alter>(
     Ok(())
 }
 
-// Indexes on tables of the office by their texts.
+// Creates indexes on tables of the office by their texts.
 fn make_indexes<S: Alter>(
     tx: &mut Transaction<'_, S>,
     first: &str,
@@ -72,7 +72,7 @@ fn make_indexes<S: Alter>(
     Ok(())
 }
 
-// The clock of an office where nothing was accepted.
+// The clock of an office that has accepted no command.
 fn first_clock() -> ClockRow
     ensures { result ≡ first_clock }
 {
@@ -84,7 +84,7 @@ fn first_clock() -> ClockRow
     }
 }
 
-// The row of the office, with that clock.
+// Inserts the one row of `office`: the version and the first clock.
 fn put_first_clock<S: Alter>(tx: &mut Transaction<'_, S>) -> Result<(), Error>
     ensures same_reference { tx.new.conn.ghost_name ≡ tx.old.conn.ghost_name }
     ensures ran { HasCleanDisk (state S.Store tx.new.conn.now) → IsTrue (state S.Store tx.old.conn.now).in_transaction → OnOk result ((count : ℕ) × ExecutesInside 0 upsert_office (clock_values first_clock) (state S.Store tx.old.conn.now) (state S.Store tx.new.conn.now) (Ok count)) }
@@ -95,8 +95,8 @@ fn put_first_clock<S: Alter>(tx: &mut Transaction<'_, S>) -> Result<(), Error>
     execute_one(tx, office::PUT, &office::clock_values(&clock))
 }
 
-/// Makes the tables of an office, with no content, beside what is there. Where it is refused, as where a table, an index or a view has a name of
-/// theirs, nothing is committed.
+/// Makes the tables of an office without content, beside those that exist. It fails and commits nothing if a table, an index or a view already has one of
+/// their names.
 pub fn make<S: Alter>(tx: &mut Transaction<'_, S>) -> Result<(), Error>
     ensures same_reference { tx.new.conn.ghost_name ≡ tx.old.conn.ghost_name }
     ensures founds { HasCleanDisk (state S.Store tx.new.conn.now) → IsTrue (state S.Store tx.old.conn.now).in_transaction → OnOk result (Founds (state S.Store tx.old.conn.now) (state S.Store tx.new.conn.now)) }

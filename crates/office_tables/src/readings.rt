@@ -1,4 +1,4 @@
-//! What was read in a tender, as four columns: a word, and behind it the price as stated, as corrected, and the count of corrections.
+//! The reading of a tender as four columns: a word, then the stated price, the corrected price and the count of corrections.
 ghost use Rattle.std.specs.Prelude.{◌≡◌, ◌≤◌, ◌∷◌, IfOk, IfErr, IfSome, Some, codes, option_map};
 ghost use Rattle.sqlite.specs.Values.{bound_value};
 ghost use Rattle.sqlite_value.specs.Value.{owned};
@@ -17,7 +17,7 @@ use office_base::shelf::ShelfFault;
 use sqlite::Row;
 use sqlite_value::value::ValueRef;
 
-// The place of the reading's word among the columns of a tender.
+// The column of the reading's word in a tender's row.
 const WORD: usize = 9;
 
 pub(crate) fn word_value(reading: &Option<Reading>) -> ValueRef<'static>
@@ -61,7 +61,7 @@ pub(crate) fn corrections_value(reading: &Option<Reading>) -> ValueRef<'static>
     }
 }
 
-// The price in the three columns.
+// The prices and the count of corrections in the three columns after the word.
 fn price_in(row: &Row) -> Result<Reading, ShelfFault>
     ensures exact { IfOk result (λ reading. reading_cells (Some reading) ≡ Text (codes "priced") ∷ price_in row.now) }
     ensures cause { IfErr result (IsFaultOf (IsUnwritten (λ reading. reading_cells (Some reading)) (λ reading. ReadingFits (Some reading)) (Text (codes "priced") ∷ price_in row.now))) }
@@ -73,7 +73,7 @@ fn price_in(row: &Row) -> Result<Reading, ShelfFault>
     })
 }
 
-// The reading that this word begins.
+// The reading that this word and the three columns after it mean.
 fn reading_in_columns(word: &[u8], row: &Row) -> Result<Reading, ShelfFault>
     ensures exact { IfOk result (λ reading. reading_cells (Some reading) ≡ Text word.now ∷ price_in row.now) }
     ensures cause { IfErr result (IsFaultOf (IsUnwritten (λ reading. reading_cells (Some reading)) (λ reading. ReadingFits (Some reading)) (Text word.now ∷ price_in row.now))) }
@@ -91,7 +91,7 @@ fn reading_in_columns(word: &[u8], row: &Row) -> Result<Reading, ShelfFault>
     }
 }
 
-/// The reading in a tender's row; a fault of the store where a price stands behind another word, or none behind `priced`.
+/// The reading in a tender's row. A price after another word than `priced`, or no price after it, is a fault of the store.
 pub(crate) fn reading_at(row: &Row) -> Result<Option<Reading>, ShelfFault>
     ensures exact { IfOk result (λ reading. reading_cells reading ≡ reading_part row.now) }
     ensures cause { IfErr result (IsFaultOf (IsUnwritten reading_cells ReadingFits (reading_part row.now))) }

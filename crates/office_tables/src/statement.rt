@@ -1,4 +1,4 @@
-//! One statement of a transaction.
+//! Runs one statement of a transaction.
 ghost use Rattle.std.specs.Prelude.{◌≡◌, ℕ, [], ◌∷◌, Ok, Err, IsTrue, OnOk, OnErr, IfErr};
 ghost use Rattle.sqlite.specs.Held.{state};
 ghost use Rattle.sqlite.specs.State.{HasCleanDisk, Survives, ExecutesInside};
@@ -11,7 +11,7 @@ ghost use Rattle.office_tables.specs.Steps.{Puts, Refused};
 use sqlite::{Alter, Error, Transaction};
 use sqlite_value::value::ValueRef;
 
-// One statement.
+// Runs one statement with these values.
 pub(crate) fn execute_one<S: Alter>(
     tx: &mut Transaction<'_, S>,
     sql: &str,
@@ -27,7 +27,7 @@ pub(crate) fn execute_one<S: Alter>(
     Ok(())
 }
 
-// One statement, for a put whose text and values these are.
+// Runs the statement of a put, if it has this text and these values.
 pub(crate) fn put_row<S: Alter>(
     tx: &mut Transaction<'_, S>,
     sql: &str,

@@ -1,4 +1,4 @@
-//! Rows of an answer as records.
+//! Reads rows of an answer as records.
 ghost use Rattle.std.specs.Prelude.{◌≡◌, IfOk, IfErr, IfSome, map, slice_get, option_map};
 ghost use Rattle.std.specs.List.{AllByRecursion};
 ghost use Rattle.sqlite_value.specs.Order.{Row as Values};
@@ -9,7 +9,7 @@ use office_base::shelf::ShelfFault;
 use sqlite::Row;
 use std::alloc::Global;
 
-/// What a row of an answer stands for.
+/// A record that is stored as a row.
 pub trait Stored: Sized {
     ghost read: { Values → Self };
 
@@ -17,14 +17,14 @@ pub trait Stored: Sized {
 
     ghost fits: { Self → Type 0 };
 
-    /// The record of a row; a fault of the store where the row is none.
+    /// The record of a row. If no valid record has this row, it is a fault of the store.
     fn from_row(alloc: Global, row: &Row) -> Result<Self, ShelfFault>
         ensures read { IfOk result (λ x. x ≡ read row.now) }
         ensures exact { IfOk result (λ x. row_of x ≡ row.now) }
         ensures cause { IfErr result (IsFaultOf (IsUnwritten row_of fits row.now)) };
 }
 
-/// The record of the first row; None where there are no rows.
+/// The record of the first row, or `None` if there are no rows.
 pub fn first<R: Stored>(alloc: Global, rows: &[Row]) -> Result<Option<R>, ShelfFault>
     ensures read { IfOk result (λ found. found ≡ option_map R.read (slice_get rows.now 0)) }
     ensures exact { IfOk result (λ found. option_map R.row_of found ≡ slice_get rows.now 0) }

@@ -1,5 +1,5 @@
-//! The tables of an office, a file each: its texts, its rows, the questions for them, and the put of a notice, which a migration calls. What makes
-//! them all, and what changes a record of any, as one statement of a transaction: a change is made, or it is refused and nothing is committed.
+//! The tables of an office, a file each. Here are the statements that create them all, and the put of any record. A put is made, or it fails and nothing is
+//! committed.
 ghost use Rattle.std.specs.Prelude.{◌≡◌, [], ◌∷◌, IsTrue, OnOk, OnErr, map};
 ghost use Rattle.sqlite.specs.Held.{state};
 ghost use Rattle.sqlite.specs.State.{HasCleanDisk, Survives};
@@ -32,7 +32,7 @@ use office_base::puts::Put;
 use sqlite::{Alter, Error, Transaction};
 use std::alloc::Global;
 
-// All tables: those of version 1, of which that of its notices stays empty; that of late withdrawals, which came later; those of version 2.
+// Creates all tables in the order in which they came: version 1, whose table of notices stays empty; then that of late withdrawals; then version 2.
 pub(crate) fn make_office<S: Alter>(tx: &mut Transaction<'_, S>) -> Result<(), Error>
     ensures same_reference { tx.new.conn.ghost_name ≡ tx.old.conn.ghost_name }
     ensures made { HasCleanDisk (state S.Store tx.new.conn.now) → IsTrue (state S.Store tx.old.conn.now).in_transaction → OnOk result (Makes (state S.Store tx.old.conn.now) (state S.Store tx.new.conn.now) all_tables) }
@@ -63,7 +63,7 @@ pub(crate) fn make_office<S: Alter>(tx: &mut Transaction<'_, S>) -> Result<(), E
     )
 }
 
-/// The names of the tables, that of the last that is made first.
+/// The names of the tables; the one that is made last comes first.
 pub fn table_names() -> [&'static [u8]; 17]
     ensures { map (λ name. name.now) result ≡ map (λ k. (table_of k).name) all_tables }
 {
@@ -88,7 +88,7 @@ pub fn table_names() -> [&'static [u8]; 17]
     ]
 }
 
-/// Ready for changes: the database is open, and its table `office` can be asked.
+/// Checks that the transaction can make changes: the database is open, and its table `office` can be queried.
 pub fn begin<S: Alter>(tx: &mut Transaction<'_, S>) -> Result<(), Error>
     ensures same_reference { tx.new.conn.ghost_name ≡ tx.old.conn.ghost_name }
     ensures puts { HasCleanDisk (state S.Store tx.new.conn.now) → IsTrue (state S.Store tx.old.conn.now).in_transaction → OnOk result (Puts (state S.Store tx.old.conn.now) (state S.Store tx.new.conn.now) []) }
@@ -101,7 +101,7 @@ pub fn begin<S: Alter>(tx: &mut Transaction<'_, S>) -> Result<(), Error>
     Ok(())
 }
 
-/// Adds a record, or replaces the one of its key; or drops the bytes of a tender.
+/// Makes a put: inserts a record, or replaces the one that has its key, or deletes the bytes of a tender.
 pub fn put_one<S: Alter>(alloc: Global, tx: &mut Transaction<'_, S>, put: &Put) -> Result<(), Error>
     ensures same_reference { tx.new.conn.ghost_name ≡ tx.old.conn.ghost_name }
     ensures puts { HasCleanDisk (state S.Store tx.new.conn.now) → IsTrue (state S.Store tx.old.conn.now).in_transaction → OnOk result (Puts (state S.Store tx.old.conn.now) (state S.Store tx.new.conn.now) (put.now ∷ [])) }

@@ -1,4 +1,4 @@
-//! Fields and keys as values of SQL, each field in the range that its table checks.
+//! Fields and keys of records as values of SQL. A field's contract has the range that its table checks.
 ghost use Rattle.std.specs.Prelude.{◌≡◌, ◌<◌, ◌≤◌, ◌^◌, pos, IfSome, option_map};
 ghost use Rattle.sqlite.specs.Values.{bound_value};
 ghost use Rattle.sqlite_value.specs.Value.{owned};
@@ -19,7 +19,7 @@ use office_values::moment::Moment;
 use office_values::text::TextLine;
 use sqlite_value::value::ValueRef;
 
-// A number as SQL has it.
+// A number as SQL has it, with a sign.
 pub(crate) fn signed(number: u64) -> i64
     requires { number < 2 ^ 63 }
     ensures { result ≡ pos number }
@@ -67,7 +67,7 @@ pub(crate) fn line_or_null(line: &Option<TextLine>) -> ValueRef<'_>
     }
 }
 
-// Yes is 1, no is 0.
+// 1 for yes, 0 for no.
 pub(crate) fn yes_value(yes: bool) -> ValueRef<'static>
     ensures { bound_value (owned result) ≡ Int (pos (as_number yes)) }
 {

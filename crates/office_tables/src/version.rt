@@ -1,4 +1,4 @@
-//! The version of the office that stands in a database.
+//! The version of the office in a database.
 ghost use Rattle.std.specs.Prelude.{◌≡◌, ℕ, false, [], IfOk, IfErr};
 ghost use Rattle.office_base.specs.declared.records.ClockRow.{ClockRow};
 ghost use Rattle.sqlite_resolve.specs.declared.error.CompileError.{CompileError};
@@ -10,7 +10,7 @@ ghost use Rattle.office_tables.specs.Version.{get_version, one_version, ShowsVer
 use crate::ask::ask;
 use sqlite::{Alter, Connection, Error, Row};
 
-/// The versions that the table `office` has, whatever it is. Where an office stands it is one row, and the schema takes the question.
+/// The versions in the table `office`, whatever table that is. In an office the query is understood, and the answer is one row.
 pub fn ask_version<S: Alter>(conn: &mut Connection<S>) -> Result<Vec<Row>, Error>
     ensures asked { HasCleanDisk (state S.Store conn.new) → IfOk result (λ rows. IsAsked S.Store get_version [] conn.old rows.items) }
     ensures refused { HasCleanDisk (state S.Store conn.new) → IfErr result (IsRefusal S.Store get_version [] conn.old) }

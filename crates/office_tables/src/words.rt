@@ -1,4 +1,4 @@
-//! States and kinds, as the words that stand for them in a row.
+//! States and kinds as the words that rows store.
 ghost use Rattle.std.specs.Prelude.{◌≡◌, IfOk, IfErr, option_map};
 ghost use Rattle.sqlite_value.specs.declared.value.Value.TheVariants.{Text};
 ghost use Rattle.sqlite_value.specs.Order.{column};
@@ -168,7 +168,7 @@ pub(crate) fn entry_kind_text(kind: EntryKind) -> &'static [u8]
     }
 }
 
-/// What an entry does to its contract.
+/// The kind of an entry in a column.
 pub fn entry_kind_at(row: &Row, at: usize) -> Result<EntryKind, ShelfFault>
     ensures exact { IfOk result (λ kind. Text (entry_kind_text kind) ≡ column row.now at) }
     ensures cause { IfErr result (IsFaultOf (IsUnwritten (λ kind. Text (entry_kind_text kind)) Anything (column row.now at))) }

@@ -6,7 +6,7 @@ use Rattle.office_values.specs.Moments.{IsMomentText}
 use Rattle.office_wire.specs.Blocks.{IsLine, HasLine, HasNoLine}
 use Rattle.office_wire.proofs.RequestLemmas.{consumed, ended}
 
--- the bytes behind the first three
+-- the bytes after the first three end with the line feed
 ends_with_it : (rest : List ℕ) → length rest ≡ 21 → get_or rest 20 0 ≡ 10 → rest ≡ take 20 rest ++ 10 ∷ []
 ends_with_it rest len last = sym (take_all 21 rest (omega arith)) ∙ (take_more rest 20 0 (omega arith) ∙ ap (λ b. take 20 rest ++ b ∷ []) last)
 
@@ -19,7 +19,7 @@ line_parts (x ∷ y ∷ z ∷ rest) len a t s e =
     let end : rest ≡ take 20 rest ++ 10 ∷ [] = ends_with_it rest (omega (arith, len)) e in
     cc (a, t, s, end)
 
--- the text of a line
+-- the text of the moment in a line
 pub line_text : (line : List ℕ) (moment : ℕ) → IsLine line moment → IsMomentText moment (take 20 (drop 3 line))
 line_text line moment x =
     let whole : length line ≡ length (codes "at " ++ x.text ++ 10 ∷ []) = ap length x.whole in
@@ -38,7 +38,7 @@ short_line input moment after few h =
     let c : length h.line ≡ 24 = h.is.long in
     omega arith
 
--- of 24 bytes at the front, whether they are a line decides
+-- the first 24 bytes decide whether an input begins with a line
 pub same_line : (line rest : List ℕ) (moment : ℕ) (after : List ℕ) → length line ≡ 24 → (h : HasLine (line ++ rest) moment after) → (line ≡ h.line) × (rest ≡ after)
 same_line line rest moment after len h = (
   sym (take_at line rest 24 len) ∙ (ap (take 24) h.whole ∙ take_at h.line after 24 h.is.long),
@@ -57,7 +57,7 @@ line_bad line rest len other = record {
   none = λ moment after h. other moment (subst (λ (t : List ℕ). IsLine t moment) (sym (same_line line rest moment after len h).0) h.is);
 }
 
--- fewer than 24 bytes came, and the input ended
+-- the input ended after fewer than 24 bytes
 pub ended_short : (old new : Option (List ℕ)) (line input : List ℕ) (count : ℕ) → length line ≡ 24 → Consumes old new (take count line) → (count < length line → IsAtEnd new) → count < 24 → count ≢ 0 → old ≡ Some input → HasNoLine input
 ended_short old new line input count len given end few some e =
     let (rest, now, parts) = consumed old new (take count line) input given e in
@@ -66,7 +66,7 @@ ended_short old new line input count len given end few some e =
     let taken = length-take count line in
     subst HasNoLine (sym all) (short_bad (take count line) (omega (arith, taken, len, few, some)) (omega (arith, taken, len, few)))
 
--- 24 bytes came that are no line
+-- 24 bytes came that aren't a line
 pub other_line : (old new : Option (List ℕ)) (line input : List ℕ) (count : ℕ) → length line ≡ 24 → Consumes old new (take count line) → 24 ≤ count → ((moment : ℕ) → IsLine line moment → ⊥) → old ≡ Some input → HasNoLine input
 other_line old new line input count len given many other e =
     let (rest, now, parts) = consumed old new (take count line) input given e in

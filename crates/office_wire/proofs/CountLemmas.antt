@@ -1,7 +1,7 @@
--- What counted reads give.
+-- Counted reads.
 use Rattle.std.proofs.Common.{◌≡◌, ℕ, ◌<◌, List, [], ◌∷◌, length, arith, refl}
 
--- where no byte of a shown list is taken, none was shown
+-- if no byte of a shown list is taken, none was shown
 pub none_shown : (shown : List ℕ) (n : ℕ) → (0 < length shown → 0 < n) → n ≡ 0 → length shown ≡ 0
 none_shown [] n some none = refl
 none_shown (x ∷ xs) n some none = absurd (omega (arith, some (omega arith), none))

@@ -4,7 +4,7 @@ use Rattle.std.specs.List.{filter}
 use Rattle.std.specs.Str.{str_eq_ignore_ascii_case}
 use Rattle.office_wire.specs.Fields.{values_of}
 
--- a field with that name behind the first i makes one value more
+-- a field with that name after the first i makes one value more
 pub values_more : {X : Type 0} (name : List ℕ) (f : X → List ℕ × List ℕ) (xs : List X) (i : ℕ) (d : X) → i < length xs → str_eq_ignore_ascii_case (f (get_or xs i d)).0 name ≡ true
     → length (values_of name (map f (take i xs))) < length (values_of name (map f xs))
 values_more name f [] i d h same = absurd (no h)

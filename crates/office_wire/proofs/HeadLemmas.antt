@@ -114,7 +114,7 @@ lines_end front line (f ∷ fields) = by (lines_end (front ++ print_end line ++ 
     by : ((xs : List ℕ) × ((((front ++ print_end line ++ f.name ++ 58 ∷ f.raw) ++ print_end f.end) ++ flat_map print_field fields) ≡ xs ++ 10 ∷ [])) → (xs : List ℕ) × ((front ++ print_end line) ++ flat_map print_field (f ∷ fields) ≡ xs ++ 10 ∷ [])
     by (xs, e) = (xs, regroup (front ++ print_end line) f.name (58 ∷ f.raw) (print_end f.end) (flat_map print_field fields) ∙ e)
 
--- a head ends with an empty line, and another line before it
+-- a head ends with an empty line after another line
 pub head_ends : (h : RequestHead) → (xs : List ℕ) × (print_request h ≡ xs ++ 10 ∷ print_end h.last)
 unfolding print_request
 head_ends h = by (lines_end (print_blank h.blank ++ h.method ++ 32 ∷ h.target ++ 32 ∷ print_version h.minor) h.line_end h.fields)
@@ -134,7 +134,7 @@ last_of (x ∷ xs) = inr (elim (last_of xs) [
   | inr more ↦ (x ∷ more.0, more.1, ap (λ t. x ∷ t) more.2)
 ])
 
--- where the bytes before are no head, a head ends at the last byte
+-- if the bytes before the last one are no head, a head ends at the last byte
 pub whole_head : (buf : List ℕ) (b : ℕ) (h : RequestHead) (rest : List ℕ) → HasNoRequest buf → ReadsRequest (buf ++ b ∷ []) h rest → rest ≡ []
 whole_head buf b h rest none r = elim (last_of rest) [
   | inl e ↦ e
@@ -143,26 +143,26 @@ whole_head buf b h rest none r = elim (last_of rest) [
       absurd (none h more.0 (r.0, (same_from_push buf (print_request h ++ more.0) b more.1 e).0))
 ]
 
--- a head comes only with an empty line
+-- without an empty line at the end, bytes don't become a head
 pub no_head_push : (buf : List ℕ) (b : ℕ) → HasNoRequest buf → ((front : List ℕ) (end : LineEnd) → buf ++ b ∷ [] ≡ front ++ 10 ∷ print_end end → ⊥) → HasNoRequest (buf ++ b ∷ [])
 no_head_push buf b none other h rest r =
     let whole = whole_head buf b h rest none r in
     let (xs, ends) = head_ends h in
     other xs h.last (r.1 ∙ (ap (λ (t : List ℕ). print_request h ++ t) whole ∙ (append-nil (print_request h) ∙ ends)))
 
--- a byte that is no line feed ends no line
+-- a byte that isn't a line feed ends no line
 pub no_line_feed : (buf : List ℕ) (b : ℕ) → b ≢ 10 → (front : List ℕ) (end : LineEnd) → buf ++ b ∷ [] ≡ front ++ 10 ∷ print_end end → ⊥
 no_line_feed buf b other front lf e = other (same_from_push buf (front ++ 10 ∷ []) b 10 (e ∙ sym (append_assoc front (10 ∷ []) (10 ∷ [])))).1
 no_line_feed buf b other front crlf e = other (same_from_push buf (front ++ 10 ∷ 13 ∷ []) b 10 (e ∙ sym (append_assoc front (10 ∷ 13 ∷ []) (10 ∷ [])))).1
 
--- bytes that are no line feeds end no line
+-- bytes that aren't line feeds make no head
 pub no_head_quiet : (buf more : List ℕ) → All (λ b. b ≢ 10) more → HasNoRequest buf → HasNoRequest (buf ++ more)
 no_head_quiet buf [] quiet none = subst HasNoRequest (sym (append-nil buf)) none
 no_head_quiet buf (b ∷ more) quiet none =
     let next = no_head_push buf b none (no_line_feed buf b (All-head (λ c. c ≢ 10) b more quiet)) in
     subst HasNoRequest (append_assoc buf (b ∷ []) more) (no_head_quiet (buf ++ b ∷ []) more (All-tail (λ c. c ≢ 10) b more quiet) next)
 
--- empty lines alone are no head
+-- empty lines alone aren't a head
 pub no_head_blank : (bytes : List ℕ) → skip_empty bytes ≡ [] → HasNoRequest bytes
 no_head_blank bytes blank h rest r = by h.method r.0.method.0 r.0.method.1 (sym (ap skip_empty (r.1 ∙ print_request-append h rest) ∙ skip_blank h.blank (h.method ++ 32 ∷ tail)) ∙ blank)
   where
@@ -183,7 +183,7 @@ skip_nil = refl
 pub no_head_nil : HasNoRequest []
 no_head_nil = no_head_blank [] skip_nil
 
--- the empty lines at the front can be skipped on the way
+-- the empty lines at the beginning can be skipped part by part
 pub skip_append : (xs ys : List ℕ) → skip_empty (xs ++ ys) ≡ skip_empty (skip_empty xs ++ ys)
 unfolding skip_empty
 skip_append [] ys = refl
@@ -202,16 +202,16 @@ skip_append (a ∷ b ∷ rest) ys = by (a == 10) ((a == 13) && (b == 10)) refl r
     by false true e f one two = rw (e, f) two
     by false false e f one two = rw (e, f) refl
 
--- the empty lines at the front reach as far as both parts have no other line
+-- if both parts are empty lines, so is the whole
 pub blank_on : (bytes : List ℕ) (at : ℕ) → skip_empty (take at bytes) ≡ [] → skip_empty (drop at bytes) ≡ [] → skip_empty bytes ≡ []
 blank_on bytes at before behind =
     ap skip_empty (sym (take-append-drop at bytes)) ∙ (skip_append (take at bytes) (drop at bytes) ∙ (ap (λ (t : List ℕ). skip_empty (t ++ drop at bytes)) before ∙ behind))
 
--- a front of known empty lines stays one where bytes come behind
+-- known empty lines at the beginning remain so when bytes follow
 pub blank_stays : (bytes more : List ℕ) (at : ℕ) → at ≤ length bytes → skip_empty (take at bytes) ≡ [] → skip_empty (take at (bytes ++ more)) ≡ []
 blank_stays bytes more at within before = ap skip_empty (take-append-le at bytes more within) ∙ before
 
--- ---- the room for fields
+-- ---- the number of fields
 
 end_long : (end : LineEnd) → 1 ≤ length (print_end end)
 end_long crlf = omega arith
@@ -256,13 +256,13 @@ few_fields room buf short x =
 
 -- ---- from the bytes read to the whole input
 
--- a list that is as long as another's front begins with it
+-- if two texts are equal, a first part of the one begins with any shorter first part of the other
 prefix_cut : (a b c d : List ℕ) → a ++ b ≡ c ++ d → length c ≤ length a → a ≡ c ++ drop (length c) a
 prefix_cut a b c d e short =
     let front : take (length c) a ≡ c = sym (take-append-le (length c) a b short) ∙ (ap (take (length c)) e ∙ take_at c d (length c) refl) in
     sym (take-append-drop (length c) a) ∙ ap (λ t. t ++ drop (length c) a) front
 
--- no head in these bytes, so no head of that length in any that begin with them
+-- if these bytes have no head, bytes that begin with them have no head of that length
 no_head_within : (bytes rest : List ℕ) → HasNoRequest bytes → (h : RequestHead) (after : List ℕ) → ReadsRequest (bytes ++ rest) h after → length (print_request h) ≤ length bytes → ⊥
 no_head_within bytes rest none h after r short =
     none h (drop (length (print_request h)) bytes) (r.0, prefix_cut bytes rest (print_request h) after r.1 short)
@@ -335,7 +335,7 @@ whole_stands buf b rest headers spans none short (h, at) =
       view = rw (at.method, at.path, at.fields) refl;
     }
 
--- the same of bytes that are known to end so
+-- the head that the last byte of known bytes completes
 pub stands_now : (bytes buf : List ℕ) (b : ℕ) (rest : List ℕ) (headers : List HeaderSpan) (spans : RequestSpans) → bytes ≡ buf ++ b ∷ [] → HasNoRequest buf → length bytes ≤ 8192 → IsRequestOf bytes headers spans → Stands bytes headers spans rest
 stands_now bytes buf b rest headers spans e none short of =
     subst (λ (t : List ℕ). Stands t headers spans rest) (sym e) (whole_stands buf b rest headers spans none (subst (λ (t : List ℕ). length t ≤ 8192) e short) (subst (λ (t : List ℕ). IsRequestOf t headers spans) e of))
@@ -366,7 +366,7 @@ target_open bytes (blank, method, target, token, uri, is) =
         ap (list_any (λ c. c == 10)) (skip_token b (m ++ 32 ∷ target) (All-head (λ c. IsTrue (is_token_byte c)) b m all))
         ∙ (list_any-append (λ c. c == 10) (b ∷ m) (32 ∷ target) ∙ rw (none_lf is_token_byte (λ c h. (token_other c h).1) (b ∷ m) all) tail)
 
--- an input is not refused in two ways
+-- an input isn't refused in two ways
 pub one_refusal : (input : List ℕ) → IsLongHead input → IsBadHead input → ⊥
 one_refusal input long bad = by bad.why long.unended
   where

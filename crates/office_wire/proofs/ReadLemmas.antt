@@ -1,4 +1,4 @@
--- What is read on of a head.
+-- Reading more bytes of a head.
 use Rattle.std.proofs.Common.{◌≡◌, ◌≢◌, ℕ, ◌-◌, ◌<◌, ◌≤◌, List, [], ◌∷◌, ◌++◌, All, length, take, Option, Some, None, OnSome, refl, sym, ap, subst, arith, ◌∙◌, append_assoc, length-append}
 use Rattle.std.proofs.lemmas.List.{take_at, nil_from_length}
 use Rattle.std.specs.Io.KnownBytes.{Keeps, Consumes, IsAtEnd}
@@ -15,7 +15,7 @@ last_of [] some = absurd (none some)
 last_of (x ∷ []) some = ([], x, refl)
 last_of (x ∷ y ∷ more) some = let (ys, z, e) = last_of (y ∷ more) (omega arith) in (x ∷ ys, z, ap (λ t. x ∷ t) e)
 
--- a part that isn't empty reads on
+-- a part that isn't empty is more of the head
 pub reads_on : (old new : Option (List ℕ)) (before after : List ℕ) (most n : ℕ) → TakesPart old new before after most n → n ≢ 0 → most ≡ 8192 - length before → length before < 8192 → ReadsOn old new before after
 reads_on old new before after most n x some is short =
     let len : length x.part ≡ n = x.long in
@@ -35,7 +35,7 @@ reads_on old new before after most n x some is short =
       short = omega (arith, len, room, is, short, c, d);
     }
 
--- an empty part says that the input is at its end
+-- an empty part means that the input is at its end
 pub is_over : (old new : Option (List ℕ)) (before after : List ℕ) (most n : ℕ) → TakesPart old new before after most n → n ≡ 0 → 0 < most → IsOver old new
 is_over old new before after most n x none room = by old new x.part (nil_from_length x.part (x.long ∙ none)) x.taken (x.ended none room)
   where
@@ -44,7 +44,7 @@ is_over old new before after most n x none room = by old new x.part (nil_from_le
     by (Some xs) None part e took end = absurd took
     by (Some xs) (Some ys) part e took end = (took ∙ (ap (λ (t : List ℕ). t ++ ys) e ∙ end), ap (λ t. Some t) end)
 
--- what an input is at its end
+-- the rest of an input that is at its end is empty
 pub over : (old new : Option (List ℕ)) (rest : List ℕ) → old ≡ Some rest → IsOver old new → (rest ≡ []) × (new ≡ Some [])
 over None new rest e x = cc e
 over (Some xs) new rest e x = let same : xs ≡ rest = cc e in (sym same ∙ x.0, x.1)
@@ -54,7 +54,7 @@ kept_some None new rest e g = cc e
 kept_some (Some xs) None rest e g = absurd g
 kept_some (Some xs) (Some ys) rest e g = ap (λ t. Some t) g ∙ e
 
--- what was read on of the input
+-- the next bytes of the input were read
 pub read_more : (old new : Option (List ℕ)) (input before after rest : List ℕ) → old ≡ Some rest → input ≡ before ++ rest → ReadsOn old new before after → (more : List ℕ) × (new ≡ Some more) × (input ≡ after ++ more)
 read_more old new input before after rest at parts x =
     let (more, now, is) = consumed old new (x.front ++ x.last ∷ []) rest x.taken at in

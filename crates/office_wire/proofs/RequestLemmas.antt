@@ -14,7 +14,7 @@ use Rattle.office_wire.proofs.HeadLemmas as heads
 
 -- ---- known bytes
 
--- what was consumed stood at the front
+-- the bytes that were consumed were at the beginning
 pub consumed : (old new : Option (List ℕ)) (part input : List ℕ) → Consumes old new part → old ≡ Some input → (rest : List ℕ) × (new ≡ Some rest) × (input ≡ part ++ rest)
 consumed None new part input c e = cc e
 consumed (Some xs) None part input c e = absurd c
@@ -24,7 +24,7 @@ pub ended : (new : Option (List ℕ)) (rest : List ℕ) → IsAtEnd new → new 
 ended None rest at e = cc e
 ended (Some xs) rest at e = let same : xs ≡ rest = cc e in sym same ∙ at
 
--- ---- a head that stands, and what its fields say
+-- ---- a head at the beginning, and the length of its body
 
 record Says (input : List ℕ) (r : Result ℕ ReadFault) : Type 0 where
   pub head : RequestHead
@@ -58,12 +58,12 @@ err_same a b e = cc e
 ok_or_err : (n : ℕ) (a : ReadFault) → ◌≡◌ {A = Result ℕ ReadFault} (Ok n) (Err a) → ⊥
 ok_or_err n a e = cc e
 
--- ---- what is cut
+-- ---- reading that stopped
 
 pub no_whole_head : (part : List ℕ) → HasNoRequest part → HasNoWhole part
 no_whole_head part none r rest x = none x.head x.after x.stands.reads
 
--- a head that stands, and fewer bytes behind it than its body has
+-- a head, followed by fewer bytes than its body has
 pub no_whole_body : (input : List ℕ) (h : RequestHead) (after part : List ℕ) (n : ℕ) → StandsHead input h after → framing_of (view_of h) ≡ Ok n → length part < n → HasNoWhole (print_request h ++ part)
 no_whole_body input h after part n stands framed few r rest x =
     let mine : Says (print_request h ++ part) (Ok n) = record { head = h; after = part; stands = record { reads = (stands.reads.0, refl); short = stands.short }; framed = framed } in
@@ -73,7 +73,7 @@ no_whole_body input h after part n stands framed few r rest x =
     let a = length-append r.body rest in
     omega arith
 
--- ---- why read_request refuses
+-- ---- the reasons why read_request refuses
 
 pub head_refused : (input : List ℕ) (e : ReadFault) → (e ≡ fault.BadHead → IsBadHead input) → (e ≡ fault.TooLong → IsLongHead input) → (e ≡ fault.Coding → ⊥) → IsRefused input e
 head_refused input fault.BadHead bad long other = inl (bad refl)
@@ -89,7 +89,7 @@ misframed_refused input fault.Coding x = x
 misframed_refused input fault.Unavailable x = tt
 misframed_refused input fault.Read x = tt
 
--- ---- where the reader stands then
+-- ---- the place of the reader after a refusal
 
 pub past_head_stands : (input : List ℕ) (now : Option (List ℕ)) (e : ReadFault) → IsPastHead input now e → StandsAfter input now e
 past_head_stands input now fault.BadHead x = inl x
@@ -148,12 +148,12 @@ no_refusal input r rest fault.Coding shown x y = not_misframed input r rest faul
 no_refusal input r rest fault.Unavailable shown x y = cc shown
 no_refusal input r rest fault.Read shown x y = cc shown
 
--- the fault that a standing head's fields or a cut body make
+-- the fault that the fields of a head or a body that is cut short lead to
 fault_of : Result ℕ ReadFault → ReadFault
 fault_of (Ok n) = fault.BadHead
 fault_of (Err why) = why
 
--- a refusal comes from no head of the one kind or the other, or from a head that stands
+-- a refusal has one of three reasons: a bad head, a head that is too long, or a head whose fields or body are refused
 Reason : List ℕ → ReadFault → Type 0
 Reason input why = (IsBadHead input × (why ≡ fault.BadHead)) ⊎ ((IsLongHead input × (why ≡ fault.TooLong)) ⊎ ((r : Result ℕ ReadFault) × Says input r × (why ≡ fault_of r)))
 

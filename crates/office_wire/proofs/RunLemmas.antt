@@ -1,4 +1,4 @@
--- What a loop over blocks carries from step to step, and how it ends, for any answers.
+-- The facts that a loop over blocks keeps from step to step, and its end, for any answers.
 use Rattle.std.proofs.Common.{◌≡◌, ◌≢◌, ℕ, ◌+◌, ◌<◌, ◌⊎◌, inl, inr, List, [], ◌∷◌, ◌++◌, length, Option, Some, Result, Ok, Err, refl, sym, ap, subst, arith, ◌∙◌, append_assoc, length-append}
 use Rattle.std.proofs.lemmas.List.{append-nil, map-append}
 use Rattle.std.specs.Prelude.{⊤}
@@ -37,16 +37,16 @@ pub blocks_on : (steps : List Step) (x : Step) (input rest after end : List ℕ)
 blocks_on steps x input rest after end blocks line r =
     subst (λ bs. AreBlocks input bs end) (sym (map-append (λ (y : Step). y.block) steps (x ∷ []))) (blocks_push (blocks_of steps) input rest x.block end blocks (after, line, r))
 
--- its response sent too
+-- the response to one step more was sent
 pub sent_on : {S : Type 0} (A : Answers S) (steps : List Step) (s : S) (x : Step) (a b c : Option (List ℕ)) → Appends a b (written A s steps) → Appends b c (A.reply x.busy (office_left A s steps) x.block) → Appends a c (written A s (steps ++ x ∷ []))
 sent_on A steps s x a b c before more =
     subst (Appends a c) (sym (written_push A steps s x)) (appends_more a b c (written A s steps) (A.reply x.busy (office_left A s steps) x.block) before more)
 
--- its count
+-- the number of steps after one step more
 pub count_on : (steps : List Step) (x : Step) (n : ℕ) → n ≡ length steps → n + 1 ≡ length (steps ++ x ∷ [])
 count_on steps x n e = let a = length-append steps (x ∷ []) in omega arith
 
--- ---- what is cut
+-- ---- reading that stopped
 
 no_block_short : (part : List ℕ) (b : Block) (after : List ℕ) → length part < 24 → IsBlock part b after → ⊥
 no_block_short part b after few x = short_line part b.moment x.0 few x.1
@@ -76,7 +76,7 @@ cut_none rest now e = record { part = []; rest = rest; now_is = e; parts = refl;
 
 -- ---- how runs end
 
--- the blocks of the steps were answered, and told is what was sent
+-- the blocks of the steps were answered, and their responses were sent
 pub record Answered {S : Type 0} (A : Answers S) (input : List ℕ) (s : S) (steps : List Step) (rest : List ℕ) (before after : Option (List ℕ)) : Type 0 where
   pub blocks : AreBlocks input (blocks_of steps) rest
   pub sent : Appends before after (written A s steps)
@@ -98,12 +98,12 @@ pub ran_done : {S : Type 0} (A : Answers S) (n : ℕ) (input rest : List ℕ) (n
     → rest ≡ [] → n ≡ length steps → Ran A (Ok n) input now s steps a b
 ran_done A n input rest now s steps a b h none count = record { rest = rest; told = written A s steps; blocks = h.blocks; sent = h.sent; ends_so = (none, count, refl) }
 
--- all is told, and could not be handed on
+-- all responses were sent, but couldn't be flushed
 pub ran_unflushed : {S : Type 0} (A : Answers S) (input rest : List ℕ) (now : Option (List ℕ)) (s : S) (steps : List Step) (a b : Option (List ℕ)) → Answered A input s steps rest a b
     → Ran A (Err ends.Write) input now s steps a b
 ran_unflushed A input rest now s steps a b h = record { rest = rest; told = written A s steps; blocks = h.blocks; sent = h.sent; ends_so = inr (inr refl) }
 
--- something else than a line comes
+-- the next bytes aren't a line
 pub ran_bad_block : {S : Type 0} (A : Answers S) (input rest : List ℕ) (now : Option (List ℕ)) (s : S) (steps : List Step) (a b : Option (List ℕ)) → Answered A input s steps rest a b
     → HasNoLine rest → Ran A (Err ends.BadBlock) input now s steps a b
 ran_bad_block A input rest now s steps a b h none = record { rest = rest; told = written A s steps; blocks = h.blocks; sent = h.sent; ends_so = (none, refl) }
@@ -113,7 +113,7 @@ pub ran_cut : {S : Type 0} (A : Answers S) (input rest : List ℕ) (now : Option
     → IsCutBlock rest now → Ran A (Err ends.Read) input now s steps a b
 ran_cut A input rest now s steps a b h cut = record { rest = rest; told = written A s steps; blocks = h.blocks; sent = h.sent; ends_so = (cut, refl) }
 
--- what comes behind a line is refused, and the refusal was sent
+-- the bytes after a line are refused, and the refusal was sent
 pub ran_lost : {S : Type 0} (A : Answers S) (input rest after : List ℕ) (moment : ℕ) (why : ReadFault) (now : Option (List ℕ)) (s : S) (steps : List Step) (a b c : Option (List ℕ)) → Answered A input s steps rest a b
     → HasLine rest moment after → IsRefused after why → why ≢ fault.Read → Appends b c (A.refusal why) → Ran A (Err ends.LostPlace) input now s steps a c
 ran_lost A input rest after moment why now s steps a b c h line refused other more = record {
@@ -124,7 +124,7 @@ ran_lost A input rest after moment why now s steps a b c h line refused other mo
   ends_so = (why, record { moment = moment; after = after; line = line; refused = refused; was_read = other }, refl);
 }
 
--- a front of that refusal was sent
+-- the first part of the refusal was sent
 pub ran_cut_refusal : {S : Type 0} (A : Answers S) (input rest after : List ℕ) (moment : ℕ) (why : ReadFault) (now : Option (List ℕ)) (s : S) (steps : List Step) (a b c : Option (List ℕ)) → Answered A input s steps rest a b
     → HasLine rest moment after → IsRefused after why → why ≢ fault.Read → AppendsPart b c (A.refusal why) → Ran A (Err ends.Write) input now s steps a c
 ran_cut_refusal A input rest after moment why now s steps a b c h line refused other x = record {
@@ -135,7 +135,7 @@ ran_cut_refusal A input rest after moment why now s steps a b c h line refused o
   ends_so = inr (inl (record { why = why; lost = record { moment = moment; after = after; line = line; refused = refused; was_read = other }; part = x.part; front = x.front; told_is = refl }));
 }
 
--- the last step's response was sent in part
+-- the first part of the last step's response was sent
 pub ran_cut_reply : {S : Type 0} (A : Answers S) (input rest after end : List ℕ) (now : Option (List ℕ)) (s : S) (steps : List Step) (x : Step) (a b c : Option (List ℕ)) → Answered A input s steps rest a b
     → HasLine rest x.block.moment after → IsRequest after x.block.request end → AppendsPart b c (A.reply x.busy (office_left A s steps) x.block) → Ran A (Err ends.Write) input now s (steps ++ x ∷ []) a c
 ran_cut_reply A input rest after end now s steps x a b c h line r p = record {
@@ -152,7 +152,7 @@ pub ran_no_line : {S : Type 0} (A : Answers S) (e : RunFault) (input rest : List
 ran_no_line A e input rest now s steps a b h (inl is) bad cut = subst (λ t. Ran A (Err t) input now s steps a b) (sym is) (ran_bad_block A input rest now s steps a b h (bad is))
 ran_no_line A e input rest now s steps a b h (inr is) bad cut = subst (λ t. Ran A (Err t) input now s steps a b) (sym is) (ran_cut A input rest now s steps a b h (cut_line rest now (cut is)))
 
--- the writer could not hand on what it holds
+-- the writer couldn't flush
 pub ran_flush_failed : {S : Type 0} (A : Answers S) (result : Result ℕ RunFault) (input : List ℕ) (now : Option (List ℕ)) (s : S) (steps : List Step) (a b : Option (List ℕ)) → Ran A result input now s steps a b
     → Ran A (Err ends.Write) input now s steps a b
 ran_flush_failed A (Ok n) input now s steps a b r = record { rest = r.rest; told = r.told; blocks = r.blocks; sent = r.sent; ends_so = inr (inr r.ends_so.2) }
@@ -167,17 +167,17 @@ ran_flush_failed A (Err ends.LostPlace) input now s steps a b r = record {
 }
 ran_flush_failed A (Err ends.Write) input now s steps a b r = r
 
--- flushing leaves what was sent
+-- flushing keeps the bytes that were sent
 pub ran_kept : {S : Type 0} (A : Answers S) (result : Result ℕ RunFault) (input : List ℕ) (now : Option (List ℕ)) (s : S) (steps : List Step) (a b c : Option (List ℕ)) → Ran A result input now s steps a b → Keeps b c
     → Ran A result input now s steps a c
 ran_kept A result input now s steps a b c r keeps = record { rest = r.rest; told = r.told; blocks = r.blocks; sent = appends_keep a b c r.told r.sent keeps; ends_so = r.ends_so }
 
--- one request was served, and flushing leaves what was sent
+-- flushing after one request was served keeps the bytes that were sent
 pub served_kept : {S : Type 0} (A : Answers S) (result : Result ⊤ RunFault) (input : List ℕ) (now : Option (List ℕ)) (moment : ℕ) (s t : S) (a b c : Option (List ℕ)) → Served A result input now moment s t a b → Keeps b c
     → Served A result input now moment s t a c
 served_kept A result input now moment s t a b c r keeps = record { told = r.told; sent = appends_keep a b c r.told r.sent keeps; served = r.served }
 
--- it was served, and the writer could not hand on what it holds
+-- one request was served, but the writer couldn't flush
 pub served_unflushed : {S : Type 0} (A : Answers S) (done : ⊤) (input : List ℕ) (now : Option (List ℕ)) (moment : ℕ) (s t : S) (a b : Option (List ℕ)) → Served A (Ok done) input now moment s t a b
     → Served A (Err ends.Write) input now moment s t a b
 served_unflushed A done input now moment s t a b r = record { told = r.told; sent = r.sent; served = (r.told, r.served, ([], sym (append-nil r.told))) }

@@ -19,14 +19,14 @@ pub appends_none : (a : Option (List ℕ)) → Appends a a []
 appends_none None = tt
 appends_none (Some s) = sym (append-nil s)
 
--- all of a text is a front of it
+-- a text begins with all of itself
 pub whole_part : (a b : Option (List ℕ)) (x : List ℕ) → Appends a b x → AppendsPart a b x
 whole_part a b x p = record { part = x; front = ([], sym (append-nil x)); more = p }
 
 pub front : (n : ℕ) (xs : List ℕ) → IsPrefix (take n xs) xs
 front n xs = (drop n xs, sym (take-append-drop n xs))
 
--- the bytes from at, n of them, behind those before at
+-- the first `at` bytes followed by the next `n`
 pub take_on : (xs : List ℕ) (at n : ℕ) → at ≤ length xs → take (at + n) xs ≡ take at xs ++ take n (drop at xs)
 take_on xs zero n h = ap (λ k. take k xs) (zero-add n)
 take_on [] (suc at) n h = absurd (no h)

@@ -1,4 +1,4 @@
--- What a run did, whatever its reader told of its bytes.
+-- The steps of a run and the bytes that it sent, with any reader.
 use Rattle.std.specs.Prelude.{◌≡◌, ◌≢◌, ⊤, ℕ, ◌≤◌, ◌+◌, ◌⊎◌, List, [], ◌∷◌, ◌++◌, length, Option, Result, Ok, Err}
 use Rattle.std.specs.Io.KnownBytes.{Appends}
 use Rattle.httparse.specs.Grammar.{IsRequestHead, RequestHead, print_request}
@@ -11,20 +11,20 @@ use Rattle.office_wire.specs.declared.fault.ReadFault.TheVariants as fault
 use Rattle.office_wire.specs.declared.fault.RunFault.{RunFault}
 use Rattle.office_wire.specs.declared.fault.RunFault.TheVariants as ends
 
--- some 8,192 bytes at most are this head and nothing else
+-- At most 8,192 bytes of the grammar have this head.
 abbrev pub IsWellFormedHead : HeadView → Type 0
 IsWellFormedHead view = (h : RequestHead) × IsRequestHead h × (length (print_request h) ≤ 8192) × (view ≡ view_of h)
 
--- some bytes are this request and nothing else
+-- Some bytes are this request and nothing else.
 abbrev pub IsWellFormed : RequestView → Type 0
 IsWellFormed r = (input : List ℕ) × IsRequest input r []
 
--- each step is of such a request
+-- The request of each step is one of the grammar.
 abbrev pub AreWellFormed : List Step → Type 0
 AreWellFormed [] = ⊤
 AreWellFormed (x ∷ steps) = IsWellFormed x.block.request × AreWellFormed steps
 
--- a front of a refusal was sent, behind all responses
+-- All responses were sent, followed by the first part of a refusal.
 pub record CutsAnyRefusal {S : Type 0} (A : Answers S) (s : S) (steps : List Step) (told : List ℕ) : Type 0 where
   pub why : ReadFault
   pub was_read : why ≢ fault.Read
@@ -32,8 +32,9 @@ pub record CutsAnyRefusal {S : Type 0} (A : Answers S) (s : S) (steps : List Ste
   pub front : IsPrefix part (A.refusal why)
   pub told_is : told ≡ written A s steps ++ part
 
--- what was told by the end of a run over the steps. Done, BadBlock, Read: all responses, and where it is done the answer is the count of the steps.
--- LostPlace: a refusal behind them. Write: all is told up to a front of the last response or refusal, or all is told and could not be handed on.
+-- The bytes that were sent by the end of a run over these steps. `Ok`, `BadBlock` and `Read`: all responses; with `Ok`, the result is the number of steps.
+-- `LostPlace`: all responses and a refusal.
+-- `Write`: the last response or a refusal was sent in part, or all responses were sent and couldn't be flushed.
 abbrev pub HasTold : {S : Type 0} → Answers S → Result ℕ RunFault → S → List Step → List ℕ → Type 0
 HasTold A (Ok n) s steps told = (n ≡ length steps) × (told ≡ written A s steps)
 HasTold A (Err ends.BadBlock) s steps told = told ≡ written A s steps
@@ -41,8 +42,8 @@ HasTold A (Err ends.LostPlace) s steps told = (why : ReadFault) × (why ≢ faul
 HasTold A (Err ends.Read) s steps told = told ≡ written A s steps
 HasTold A (Err ends.Write) s steps told = CutsReply A s steps told ⊎ CutsAnyRefusal A s steps told ⊎ (told ≡ written A s steps)
 
--- A run from office s went through these steps, each of a request of the grammar, for which a read was made at least, out of so many that were left before
--- and after it; and it told this behind what the writer held.
+-- A run from office `s` went through these steps, each with a request of the grammar. Each step took at least one read of those that were left before the run.
+-- The bytes `told` were appended to the writer's contents.
 pub record WentThrough {S : Type 0} (A : Answers S) (result : Result ℕ RunFault) (reads left : ℕ) (s : S) (steps : List Step) (before after : Option (List ℕ)) : Type 0 where
   pub formed : AreWellFormed steps
   pub few : length steps + left ≤ reads

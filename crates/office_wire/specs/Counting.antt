@@ -1,19 +1,19 @@
--- A reader whose reads are counted.
+-- A reader that counts its reads.
 use Rattle.std.specs.Prelude.{◌≡◌, ℕ, ◌≤◌, ◌<◌, ◌⊎◌, Bool, true, List, ◌++◌, length, Option, OnSome}
 use Rattle.std.specs.Io.{StopsAt}
 use Rattle.std.specs.Io.KnownBytes.{Consumes, IsAtEnd}
 
--- the bytes that reads will give from here on, where they are known; how many reads may still be made; and whether one has failed
+-- The bytes that the reader will give, if they are known; the number of reads that may still be made; and whether one has failed.
 pub record ReaderView : Type 0 where
   pub remaining : Option (List ℕ)
   pub left : ℕ
   pub has_failed : Bool
 
--- nothing more is read: no read is left, or one has failed
+-- Nothing more is read: no read is left, or one has failed.
 abbrev pub HasStopped : ReaderView → Type 0
 HasStopped r = (r.left ≡ 0) ⊎ (r.has_failed ≡ true)
 
--- n bytes were read and appended, at most so many; only the last may be a line feed, and none says that the input is at its end
+-- `n` bytes were read and appended, at most `most`. Only the last of them may be a line feed, and no bytes means that the input is at its end.
 pub record TakesPart (old new : Option (List ℕ)) (before after : List ℕ) (most n : ℕ) : Type 0 where
   pub part : List ℕ
   pub appended : after ≡ before ++ part

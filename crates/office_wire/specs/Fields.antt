@@ -1,4 +1,4 @@
--- What the fields of a head say of its body, and how a field is looked up.
+-- The length of a body, by the fields of its head, and the look-up of a field.
 use Rattle.std.specs.Prelude.{◌≡◌, ℕ, ◌≤◌, nat_lt, ◌&&◌, ◌||◌, if◌then◌else◌, List, [], ◌∷◌, length, map, codes, Option, Some, None, Result, Ok, Err}
 use Rattle.std.specs.List.{filter, list_all}
 use Rattle.std.specs.Char.{is_ascii_digit}
@@ -10,22 +10,22 @@ use Rattle.office_wire.specs.declared.fields.FieldValue.TheVariants as found
 use Rattle.office_wire.specs.declared.fault.ReadFault.{ReadFault}
 use Rattle.office_wire.specs.declared.fault.ReadFault.TheVariants as fault
 
--- the values of the fields with this name, in their order; names are compared in any case of ASCII letters (RFC 9110, section 5.1)
+-- The values of the fields with this name, in their order. The case of ASCII letters in names is ignored (RFC 9110, section 5.1).
 abbrev pub values_of : List ℕ → List (List ℕ × List ℕ) → List (List ℕ)
 values_of name fields = map (λ f. f.1) (filter (λ f. str_eq_ignore_ascii_case f.0 name) fields)
 
--- the number that one or more ASCII digits write, however many they are
+-- The number that one or more ASCII digits write, however many they are.
 abbrev pub written_number : List ℕ → Option ℕ
 written_number text = if nat_lt 0 (length text) && list_all is_ascii_digit text then Some (digits_value 10 text) else None
 
--- the length that the values of Content-Length write: 0 where there is no such field, none where there are several or it is no number
+-- The length in the values of `Content-Length`: 0 if there is no such field, and none if there are several or if the one isn't a number.
 abbrev pub length_of : List (List ℕ) → Option ℕ
 length_of [] = Some 0
 length_of (value ∷ []) = written_number value
 length_of (value ∷ other ∷ more) = None
 
--- how many bytes the body has, or the refusal, from the written length, the count of fields and the values of Transfer-Encoding:
--- a fault of the length comes first, then more than 64 fields or a length above 65,536, then any transfer coding
+-- The number of bytes of a body, by the written length, the number of fields and the values of `Transfer-Encoding`; or the refusal. A faulty length is reported
+-- first, then more than 64 fields or a length above 65,536, then any transfer coding.
 abbrev pub body_length_of : Option ℕ → ℕ → List (List ℕ) → Result ℕ ReadFault
 body_length_of None count codings = Err fault.BadHead
 body_length_of (Some len) count codings =
@@ -33,11 +33,11 @@ body_length_of (Some len) count codings =
     else if nat_lt 0 (length codings) then Err fault.Coding
     else Ok len
 
--- the same of a head
+-- The number of bytes of a head's body, or the refusal.
 abbrev pub framing_of : HeadView → Result ℕ ReadFault
 framing_of head = body_length_of (length_of (values_of (codes "content-length") head.fields)) (length head.fields) (values_of (codes "transfer-encoding") head.fields)
 
--- what a look-up tells of the values that it found: none, the one, or that there are several
+-- The result of a look-up: no value was found, one was found, or there are several.
 abbrev pub Tells : FieldValue → List (List ℕ) → Type 0
 Tells found.Absent values = values ≡ []
 Tells (found.Once value) values = values ≡ value.now ∷ []

@@ -1,2 +1,2 @@
--- Words of private clauses: no public clause speaks of them.
+-- Words of private clauses. No public clause uses them.
 pub mod HeadBytes

@@ -1,4 +1,4 @@
--- What reads give of the bytes that a reader has left, where these are known.
+-- The bytes that reads take from those that a reader has left, if these are known.
 use Rattle.std.specs.Prelude.{◌≡◌, ◌≢◌, ℕ, ◌<◌, ◌≤◌, ◌⊎◌, true, List, [], ◌∷◌, ◌++◌, length, drop, All, Option, Some, None, ⊤}
 use Rattle.std.specs.Io.KnownBytes.{Consumes}
 use Rattle.httparse.specs.Grammar.{RequestHead, HasNoRequest, NeverHasRequest}
@@ -6,7 +6,7 @@ use Rattle.office_wire.specs.Head.{HeadView, StandsHead, first_line_ends, view_o
 use Rattle.office_wire.specs.declared.fault.ReadFault.{ReadFault}
 use Rattle.office_wire.specs.declared.fault.ReadFault.TheVariants as fault
 
--- bytes were read on, up to 8,192 in all, and only the last of them may be a line feed
+-- More bytes were read, up to 8,192 in all, and only the last of them may be a line feed.
 pub record ReadsOn (old new : Option (List ℕ)) (before after : List ℕ) : Type 0 where
   pub front : List ℕ
   pub last : ℕ
@@ -15,16 +15,16 @@ pub record ReadsOn (old new : Option (List ℕ)) (before after : List ℕ) : Typ
   pub taken : Consumes old new (front ++ last ∷ [])
   pub short : length after ≤ 8192
 
--- known bytes have come to their end
+-- The known bytes are at their end.
 abbrev pub IsOver : Option (List ℕ) → Option (List ℕ) → Type 0
 IsOver None new = ⊤
 IsOver (Some old) new = (old ≡ []) × (new ≡ Some [])
 
--- fewer than len bytes were read
+-- Fewer than `len` bytes were read.
 abbrev pub GivesPart : Option (List ℕ) → Option (List ℕ) → ℕ → Type 0
 GivesPart old new len = (part : List ℕ) × (length part < len) × Consumes old new part
 
--- this head was read, and what follows it is left
+-- This head was read, and the bytes after it are left.
 pub record IsHeadRead (input : List ℕ) (now : Option (List ℕ)) (view : HeadView) : Type 0 where
   pub head : RequestHead
   pub rest : List ℕ
@@ -32,7 +32,7 @@ pub record IsHeadRead (input : List ℕ) (now : Option (List ℕ)) (view : HeadV
   pub stands : StandsHead input head rest
   pub view_is : view ≡ view_of head
 
--- what was read holds no head
+-- The bytes that were read don't begin with a head.
 pub record IsCutHead (input : List ℕ) (now : Option (List ℕ)) : Type 0 where
   pub part : List ℕ
   pub rest : List ℕ
@@ -40,7 +40,7 @@ pub record IsCutHead (input : List ℕ) (now : Option (List ℕ)) : Type 0 where
   pub parts : input ≡ part ++ rest
   pub none : HasNoRequest part
 
--- a front of at most 8,192 bytes was read, whose first line has ended, and which the grammar refuses whatever follows it
+-- At most 8,192 bytes were read, whose first line has ended, and which the grammar rejects whatever follows them.
 pub record IsPastBad (input : List ℕ) (now : Option (List ℕ)) : Type 0 where
   pub part : List ℕ
   pub rest : List ℕ
@@ -50,15 +50,15 @@ pub record IsPastBad (input : List ℕ) (now : Option (List ℕ)) : Type 0 where
   pub ended : first_line_ends part ≡ true
   pub never : NeverHasRequest part
 
--- some front was read
+-- Some first part of the input was read.
 pub record IsFrontRead (input : List ℕ) (now : Option (List ℕ)) : Type 0 where
   pub part : List ℕ
   pub rest : List ℕ
   pub now_is : now ≡ Some rest
   pub parts : input ≡ part ++ rest
 
--- where the reader stands behind a head that is refused: at the end of an input of fewer than 8,192 bytes, or behind a bad front;
--- behind 8,192 bytes of one that is too long
+-- The place of the reader after a refused head. `BadHead`: at the end of an input of fewer than 8,192 bytes, or after a part that the grammar rejects.
+-- `TooLong`: after 8,192 bytes. `Unavailable`: after some part of the input. `Read`: not known.
 abbrev pub LeavesHead : List ℕ → Option (List ℕ) → ReadFault → Type 0
 LeavesHead input now fault.BadHead = ((now ≡ Some []) × (length input < 8192)) ⊎ IsPastBad input now
 LeavesHead input now fault.TooLong = now ≡ Some (drop 8192 input)
@@ -66,12 +66,12 @@ LeavesHead input now fault.Coding = ⊥
 LeavesHead input now fault.Unavailable = IsFrontRead input now
 LeavesHead input now fault.Read = ⊤
 
--- a body of len bytes was read, or the input ends before
+-- A body of `len` bytes was read, or the input ends before.
 abbrev pub BodyRead : List ℕ → Option (List ℕ) → ℕ → Option (List ℕ) → Type 0
 BodyRead input now len (Some body) = (rest : List ℕ) × (now ≡ Some rest) × (length body ≡ len) × (input ≡ body ++ rest)
 BodyRead input now len None = (length input < len) × (now ≡ Some [])
 
--- fewer than len bytes were read
+-- Fewer than `len` bytes of this input were read.
 pub record IsCutShort (input : List ℕ) (now : Option (List ℕ)) (len : ℕ) : Type 0 where
   pub part : List ℕ
   pub rest : List ℕ

@@ -1,6 +1,6 @@
 -- Texts of a bounded length.
 use Rattle.std.specs.Prelude.{◌≡◌, ℕ, ◌+◌, ◌≤◌, List, ◌++◌, length}
 
--- a text was put behind another, where both have room in 288 bytes
+-- A text was appended to another, if both fit into 288 bytes.
 abbrev pub FitsBehind : List ℕ → List ℕ → List ℕ → Type 0
 FitsBehind old text new = length old + length text ≤ 288 → new ≡ old ++ text

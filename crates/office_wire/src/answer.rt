@@ -4,7 +4,7 @@ ghost use Rattle.std.specs.Prelude.{◌≡◌};
 use crate::short::ShortText;
 use std::marker::Model;
 
-/// A response: bytes that were built; a short text, which took no memory; or a constant one.
+/// A response: bytes that were built, a short text that took no memory, or a constant text.
 #[derive(Drop)]
 pub struct Answer {
     built: Option<Vec<u8>>,
@@ -55,7 +55,7 @@ impl Answer {
         }
     }
 
-    /// Its bytes.
+    /// The bytes of the response.
     pub fn bytes(&self) -> &[u8]
         ensures { result.now ≡ self.now }
     {

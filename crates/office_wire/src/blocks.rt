@@ -1,4 +1,4 @@
-//! The lines that begin the blocks of a run.
+//! The line at the beginning of each block of a run.
 ghost use Rattle.std.specs.Prelude.{◌≡◌, ◌≤◌, ◌⊎◌, ℕ, List, length, IfOk, IfErr, IfSome, IfNone, IsErrOf, OnOk, Some, option_map};
 ghost use Rattle.office_wire.specs.Blocks.{IsLine, HasNoLine, LineRead};
 ghost use Rattle.office_wire.specs.Counting.{HasStopped};
@@ -10,10 +10,10 @@ use crate::reading::fill;
 use office_values::moment::Moment;
 use std::io::BufRead;
 
-/// How many bytes a line has: `at `, the moment's 20 and a line feed.
+/// The number of bytes of a line: `at `, a moment of 20 bytes, and a line feed.
 const LINE: usize = 24;
 
-/// The moment that a line says.
+/// The moment in a line; None if the bytes aren't such a line.
 fn moment_in(line: &[u8]) -> Option<Moment>
     requires { length line.now ≡ 24 }
     ensures found { IfSome result (IsLine line.now) }
@@ -25,8 +25,8 @@ fn moment_in(line: &[u8]) -> Option<Moment>
     Moment::read(&line[3..LINE - 1])
 }
 
-/// Reads the line that begins a block, and no byte behind it; none at the end of the input. 24 bytes, or all up to the end,
-/// are read before they are judged.
+/// Reads the line at the beginning of a block, and no byte after it; None at the end of the input. It reads 24 bytes, or all bytes up to the end, before it
+/// judges them.
 pub fn read_block_line<R: BufRead>(
     reader: &mut CountedReader<R>,
 ) -> Result<Option<Moment>, RunFault>

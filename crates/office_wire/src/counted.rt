@@ -1,4 +1,4 @@
-//! A reader whose reads are counted.
+//! A reader that counts its reads.
 ghost use Rattle.std.specs.Prelude.{◌≡◌, ◌≢◌, ◌<◌, ◌≤◌, ◌+◌, ℕ, true, false, length, take, IfOk, IfErr, OnOk, OnErr};
 ghost use Rattle.std.specs.IoError.{error_kind};
 ghost use Rattle.std.specs.Io.{StopsAt};
@@ -10,14 +10,14 @@ use std::alloc::AllocError;
 use std::io::{BufRead, Error, ErrorKind};
 use std::marker::Model;
 
-/// Why a try to read gave nothing.
+/// The reason why an attempt to read gave nothing.
 #[derive(Clone, Copy, Debug, PartialEq, Eq)]
 pub enum TryFault {
-    /// A signal came between: the read may be tried again.
+    /// A signal interrupted the read, so it may be tried again.
     Interrupted,
     /// The reader failed.
     Failed,
-    /// There is no memory for the bytes, and none was read.
+    /// Memory for the bytes is missing, and none was read.
     NoMemory,
 }
 
@@ -31,7 +31,7 @@ impl From<AllocError> for TryFault {
     }
 }
 
-/// How many bytes up to and with the first line feed stand at the front, at most so many; all of them where there is none.
+/// The number of bytes through the first line feed, or of all bytes if there is none; at most `most`.
 fn line_length(bytes: &[u8], most: usize) -> usize
     ensures within { result ≤ length bytes.now }
     ensures bound { result ≤ most }
@@ -45,7 +45,7 @@ fn line_length(bytes: &[u8], most: usize) -> usize
     }
 }
 
-/// Which of the two faults of a reader an error is.
+/// The fault that an error of the reader means: an interruption or a failure.
 fn fault_of(error: Error) -> TryFault
     ensures interrupted { error_kind error ≡ ErrorKind.Interrupted → result ≡ TryFault.Interrupted }
     ensures failed { error_kind error ≢ ErrorKind.Interrupted → result ≡ TryFault.Failed }
@@ -57,7 +57,7 @@ fn fault_of(error: Error) -> TryFault
     }
 }
 
-/// Appends what the reader's buffer holds, through the first line feed and at most so many bytes, and answers how many.
+/// Appends bytes from the reader's buffer, through the first line feed and at most `most`, and returns their number.
 fn append_line<R: BufRead>(
     reader: &mut R,
     most: usize,
@@ -77,8 +77,7 @@ fn append_line<R: BufRead>(
     Ok(count)
 }
 
-/// A buffered reader, how many reads of it may still be made, and whether one has failed. Each read that is tried takes one
-/// from the count, and nothing else changes it.
+/// A buffered reader, with the number of reads that may still be made, and whether one has failed. Only attempts to read lower this number, each by one.
 #[derive(Drop)]
 pub struct CountedReader<R: BufRead> {
     reader: R,
@@ -95,7 +94,7 @@ impl<R: BufRead> Model for CountedReader<R> {
 }
 
 impl<R: BufRead> CountedReader<R> {
-    /// A reader of which 4,294,967,295 reads may be made.
+    /// A reader that allows 4,294,967,295 reads.
     pub fn new(reader: R) -> CountedReader<R>
         ensures remaining { result.remaining ≡ R.remaining reader }
         ensures left { result.left ≡ 4294967295 }
@@ -104,7 +103,7 @@ impl<R: BufRead> CountedReader<R> {
         CountedReader::within(reader, u32::MAX)
     }
 
-    /// A reader of which so many reads may be made.
+    /// A reader that allows this number of reads.
     pub fn within(reader: R, reads: u32) -> CountedReader<R>
         ensures remaining { result.remaining ≡ R.remaining reader }
         ensures left { result.left ≡ reads }
@@ -117,21 +116,21 @@ impl<R: BufRead> CountedReader<R> {
         }
     }
 
-    /// How many reads may still be made.
+    /// The number of reads that may still be made.
     pub fn left(&self) -> u32
         ensures { result ≡ self.now.left }
     {
         self.left
     }
 
-    /// Whether a read has failed. That one was interrupted is no failure.
+    /// Whether a read has failed. An interruption isn't a failure.
     pub fn has_failed(&self) -> bool
         ensures { result ≡ self.now.has_failed }
     {
         self.has_failed
     }
 
-    /// The reader.
+    /// The reader inside.
     pub fn into_inner(self) -> R
         ensures { R.remaining result ≡ self.remaining }
     {
@@ -139,7 +138,7 @@ impl<R: BufRead> CountedReader<R> {
         reader
     }
 
-    /// Reads once into the front of the buffer, and answers how many bytes.
+    /// Reads once into the beginning of the buffer, and returns the number of bytes.
     pub fn try_read(&mut self, buf: &mut [u8]) -> Result<usize, TryFault>
         requires { 0 < self.old.left }
         ensures one { self.new.left + 1 ≡ self.old.left }
@@ -165,8 +164,7 @@ impl<R: BufRead> CountedReader<R> {
         }
     }
 
-    /// Reads once, and appends what came through the first line feed, at most so many bytes; answers how many. What came behind
-    /// them stays for the next read.
+    /// Reads once, appends the bytes through the first line feed, at most `most`, and returns their number. The bytes after them are left for the next read.
     pub fn try_line(&mut self, most: usize, line: &mut Vec<u8>) -> Result<usize, TryFault>
         requires { 0 < self.old.left }
         ensures one { self.new.left + 1 ≡ self.old.left }

@@ -1,20 +1,20 @@
-//! Why there is no request, and why a run ends.
+//! The reasons why no request was read, and why a run ended.
 ghost use Rattle.std.specs.Prelude.{◌≡◌};
 
 use std::alloc::{AllocError, AllocFailed};
 
-/// Why no request was read. The first three are said by the input alone.
+/// The reason why no request was read. The first three depend only on the input.
 #[derive(Clone, Copy, Debug, PartialEq, Eq)]
 pub enum ReadFault {
-    /// The grammar refuses the head, a `Content-Length` is repeated or is no number, or the input ends before the request does.
+    /// The grammar rejects the head, a `Content-Length` is repeated or isn't a number, or the input ends before the request does.
     BadHead,
     /// No head ends within 8,192 bytes, it has more than 64 fields, or the body's length is above 65,536.
     TooLong,
-    /// The body has a transfer coding, which is not taken (RFC 9112, section 6.1).
+    /// The body has a transfer coding, which isn't supported (RFC 9112, section 6.1).
     Coding,
-    /// Memory is wanting.
+    /// Memory is too small.
     Unavailable,
-    /// The reader failed, or the count of reads is used up.
+    /// The reader failed, or no read is left.
     Read,
 }
 
@@ -38,15 +38,15 @@ impl<T: Drop> From<AllocFailed<T>> for ReadFault {
     }
 }
 
-/// Why a run ended before its input.
+/// The reason why a run ended before its input.
 #[derive(Clone, Copy, Debug, PartialEq, Eq)]
 pub enum RunFault {
-    /// The reader failed, or the count of reads is used up.
+    /// The reader failed, or no read is left.
     Read,
-    /// The writer failed, took no more or was interrupted.
+    /// The writer failed, took no more bytes, or was interrupted.
     Write,
-    /// Something else than an `at` line stands where a block should begin.
+    /// A block doesn't begin with an `at` line.
     BadBlock,
-    /// What follows an `at` line can't be read as a request, so the next block can't be found.
+    /// The bytes after an `at` line can't be read as a request, so the next block can't be found.
     LostPlace,
 }

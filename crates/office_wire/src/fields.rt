@@ -1,4 +1,4 @@
-//! Looking up the fields of a head.
+//! The look-up of a head's fields by their name.
 ghost use Rattle.std.specs.Prelude.{◌≡◌, length, map, All};
 ghost use Rattle.std.specs.Str.{str_eq_ignore_ascii_case};
 ghost use Rattle.httparse.specs.Spans.{IsHeaderWithin, header_bytes};
@@ -6,25 +6,25 @@ ghost use Rattle.office_wire.specs.Fields.{values_of, Tells};
 
 use httparse::spans::{HeaderSpan, Span};
 
-/// What a head's fields with one name say.
+/// The value of the fields with one name.
 #[derive(Clone, Copy, Debug, PartialEq, Eq)]
 pub enum FieldValue<'a> {
-    /// There is no such field.
+    /// No field has the name.
     Absent,
-    /// The value of the only one, without the white space around it.
+    /// The value of the only field with the name, without the white space around it.
     Once(&'a [u8]),
-    /// There are several.
+    /// Several fields have the name.
     Repeated,
 }
 
-/// Whether two field names are the same, in any case of their ASCII letters.
+/// Whether two field names are equal, if the case of ASCII letters is ignored.
 fn is_same_name(one: &[u8], other: &[u8]) -> bool
     ensures { result ≡ str_eq_ignore_ascii_case one.now other.now }
 {
     one.eq_ignore_ascii_case(other)
 }
 
-/// Looks up the fields with this name; they lie in the bytes.
+/// Looks up the fields with this name. The fields are parts of the bytes.
 pub fn find_value<'a>(bytes: &'a [u8], fields: &[HeaderSpan], name: &[u8]) -> FieldValue<'a>
     requires { All (IsHeaderWithin (length bytes.now)) fields.now }
     ensures { Tells result (values_of name.now (map (header_bytes bytes.now) fields.now)) }

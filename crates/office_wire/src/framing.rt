@@ -1,4 +1,4 @@
-//! Where the body of a request ends (RFC 9112, section 6).
+//! The length of a request's body (RFC 9112, section 6).
 ghost use Rattle.std.specs.Prelude.{◌≡◌, ◌≤◌, min, length, option_map, codes, IfOk, OnOk};
 ghost use Rattle.office_wire.specs.Fields.{written_number, length_of, values_of, framing_of};
 
@@ -6,13 +6,13 @@ use crate::fault::ReadFault;
 use crate::fields::FieldValue;
 use crate::head::Head;
 
-/// How many fields a head may have.
+/// The most fields that a head may have.
 const MOST_FIELDS: usize = 64;
 
-/// How many bytes a body may have.
+/// The most bytes that a body may have.
 const MOST_BODY: u32 = 65_536;
 
-/// The number that one or more ASCII digits write, and one more than the most bytes of a body where it is above these.
+/// The number that one or more ASCII digits write, or 65,537 if it is greater; None if the text isn't one or more digits.
 fn capped_number(text: &[u8]) -> Option<u32>
     ensures { result ≡ option_map (min 65537) (written_number text.now) }
 {
@@ -32,7 +32,7 @@ fn capped_number(text: &[u8]) -> Option<u32>
     Some(number)
 }
 
-/// The length that `Content-Length` writes, capped likewise: 0 without such a field, none where it is repeated or no number.
+/// The length in `Content-Length`, or 65,537 if it is greater; 0 without such a field, and None if the field is repeated or isn't a number.
 fn capped_length(head: &Head) -> Option<u32>
     ensures { result ≡ option_map (min 65537) (length_of (values_of (codes "content-length") head.now.fields)) }
 {
@@ -43,7 +43,7 @@ fn capped_length(head: &Head) -> Option<u32>
     }
 }
 
-/// How many bytes the body has, or why the request is refused.
+/// The number of bytes of the body, or the reason why the request is refused.
 pub fn body_length_of(head: &Head) -> Result<usize, ReadFault>
     ensures framed { result ≡ framing_of head.now }
     ensures body { IfOk result (λ n. n ≤ 65536) }

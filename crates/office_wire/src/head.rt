@@ -18,23 +18,23 @@ use std::alloc::{AllocError, Global};
 use std::io::BufRead;
 use std::marker::Model;
 
-/// How many fields 8,192 bytes can hold, as a field has 3 bytes at least.
+/// The most fields that 8,192 bytes can hold, since a field has at least 3 bytes.
 const MOST_FIELDS: usize = 2731;
 
-/// For how many fields there is room at first, so that a usual head costs no more.
+/// The number of fields that memory is taken for at first. It is enough for a usual head.
 const FEW_FIELDS: usize = 16;
 
-/// What the bytes so far are.
+/// The result of parsing the bytes so far.
 pub enum Parsed {
-    /// A head.
+    /// The bytes are a head.
     Whole(RequestSpans),
-    /// No head, but more bytes may make them one, or their first line isn't at its end.
+    /// The bytes aren't a head. More bytes may make them one, or their first line hasn't ended.
     Open,
-    /// No head, whatever follows.
+    /// The bytes aren't a head, whatever bytes follow.
     Bad,
 }
 
-/// Parses at most 8,192 bytes; none where the fields want more room.
+/// Parses at most 8,192 bytes; None if `headers` is too short for the fields.
 fn parse_within(bytes: &[u8], headers: &mut Vec<HeaderSpan>) -> Option<Parsed>
     requires { length bytes.now ≤ 8192 }
     ensures parsed { IfSome result (Parses bytes.now headers.new.items) }
@@ -57,7 +57,7 @@ fn parse_within(bytes: &[u8], headers: &mut Vec<HeaderSpan>) -> Option<Parsed>
     }
 }
 
-/// Parses at most 8,192 bytes, with more room where the fields want it.
+/// Parses at most 8,192 bytes, and makes `headers` longer if the fields need it.
 fn parse(bytes: &[u8], headers: &mut Vec<HeaderSpan>) -> Result<Parsed, AllocError>
     requires { length bytes.now ≤ 8192 }
     ensures { IfOk result (Parses bytes.now headers.new.items) }
@@ -72,7 +72,7 @@ fn parse(bytes: &[u8], headers: &mut Vec<HeaderSpan>) -> Result<Parsed, AllocErr
     }
 }
 
-/// The head of a request: its bytes, and where its parts are.
+/// The head of a request: its bytes, and the places of its parts.
 #[derive(Drop)]
 pub struct Head {
     bytes: Vec<u8>,
@@ -95,7 +95,7 @@ impl Model for Head {
 }
 
 impl Head {
-    /// Keeps the parsed fields alone.
+    /// The head with these parts. Of `headers`, it keeps only the parsed fields.
     fn of_spans(bytes: Vec<u8>, headers: Vec<HeaderSpan>, spans: RequestSpans) -> Head
         requires { IsRequestWithin bytes.items headers.items spans }
         ensures { result ≡ spans_view bytes.items (take spans.headers headers.items) spans }
@@ -124,7 +124,7 @@ impl Head {
         self.target.of(&self.bytes)
     }
 
-    /// A field's name and value, by its place.
+    /// The name and the value of a field, by its place.
     pub fn field(&self, index: usize) -> (&[u8], &[u8])
         requires { index < length self.now.fields }
         ensures { slice_get self.now.fields index ≡ Some (result.0.now, result.1.now) }
@@ -133,14 +133,14 @@ impl Head {
         (field.name.of(&self.bytes), field.value.of(&self.bytes))
     }
 
-    /// Looks up the fields with this name, in any case of ASCII letters.
+    /// Looks up the fields with this name. The case of ASCII letters is ignored.
     pub fn value(&self, name: &[u8]) -> FieldValue<'_>
         ensures { Tells result (values_of name.now self.now.fields) }
     {
         find_value(&self.bytes, &self.fields, name)
     }
 
-    /// How many fields there are.
+    /// The number of fields.
     pub fn field_count(&self) -> usize
         ensures { result ≡ length self.now.fields }
     {
@@ -148,7 +148,7 @@ impl Head {
     }
 }
 
-/// Reads a head, and no byte behind it.
+/// Reads a head, and no byte after it.
 pub fn read_head<R: BufRead>(
     alloc: Global,
     reader: &mut CountedReader<R>,

@@ -1,4 +1,4 @@
-//! From a stream of bytes to HTTP requests (RFC 9112), and bytes out again.
+//! Reads HTTP requests (RFC 9112) from a stream of bytes, and writes responses as bytes.
 #![tactic(auto)]
 
 pub mod answer;

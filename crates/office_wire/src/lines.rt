@@ -1,4 +1,4 @@
-//! The lines of a head while it is read.
+//! The lines of a head that is being read.
 ghost use Rattle.std.specs.Prelude.{◌≡◌, ◌<◌, ◌≤◌, ◌⊎◌, ◌∷◌, ◌++◌, [], ℕ, List, length, take, IsTrue, IfOk, IfErr, IfSome, IsNone, IsErrOf, OnOk, OnErr, Ok, Some, false};
 ghost use Rattle.std.specs.Io.KnownBytes.{Keeps};
 ghost use Rattle.office_wire.specs.Counting.{HasStopped, TakesPart};
@@ -12,10 +12,10 @@ use std::alloc::{AllocError, Global};
 use std::io::BufRead;
 use std::marker::Model;
 
-/// How many bytes a head may have, empty lines in front of it included.
+/// The most bytes that a head may have, with the empty lines before it.
 pub const MOST_BYTES: usize = 8192;
 
-/// What is behind the empty lines at the front.
+/// The bytes after the empty lines at the beginning.
 pub fn after_empty_lines(bytes: &[u8]) -> &[u8]
     ensures { result.now ≡ skip_empty bytes.now }
 {
@@ -32,7 +32,7 @@ pub fn after_empty_lines(bytes: &[u8]) -> &[u8]
     &[]
 }
 
-/// Whether the first line that isn't empty ends within the bytes.
+/// Whether the first line that isn't empty ends within these bytes.
 pub fn first_line_has_ended(bytes: &[u8]) -> bool
     ensures { result ≡ first_line_ends bytes.now }
 {
@@ -46,15 +46,14 @@ fn ends_in_line_feed(bytes: &[u8]) -> bool
     bytes.ends_with(b"\n")
 }
 
-/// Whether the bytes end with an empty line that another line stands before.
+/// Whether the bytes end with an empty line after another line.
 fn ends_in_empty_line(bytes: &[u8]) -> bool
     ensures { (front : List ℕ) (end : LineEnd) → bytes.now ≡ front ++ 10 ∷ print_end end → IsTrue result }
 {
     bytes.ends_with(b"\n\n") || bytes.ends_with(b"\n\r\n")
 }
 
-/// Appends some bytes to the line, through the first line feed and at most so many, and answers how many. A read that was
-/// interrupted by a signal is tried again.
+/// Appends bytes to the line, through the first line feed and at most `most`, and returns their number. If a signal interrupts a read, it reads again.
 fn read_line_part<R: BufRead>(
     reader: &mut CountedReader<R>,
     most: usize,
@@ -80,14 +79,14 @@ fn read_line_part<R: BufRead>(
     Err(ReadFault::Read)
 }
 
-/// For how many bytes there is room at first.
+/// The number of bytes that memory is taken for at first.
 const USUAL_BYTES: usize = 512;
 
 /// The bytes of a head so far.
 #[derive(Drop)]
 pub struct HeadLines {
     bytes: Vec<u8>,
-    /// How many of them are known to be empty lines at the front.
+    /// The number of bytes that are known to be empty lines at the beginning.
     blank: usize,
     /// Whether the first line that isn't empty has ended.
     started: bool,
@@ -105,7 +104,7 @@ impl Model for HeadLines {
 }
 
 impl HeadLines {
-    /// No bytes, with room for those of a usual head.
+    /// No bytes, with memory for those of a usual head.
     pub fn new(alloc: Global) -> Result<HeadLines, AllocError>
         ensures { IfOk result (λ lines. lines ≡ []) }
     {
@@ -116,14 +115,14 @@ impl HeadLines {
         })
     }
 
-    /// The bytes.
+    /// The bytes so far.
     pub fn bytes(&self) -> &[u8]
         ensures { result.now ≡ self.now }
     {
         &self.bytes
     }
 
-    /// The bytes.
+    /// The bytes so far, as a vector.
     pub fn into_bytes(self) -> Vec<u8>
         ensures { result.items ≡ self }
     {
@@ -131,8 +130,8 @@ impl HeadLines {
         bytes
     }
 
-    /// Whether the bytes are worth parsing: at the end of the first line, so that a wrong one is refused at once, and at each
-    /// empty line behind it, since a head ends nowhere else.
+    /// Whether the bytes are worth parsing. They are at the end of the first line, so that a wrong one is refused at once. They are at each empty line after
+    /// it, since a head ends nowhere else.
     fn judge(&mut self) -> bool
         ensures same { self.new ≡ self.old }
         ensures no_head { result ≡ false → (front : List ℕ) (last : ℕ) → self.old ≡ front ++ last ∷ [] → HasNoRequest front → HasNoRequest self.old }
@@ -151,8 +150,7 @@ impl HeadLines {
         true
     }
 
-    /// Reads on, through the next line feed and up to 8,192 bytes in all, and answers whether the bytes are worth parsing; none
-    /// at the end of the input.
+    /// Reads more bytes, through the next line feed and up to 8,192 in all, and returns whether the bytes are worth parsing; None at the end of the input.
     pub fn read_on<R: BufRead>(
         &mut self,
         reader: &mut CountedReader<R>,

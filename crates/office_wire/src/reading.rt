@@ -1,4 +1,4 @@
-//! Reads until there is something.
+//! Reads that are tried again after an interruption.
 ghost use Rattle.std.specs.Prelude.{◌≡◌, ◌<◌, ◌≤◌, length, take, IfOk, IfErr, OnOk, OnErr};
 ghost use Rattle.std.specs.Io.KnownBytes.{Keeps, Consumes, IsAtEnd};
 ghost use Rattle.office_wire.specs.Counting.{HasStopped};
@@ -8,7 +8,7 @@ use crate::counted::{CountedReader, TryFault};
 use crate::fault::ReadFault;
 use std::io::BufRead;
 
-/// Reads some bytes into the front of the buffer, and answers how many. A read that was interrupted by a signal is tried again.
+/// Reads some bytes into the beginning of the buffer, and returns their number. If a signal interrupts a read, it reads again.
 pub fn read_some<R: BufRead>(
     reader: &mut CountedReader<R>,
     buf: &mut [u8],
@@ -34,7 +34,7 @@ pub fn read_some<R: BufRead>(
     Err(ReadFault::Read)
 }
 
-/// Fills the front of the buffer, and answers how many bytes it has got: fewer than it holds where the input ends before.
+/// Fills the buffer from its beginning, and returns the number of bytes. It is smaller than the buffer's only if the input ends before.
 pub fn fill<R: BufRead>(reader: &mut CountedReader<R>, buf: &mut [u8]) -> Result<usize, ReadFault>
     ensures bound { IfOk result (λ n. n ≤ length buf.new) }
     ensures given { IfOk result (λ n. Consumes reader.old.remaining reader.new.remaining (take n buf.new)) }

@@ -1,4 +1,4 @@
-//! Reading a request.
+//! Requests, and reading one.
 ghost use Rattle.std.specs.Prelude.{◌≡◌, ◌≤◌, ◌<◌, ◌⊎◌, ℕ, List, length, option_map, slice_get, IfOk, IfErr, IfSome, IsErr, IsErrOf, OnOk, Some};
 ghost use Rattle.office_wire.specs.AnyReader.{IsWellFormed};
 ghost use Rattle.office_wire.specs.Counting.{HasStopped};
@@ -42,14 +42,14 @@ impl Request {
         self.head.method()
     }
 
-    /// The target as it was sent: the path, and behind a question mark the query.
+    /// The target as it was sent: the path and, after a question mark, the query string.
     pub fn target(&self) -> &[u8]
         ensures { result.now ≡ self.now.head.target }
     {
         self.head.target()
     }
 
-    /// How many header fields there are: at most 64.
+    /// The number of header fields, at most 64.
     pub fn field_count(&self) -> usize
         ensures count { result ≡ length self.now.head.fields }
         ensures most { length self.now.head.fields ≤ 64 }
@@ -57,7 +57,7 @@ impl Request {
         self.head.field_count()
     }
 
-    /// A header field's name and its value without the white space around it, by its place among them.
+    /// The name and the value of a header field, by its place. The value has no white space around it.
     pub fn field(&self, index: usize) -> (&[u8], &[u8])
         requires { index < length self.now.head.fields }
         ensures { slice_get self.now.head.fields index ≡ Some (result.0.now, result.1.now) }
@@ -65,7 +65,7 @@ impl Request {
         self.head.field(index)
     }
 
-    /// Looks up the header fields with this name, in any case of its ASCII letters.
+    /// Looks up the header fields with this name. The case of ASCII letters is ignored.
     pub fn value(&self, name: &[u8]) -> FieldValue<'_>
         ensures { Tells result (values_of name.now self.now.head.fields) }
     {
@@ -81,7 +81,7 @@ impl Request {
     }
 }
 
-/// Reads so many bytes; none where the input ends before.
+/// Reads this number of bytes; None if the input ends before.
 fn read_body<R: BufRead>(
     alloc: Global,
     reader: &mut CountedReader<R>,
@@ -103,7 +103,7 @@ fn read_body<R: BufRead>(
     Ok(Some(body))
 }
 
-/// Reads one request, and no byte behind it.
+/// Reads one request, and no byte after it.
 pub fn read_request<R: BufRead>(
     alloc: Global,
     reader: &mut CountedReader<R>,
@@ -126,7 +126,7 @@ pub fn read_request<R: BufRead>(
     }
 }
 
-/// A law: an input holds one request at its front, or is refused with one fault, or neither.
+/// The law: an input doesn't begin with two different requests, with a request and a refusal, or with two refusals.
 pub fn one_meaning()
     ensures { (input : List ℕ) → HasOneMeaning input }
 {}

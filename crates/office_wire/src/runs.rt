@@ -1,4 +1,4 @@
-//! Runs: blocks in, responses out.
+//! Runs: blocks are read, and responses are written.
 ghost use Rattle.std.specs.Prelude.{◌≡◌, ◌≤◌, ℕ, List, true, Some, IsErrOf, OnOk};
 ghost use Rattle.office_wire.specs.AnyReader.{WentThrough};
 ghost use Rattle.office_wire.specs.Counting.{HasStopped};
@@ -16,7 +16,7 @@ use office_values::moment::Moment;
 use std::alloc::Global;
 use std::io::{BufRead, Write};
 
-/// What answers the blocks of a run.
+/// A program that answers the blocks of a run.
 pub trait Responder {
     ghost meaning: { Meaning Self };
 
@@ -25,12 +25,12 @@ pub trait Responder {
         ensures before { meaning.honest self.new → meaning.honest self.old }
         ensures step { meaning.honest self.new → Responds meaning self.old self.new (record { moment = moment; request = request.now }) result };
 
-    /// The response to what can't be read as a request.
+    /// The response to bytes that can't be read as a request.
     fn refusal(&self, fault: ReadFault) -> &'static [u8]
         ensures { result.now ≡ meaning.answers.refusal fault };
 }
 
-/// Answers each block of the input in turn, and answers how many there were.
+/// Answers each block of the input in turn, and returns their number.
 fn answer_blocks<D: Responder, R: BufRead, W: Write>(
     alloc: Global,
     desk: &mut D,
@@ -70,8 +70,8 @@ fn answer_blocks<D: Responder, R: BufRead, W: Write>(
     Err(RunFault::Read)
 }
 
-/// Answers each block of the input in turn, and answers how many there were. The responses are flushed once, at the end. Whatever the reader tells of
-/// its bytes, it goes through steps, and what was written is their responses.
+/// Answers each block of the input in turn, and returns their number. The responses are flushed once, at the end. With any reader, a run goes through steps,
+/// and the written bytes are their responses.
 pub fn run<D: Responder, R: BufRead, W: Write>(
     alloc: Global,
     desk: &mut D,
@@ -131,7 +131,7 @@ fn answer_one<D: Responder, R: BufRead, W: Write>(
     }
 }
 
-/// Reads one request, and sends and flushes the response to it. The only faults are `Read` and `Write`.
+/// Reads one request, sends the response to it and flushes it. The only faults are `Read` and `Write`.
 pub fn serve_one<D: Responder, R: BufRead, W: Write>(
     alloc: Global,
     desk: &mut D,

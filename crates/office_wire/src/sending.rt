@@ -1,4 +1,4 @@
-//! Bytes out.
+//! Writing bytes.
 ghost use Rattle.std.specs.Prelude.{◌≡◌, true, OnOk, OnErr};
 ghost use Rattle.std.specs.Io.KnownBytes.{Appends};
 ghost use Rattle.office_wire.specs.Sending.{AppendsPart};
@@ -7,7 +7,7 @@ use crate::fault::RunFault;
 use crate::watched::WatchedWriter;
 use std::io::Write;
 
-/// The writer failed or took no more; an interrupted write is a failure too.
+/// The writer failed, took no more bytes, or was interrupted.
 #[derive(Clone, Copy, Debug, PartialEq, Eq)]
 pub struct WriteFault;
 
@@ -21,7 +21,7 @@ impl From<WriteFault> for RunFault {
     }
 }
 
-/// Writes all of the bytes; where the writer fails, a front of them was written. Nothing is flushed.
+/// Writes all bytes, without flushing. If the writer fails, the first part of them was written.
 pub fn send<W: Write>(writer: &mut WatchedWriter<W>, bytes: &[u8]) -> Result<(), WriteFault>
     ensures ok { OnOk result (Appends writer.old.contents writer.new.contents bytes.now) }
     ensures err { OnErr result (AppendsPart writer.old.contents writer.new.contents bytes.now) }
@@ -35,7 +35,7 @@ pub fn send<W: Write>(writer: &mut WatchedWriter<W>, bytes: &[u8]) -> Result<(),
     Ok(())
 }
 
-/// Writes all of the bytes and flushes; where the writer fails, a front of them was written, or all.
+/// Writes all bytes and flushes. If the writer fails, the first part of them or all were written.
 pub fn send_flushed<W: Write>(writer: &mut WatchedWriter<W>, bytes: &[u8]) -> Result<(), WriteFault>
     ensures ok { OnOk result (Appends writer.old.contents writer.new.contents bytes.now) }
     ensures err { OnErr result (AppendsPart writer.old.contents writer.new.contents bytes.now) }

@@ -1,14 +1,14 @@
-//! A text in a place of its own.
+//! A text that takes no memory.
 ghost use Rattle.std.specs.Prelude.{◌≡◌, ◌≤◌, [], length};
 ghost use Rattle.office_wire.specs.Short.{FitsBehind};
 
 use arrayvec::ArrayVec;
 use std::marker::Model;
 
-/// How many bytes such a text may have.
+/// The most bytes that such a text may have.
 pub const SHORT_ROOM: usize = 288;
 
-/// A text of at most 288 bytes. It takes no memory beside itself.
+/// A text of at most 288 bytes, stored in place.
 #[derive(Drop)]
 pub struct ShortText {
     bytes: ArrayVec<u8, SHORT_ROOM>,
@@ -23,7 +23,7 @@ impl Model for ShortText {
 }
 
 impl ShortText {
-    /// An empty one.
+    /// An empty text.
     pub fn new() -> ShortText
         ensures { result ≡ [] }
     {
@@ -32,14 +32,14 @@ impl ShortText {
         }
     }
 
-    /// Puts a text behind it, where there is room for both.
+    /// Appends a text, if both fit into 288 bytes.
     pub fn put(&mut self, text: &[u8])
         ensures { FitsBehind self.old text.now self.new }
     {
         let _is_put = self.bytes.try_extend_from_slice(text);
     }
 
-    /// Its bytes.
+    /// The bytes of the text.
     pub fn bytes(&self) -> &[u8]
         ensures bytes { result.now ≡ self.now }
         ensures most { length result.now ≤ 288 }

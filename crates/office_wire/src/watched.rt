@@ -6,8 +6,8 @@ use crate::sending::WriteFault;
 use std::io::Write;
 use std::marker::Model;
 
-/// A writer, whether it has failed: a write or a flush of it gave an error, be it that it was interrupted, or it took no more; and whether what it took
-/// was flushed.
+/// A writer, with two facts about it. `has_failed`: a write or a flush gave an error, even if it was only interrupted, or a write took no bytes. `is_flushed`:
+/// all bytes that it took were flushed.
 #[derive(Drop)]
 pub struct WatchedWriter<W: Write> {
     writer: W,
@@ -24,7 +24,7 @@ impl<W: Write> Model for WatchedWriter<W> {
 }
 
 impl<W: Write> WatchedWriter<W> {
-    /// A writer that hasn't failed. What it was given before isn't known to be flushed.
+    /// A writer that hasn't failed. Earlier bytes aren't known to be flushed.
     pub fn new(writer: W) -> WatchedWriter<W>
         ensures contents { result.contents ≡ W.contents writer }
         ensures whole { result.has_failed ≡ false }
@@ -44,14 +44,14 @@ impl<W: Write> WatchedWriter<W> {
         self.has_failed
     }
 
-    /// Whether all that the writer took was flushed.
+    /// Whether all bytes that the writer took were flushed.
     pub fn is_flushed(&self) -> bool
         ensures { result ≡ self.now.is_flushed }
     {
         self.is_flushed
     }
 
-    /// The writer.
+    /// The writer inside.
     pub fn into_inner(self) -> W
         ensures { W.contents result ≡ self.contents }
     {
@@ -59,7 +59,7 @@ impl<W: Write> WatchedWriter<W> {
         writer
     }
 
-    /// Writes once, and answers how many bytes were taken: one at least.
+    /// Writes once, and returns the number of bytes that were taken, at least one.
     pub fn try_write(&mut self, bytes: &[u8]) -> Result<usize, WriteFault>
         requires { 0 < length bytes.now }
         ensures bound { IfOk result (λ n. n ≤ length bytes.now) }
@@ -82,7 +82,7 @@ impl<W: Write> WatchedWriter<W> {
         Err(WriteFault)
     }
 
-    /// Hands on what the writer still buffers.
+    /// Passes on the bytes that the writer still buffers.
     pub fn flush(&mut self) -> Result<(), WriteFault>
         ensures kept { Keeps self.old.contents self.new.contents }
         ensures cause { OnErr result (self.new.has_failed ≡ true) }

@@ -1,4 +1,4 @@
-//! `procure`: a public procurement office at the command line.
+//! `procure`: a public procurement office on the command line.
 #![tactic(auto)]
 
 use procure_config::fault::ProgramFault;
@@ -10,10 +10,10 @@ use std::env;
 use std::io::ErrorKind;
 use std::process::ExitCode;
 
-// The product's version: here and in CHANGELOG.md, of whose entries the first has it. `make release` and the manual page take it from what the program tells.
+// The product's version. CHANGELOG.md has it too, in its first entry. `make release` and the manual page take it from `procure --version`.
 const VERSION: &str = "0.4.0";
 
-// The words of the command line. Words that are no UTF-8 name no job.
+// The words of the command line. Words that aren't UTF-8 name no job.
 fn words_of(rt: &HostRuntime) -> Result<Vec<String>, ProgramFault> {
     match env::args(rt) {
         Ok(args) => {
@@ -32,7 +32,7 @@ fn words_of(rt: &HostRuntime) -> Result<Vec<String>, ProgramFault> {
     }
 }
 
-// The words are looked at first, and then the work that they ask for.
+// The words are read first. Then the job is done for which they ask.
 fn work(rt: &HostRuntime) -> Result<(), ProgramFault> {
     let words = words_of(rt)?;
     let job = job_of(rt.alloc(), VERSION, words.as_slice())?;
@@ -43,7 +43,7 @@ fn main(rt: HostRuntime) -> ExitCode {
     match work(&rt) {
         Ok(()) => ExitCode::SUCCESS,
         Err(fault) => {
-            // Where the standard error is closed, the status alone tells.
+            // If the standard error is closed, only the status reports the fault.
             let (status, _is_told) = tell(&mut rt.stderr(), &fault);
             ExitCode::from(status)
         }

@@ -1,4 +1,4 @@
--- From clap's words on a command line to the program's own.
+-- From clap's definitions about a command line to the program's own.
 use Rattle.std.proofs.Common.{◌≡◌, true, false, List, [], ◌∷◌, Option, Some, None, option_map, refl, sym, ap, ap₂, subst, inl, inr, ◌∙◌}
 use Rattle.std.specs.Prelude.{Box}
 use Rattle.std.specs.Box.{box_value}
@@ -21,7 +21,7 @@ use Rattle.clap.specs.declared.parser.matches.ArgMatches.TheViews.{out-ArgMatche
 use Rattle.clap.proofs.OnLiterals.{clap_on_literals}
 use Rattle.procure_config.specs.Jobs.{IsFaultOf, Asked, asked, faults_of, procure}
 
--- a command with an argument more, and with a subcommand more
+-- A command with one more argument, and with one more subcommand.
 pub argument_added : (old new : Command) (a : Arg) (app : App) (rule : Rule) → AddsArg old a new → app_of old ≡ app → rule_of a ≡ rule → a.global ≡ false
     → app_of new ≡ with_rule app rule
 argument_added old new a app rule added old_is rule_is local = added.shape local ∙ ap₂ with_rule old_is rule_is
@@ -41,7 +41,7 @@ pub procure_is_free : is_simple_and_free procure ≡ true
 unfolding clap_on_literals procure
 procure_is_free = refl
 
--- the subcommand that was met, from its name and its rows
+-- The subcommand that was found, with its name and its values.
 pub met : (s : Option (Text × List Row)) (name : Text) (rows : List Row) → option_map (λ p. p.0) s ≡ Some name → option_map (λ p. p.1) s ≡ Some rows → s ≡ Some (name, rows)
 met None name rows n r = cc
 met (Some (n, r)) name rows is_name is_rows =
@@ -56,7 +56,7 @@ name_met m = by (out-ArgMatches m).subcommand
     by None = refl
     by (Some b) = refl
 
--- where clap had no memory, the program says so
+-- If clap had too little memory, the program reports this.
 pub memory_fault : {T : Type 0} (error : Error) (r : Result T ProgramFault) → kind_of error ≡ OutOfMemory → IsErrAnd r (IsOfParse error) → IfErr r (λ fault. fault ≡ no_memory)
 memory_fault error (Ok value) kind is = tt
 memory_fault error (Err (Arguments told)) kind is = absurd (is.1 kind)
@@ -66,12 +66,12 @@ memory_fault error (Err Input) kind is = absurd is
 memory_fault error (Err Output) kind is = absurd is
 memory_fault error (Err (Refused refusal)) kind is = rw is.1 refl
 
--- a kind among those that come first
+-- A kind that is among those that come first.
 among_first : (kind : ErrorKind) (kinds more : Kinds) → IsAmong kind kinds → IsAmong kind (or_else kinds more)
 among_first kind [] more is = absurd is
 among_first kind (k ∷ ks) more is = is
 
--- where clap found the words at fault, or had no memory, the program says just that
+-- If clap found a fault or had too little memory, the program reports exactly this.
 pub parse_fault : {T : Type 0} (error : Error) (kinds more : Kinds) (r : Result T ProgramFault) → HasKind kinds error → IsErrAnd r (IsOfParse error) → IfErr r (IsFaultOf (or_else kinds more))
 parse_fault error kinds more (Ok value) has is = tt
 parse_fault error kinds more (Err (Arguments told)) (inl memory) is = absurd (is.1 memory)
@@ -85,7 +85,7 @@ parse_fault error kinds more (Err (Refused refusal)) has is = is.1
 pub has_kind : (command : App) (words : List Text) (error : Error) → command ≡ procure → (is_simple_and_free command ≡ true → HasKind (fault_of command words) error) → HasKind (fault_of procure words) error
 has_kind command words error e h = subst (λ a. HasKind (fault_of a words) error) e (h (ap is_simple_and_free e ∙ procure_is_free))
 
--- words that clap takes and that name no job
+-- Arguments that clap accepts but that name no job.
 pub no_job : (words : List Text) (fault : ProgramFault) → fault_of procure words ≡ [] → None ≡ asked words → IsFaultOf (MissingSubcommand ∷ []) fault → IsFaultOf (faults_of words) fault
 no_job words fault right none is = rw (right, sym none) is
 

@@ -1,4 +1,4 @@
--- The tests of identifiers and lines agree with what their types say.
+-- The tests of identifiers and lines agree with the facts that their types give.
 use Rattle.std.proofs.Common.{◌≡◌, ℕ, List, Bool, true, false, Option, Some, None, Result, Ok, Err, IfSome, IfNone, IfOk, refl, arith}
 use Rattle.std.proofs.lemmas.Bool.Decides.{nat_tests}
 use Rattle.std.proofs.lemmas.List.Sums.{AllPass-from_list_all, list_all-from_AllPass}
@@ -37,7 +37,7 @@ passes_line text h = record {
   utf8 = IsUtf8-from_is_utf8 text (grind (arith, nat_tests));
 }
 
--- what is read, where the form is given as a fact
+-- The value that is read, if its form is given as a fact.
 kept : (test : List ℕ → Bool) (Form : List ℕ → Type 0) (text : List ℕ) → (Form text → test text ≡ true) → (test text ≡ true → Form text)
     → (r : Option (List ℕ)) → IfSome r (λ t. t ≡ text) → IfSome r (λ _. Form text) → IfNone r (¬ (Form text)) → r ≡ passing test (Some text)
 kept test Form text passes form None found right none = by (test text) refl

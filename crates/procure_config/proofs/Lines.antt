@@ -8,12 +8,12 @@ use Rattle.toml.proofs.Views.{items_view-drop}
 use Rattle.toml.specs.declared.value.Value.{Value}
 use Rattle.procure_config.specs.Configuration.{is_line_text, lines_of, passing}
 
--- the value at a place, and the values after it
+-- The value at a place, and the values after it.
 from_here : (values : List Value) (i : ℕ) (value : Value) → i < length values → value ≡ get_or values i value
     → items_view (drop i values) ≡ item (view value) (items_view (drop (i + 1) values))
 from_here values i value h is = items_view-drop values i value h ∙ ap (λ v. item (view v) (items_view (drop (i + 1) values))) (sym is)
 
--- the next value is a line
+-- The next value is a line.
 pub one_more : (values : List Value) (i : ℕ) (value : Value) (done : List (List ℕ)) (line : List ℕ) → i < length values → value ≡ get_or values i value
     → Some line ≡ passing is_line_text (as_str (view value))
     → option_map (λ more. done ++ more) (lines_of (items_view (drop i values))) ≡ lines_of (items_view values)
@@ -30,7 +30,7 @@ one_more values i value done line h at is so_far =
         → option_map (λ more. (done ++ line ∷ []) ++ more) (lines_of rest) ≡ lines_of (items_view values)
     step first rest passed all = append (lines_of rest) ∙ (rw (← passed) at all)
 
--- the next value is none
+-- The next value isn't a line.
 pub no_more : (values : List Value) (i : ℕ) (value : Value) (done : List (List ℕ)) → i < length values → value ≡ get_or values i value
     → None ≡ passing is_line_text (as_str (view value))
     → option_map (λ more. done ++ more) (lines_of (items_view (drop i values))) ≡ lines_of (items_view values) → None ≡ lines_of (items_view values)
@@ -41,7 +41,7 @@ no_more values i value done h at is so_far = step (view value) (items_view (drop
         → None ≡ lines_of (items_view values)
     step first rest passed all = rw (← passed) at all
 
--- no value is left
+-- No value is left.
 pub all_done : (values : List Value) (i : ℕ) (done : List (List ℕ)) → length values ≤ i
     → option_map (λ more. done ++ more) (lines_of (items_view (drop i values))) ≡ lines_of (items_view values) → Some done ≡ lines_of (items_view values)
 unfolding lines_of

@@ -1,4 +1,4 @@
--- From what clap's typed getter reads to the number in its bounds.
+-- From the number that clap's typed getter returns to the number in its bounds.
 use Rattle.std.proofs.Common.{◌≡◌, ◌<◌, ◌≤◌, ◌^◌, ℕ, Bool, true, false, Option, Some, None, Result, Ok, Err, refl, sym, ap, arith, ◌∙◌, ◌&&◌}
 use Rattle.std.proofs.lemmas.Bool.{leb-true, le-leb}
 use Rattle.std.specs.Prelude.{if◌then◌else◌, nat_le}
@@ -12,7 +12,7 @@ use Rattle.clap.proofs.ValueTestLemmas.{accepts-Accepts, Accepts-accepts}
 use Rattle.clap.proofs.WalkLemmas.{both, one_text-rows}
 use Rattle.procure_config.specs.Jobs.{number_in}
 
--- a number that was read, where it is in the bounds
+-- A number that was read, if it is in the bounds.
 abbrev pub within : ℕ → Option ℕ → Option ℕ
 within most None = None
 within most (Some n) = if nat_le 1 n && nat_le n most then Some n else None
@@ -62,7 +62,7 @@ module _ {E : Type 0} (gives : Text → Result ℕ E → Type 0) (k most : ℕ) 
       by None e = ap (within most) (sym (none e))
       by (Some t) e = read_text t r (value t e)
 
-  -- what was read fits its type
+  -- The number that was read fits its type.
   pub read_fits : (found : Found) (id : Text) (n : ℕ) → (one_text found id ≡ None → Some n ≡ None) → ((t : Text) → one_text found id ≡ Some t → ReadsOne gives t (Some n)) → n < 2 ^ k
   read_fits found id n none value = by (one_text found id) refl
     where
@@ -72,7 +72,7 @@ module _ {E : Type 0} (gives : Text → Result ℕ E → Type 0) (k most : ℕ) 
           let p : ParsesUnsigned {E = E} k 10 t (Ok n) = reads t (Ok n) (value t e) in
           rw p.1 p.0.1
 
-  -- a number in the bounds, one outside, and none
+  -- A number in the bounds, one outside, and none.
   pub read_inside : (found : Found) (id : Text) (n : ℕ) → (one_text found id ≡ None → Some n ≡ None) → ((t : Text) → one_text found id ≡ Some t → ReadsOne gives t (Some n))
       → 1 ≤ n → n ≤ most → Some n ≡ number_in most (one_of id (rows_of found))
   read_inside found id n none value low high = sym (number_read found id (Some n) none value ∙ kept most n low high)

@@ -1,4 +1,4 @@
--- The settings of an office, as a text of TOML gives them.
+-- The settings of an office, as a text in TOML gives them.
 use Rattle.std.specs.Prelude.{codes, ◌≡◌, ◌⊎◌, ℕ, ◌&&◌, nat_le, Bool, List, [], ◌∷◌, length, if◌then◌else◌, Option, Some, None, option_and_then, option_map, unwrap_or, Result, Ok, Err}
 use Rattle.std.specs.List.{list_all}
 use Rattle.std.specs.Option.{option_map_or}
@@ -17,7 +17,7 @@ use Rattle.procure_config.specs.declared.settings.SettingName.TheVariants.{Prefi
 use Rattle.procure_config.specs.declared.settings.SettingsFault.{SettingsFault}
 use Rattle.procure_config.specs.declared.settings.SettingsFault.TheVariants.{NoMemory, NotToml, Member}
 
--- how a member is called
+-- The name of a member.
 abbrev pub name_text : SettingName → List ℕ
 name_text Prefix = codes "prefix"
 name_text Currency = codes "currency"
@@ -29,65 +29,65 @@ name_text ClerkKey = codes "clerk_key"
 name_text BuyerId = codes "buyer.id"
 name_text BuyerName = codes "buyer.name"
 
--- an identifier: 1 to 32 ASCII letters, digits, `_`, `.`, `-`
+-- The text is an identifier: 1 to 32 ASCII letters, digits, `_`, `.` or `-`.
 abbrev pub is_id_text : List ℕ → Bool
 is_id_text text = nat_le 1 (length text) && nat_le (length text) 32 && list_all is_id_byte text
 
--- a line: 1 to 200 bytes of UTF-8 without control characters
+-- The text is a line: 1 to 200 bytes of UTF-8 without control characters.
 abbrev pub is_line_text : List ℕ → Bool
 is_line_text text = nat_le 1 (length text) && nat_le (length text) 200 && list_all is_line_byte text && is_utf8 text
 
--- a value, where it passes a test
+-- The value, if it passes a test.
 abbrev pub passing : {A : Type 0} → (A → Bool) → Option A → Option A
 passing test None = None
 passing test (Some value) = if test value then Some value else None
 
--- the text at a key; none where there is no such member or it is no text
+-- The text at a key, or none if there is no such member or it isn't a text.
 abbrev pub text_at : List ℕ → Members → Option (List ℕ)
 text_at key members = option_and_then as_str (get_member key members)
 
--- the text at a key, where it has the form that is asked for
+-- The text at a key, if it has this form.
 abbrev pub text_in : (List ℕ → Bool) → List ℕ → Members → Option (List ℕ)
 text_in has_form key members = passing has_form (text_at key members)
 
--- the items of an array, where each is a line
+-- The items of an array, if each of them is a line.
 unfoldable pub lines_of : Items → Option (List (List ℕ))
 lines_of no_items = Some []
 lines_of (item first rest) =
     option_and_then (λ line. option_map (λ lines. line ∷ lines) (lines_of rest)) (passing is_line_text (as_str first))
 
--- the lines of the array at a key, where they are at most 10
+-- The lines of the array at a key, if there are at most 10.
 abbrev pub lines_at : List ℕ → Members → Option (List (List ℕ))
 lines_at key members =
     passing (λ lines. nat_le (length lines) 10) (option_and_then lines_of (option_and_then as_array (get_member key members)))
 
--- the 32 bytes that the text at a key writes in 64 hexadecimal digits
+-- The 32 bytes that the text at a key writes in 64 hexadecimal digits.
 abbrev pub digest_at : List ℕ → Members → Option (List ℕ)
 digest_at key members = option_and_then (λ text. result_ok (decode_sized text 32)) (text_at key members)
 
--- the members of the table at a key; no members where there is no table
+-- The members of the table at a key, or no members if there is no table.
 abbrev pub table_at : List ℕ → Members → Members
 table_at key members = unwrap_or (option_and_then as_table (get_member key members)) no_members
 
--- a member that is missing or wrong is named
+-- The value, or the fault that names the missing or wrong member.
 unfoldable pub setting_or_fault : {A : Type 0} → SettingName → Option A → Result A SettingsFault
 setting_or_fault name (Some value) = Ok value
 setting_or_fault name None = Err (Member name)
 
--- a step, and where it gives a value the next one
+-- A step, followed by the next one if it gives a value.
 infixl 10 ◌>>=◌
 abbrev pub ◌>>=◌ : {A B : Type 0} → Result A SettingsFault → (A → Result B SettingsFault) → Result B SettingsFault
 Ok value >>= next = next value
 Err fault >>= next = Err fault
 
--- the buyer that a table gives, or its first faulty member
+-- The buyer that a table gives, or the first faulty member.
 unfoldable pub buyer_of : Members → Result Buyer SettingsFault
 buyer_of members = do
   id ← setting_or_fault BuyerId (text_in is_id_text (codes "id") members)
   name ← setting_or_fault BuyerName (text_in is_line_text (codes "name") members)
   Ok (record { id = id; name = name })
 
--- the settings that a table gives, or its first faulty member
+-- The settings that a table gives, or the first faulty member.
 unfoldable pub settings_of : Members → Result Settings SettingsFault
 settings_of members = do
   prefix ← setting_or_fault Prefix (text_in is_prefix_text (codes "prefix") members)
@@ -103,15 +103,15 @@ settings_of members = do
     clerk_key = clerk_key;
   })
 
--- the table that a text writes in TOML, if it is UTF-8 and TOML
+-- The table that a text writes in TOML, if it is UTF-8 and TOML.
 abbrev pub document_of : List ℕ → Option Members
 document_of text = if is_utf8 text then parse_document text else None
 
--- the settings that a text gives
+-- The settings that a text gives.
 abbrev pub settings_in : List ℕ → Result Settings SettingsFault
 settings_in text = option_map_or settings_of (document_of text) (Err NotToml)
 
--- a call reads what is wanted, unless memory is wanting
+-- The call returns the result that the definition says, or it reports that memory is too small.
 abbrev pub ReadsAs : {A : Type 0} → Result A SettingsFault → Result A SettingsFault → Type 0
 ReadsAs (Ok value) wanted = wanted ≡ Ok value
 ReadsAs (Err fault) wanted = (fault ≡ NoMemory) ⊎ (wanted ≡ Err fault)

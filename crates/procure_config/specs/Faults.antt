@@ -1,4 +1,4 @@
--- How a program's faults are told.
+-- The line and the exit status with which the program reports a fault.
 use Rattle.std.specs.Fmt.{with_newline}
 use Rattle.std.specs.Prelude.{codes, ◌≡◌, ◌≢◌, ℕ, List, ◌++◌, Option, Some, None}
 use Rattle.clap.specs.Words.{kind_of}
@@ -12,7 +12,7 @@ use Rattle.procure_config.specs.declared.settings.SettingsFault.TheVariants.{NoM
 use Rattle.procure_config.specs.declared.fault.ProgramFault.{ProgramFault}
 use Rattle.procure_config.specs.declared.fault.ProgramFault.TheVariants.{Arguments, Settings, Store, Input, Output, Refused}
 
--- the line of a fault; that of the arguments is clap's own
+-- The line of a fault. Clap writes the text for faults of the arguments.
 abbrev pub line_of : ProgramFault → Option (List ℕ)
 line_of (Arguments error) = None
 line_of (Settings None) = Some (codes "procure: settings")
@@ -22,30 +22,30 @@ line_of Input = Some (codes "procure: input")
 line_of Output = Some (codes "procure: output")
 line_of (Refused refusal) = Some (codes "procure: " ++ name_of_refusal refusal)
 
--- as it is told: with the end of its line
+-- The line with its end.
 abbrev pub ended_line : ProgramFault → Option (List ℕ)
 ended_line fault = with_newline (line_of fault)
 
--- the exit status
+-- The exit status.
 abbrev pub exit_of : ProgramFault → ℕ
 exit_of (Arguments error) = 2
 exit_of _ = 1
 
--- want of memory
+-- Memory is too small.
 abbrev pub no_memory : ProgramFault
 no_memory = Refused Unavailable
 
--- a notice is named that can be none
+-- The named notice can't exist, because its name isn't an identifier.
 abbrev pub no_route : ProgramFault
 no_route = Refused NoRoute
 
--- the fault of a program whose settings are at fault
+-- The fault of a program whose settings have a fault.
 abbrev pub of_settings : SettingsFault → ProgramFault
 of_settings NoMemory = no_memory
 of_settings NotToml = Settings None
 of_settings (Member member) = Settings (Some member)
 
--- the fault of a program whose words clap refused, or had no memory to read
+-- The fault of a program whose arguments clap rejected, or couldn't read because memory is too small.
 abbrev pub IsOfParse : Error → ProgramFault → Type 0
 IsOfParse error (Arguments told) = (told ≡ error) × (kind_of error ≢ OutOfMemory)
 IsOfParse error (Refused refusal) = (kind_of error ≡ OutOfMemory) × (refusal ≡ Unavailable)

@@ -1,4 +1,4 @@
--- What the program's words ask for.
+-- The job that the arguments of the program ask for.
 use Rattle.std.specs.Prelude.{codes, ◌≡◌, true, ℕ, List, [], ◌∷◌, Option, Some, None, option_and_then, if◌then◌else◌, is_some, nat_eq}
 use Rattle.std.specs.Cmp.Lexicographic.{pointwise}
 use Rattle.std.specs.Str.Parse.{digits_value, without_leading_plus}
@@ -13,57 +13,57 @@ use Rattle.procure_config.specs.declared.job.Job.TheVariants as job
 use Rattle.procure_config.specs.declared.fault.ProgramFault.{ProgramFault}
 use Rattle.procure_config.specs.declared.fault.ProgramFault.TheVariants.{Arguments, Refused}
 
--- the greatest port (RFC 9293, section 3.1), and the most connections of one run
+-- The greatest port (RFC 9293, section 3.1), and the most connections of one run.
 abbrev pub port_bound : ℕ
 port_bound = 65535
 
 abbrev pub count_bound : ℕ
 count_bound = 1000000
 
--- an argument that must be given
+-- An argument that must be given.
 abbrev pub needed_rule : Text → Rule
 needed_rule name = record (new_rule name) { required = true }
 
--- one that is a number from 1 to the most
+-- An argument that must be a number from 1 to this bound.
 abbrev pub number_rule : Text → ℕ → Rule
 number_rule name most = record (needed_rule name) { parser = Some (Unsigned 1 most) }
 
--- a subcommand over the settings of an office: `NAME CONFIG`
+-- A subcommand with the settings of an office: `NAME CONFIG`.
 abbrev pub over_settings : Text → App
 over_settings name = with_rule (new_app name) (needed_rule (codes "CONFIG"))
 
--- over an office in a file: `NAME CONFIG DB`
+-- A subcommand with an office in a file: `NAME CONFIG DB`.
 abbrev pub over_store : Text → App
 over_store name = with_rule (over_settings name) (needed_rule (codes "DB"))
 
--- over one of its notices: `NAME CONFIG DB NOTICE`
+-- A subcommand with a notice of such an office: `NAME CONFIG DB NOTICE`.
 abbrev pub over_notice : Text → App
 over_notice name = with_rule (over_store name) (needed_rule (codes "NOTICE"))
 
--- over such a file at a port: `NAME CONFIG DB PORT`
+-- A subcommand with such an office at a port: `NAME CONFIG DB PORT`.
 abbrev pub over_port : Text → App
 over_port name = with_rule (over_store name) (number_rule (codes "PORT") port_bound)
 
--- `serve CONFIG DB PORT COUNT`
+-- `serve CONFIG DB PORT COUNT`.
 abbrev pub serve : App
 serve = with_rule (over_port (codes "serve")) (number_rule (codes "COUNT") count_bound)
 
--- the program's name, and that it tells its version: `procure --version`
+-- The program's name, and its option `--version`.
 abbrev pub named : App
 named = let app = new_app (codes "procure") in record app { top = record app.top { has_version = true } }
 
--- the program's subcommands
+-- The program's subcommands.
 abbrev pub subcommands : App
 subcommands =
     with_subcommand (with_subcommand (with_subcommand (with_subcommand (with_subcommand (with_subcommand (with_subcommand named
     (over_settings (codes "desk")).top) serve.top) (over_store (codes "ledger")).top) (over_notice (codes "minutes")).top) (over_notice (codes "record")).top)
     (over_store (codes "notices")).top) (over_notice (codes "evaluation")).top
 
--- its command line: one of them is needed
+-- The program's command line: a subcommand must be given.
 unfoldable pub procure : App
 procure = let app = subcommands in record app { top = record app.top { subcommand_required = true } }
 
--- what words ask for
+-- The job that arguments ask for.
 pub data Asked : Type 0 where
   Desk : (config : Text) → Asked
   Serve : (config store : Text) → (port count : ℕ) → Asked
@@ -73,7 +73,7 @@ pub data Asked : Type 0 where
   Notices : (config store : Text) → Asked
   Evaluation : (config store notice : Text) → Asked
 
--- so a job says it
+-- The job as the program's own type has it.
 abbrev pub asked_by_job : Job → Asked
 asked_by_job (job.Desk config) = Desk config.now
 asked_by_job (job.Serve config store port count) = Serve config.now store.now port count
@@ -83,17 +83,17 @@ asked_by_job (job.Record config store notice) = Record config.now store.now noti
 asked_by_job (job.Notices config store) = Notices config.now store.now
 asked_by_job (job.Evaluation config store notice) = Evaluation config.now store.now notice.now
 
--- the number that a value writes in decimal digits, where it is from 1 to the most
+-- The number that a text writes in decimal digits, if it is from 1 to this bound.
 abbrev pub number_in : ℕ → Option Text → Option ℕ
 number_in most None = None
 number_in most (Some text) = if is_unsigned_in 1 most text then Some (digits_value 10 (without_leading_plus text)) else None
 
--- a value, and what is made of it
+-- A value, followed by the next step if it exists.
 infixl 10 ◌>>=◌
 abbrev pub ◌>>=◌ : {A B : Type 0} → Option A → (A → Option B) → Option B
 value >>= next = option_and_then next value
 
--- what the values of each subcommand ask for; nothing where one is missing or no number in its bounds
+-- The job that the values of each subcommand ask for, or none if a value is missing or isn't a number in its bounds.
 abbrev pub desk_in : List Row → Option Asked
 desk_in rows = do
   config ← first_of (codes "CONFIG") rows
@@ -140,7 +140,7 @@ evaluation_in rows = do
   notice ← first_of (codes "NOTICE") rows
   Some (Evaluation config store notice)
 
--- by the subcommand's name
+-- The job by the name of the subcommand.
 abbrev pub asked_as : Text → List Row → Option Asked
 asked_as name rows =
     if pointwise nat_eq name (codes "desk") then desk_in rows
@@ -152,24 +152,24 @@ asked_as name rows =
     else if pointwise nat_eq name (codes "evaluation") then evaluation_in rows
     else None
 
--- what a subcommand that was met asks for
+-- The job of the subcommand that was found.
 abbrev pub job_of_subcommand : Option (Text × List Row) → Option Asked
 job_of_subcommand None = None
 job_of_subcommand (Some met) = asked_as met.0 met.1
 
--- what the subcommand and the values that clap states for the words ask for
+-- The job that the arguments ask for, by the subcommand and the values that clap finds in them.
 abbrev pub asked : List Text → Option Asked
 asked words = job_of_subcommand (subcommand_of procure words)
 
--- the words ask for this job
+-- The arguments ask for this job.
 abbrev pub AsksFor : List Text → Job → Type 0
 AsksFor words j = asked words ≡ Some (asked_by_job j)
 
--- the kinds of fault that words may have: those that clap states, and where it states none, that no job is named
+-- The kinds of fault that arguments may have: those of clap, or if clap finds none, that they name no job.
 abbrev pub faults_of : List Text → Kinds
 faults_of words = or_else (fault_of procure words) (if is_some (asked words) then [] else MissingSubcommand ∷ [])
 
--- words are at fault, in one of these kinds, or memory is wanting
+-- The arguments have a fault of one of these kinds, or memory is too small.
 abbrev pub IsFaultOf : Kinds → ProgramFault → Type 0
 IsFaultOf kinds (Arguments error) = IsAmong (kind_of error) kinds
 IsFaultOf kinds (Refused refusal) = refusal ≡ Unavailable

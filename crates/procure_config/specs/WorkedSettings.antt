@@ -2,14 +2,14 @@
 use Rattle.std.specs.Prelude.{codes, ℕ, List, [], ◌∷◌, ◌++◌}
 use Rattle.office_values.specs.declared.settings.Settings.{Settings}
 
--- as a text of TOML, whose lines end in LF
+-- The settings as a text in TOML, whose lines end in LF.
 abbrev pub city_text : List ℕ
 city_text = codes "prefix = 'ocds-a1b2c3'" ++ 10 ∷ codes "currency = 'EUR'" ++ 10 ∷ codes "language = 'en'" ++ 10 ∷ codes "base = 'http://127.0.0.1:8080'"
     ++ 10 ∷ codes "publisher = 'City Office'" ++ 10 ∷ codes "extensions = ['lots']"
     ++ 10 ∷ codes "clerk_key = '000102030405060708090a0b0c0d0e0f101112131415161718191a1b1c1d1e1F'"
     ++ 10 ∷ codes "[buyer]" ++ 10 ∷ codes "id = 'city'" ++ 10 ∷ codes "name = 'City Office'"
 
--- as they are read
+-- The settings that the program reads from it.
 abbrev pub city_settings : Settings
 city_settings = record {
   publisher = record {

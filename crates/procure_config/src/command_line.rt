@@ -1,4 +1,4 @@
-//! The program's command line, as clap is told of it.
+//! The program's command line, as it is declared to clap.
 ghost use Rattle.std.specs.Prelude.{◌≡◌, IfOk, false};
 ghost use Rattle.clap.specs.Words.{app_of, rule_of};
 ghost use Rattle.clap.specs.declared.builder.command.Command.TheViews.{out-Command as fields_of};
@@ -22,7 +22,7 @@ fn required_argument<'a>(alloc: Global, name: &'a str, help: &'a str) -> Arg<'a>
     Arg::new(alloc, name).required(true).help(help)
 }
 
-// One that is a number from 1 to the most.
+// An argument that must be a number from 1 to this bound.
 fn number<'a>(alloc: Global, name: &'a str, most: u64, help: &'a str) -> Arg<'a>
     ensures rule { rule_of result ≡ spec.number_rule name.entry.now most }
     ensures local { result.global ≡ false }
@@ -30,7 +30,7 @@ fn number<'a>(alloc: Global, name: &'a str, most: u64, help: &'a str) -> Arg<'a>
     required_argument(alloc, name, help).value_parser(ValueParser::unsigned(1, most))
 }
 
-// A subcommand over the settings of an office.
+// A subcommand with the settings of an office.
 fn over_settings<'a>(
     alloc: Global,
     name: &'a str,
@@ -43,7 +43,7 @@ fn over_settings<'a>(
     Command::new(alloc, name).about(about).arg(config)
 }
 
-// One over an office in a file.
+// A subcommand with an office in a file.
 fn over_store<'a>(alloc: Global, name: &'a str, about: &'a str) -> Result<Command<'a>, AllocError>
     ensures shape { IfOk result (λ command. app_of command ≡ spec.over_store name.entry.now) }
     ensures local { IfOk result (λ command. (fields_of command).has_globals ≡ false) }
@@ -56,7 +56,7 @@ fn over_store<'a>(alloc: Global, name: &'a str, about: &'a str) -> Result<Comman
     over_settings(alloc, name, about)?.arg(store)
 }
 
-// One over a notice of such an office.
+// A subcommand with a notice of such an office.
 fn over_notice<'a>(alloc: Global, name: &'a str, about: &'a str) -> Result<Command<'a>, AllocError>
     ensures shape { IfOk result (λ command. app_of command ≡ spec.over_notice name.entry.now) }
     ensures local { IfOk result (λ command. (fields_of command).has_globals ≡ false) }
@@ -65,7 +65,8 @@ fn over_notice<'a>(alloc: Global, name: &'a str, about: &'a str) -> Result<Comma
     over_store(alloc, name, about)?.arg(notice)
 }
 
-// One over such a file at a port. (A command takes one argument a function: two that wait for it are let go at each end.)
+// A subcommand with such an office at a port. Each function adds one argument, because a function with two waiting arguments must drop both at each of its
+// ends.
 fn over_port<'a>(alloc: Global, name: &'a str, about: &'a str) -> Result<Command<'a>, AllocError>
     ensures shape { IfOk result (λ command. app_of command ≡ spec.over_port name.entry.now) }
     ensures local { IfOk result (λ command. (fields_of command).has_globals ≡ false) }
@@ -94,11 +95,11 @@ fn serve<'a>(alloc: Global) -> Result<Command<'a>, AllocError>
     over_port(alloc, "serve", about)?.arg(count)
 }
 
-/// The program's command line, which tells this version.
+/// The program's command line, with this version.
 pub(crate) fn procure<'a>(alloc: Global, version: &'a str) -> Result<Command<'a>, AllocError>
     ensures { IfOk result (λ command. app_of command ≡ spec.procure) }
 {
-    // Each subcommand is made where it is added: of one that waited, each later end would let it go, and each such end is proved.
+    // Each subcommand is made where it is added. Otherwise each later end of the function would drop it, and each such end is proved.
     let procure = Command::new(alloc, "procure")
         .about("A public procurement office")
         .version(version)

@@ -1,4 +1,4 @@
-//! Why a program ends without having done its work.
+//! The faults with which a program ends.
 ghost use Rattle.std.specs.Prelude.{◌≡◌};
 ghost use Rattle.procure_config.specs.Faults as spec;
 
@@ -8,24 +8,24 @@ use office_values::refusal::Refusal;
 use std::alloc::AllocError;
 use std::fmt;
 
-/// Why a program ends. Its `Display` is the line for the standard error, without the end of line; of `Arguments` it is the text by `clap`, with its ends of lines.
+/// The reason why a program ends. Its `Display` is the line for the standard error, without its end. For `Arguments` it is clap's text, with its ends of lines.
 #[derive(Debug)]
 pub enum ProgramFault {
-    /// The command line is none of the program's, or asks for help or for the version.
+    /// The arguments don't fit the command line, or they ask for help or for the version.
     Arguments(clap::Error),
-    /// The first faulty member of the settings; None where their file isn't read or isn't TOML.
+    /// The first faulty member of the settings. None if the file can't be read or isn't TOML.
     Settings(Option<SettingName>),
-    /// The store failed, or its file is no office.
+    /// The store failed, or its file isn't an office.
     Store,
-    /// The input failed, or a port or a clock.
+    /// The input, a port or the clock failed.
     Input,
     /// The output failed.
     Output,
-    /// The office refused what it was asked.
+    /// The office refused the request.
     Refused(Refusal),
 }
 
-// By hand, so that a program that lets a fault go proves no drop of what `clap` keeps in one.
+// Written by hand, so that a program that drops a fault proves no drop of clap's parts.
 impl Drop for ProgramFault {
     fn drop(self) {
         match self {
@@ -103,7 +103,7 @@ impl From<clap::Error> for ProgramFault {
     }
 }
 
-/// The program's exit status: 2 for its arguments, else 1.
+/// The program's exit status: 2 for its arguments, 1 for anything else.
 pub fn exit_code(fault: &ProgramFault) -> u8
     ensures { result ≡ spec.exit_of fault.now }
 {

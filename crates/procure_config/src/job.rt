@@ -1,4 +1,4 @@
-//! What the program is asked to do, read from its words.
+//! The job of the program, read from its arguments.
 ghost use Rattle.std.specs.Prelude.{◌≡◌, true, codes, [], ◌∷◌, map, None, Some, IfOk, IfErr, IsSome, option_map};
 ghost use Rattle.clap.specs.Words.{fault_of, first_of, found_of, one_of, rows_of, subcommand_rows_of, takes};
 ghost use Rattle.procure_config.specs.Faults.{no_memory};
@@ -13,64 +13,64 @@ use office_values::refusal::Refusal;
 use std::alloc::Global;
 use std::convert::AsStr;
 
-/// What the program is asked to do.
+/// The job that the arguments ask for.
 #[derive(Clone, Copy, Debug)]
 pub enum Job<'a> {
-    /// An empty office in memory, over the standard streams.
+    /// Answers the standard input from an empty office in memory.
     Desk {
         /// The path of the settings.
         config: &'a str,
     },
-    /// An office in a file, over connections on 127.0.0.1.
+    /// Serves an office in a file over connections to 127.0.0.1.
     Serve {
         /// The path of the settings.
         config: &'a str,
         /// The path of the office's file.
         store: &'a str,
-        /// The port, 1 at least.
+        /// The port, at least 1.
         port: u16,
-        /// How many connections are served: 1 to 1,000,000.
+        /// The number of connections to serve: 1 to 1,000,000.
         count: u32,
     },
-    /// The ledger of an office in a file, printed.
+    /// Prints the ledger of an office in a file.
     Ledger {
         /// The path of the settings.
         config: &'a str,
         /// The path of the office's file.
         store: &'a str,
     },
-    /// The minutes of an opening, printed.
+    /// Prints the minutes of an opening.
     Minutes {
         /// The path of the settings.
         config: &'a str,
         /// The path of the office's file.
         store: &'a str,
-        /// The notice, as it was written: it may be no identifier.
+        /// The notice as it was written; it may not be an identifier.
         notice: &'a str,
     },
-    /// The record of a notice, printed.
+    /// Prints the record of a notice.
     Record {
         /// The path of the settings.
         config: &'a str,
         /// The path of the office's file.
         store: &'a str,
-        /// The notice, as it was written: it may be no identifier.
+        /// The notice as it was written; it may not be an identifier.
         notice: &'a str,
     },
-    /// The list of the notices, printed.
+    /// Prints the list of the notices.
     Notices {
         /// The path of the settings.
         config: &'a str,
         /// The path of the office's file.
         store: &'a str,
     },
-    /// How the awards of a notice came about, printed.
+    /// Prints the evaluation of a notice.
     Evaluation {
         /// The path of the settings.
         config: &'a str,
         /// The path of the office's file.
         store: &'a str,
-        /// The notice, as it was written: it may be no identifier.
+        /// The notice as it was written; it may not be an identifier.
         notice: &'a str,
     },
 }
@@ -82,7 +82,7 @@ fn text_of<'a>(met: &ArgMatches<'a>, name: &str) -> Option<&'a str>
     met.get_str(name)
 }
 
-// The port, where it is one.
+// The port, if it is one.
 fn port_of(met: &ArgMatches<'_>) -> Option<u16>
     ensures { result ≡ number_in spec.port_bound (one_of (codes "PORT") (rows_of (found_of met.now))) }
 {
@@ -92,7 +92,7 @@ fn port_of(met: &ArgMatches<'_>) -> Option<u16>
     }
 }
 
-// The count of connections, where it is one.
+// The number of connections, if it is one.
 fn count_of(met: &ArgMatches<'_>) -> Option<u32>
     ensures { result ≡ number_in spec.count_bound (one_of (codes "COUNT") (rows_of (found_of met.now))) }
 {
@@ -179,7 +179,7 @@ fn evaluation_in<'a>(met: &ArgMatches<'a>) -> Option<Job<'a>>
     })
 }
 
-// What a subcommand with these values asks for.
+// The job that a subcommand with these values asks for.
 fn asked_as<'a>(name: &str, met: &ArgMatches<'a>) -> Option<Job<'a>>
     ensures { option_map asked_by_job result ≡ spec.asked_as name.now (rows_of (found_of met.now)) }
 {
@@ -202,7 +202,7 @@ fn asked_as<'a>(name: &str, met: &ArgMatches<'a>) -> Option<Job<'a>>
     }
 }
 
-// What the subcommand that was met asks for.
+// The job of the subcommand that was found.
 fn job_of_subcommand<'a>(matches: &ArgMatches<'a>) -> Option<Job<'a>>
     ensures { option_map asked_by_job result ≡ spec.job_of_subcommand (subcommand_rows_of matches.now) }
 {
@@ -210,7 +210,7 @@ fn job_of_subcommand<'a>(matches: &ArgMatches<'a>) -> Option<Job<'a>>
     asked_as(name, met)
 }
 
-// The fault of words that the command line takes and that name no job.
+// The fault of arguments that fit the command line but name no job.
 fn no_job(command: &mut Command<'_>) -> ProgramFault
     ensures { IsFaultOf (ErrorKind.MissingSubcommand ∷ []) result }
 {
@@ -220,9 +220,8 @@ fn no_job(command: &mut Command<'_>) -> ProgramFault
     }
 }
 
-/// The job that the words ask for, of which the first is the program's name. The version is the text that `--version` tells.
-/// `Arguments` with clap's error where they ask for none, for help or for the version; `Refused(Unavailable)` where that error, or an
-/// allocation besides, is of memory.
+/// The job that the arguments ask for; the first of them is the program's name. `--version` prints this version. `Arguments` has clap's error if they ask for
+/// no job, for help or for the version. `Refused(Unavailable)` means that memory was too small.
 pub fn job_of<'a, S: AsStr>(
     alloc: Global,
     version: &'a str,

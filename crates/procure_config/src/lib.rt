@@ -1,4 +1,4 @@
-//! What the program is told: its settings, its command line, and how its faults are told.
+//! The program's settings, its command line, and the texts of its faults.
 #![tactic(auto)]
 
 mod command_line;

@@ -7,7 +7,7 @@ use crate::fault::ProgramFault;
 use office_values::id::Id;
 use office_values::refusal::Refusal;
 
-/// The identifier that a text is. One that is none is refused as a path would be: with `NoRoute`. Takes no memory.
+/// The identifier that this text is. Any other text is refused with `NoRoute`, as in a path. Takes no memory.
 pub fn notice_named(text: &str) -> Result<Id, ProgramFault>
     ensures found { IfOk result (λ notice. notice ≡ text.now) }
     ensures right { IfOk result (λ _. IsId text.now) }

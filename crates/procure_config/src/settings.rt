@@ -1,4 +1,4 @@
-//! The settings of an office, read from a text of TOML.
+//! The settings of an office, read from a text in TOML.
 ghost use Rattle.std.specs.Prelude.{◌≡◌, ◌⊎◌, [], Ok, Err, IfOk, IfErr, codes, option_map, option_and_then};
 ghost use Rattle.toml.specs.Data.{as_str, as_array, as_table, get_member};
 ghost use Rattle.toml.specs.Errors.{IsMemory};
@@ -30,7 +30,7 @@ pub enum SettingName {
 }
 
 impl SettingName {
-    /// How it is called, as in `buyer.id`.
+    /// The member's name, such as `buyer.id`.
     pub fn name(self) -> &'static str
         ensures { result.now ≡ name_text self }
     {
@@ -48,7 +48,7 @@ impl SettingName {
     }
 }
 
-/// Why a text gives no settings.
+/// The reason why a text gives no settings.
 #[derive(Clone, Copy, Debug, PartialEq, Eq)]
 pub enum SettingsFault {
     NoMemory,
@@ -140,7 +140,7 @@ fn read_clerk_key(table: &Table) -> Option<[u8; 32]>
     }
 }
 
-// The text of a value, where it is a line.
+// The text of a value, if it is a line.
 fn line_of(alloc: Global, value: &Value) -> Result<Option<TextLine>, AllocError>
     ensures { IfOk result (λ line. line ≡ passing is_line_text (as_str (view value.now))) }
 {
@@ -150,7 +150,7 @@ fn line_of(alloc: Global, value: &Value) -> Result<Option<TextLine>, AllocError>
     }
 }
 
-// The lines that the values are; None where one isn't a line.
+// The lines that these values are, or None if one of them isn't a line.
 fn read_lines(alloc: Global, values: &[Value]) -> Result<Option<Vec<TextLine>>, AllocError>
     ensures { IfOk result (λ lines. option_map (λ l. l.items) lines ≡ lines_of (items_view values.now)) }
 {
@@ -186,7 +186,7 @@ fn read_extensions(alloc: Global, table: &Table) -> Result<Option<Extensions>, A
     }
 }
 
-// The value, or that the member of this name is faulty.
+// The value, or the fault that names this member.
 #[tactic(auto, unfolding(crate::specs::Configuration::setting_or_fault))]
 fn setting_or_fault<T: Drop>(name: SettingName, value: Option<T>) -> Result<T, SettingsFault>
     ensures { result ≡ spec.setting_or_fault name value }
@@ -258,7 +258,7 @@ fn settings_of(alloc: Global, table: &Table) -> Result<Settings, SettingsFault>
     })
 }
 
-// What a text that gives no table lacks.
+// The fault of a text that gives no table.
 fn document_fault(error: &toml::de::Error) -> SettingsFault
     ensures { (result ≡ SettingsFault.NoMemory) ⊎ ((result ≡ SettingsFault.NotToml) × (¬ (IsMemory error.now))) }
 {
@@ -269,8 +269,8 @@ fn document_fault(error: &toml::de::Error) -> SettingsFault
     }
 }
 
-/// The settings that a text of TOML gives; members of other names are ignored.
-/// `NotToml` also where the text isn't UTF-8; else the first member in their order that is missing or wrong.
+/// The settings that a text in TOML gives. Members of other names are ignored. `NotToml` also if the text isn't UTF-8. Otherwise the fault names the first
+/// member, in their order, that is missing or wrong.
 pub fn read_settings(alloc: Global, text: &[u8]) -> Result<Settings, SettingsFault>
     ensures settings { IfOk result (λ settings. settings_in text.now ≡ Ok settings) }
     ensures fault { IfErr result (λ fault. (fault ≡ SettingsFault.NoMemory) ⊎ (settings_in text.now ≡ Err fault)) }
@@ -281,7 +281,7 @@ pub fn read_settings(alloc: Global, text: &[u8]) -> Result<Settings, SettingsFau
     }
 }
 
-/// Examples: a text that gives settings, one without its first member, one that isn't TOML.
+/// Examples: a text that gives settings, one without its first member, and one that isn't TOML.
 pub fn worked_settings()
     ensures city { settings_in city_text ≡ Ok city_settings }
     ensures empty { settings_in [] ≡ Err (SettingsFault.Member SettingName.Prefix) }

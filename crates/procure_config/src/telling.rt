@@ -1,4 +1,4 @@
-//! How a program that hasn't done its work ends.
+//! The report of a fault, with which a program ends.
 ghost use Rattle.std.specs.Prelude.{◌≡◌, IfSome, IsTrue};
 ghost use Rattle.std.specs.Io.KnownBytes.{Appends};
 ghost use Rattle.procure_config.specs.Faults as spec;
@@ -6,8 +6,8 @@ ghost use Rattle.procure_config.specs.Faults as spec;
 use crate::fault::{ProgramFault, exit_code};
 use std::io::Write;
 
-/// Tells a fault on an output, in a line; what `clap` tells has its own ends of lines. Gives the exit status, and whether all of it was written: where it
-/// wasn't, the status alone tells.
+/// Writes the line of a fault to an output; clap's text has its own ends of lines. Returns the exit status, and whether the whole line was written. If it
+/// wasn't, only the status reports the fault.
 pub fn tell<W: Write>(output: &mut W, fault: &ProgramFault) -> (u8, bool)
     ensures status { result.0 ≡ spec.exit_of fault.now }
     ensures line { IsTrue result.1 → IfSome (spec.ended_line fault.now) (Appends (W.contents output.old) (W.contents output.new)) }

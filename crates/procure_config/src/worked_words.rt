@@ -1,4 +1,4 @@
-//! Examples of words, computed by clap's own definitions.
+//! Examples of arguments, computed by clap's own definitions.
 ghost use Rattle.std.specs.Prelude.{◌≡◌, true, false, codes, [], ◌∷◌, None, Some};
 ghost use Rattle.clap.specs.Words.{takes};
 ghost use Rattle.procure_config.specs.Jobs as spec;
@@ -6,7 +6,7 @@ ghost use Rattle.procure_config.specs.Jobs.{Desk, Evaluation, Ledger, Minutes, N
 
 use clap::error::ErrorKind;
 
-/// Words that ask for each job.
+/// Arguments that ask for each job.
 pub fn worked_jobs()
     ensures desk { asked (codes "procure" ∷ codes "desk" ∷ codes "a" ∷ []) ≡ Some (Desk (codes "a")) }
     ensures serve { asked (codes "procure" ∷ codes "serve" ∷ codes "a" ∷ codes "b" ∷ codes "80" ∷ codes "3" ∷ []) ≡ Some (Serve (codes "a") (codes "b") 80 3) }
@@ -19,7 +19,7 @@ pub fn worked_jobs()
     ensures right { faults_of (codes "procure" ∷ codes "desk" ∷ codes "office.toml" ∷ []) ≡ [] }
 {}
 
-/// Words that name no job, and the kinds of their faults.
+/// Arguments that name no job, and the kinds of their faults.
 pub fn worked_faults()
     ensures none { takes spec.procure (codes "procure" ∷ []) ≡ false }
     ensures more { takes spec.procure (codes "procure" ∷ codes "desk" ∷ codes "a" ∷ codes "b" ∷ []) ≡ false }

@@ -1,4 +1,4 @@
--- One connection, and what is printed.
+-- One connection, and the printed texts.
 use Rattle.std.proofs.Common.{◌≡◌, ℕ, ◌==◌, inr, Bool, true, List, [], Option, Some, None, Result, Ok, Err, if◌then◌else◌, refl, sym, ap, subst, ◌∙◌}
 use Rattle.std.specs.Prelude.{⊤, IfErr, OnErr, OnOk}
 use Rattle.std.specs.Io.Buffered.{reader_buffer, reader_capacity, reader_inner, reader_remaining}
@@ -28,7 +28,7 @@ nothing_before : (known : Option (List ℕ)) → prepend_known [] known ≡ know
 nothing_before None = refl
 nothing_before (Some bytes) = refl
 
--- a new buffer has what its reader has
+-- A new buffer has exactly the bytes of its reader.
 pub buffers : {R A : Type 0} (remaining : R → Option (List ℕ)) (reader : R) (buffered : BufReader R A) → reader_inner buffered ≡ reader → reader_buffer buffered ≡ []
     → reader_capacity buffered ≡ 8192 → reader_remaining remaining buffered ≡ remaining reader
 buffers remaining reader buffered inner empty capacity =
@@ -73,7 +73,7 @@ module _ {S : Type 0} (M : Meaning S) (moment : ℕ) (came before after : Option
     ((refl, held), stands),
   )
 
--- ---- what is printed
+-- ---- the printed text
 
 pub of_printing : (failed : Bool) (result : Result (Unit {0}) ProgramFault) → IfErr result (λ (why : ProgramFault). why ≡ Output) → OnErr result (failed ≡ true)
     → IfErr result (IsOfPrinting failed)

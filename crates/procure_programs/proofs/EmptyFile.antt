@@ -1,4 +1,4 @@
--- The bytes of an empty database are those of a file of one page, which the ported `sqlite` opens as a database with no table.
+-- The bytes of an empty database are a file of one page, which the ported `sqlite` opens as a database with no table.
 use Rattle.std.proofs.Common.{◌≡◌, ℕ, List, [], length, take, Some, None, refl, sym, ap, ◌∙◌, true, inl, inr, arith, ne_eqb}
 use Rattle.std.proofs.lemmas.Bool.{cases_eq, cond-false}
 use mathlib.Core.Path.{fun_ext}

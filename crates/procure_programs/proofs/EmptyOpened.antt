@@ -1,4 +1,4 @@
--- What was opened in two files that hold nothing shows an office with no content.
+-- An office that is opened in two files that hold nothing has no content.
 use Rattle.std.proofs.Common.{◌≡◌, inl, inr, [], ap, ◌∙◌}
 use Rattle.sqlite_disk.specs.declared.Disk.{Ghosts}
 use Rattle.sqlite_wal.specs.Recovery.{Image}

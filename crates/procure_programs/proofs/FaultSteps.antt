@@ -1,4 +1,4 @@
--- Whose each fault is.
+-- The program's fault for each fault.
 use Rattle.std.proofs.Common.{◌≡◌, refl, subst, sym}
 use Rattle.office_store.specs.declared.found.OpenFault.{OpenFault}
 use Rattle.office_store.specs.declared.found.OpenFault.TheVariants as opening

@@ -1,4 +1,4 @@
--- Who writes page by page until none follows has written all notices.
+-- A program that writes page by page until none follows has written all notices.
 use Rattle.std.proofs.Common.{◌≡◌, ℕ, zero, suc, zero-add, ◌+◌, List, [], ◌∷◌, ◌++◌, length, take, Option, Some, None}
 use Rattle.std.proofs.Common.{refl, sym, ap, subst, arith, ◌∙◌, append_assoc}
 use Rattle.std.proofs.KnownBytes.{Appends-nil, Appends-trans}
@@ -14,15 +14,15 @@ use Rattle.office_base.specs.declared.records.NoticeRow.{NoticeRow}
 use Rattle.tender_papers.specs.Listing.{listing_line, listing_text}
 use Rattle.procure_programs.specs.Listing.{WritesPage, page_rows}
 
--- so many pages behind a notice
+-- This many pages after a notice.
 abbrev pub read : ℕ → Option (List ℕ) → Tables → List NoticeRow
 read more after s = read_pages id_cmp notice_key page_limit more after s.notices
 
--- the first of them
+-- The first of these pages.
 abbrev pub page : Option (List ℕ) → Tables → List NoticeRow
 page after s = take page_limit (rows_after id_cmp notice_key after s.notices)
 
--- what was written of these tables by now: some pages from the first on, behind which those behind this notice follow
+-- The lines that are written so far of these tables: some pages from the first one on, after which the pages after this notice follow.
 abbrev pub IsListed : Option (List ℕ) → Option (List ℕ) → Option (List ℕ) → Tables → Type 0
 IsListed old new after s =
     (rows : List NoticeRow) × (turns : ℕ) × Appends old new (listing_text rows) × ((more : ℕ) → read (turns + more) None s ≡ rows ++ read more after s)
@@ -30,7 +30,7 @@ IsListed old new after s =
 pub keeps_self : {S : Type 0} (M : Meaning S) (shelf : S) → Keeps M shelf shelf
 keeps_self M shelf = record { before = λ honest. honest; same = λ honest t held. held; stop = λ honest u may. may; sound = λ honest sound. sound }
 
--- nothing yet
+-- No page is written yet.
 pub listed_none : (old : Option (List ℕ)) (s : Tables) → IsListed old old None s
 listed_none old s = ([], 0, Appends-nil old, λ more. ap (λ (n : ℕ). read n None s) (zero-add more))
 
@@ -44,7 +44,7 @@ one_page : (more : ℕ) (after : Option (List ℕ)) (s : Tables)
 unfolding read_pages
 one_page more after s = refl
 
--- a page more was written
+-- One more page is written.
 module _ (old mid new : Option (List ℕ)) (after : Option (List ℕ)) (s : Tables) where
   with_page : (rows : List NoticeRow) → Appends old mid (listing_text rows) → Appends mid new (listing_text (take page_limit (page_rows after s)))
       → Appends old new (listing_text (rows ++ page after s))
@@ -69,7 +69,7 @@ module _ (old mid new : Option (List ℕ)) (after : Option (List ℕ)) (s : Tabl
         ap (λ (n : ℕ). read n None s) count ∙ follows rows turns (Some k) before is rest ∙ sym (append_assoc rows (page after s) (read rest (Some k) s)),
   )
 
-  -- the last page
+  -- The last page is written.
   pub listed_all : TablesArePaged → IsSorted s → IsListed old mid after s → WritesPage after s mid new None → Appends old new (listing_text s.notices)
   listed_all law sorted (rows, turns, written, before) (more, is) =
       let all : rows ++ page after s ≡ s.notices =

@@ -1,4 +1,4 @@
--- An office that was opened in files goes on from what they had, in what is found of them once they are closed.
+-- An office that was opened in files continues from their content, in every state in which these are found after they are closed.
 use Rattle.std.proofs.Common.{◌≡◌, inl, inr, Result, Ok, Err, IfOk, ℕ, ◌+◌, ◌≤◌, List, [], ◌∷◌, ◌++◌, length, refl, sym, ap, subst, ◌∙◌, arith, length-append}
 use Rattle.std.proofs.Math.Logic.{∥∥₁_elim, ∥∥₁_map}
 use Rattle.sqlite_disk.specs.declared.Disk.{Ghosts}
@@ -26,13 +26,13 @@ use Rattle.procure_programs.specs.Serving.{DayIn, DaysFollow, FilesGoOn, HaveOff
 use Rattle.procure_programs.proofs.ServingSteps.{office_on, served_none, served_still}
 
 module _ {D : Type 0} {g : Ghosts D} where
-  -- what files have is shown by what was opened there
+  -- The office that was opened shows the content of the files.
   pub shows_files : (image : Image) (now : Connected (FileStore D g)) → OpensHeld image now → OpensEmpty image now → HasCleanDisk (file_state now)
       → (t : Tables) → HaveOffice image t → ShowsTables (file_state now) t
   shows_files image now held blank clean t (inl it) = held clean t it
   shows_files image now held blank clean t (inr (none, is)) = subst (ShowsTables (file_state now)) (sym is) (blank clean none)
 
-  -- what is found of closed files holds what was shown as they were closed
+  -- The files that are found after the closing hold the content that the store showed then.
   holds_found : (last : Connected (FileStore D g)) (files : Files D) → IsCopied last files → (now : Image) → MayBeFound g files now
       → (t : Tables) → ShowsTables (file_state last) t → FilesHoldOffice now t
   holds_found last files copied now (mid, which, log) t shows =
@@ -55,7 +55,7 @@ module _ {D : Type 0} {g : Ghosts D} where
       let (steps, few, ((_, (in_order, shows)), left), _) = serves it.was_clean h ((sym are, (sorted, shown)), stands) in
       (steps, few, (in_order, inl (holds_found new.0 files it now found _ shows), left))
 
-  -- an office that was opened was served
+  -- An office that was opened was served.
   pub opened_serves : {R E : Type 0} (image : Image) (settings : Settings) (most : ℕ) (opened : Connected (FileStore D g) × ℕ)
       (result : Result ((Connected (FileStore D g) × ℕ) × R) E) → OpensHeld image opened.0 → OpensEmpty image opened.0
       → (HasCleanDisk (file_state opened.0) → LeavesShown (file_state opened.0)) → (HasCleanDisk (file_state opened.0) → LeavesNoOther (file_state opened.0))
@@ -64,14 +64,14 @@ module _ {D : Type 0} {g : Ghosts D} where
       record { opened = opened; held = held; empty = empty; sound = sound; alone = alone; served = served }
   opened_serves image settings most opened (Err fault) held empty sound alone served = tt
 
-  -- so of what comes back, where the files do
+  -- If the files are returned, the office was served from them.
   pub closes_ok : {R E : Type 0} (image : Image) (settings : Settings) (most : ℕ) (old new : Connected (FileStore D g) × ℕ) (result : Result (Files D × R) E)
       → OpensHeld image old.0 → OpensEmpty image old.0 → WasServed (sql_meaning over_files) most settings old new
       → IfOk result (λ left. AreClean g left.0.log left.0.db → IsCopied new.0 left.0) → IfOk result (λ left. ServesFiles g image settings most left.0)
   closes_ok image settings most old new (Ok left) held blank served copied = closes image settings most old new left.0 held blank served copied
   closes_ok image settings most old new (Err fault) held blank served copied = tt
 
--- what changes nothing was served by no step
+-- Serving that changes nothing is serving by no step.
 pub kept_served : {S : Type 0} (M : Meaning S) (settings : Settings) (old new : S) → Keeps M old new → WasServed M 0 settings old new
 kept_served {S = S} M settings old new keeps =
     let first : DeskOf S = record { shelf = old; settings = settings } in
@@ -81,7 +81,7 @@ pub settings_stay : (steps : List Step) (h : Held) → (office_left office_answe
 settings_stay [] h = refl
 settings_stay (x ∷ steps) h = settings_stay steps (office_answers.after x.busy h x.block)
 
--- what is left after so many steps, on two days
+-- The office after at most this many steps.
 abbrev LeftIn : Image → ℕ → Held → Type 0
 LeftIn last most h = (steps : List Step) × (length steps ≤ most) × StandsIn last (office_left office_answers h steps)
 
@@ -95,7 +95,7 @@ days_closed settings first mid last n m before behind h are stands =
     let (xs, few, there) = before h are stands in
     both_days last n m h xs few (behind (office_left office_answers h xs) (settings_stay xs h ∙ are) there)
 
--- a day of either end, as one that ends by a stop
+-- A day that ended by a closing or by a stop, as one that ended by a stop.
 as_stopped : (settings : Settings) (first last : Image) (n : ℕ) → DayIn first settings n last → StopsIn first settings n last
 as_stopped settings first last n (inl closed) = λ h are stands. ∣ closed h are stands ∣₁
 as_stopped settings first last n (inr stopped) = stopped
@@ -111,12 +111,12 @@ days_follow = record { closed = days_closed; stopped = days_stopped }
 
 -- ---- under another key of the clerk
 
--- an office stands in the files under another key too
+-- The files have the office under another key too.
 stands_under : (before after : Settings) (image : Image) (h : Held) → after.publisher ≡ before.publisher → h.settings ≡ before → StandsIn image h → StandsIn image (under_settings after h)
 stands_under before after image h same are stands =
     (stands.0, stands.1, subst (λ (p : Publisher). IsReached p h.tables) (ap (λ (u : Settings). u.publisher) are ∙ sym same) stands.2)
 
--- what the office is at the end of the first day, under the key of the second
+-- The office at the end of the first day, under the key of the second day.
 second_day : (before after : Settings) (mid : Image) (h : Held) (xs : List Step) → after.publisher ≡ before.publisher → h.settings ≡ before
     → StandsIn mid (office_left office_answers h xs) → StandsIn mid (under_settings after (office_left office_answers h xs))
 second_day before after mid h xs same are = stands_under before after mid (office_left office_answers h xs) same (settings_stay xs h ∙ are)

@@ -1,4 +1,4 @@
--- One connection more.
+-- One more connection.
 use Rattle.std.proofs.Common.{◌≡◌, inl, inr, ℕ, ◌+◌, ◌≤◌, Bool, true, false, List, [], ◌∷◌, ◌++◌, length, refl, sym, subst, ◌∙◌, arith, length-append}
 use Rattle.office_values.specs.declared.settings.Settings.{Settings}
 use Rattle.office_base.specs.Shelves.{Keeps, Meaning}
@@ -10,7 +10,7 @@ use Rattle.office_http.specs.Joined.{StepsAreKept}
 use Rattle.office_http.specs.Stops.{LeftBySteps, StopsBy, StopsOnce}
 use Rattle.procure_programs.specs.Serving.{TurnsKeepCommands, TakesTurns, WasServed}
 
--- the office after two lists of steps
+-- The office after two lists of steps.
 pub office_on : {S : Type 0} (A : Answers S) (xs ys : List Step) (s : S) → office_left A s (xs ++ ys) ≡ office_left A (office_left A s xs) ys
 office_on A [] ys s = refl
 office_on A (x ∷ xs) ys s = office_on A xs ys (A.after x.busy s x.block)
@@ -20,16 +20,16 @@ at_most_one moment [] one = omega arith
 at_most_one moment (x ∷ []) one = omega arith
 at_most_one moment (x ∷ y ∷ more) one = absurd one
 
--- ---- what a stop may leave
+-- ---- the states that a stop may leave
 
--- where more could be left before
+-- A stop may leave more if it could leave more before.
 left_weaker : (accepted busy : Bool) (First Before IsAfter : Type 0) → (Before → First) → LeftAfter accepted busy Before IsAfter → LeftAfter accepted busy First IsAfter
 left_weaker false busy First Before IsAfter more left = more left
 left_weaker true false First Before IsAfter more left = left
 left_weaker true true First Before IsAfter more (inl left) = inl (more left)
 left_weaker true true First Before IsAfter more (inr whole) = inr whole
 
--- of one step, by what it could leave before
+-- The states that a stop may leave after one step, by those that it could leave before.
 abbrev pub left_by : (Tables → Type 0) → Held → Step → Tables → Type 0
 left_by Before h x v = LeftAfter (is_accepted h.tables x.block.moment (meant_in h x.block)) x.busy (Before v) (IsWholeAfter h.settings h.tables x.block.moment (meant_in h x.block) v)
 
@@ -53,7 +53,7 @@ stops_on M old mid new h xs ys first last = record {
   sound = λ before. last.sound (first.sound before);
 }
 
--- what changes nothing adds nothing
+-- A call that changes nothing adds no state that a stop may leave.
 pub stops_still : {S : Type 0} (M : Meaning S) (old mid new : S) (h : Held) (steps : List Step) → StopsBy M old mid h steps → Keeps M mid new → M.honest new → StopsBy M old new h steps
 stops_still M old mid new h steps first keeps honest = record {
   left = λ u may. first.left u (keeps.stop honest u may);
@@ -65,14 +65,14 @@ stops_none M shelf h = record { left = λ u may. may; sound = λ before. before 
 
 -- ---- the office
 
--- where no request was read
+-- No request was read.
 pub once_none : {S : Type 0} (M : Meaning S) (moment : ℕ) (office : DeskOf S) → StopsOnce M moment office office
 once_none M moment office honest h held = ([], tt, held, stops_none M office.shelf h)
 
 pub served_none : {S : Type 0} (M : Meaning S) (n : ℕ) (office : DeskOf S) → TakesTurns M n office office
 served_none M n office honest h held = ([], omega arith, held, stops_none M office.shelf h)
 
--- a question changes nothing
+-- A call that only asks changes nothing.
 pub served_still : {S : Type 0} (M : Meaning S) (n : ℕ) (first old new : DeskOf S) → TakesTurns M n first old → Keeps M old.shelf new.shelf → new.settings ≡ old.settings → TakesTurns M n first new
 served_still M n first old new so_far keeps same honest h held =
     let (xs, few, ((are, now), stands), stops) = so_far (keeps.before honest) h held in
@@ -87,19 +87,19 @@ served_on M n moment first old new before so_far once honest h held =
     let bound : length (xs ++ ys) ≤ n + 1 = rw (length-append xs ys) (omega (arith, few, short)) in
     (xs ++ ys, bound, subst (λ (k : Held). StandsAs M new k) (sym (office_on office_answers xs ys h)) after, stops_on M first.shelf old.shelf new.shelf h xs ys stops more)
 
--- fewer than were allowed
+-- Fewer steps than are allowed.
 pub served_within : {S : Type 0} (M : Meaning S) (n most : ℕ) (old new : DeskOf S) → n ≤ most → TakesTurns M n old new → TakesTurns M most old new
 served_within M n most old new within so_far honest h held =
     let (xs, few, now, stops) = so_far honest h held in
     (xs, omega (arith, within, few), now, stops)
 
--- and what was accepted is kept
+-- The accepted commands are kept.
 pub serving_kept : {S : Type 0} (M : Meaning S) (most : ℕ) (old new : DeskOf S) → StepsAreKept → TakesTurns M most old new → TurnsKeepCommands M most old new
 serving_kept M most old new law serves honest h held xs reached =
     let (steps, few, left, _) = serves honest h held in
     (steps, few, left, law xs h reached steps)
 
--- an office was made of a shelf and served, and its shelf given back
+-- An office was made of a store and served, and its store was returned.
 pub was_served : {S : Type 0} (M : Meaning S) (most : ℕ) (settings : Settings) (shelf left : S) (begun ended : DeskOf S) → begun ≡ record { shelf = shelf; settings = settings }
     → left ≡ ended.shelf → (M.honest ended.shelf → M.honest begun.shelf) → TakesTurns M most begun ended → WasServed M most settings shelf left
 was_served M most settings shelf left begun ended is out before serves =

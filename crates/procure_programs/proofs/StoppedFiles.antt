@@ -1,4 +1,4 @@
--- An office that was served from files goes on from what a stop leaves of them.
+-- An office that was served from files continues from every state of them that a stop leaves.
 use Rattle.std.proofs.Common.{◌≡◌, ◌⊎◌, inl, inr, Bool, true, false, ℕ, ◌≤◌, List, [], ◌∷◌, length, sym, subst, arith, Result, Ok, Err, IfErr}
 use Rattle.std.proofs.Math.Logic.{∥∥₁_map}
 use Rattle.sqlite_disk.specs.declared.Disk.{Ghosts}
@@ -24,16 +24,16 @@ use Rattle.procure_programs.specs.Serving.{HalfClosesFiles, StopsFiles, WasServe
 use Rattle.procure_programs.proofs.OpenedFiles.{settings_stay, shows_files}
 use Rattle.procure_programs.proofs.ServingSteps.{left_by}
 
--- ---- what is left by steps
+-- ---- the states that steps leave
 
--- these tables are those of an office after so many of its steps, and stand as their commands left them
+-- These tables are those of an office after at most this many of its steps, and it is a reached office.
 record IsLeftWhole (h : Held) (most : ℕ) (u : Tables) : Type 0 where
   done : List Step
   few : length done ≤ most
   is : u ≡ (office_left office_answers h done).tables
   stands : IsReached h.settings.publisher u
 
--- one step leaves what was before it, or what is after it
+-- One step leaves a state from before it, or the state after it.
 left_or_whole : (accepted busy : Bool) (Before IsAfter : Type 0) → LeftAfter accepted busy Before IsAfter → Before ⊎ IsAfter
 left_or_whole false busy Before IsAfter left = inl left
 left_or_whole true false Before IsAfter left = inr left
@@ -45,7 +45,7 @@ whole_step x steps h u (is, stands) = record { done = record x { busy = false } 
 step_on : (x : Step) (steps : List Step) (h : Held) (u : Tables) → IsLeftWhole (office_answers.after x.busy h x.block) (length steps) u → IsLeftWhole h (length (x ∷ steps)) u
 step_on x steps h u it = record { done = x ∷ it.done; few = omega (arith, it.few); is = it.is; stands = it.stands }
 
--- what steps leave was left before them, or is whole
+-- A state that steps leave is from before them, or it is complete.
 left_whole : (steps : List Step) (h : Held) (Before : Tables → Type 0) (u : Tables) → LeftBySteps Before h steps u → Before u ⊎ IsLeftWhole h (length steps) u
 left_whole [] h Before u left = inl left
 left_whole (x ∷ steps) h Before u left = elim (left_whole steps (office_answers.after x.busy h x.block) (left_by Before h x) u left) [

@@ -76,14 +76,14 @@ module _ {S T R W : Type 0} (N : Hosting T R W) (M : Meaning S) (store : Standin
   for_serves (suc n) before after first new it =
       served_within M (n + 1) (suc n) first new (omega arith) (goes_serves n it.0 after first it.1 new (for_serves n before it.0 first it.1 it.2) it.3)
 
-  -- ---- one turn more
+  -- ---- one more turn
 
   pub one_more : (n : ℕ) (before host after : T) (first mid new : DeskOf S) → GoesOnFor N M store n before host first mid → IsOneTurn N M store host after mid new
       → GoesOnFor N M store (n + 1) before after first new
   one_more n before host after first mid new so_far last =
       let next : suc n ≡ n + 1 = omega arith in subst (λ (k : ℕ). GoesOnFor N M store k before after first new) next (host, mid, so_far, last)
 
-  -- a connection that couldn't be taken
+  -- A connection that couldn't be taken.
   pub none_taken : (before after : T) (old new : DeskOf S) (taken : Bool) → taken ≡ false → TakesOne N M before after old new (Ok taken)
       → IsOneTurn N M store before after old new
   none_taken before after old new false is it = inl it
@@ -95,7 +95,7 @@ module _ {S T R W : Type 0} (N : Hosting T R W) (M : Meaning S) (store : Standin
   asks before after old served new answer true is one asked settings = record { served = served; one = one; asked = asked; settings = settings }
   asks before after old served new answer false is one asked settings = absurd (cc is)
 
-  -- a fault of the next connection
+  -- A fault of the next connection.
   pub ends_by : (fault : ProgramFault) (before after : T) (old new : DeskOf S) → TakesOne N M before after old new (Err fault) → EndsBy N M store fault before after old new
   ends_by Input before after old new it = it
   ends_by Store before after old new it = absurd it
@@ -104,7 +104,7 @@ module _ {S T R W : Type 0} (N : Hosting T R W) (M : Meaning S) (store : Standin
   ends_by Output before after old new it = absurd it
   ends_by (Refused why) before after old new it = absurd it
 
-  -- ---- what follows
+  -- ---- the facts that follow
 
   pub turns_before : (count : ℕ) (before after : T) (old new : DeskOf S) (result : Result (Unit {0}) ProgramFault) → ServesInTurn N M store count before after old new result
       → M.honest new.shelf → M.honest old.shelf

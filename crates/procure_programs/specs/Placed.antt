@@ -1,4 +1,4 @@
--- What two files hold in which no office was made yet, and what is opened there.
+-- Two files that hold no office yet, and the office that is opened there.
 use Rattle.std.specs.Prelude.{◌≡◌, ◌⊎◌, length}
 use Rattle.sqlite_disk.specs.declared.Disk.{Ghosts}
 use Rattle.sqlite_wal.specs.Recovery.{Image}
@@ -10,14 +10,14 @@ use Rattle.sqlite.specs.State.{HasCleanDisk}
 use Rattle.office_base.specs.Tables.{no_tables}
 use Rattle.office_tables.specs.Steps.{ShowsTables}
 
--- a database that has no table
+-- A database that has no table.
 abbrev pub HoldNoTable : Image → Type 0
 HoldNoTable image = (db : Trees) × HoldsDatabase image db × IsEmpty db
 
--- that, or a file without a byte
+-- A database that has no table, or a file without a byte.
 abbrev pub HoldNothing : Image → Type 0
 HoldNothing image = (length image.db ≡ 0) ⊎ HoldNoTable image
 
--- where they hold nothing, there is an office with no content
+-- If the files hold nothing, the office that is opened there has no content.
 abbrev pub OpensEmpty : {D : Type 0} {g : Ghosts D} → Image → Held (FileStore D g) → Type 0
 OpensEmpty image now = HasCleanDisk (file_state now) → HoldNothing image → ShowsTables (file_state now) no_tables

@@ -1,4 +1,4 @@
--- What is left of an office after it was served over connections.
+-- The office that is left after it was served over connections.
 use Rattle.std.specs.Prelude.{◌≡◌, ◌⊎◌, ℕ, ◌+◌, ◌≤◌, List, [], length}
 use Rattle.sqlite_disk.specs.declared.Disk.{Ghosts}
 use Rattle.sqlite_disk.specs.declared.Files.{Files}
@@ -28,20 +28,20 @@ use Rattle.office_http.specs.Joined.{accepted_steps}
 use Rattle.office_http.specs.Stops.{StopsBy}
 use Rattle.procure_programs.specs.Placed.{HoldNothing, OpensEmpty}
 
--- the office after so many steps at most, and what a stop may leave of it by then
+-- The desk went through at most this many steps. Its office is the one after them, and a stop leaves only what they allow.
 abbrev pub TakesTurns : {S : Type 0} → Meaning S → ℕ → DeskOf S → DeskOf S → Type 0
 TakesTurns M most old new =
     M.honest new.shelf → (h : Held) → StandsAs M old h
     → (steps : List Step) × (length steps ≤ most) × StandsAs M new (office_left office_answers h steps) × StopsBy M old.shelf new.shelf h steps
 
--- so the office on a shelf was served under these settings, and this shelf is left
+-- The office in a store was served under these settings, and this store is left.
 abbrev pub WasServed : {S : Type 0} → Meaning S → ℕ → Settings → S → S → Type 0
 WasServed M most settings old new =
     (M.honest new → M.honest old)
     × ((now : Settings) × TakesTurns M most (record { shelf = old; settings = settings }) (record { shelf = new; settings = now }))
 
--- an office was opened in two files with these bytes and served under these settings, and this shelf is left: what they had was shown, and a stop could leave that
--- and nothing else
+-- An office was opened in two files with these bytes and served under these settings, and this store is left. After the opening, the store showed exactly what
+-- the files had, and a stop could leave only that.
 pub record ServesOpened {D : Type 0} {g : Ghosts D} (image : Image) (settings : Settings) (most : ℕ) (left : Connected (FileStore D g) × ℕ) : Type 0 where
   pub opened : Connected (FileStore D g) × ℕ
   pub held : OpensHeld image opened.0
@@ -50,84 +50,84 @@ pub record ServesOpened {D : Type 0} {g : Ghosts D} (image : Image) (settings : 
   pub alone : HasCleanDisk (file_state opened.0) → LeavesNoOther (file_state opened.0)
   pub served : WasServed (sql_meaning over_files) most settings opened left
 
--- so it is, and all accepted commands, these joined, are kept
+-- After at most this many steps, all accepted commands are kept, those of the steps included.
 abbrev pub TurnsKeepCommands : {S : Type 0} → Meaning S → ℕ → DeskOf S → DeskOf S → Type 0
 TurnsKeepCommands M most old new =
     M.honest new.shelf → (h : Held) → StandsAs M old h → (xs : List Given) → Reaches (publishing h.settings.publisher) xs h.tables
     → (steps : List Step) × (length steps ≤ most) × StandsAs M new (office_left office_answers h steps)
     × OfficeIsKept h.settings.publisher (accepted_steps h steps xs) (office_left office_answers h steps).tables
 
--- two files with these bytes have an office with this content: they hold it, or they hold nothing yet, and it is the empty one
+-- Two files with these bytes have an office with this content. Either they hold it, or they hold nothing yet and it is the empty office.
 abbrev pub HaveOffice : Image → Tables → Type 0
 HaveOffice image t = FilesHoldOffice image t ⊎ (HoldNothing image × (t ≡ no_tables))
 
--- an office stands in two files with these bytes, as its commands left it
+-- Two files with these bytes have this office, which is a reached one.
 abbrev pub StandsIn : Image → Held → Type 0
 StandsIn image h = IsSorted h.tables × HaveOffice image h.tables × IsReached h.settings.publisher h.tables
 
--- under these settings an office goes on from one pair of files to the other, by so many steps at most
+-- Under these settings the office continues from one pair of files to the other, by at most this many steps.
 abbrev pub FilesGoOn : Image → Settings → ℕ → Image → Type 0
 FilesGoOn first settings most last =
     (h : Held) → h.settings ≡ settings → StandsIn first h
     → (steps : List Step) × (length steps ≤ most) × StandsIn last (office_left office_answers h steps)
 
--- Under these settings an office goes on from one pair of files to another that a stop left, by so many steps at most, each of them whole.
+-- Under these settings the office continues from one pair of files to another that a stop left. It does so by at most this many steps, each of them complete.
 abbrev pub StopsIn : Image → Settings → ℕ → Image → Type 0
 StopsIn first settings most last =
     (h : Held) → h.settings ≡ settings → StandsIn first h
     → ∥ ((steps : List Step) × (length steps ≤ most) × StandsIn last (office_left office_answers h steps)) ∥₁
 
--- a day goes from one pair of files to the other: these were closed in the end, or a stop left them
+-- A day leads from one pair of files to the other, whether these were closed in the end or a stop left them.
 abbrev pub DayIn : Image → Settings → ℕ → Image → Type 0
 DayIn first settings most last = FilesGoOn first settings most last ⊎ StopsIn first settings most last
 
--- what is found of two files: what they read as, or what a stop leaves of them, with the log or without it
+-- These are the bytes that may be found in two files: their content, or a state that a stop may leave of them, with the log or without it.
 abbrev pub MayBeFound : {D : Type 0} → Ghosts D → Files D → Image → Type 0
 MayBeFound g files image =
     (now : Image) × ((now ≡ image_of g files) ⊎ outcomes g files.log files.db now) × ((image ≡ now) ⊎ (image ≡ record now { log = [] }))
 
--- The office in two files was served by so many steps at most, and these files were closed. Where the disk gave back what was written, the
--- office goes on in whatever is found of them, be it the database file alone.
+-- The office in two files was served by at most this many steps, and these files were closed. If the disk returned everything that was written, the office
+-- continues in every state that may be found of them, even in the database file alone.
 abbrev pub ServesFiles : {D : Type 0} → Ghosts D → Image → Settings → ℕ → Files D → Type 0
 ServesFiles g image settings most files =
     AreClean g files.log files.db → (now : Image) → MayBeFound g files now → FilesGoOn image settings most now
 
--- The office in two files was served by so many steps at most, and a stop came before they were closed. Where the disk gave back what was written, the office goes
--- on in whatever the stop leaves of these files: the log and the database file together.
+-- The office in two files was served by at most this many steps, and a stop came before they were closed. If the disk returned everything that was written, the
+-- office continues in every state that the stop may leave of the log and the database file together.
 abbrev pub StopsFiles : {D : Type 0} {g : Ghosts D} → Image → Settings → ℕ → FileStore D g → Type 0
 StopsFiles image settings most store = IsClean (view store) → (now : Image) → (state store).may_leave now → StopsIn image settings most now
 
--- these trees stand for an office, as its commands left it
+-- these trees are the rows of an office, as its commands left it
 abbrev pub StandsAt : Trees → Held → Type 0
 StandsAt trees h = IsSorted h.tables × StandForOffice h.tables trees × IsReached h.settings.publisher h.tables
 
--- The office in two files was served by so many steps at most. Then its closing failed, or a stop ended that. If the disk gave back what was written, the trees
--- that are recovered of this store are those of the office after so many steps, each of them whole.
+-- The office in two files was served by at most so many steps. Then its closing failed, or a stop ended the closing. If the disk returned what was written, the
+-- trees that SQLite may recover of this store are those of the office after so many whole steps.
 abbrev pub HalfClosesFiles : {D : Type 0} {g : Ghosts D} → Image → Settings → ℕ → FileStore D g → Type 0
 HalfClosesFiles image settings most store =
     IsClean (view store) → (trees : Trees) → recovers store trees
     → (h : Held) → h.settings ≡ settings → StandsIn image h
     → (steps : List Step) × (length steps ≤ most) × StandsAt trees (office_left office_answers h steps)
 
--- Where a day finds the files as another left them, both are one; and so it is of days that end by a stop, whichever of them do.
+-- If a day finds the files as another day left them, both together are one day. This is also true of days that end by a stop.
 pub record DaysFollow : Type 0 where
   pub closed : (settings : Settings) (first mid last : Image) (n m : ℕ) → FilesGoOn first settings n mid → FilesGoOn mid settings m last
       → FilesGoOn first settings (n + m) last
   pub stopped : (settings : Settings) (first mid last : Image) (n m : ℕ) → DayIn first settings n mid → DayIn mid settings m last
       → StopsIn first settings (n + m) last
 
--- the office that is held, under other settings
+-- The office under other settings.
 abbrev pub under_settings : Settings → Held → Held
 under_settings settings h = record h { settings = settings }
 
--- two days lead on to files in which it stands: so many steps at most, and under other settings so many more
+-- Two days lead to files that have this office after them: at most `n` steps, and then under other settings at most `m` steps.
 abbrev pub LedOn : Settings → ℕ → ℕ → Image → Held → Type 0
 LedOn after n m last h =
     (steps : List Step) × (later : List Step) × (length steps ≤ n) × (length later ≤ m)
     × StandsIn last (office_left office_answers (under_settings after (office_left office_answers h steps)) later)
 
--- Where a day finds the files as another left them, under the same publisher and perhaps another key of the clerk, the office goes on under that key from where
--- the earlier day left it: with its rows and its releases, whichever of the days end by a stop.
+-- If a day finds the files as another day left them, the office continues from there, with its rows and releases. The publisher must be the same, but the
+-- clerk's key may be another one. This is also true of days that end by a stop.
 pub record KeysFollow : Type 0 where
   pub closed : (before after : Settings) (first mid last : Image) (n m : ℕ) → after.publisher ≡ before.publisher
       → FilesGoOn first before n mid → FilesGoOn mid after m last

@@ -1,4 +1,4 @@
--- What a program shows of an office, and prints.
+-- The texts that a program shows of an office, and prints.
 use Rattle.std.specs.Prelude.{◌≡◌, ℕ, Bool, true, List, Option, Some, None, Result, Ok, Err, Vec}
 use Rattle.std.specs.Io.KnownBytes.{Appends}
 use Rattle.std.specs.declared.alloc.Global.{Global}
@@ -20,25 +20,25 @@ use Rattle.procure_programs.specs.declared.showing.Printout.{Printout}
 use Rattle.procure_programs.specs.declared.showing.Printout.TheVariants as printouts
 use Rattle.procure_programs.specs.declared.showing.Printout.TheVariants.{Seen}
 
--- what the public sees by a query, its refusal as the program's fault; there is no other fault
+-- The result is the text that the public sees by a query, or the query's refusal. There is no other fault.
 abbrev pub IsShown : Settings → Query → Tables → Result (Vec ℕ Global) ProgramFault → Type 0
 IsShown settings query s (Ok text) = IsSeen settings.publisher Public query s (Ok text.items)
 IsShown settings query s (Err (Refused why)) = IsSeen settings.publisher Public query s (Err why)
 IsShown settings query s (Err _) = ⊥
 
--- a fault of the office, which refuses: no other one
+-- The fault is a refusal of the office.
 abbrev pub IsOfOffice : ProgramFault → Type 0
 IsOfOffice (Refused why) = Unit {0}
 IsOfOffice _ = ⊥
 
--- a fault of printing: a refusal, or that of an output, which has failed then
+-- A fault of printing is a refusal, or `Output` if the output has failed.
 abbrev pub IsOfPrinting : Bool → ProgramFault → Type 0
 IsOfPrinting has_failed (Refused why) = Unit {0}
 IsOfPrinting has_failed fault.Output = has_failed ≡ true
 IsOfPrinting has_failed _ = ⊥
 
--- what the public sees by a query is printed, all of it, behind what the output held before; a front of it where the output failed; and nothing where it is
--- refused. There is no other fault.
+-- The text that the public sees by a query was added to the output as a whole. If the output failed, a beginning of it was added. If the query was refused,
+-- nothing was. There is no other fault.
 abbrev pub IsPrinted : Settings → Query → Tables → Option (List ℕ) → Option (List ℕ) → Result (Unit {0}) ProgramFault → Type 0
 IsPrinted settings query s before after (Ok done) = (text : List ℕ) × IsSeen settings.publisher Public query s (Ok text) × Appends before after text
 IsPrinted settings query s before after (Err fault.Output) =
@@ -46,12 +46,12 @@ IsPrinted settings query s before after (Err fault.Output) =
 IsPrinted settings query s before after (Err (Refused why)) = IsSeen settings.publisher Public query s (Err why) × (after ≡ before)
 IsPrinted settings query s before after (Err _) = ⊥
 
--- a paper of a notice that is named; NoRoute where the name can be no notice's
+-- The words ask for a text about a named notice. The result is `NoRoute` if the name isn't an identifier.
 abbrev pub AsksOfNotice : (List ℕ → Query) → List ℕ → Result (Option Printout) ProgramFault → Type 0
 AsksOfNotice query notice (Ok asked) = IsId notice × (asked ≡ Some (Seen (query notice)))
 AsksOfNotice query notice (Err told) = (¬ (IsId notice)) × (told ≡ no_route)
 
--- what the words ask to be printed; nothing by those that ask for something else
+-- The printout that the words ask for, or none if they ask for something else.
 abbrev pub AsksPrintout : Asked → Result (Option Printout) ProgramFault → Type 0
 AsksPrintout (Desk config) result = result ≡ Ok None
 AsksPrintout (Serve config store port count) result = result ≡ Ok None
@@ -61,7 +61,7 @@ AsksPrintout (Record config store notice) result = AsksOfNotice queries.Record n
 AsksPrintout (Notices config store) result = result ≡ Ok (Some printouts.Notices)
 AsksPrintout (Evaluation config store notice) result = AsksOfNotice queries.Evaluation notice result
 
--- a fault of settings: want of memory, a faulty member, or none that can be read
+-- A fault of the settings: memory is too small, a member is faulty, or the settings can't be read.
 abbrev pub IsOfSettings : ProgramFault → Type 0
 IsOfSettings (Refused why) = why ≡ Unavailable
 IsOfSettings (fault.Settings member) = Unit {0}

@@ -14,8 +14,8 @@ use Rattle.office_http.specs.Answering.{held_by, office_answers}
 use Rattle.procure_config.specs.declared.fault.ProgramFault.{ProgramFault}
 use Rattle.procure_programs.specs.FaultsTold.{IsToldOfRun}
 
--- it ran over them, and the run ended so, as is told; where it says that a read or a write failed, one did, or no more may be read; and where the bytes of the
--- input are known, it answered the blocks that they are
+-- An office ran over the blocks, and the result reports how the run ended. If it reports that a read or a write failed, then one failed, or no more reads are
+-- allowed. If the bytes of the input are known, the office answered exactly their blocks.
 pub record AnswersBlocks {S : Type 0} (M : Meaning S) (came rest : ReaderView) (before after : WriterView) (old new : DeskOf S) (result : Result (Unit {0}) ProgramFault) : Type 0 where
   pub ended : Result ℕ RunFault
   pub told : IsToldOfRun ended result

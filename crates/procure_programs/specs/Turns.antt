@@ -1,4 +1,4 @@
--- How an office in a store is served, one connection after another, until its store is shut.
+-- How an office in a store is served, one connection after another, until its store is closed for good.
 use Rattle.std.specs.Prelude.{◌≡◌, ◌⊎◌, ⊤, ℕ, zero, suc, ◌<◌, Bool, true, false, List, Option, Some, None, Result, Ok, Err, IsErrOf, IsTrue, OnOk}
 use Rattle.std.specs.Result.{result_unwrap_or}
 use Rattle.std.specs.declared.net.socket_addr.SocketAddrV4.{SocketAddrV4}
@@ -19,22 +19,22 @@ use Rattle.procure_config.specs.declared.fault.ProgramFault.{ProgramFault}
 use Rattle.procure_config.specs.declared.fault.ProgramFault.TheVariants.{Store, Input}
 use Rattle.procure_programs.specs.Hosts.{HostEvents, Hosting, IsLoopbackAt, clock_moment}
 
--- a connection ended so, by its reader, where there was memory for a buffer, and its writer as they are left: what was written is flushed; or the writer
--- failed; or the reader did, or no more may be read of it
+-- How a connection ended, by its reader, if there was memory for a buffer, and its writer. After Ok the output is flushed. After a fault the writer failed, or
+-- the reader failed or allows no more reads.
 pub record EndsConnection (ended : Result ⊤ RunFault) (read : Option ReaderView) (written : WriterView) : Type 0 where
   pub flushed : OnOk ended (written.is_flushed ≡ true)
   pub cut : IsErrOf ended ends.Write → written.has_failed ≡ true
   pub stopped : IsErrOf ended ends.Read → (reader : ReaderView) × (read ≡ Some reader) × HasStopped reader
 
--- Over a connection one request was answered at this moment: where the bytes that came are known, what was written is the one response to the request at
--- their front, or the one refusal of them; a front of it where the writer failed; and nothing where the reader failed. So the office is left.
+-- One request was answered over a connection at this moment. If the bytes that came are known, the output is the response to the request at their beginning, or
+-- the refusal of them. It is a beginning of this if the writer failed, and nothing if the reader failed. The desk then holds the office after it.
 abbrev pub AnswersConnection : {S : Type 0} → Meaning S → ℕ → Option (List ℕ) → Option (List ℕ) → Option (List ℕ) → DeskOf S → DeskOf S → Result ⊤ RunFault → Type 0
 AnswersConnection M moment came before after old new result =
     M.honest new.shelf → (input : List ℕ) → came ≡ Some input → (s : Tables) → M.holds old.shelf s → IsReached old.settings.publisher s
     → (now : Option (List ℕ)) × (h : Held) × Served office_answers result input now moment (held_by old s) h before after × StandsAs M new h
 
--- A connection was taken, behind that the clock was read, the request that came was answered at that moment, and the connection was closed. How it ended is a
--- value (`Ended`) that only serving one gives: `serve_connection`, clause `ended`, says when it can be a fault.
+-- A connection was taken, then the clock was read, the request was answered at this moment, and the connection was closed. Only serving a connection gives the
+-- value that says how it ended (`Ended`); `serve_connection`, clause `ended`, says when it can be a fault.
 pub record ServesConnection {S T R W : Type 0} (N : Hosting T R W) (M : Meaning S) (before after : T) (old new : DeskOf S) : Type 0 where
   pub reader : R
   pub writer : W
@@ -50,60 +50,61 @@ pub record ServesConnection {S T R W : Type 0} (N : Hosting T R W) (M : Meaning 
   pub honest : M.honest new.shelf → M.honest old.shelf
   pub closes : N.events.closes told left ended after
 
--- a connection was taken, and then the clock couldn't be read
+-- A connection was taken, and then the clock couldn't be read.
 abbrev pub FindsNoClock : {T R W : Type 0} → HostEvents T R W → T → T → Type 0
 FindsNoClock {T = T} {R = R} {W = W} E before after = (connection : R × W) × (taken : T) × E.takes before (Some connection) taken × E.tells taken None after
 
--- the next connection: it couldn't be taken, or it was served, or there was no clock to serve it by
+-- The next connection couldn't be taken, or it was served, or there was no clock to serve it by.
 abbrev pub TakesOne : {S T R W : Type 0} → Hosting T R W → Meaning S → T → T → DeskOf S → DeskOf S → Result Bool ProgramFault → Type 0
 TakesOne N M before after old new (Ok false) = N.events.takes before None after × (new ≡ old)
 TakesOne N M before after old new (Ok true) = ServesConnection N M before after old new
 TakesOne N M before after old new (Err Input) = FindsNoClock N.events before after × (new ≡ old)
 TakesOne N M before after old new (Err _) = ⊥
 
--- the answer is that the store is shut; where it couldn't be asked, nothing is known
+-- The answer is that the store is closed for good. If there was no answer, nothing is known.
 abbrev pub is_known_shut : Result Bool ShelfFault → Bool
 is_known_shut answer = result_unwrap_or answer false
 
--- one connection was served, and then it was asked whether the store is shut, with this answer
+-- One connection was served. Then the store was asked whether it is closed for good, and this is its answer.
 pub record ServesAndAsks {S T R W : Type 0} (N : Hosting T R W) (M : Meaning S) (store : Standing S) (before after : T) (old new : DeskOf S) (answer : Result Bool ShelfFault) : Type 0 where
   pub served : DeskOf S
   pub one : ServesConnection N M before after old served
   pub asked : TellsShut M store served.shelf new.shelf answer
   pub settings : new.settings ≡ served.settings
 
--- one connection: it couldn't be taken, or it was served and the store isn't known to be shut
+-- One connection couldn't be taken, or it was served and the store isn't known to be closed for good.
 abbrev pub IsOneTurn : {S T R W : Type 0} → Hosting T R W → Meaning S → Standing S → T → T → DeskOf S → DeskOf S → Type 0
 IsOneTurn N M store before after old new =
     (N.events.takes before None after × (new ≡ old))
     ⊎ ((answer : Result Bool ShelfFault) × ServesAndAsks N M store before after old new answer × (is_known_shut answer ≡ false))
 
--- so many connections, one after another
+-- This many connections, one after another.
 abbrev pub GoesOnFor : {S T R W : Type 0} → Hosting T R W → Meaning S → Standing S → ℕ → T → T → DeskOf S → DeskOf S → Type 0
 GoesOnFor N M store zero before after old new = (after ≡ before) × (new ≡ old)
 GoesOnFor {S = S} {T = T} N M store (suc n) before after old new =
     (host : T) × (mid : DeskOf S) × GoesOnFor N M store n before host old mid × IsOneTurn N M store host after mid new
 
--- what comes behind them where not all connections are taken: one more, behind which the store is shut; or one for which the clock can't be read
+-- The end of serving if not all connections are taken. Either one more connection is served and then the store is known to be closed for good, or one is taken
+-- for which the clock can't be read.
 abbrev pub EndsBy : {S T R W : Type 0} → Hosting T R W → Meaning S → Standing S → ProgramFault → T → T → DeskOf S → DeskOf S → Type 0
 EndsBy N M store Store before after old new =
     (answer : Result Bool ShelfFault) × ServesAndAsks N M store before after old new answer × IsTrue (is_known_shut answer)
 EndsBy N M store Input before after old new = FindsNoClock N.events before after × (new ≡ old)
 EndsBy N M store _ before after old new = ⊥
 
--- one connection, or what comes in its place
+-- One more connection, or the end of serving.
 abbrev pub TakesTurn : {S T R W : Type 0} → Hosting T R W → Meaning S → Standing S → T → T → DeskOf S → DeskOf S → Result (Unit {0}) ProgramFault → Type 0
 TakesTurn N M store before after old new (Ok done) = IsOneTurn N M store before after old new
 TakesTurn N M store before after old new (Err fault) = EndsBy N M store fault before after old new
 
--- all connections were taken, or fewer and one of these faults
+-- All connections were taken, or fewer and then the end with its fault.
 abbrev pub ServesInTurn : {S T R W : Type 0} → Hosting T R W → Meaning S → Standing S → ℕ → T → T → DeskOf S → DeskOf S → Result (Unit {0}) ProgramFault → Type 0
 ServesInTurn N M store count before after old new (Ok done) = GoesOnFor N M store count before after old new
 ServesInTurn {S = S} {T = T} N M store count before after old new (Err fault) =
     (n : ℕ) × (n < count) × (host : T) × (mid : DeskOf S) × GoesOnFor N M store n before host old mid × EndsBy N M store fault host after mid new
 
--- At 127.0.0.1 and this port an office was served: the port couldn't be had, which is Input, and nothing changed; or so many connections came there in
--- turn, or fewer and a fault.
+-- An office was served at 127.0.0.1 and this port. If the port isn't free, the result is `Input` and nothing changed. Otherwise this many connections were
+-- served in turn, or fewer with a fault.
 abbrev pub ServesAt : {S X T R W : Type 0} → (X → SocketAddrV4 → Option T → Type 0) → Hosting T R W → Meaning S → Standing S → X → ℕ → ℕ → DeskOf S → DeskOf S → Result (Unit {0}) ProgramFault → Type 0
 ServesAt {T = T} binds N M store network port count old new result =
     (address : SocketAddrV4) × IsLoopbackAt port address

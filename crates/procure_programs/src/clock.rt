@@ -1,4 +1,4 @@
-//! The moment that it is.
+//! The present moment.
 ghost use Rattle.std.specs.Prelude.{◌≡◌};
 ghost use Rattle.std.specs.Duration.{as_nanos};
 ghost use Rattle.procure_programs.specs.Hosts.{TellsMoment, clock_moment};
@@ -8,7 +8,7 @@ use office_values::moment::{LAST_MOMENT, Moment};
 use procure_config::fault::ProgramFault;
 use std::time::Duration;
 
-/// The moment so long after 1970-01-01T00:00:00Z, parts of a second left out; the last one where it would be later.
+/// The moment this long after 1970-01-01T00:00:00Z, without parts of a second. It is the last moment there is if it would be later.
 pub fn moment_after(time: Duration) -> Moment
     ensures { result ≡ clock_moment (as_nanos time) }
 {
@@ -19,7 +19,7 @@ pub fn moment_after(time: Duration) -> Moment
     }
 }
 
-/// The moment by a host's clock. `Input` where it can't be read; a clock that is set before 1970 is one that can't.
+/// The moment by a host's clock. `Input` if the clock can't be read or is set before 1970.
 pub fn moment_now<T: Host>(host: &mut T) -> Result<Moment, ProgramFault>
     ensures { TellsMoment T.events host.old host.new result }
 {

@@ -1,4 +1,4 @@
-//! One connection, whatever its bytes come from and go to.
+//! One connection, over any reader and writer.
 ghost use Rattle.std.specs.Prelude.{◌≡◌, true, IfErr, OnErr, OnOk};
 ghost use Rattle.std.specs.Io.KnownBytes.{Appends};
 ghost use Rattle.office_wire.specs.Sending.{AppendsPart};
@@ -19,7 +19,7 @@ use std::alloc::Global;
 use std::io::{BufReader, Read, Write};
 use std::marker::Model;
 
-/// How serving a connection ended. Only serving one gives it.
+/// How serving a connection ended. Only serving one gives this value.
 #[derive(Drop)]
 pub struct Ended {
     result: Result<(), RunFault>,
@@ -35,7 +35,7 @@ impl Model for Ended {
 }
 
 impl Ended {
-    /// The fault that it ended by, where it did.
+    /// The fault by which it ended, if any.
     pub fn result(&self) -> Result<(), RunFault>
         ensures { result ≡ self.now }
     {
@@ -43,7 +43,7 @@ impl Ended {
     }
 }
 
-// Sends and flushes the response where there is no memory to read.
+// Sends and flushes the response if there is no memory to read the request.
 fn refuse<W: Write>(writer: &mut WatchedWriter<W>) -> Result<(), RunFault>
     ensures told { OnOk result (Appends writer.old.contents writer.new.contents (fault_text Unavailable)) }
     ensures part { OnErr result (AppendsPart writer.old.contents writer.new.contents (fault_text Unavailable)) }
@@ -55,9 +55,8 @@ fn refuse<W: Write>(writer: &mut WatchedWriter<W>) -> Result<(), RunFault>
     Ok(())
 }
 
-/// Serves one connection: reads a request, and sends and flushes the response to it, at this moment. A fault of the reader or the writer ends the
-/// connection and nothing else. Where there is no memory for the reader's buffer, the response is `Unavailable`, and nothing is read. Gives the reader back,
-/// none where there was no memory for its buffer.
+/// Serves one connection: reads a request, and sends and flushes the response to it, at this moment. A fault of the reader or the writer ends only this
+/// connection. If there is no memory for the reader's buffer, the response is `Unavailable`, nothing is read, and no reader is returned.
 #[tactic(auto, using(crate::proofs::ServingSteps::once_none))]
 pub fn serve_connection<H: Shelf + Drop, R: Read + Drop, W: Write>(
     alloc: Global,

@@ -14,7 +14,7 @@ use procure_config::fault::ProgramFault;
 use std::alloc::Global;
 use std::io::{BufRead, BufReader, BufWriter, Write};
 
-/// Answers the blocks of an input on an output. `Output` where the output failed, `Input` where the input did or isn't blocks.
+/// Answers the blocks of an input on an output. `Output` if the output failed, and `Input` if the input failed or isn't blocks.
 pub fn answer_streams<H: Shelf + Drop, R: BufRead, W: Write>(
     alloc: Global,
     office: &mut Office<H>,
@@ -31,7 +31,7 @@ pub fn answer_streams<H: Shelf + Drop, R: BufRead, W: Write>(
     }
 }
 
-// A buffer round a stream is refused for want of memory alone.
+// The only fault of making a buffer for a stream is too little memory.
 fn answer_input(rt: &HostRuntime, office: &mut Office<MemoryShelf>) -> Result<(), ProgramFault> {
     let alloc = rt.alloc();
     let Ok(buffered_input) = BufReader::new(alloc, rt.stdin()) else {

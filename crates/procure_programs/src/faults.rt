@@ -1,4 +1,4 @@
-//! Which fault of a program the fault of what it stands on is.
+//! The fault that a program reports for a fault of a run, an opening, a store or a file.
 ghost use Rattle.std.specs.Prelude.{◌≡◌, ◌≢◌, None};
 ghost use Rattle.std.specs.IoError.{error_kind};
 ghost use Rattle.procure_config.specs.Faults.{no_memory};
@@ -13,7 +13,7 @@ use office_wire::fault::RunFault;
 use procure_config::fault::ProgramFault;
 use std::io::{Error, ErrorKind};
 
-/// Want of memory outside a request.
+/// Memory is too small, outside of a request.
 pub fn no_memory() -> ProgramFault
     ensures { result ≡ no_memory }
 {
@@ -40,7 +40,7 @@ pub fn of_opening(fault: OpenFault) -> ProgramFault
     }
 }
 
-/// The fault of a shelf.
+/// The fault of a store.
 pub fn of_shelf(fault: ShelfFault) -> ProgramFault
     ensures { result ≡ of_shelf fault }
 {
@@ -62,7 +62,7 @@ pub fn of_unread_settings(error: Error) -> ProgramFault
     }
 }
 
-/// The fault of a file of an office that can't be made.
+/// The fault of an office's file that can't be made.
 pub fn of_unplaced_file(error: Error) -> ProgramFault
     ensures memory { error_kind error ≡ ErrorKind.OutOfMemory → result ≡ no_memory }
     ensures other { error_kind error ≢ ErrorKind.OutOfMemory → result ≡ ProgramFault.Store }

@@ -1,5 +1,5 @@
-//! The computer that an office is served on: connections, one after another, and a clock. What it does stands in contracts, so that they say which
-//! connection is served, and when; of sockets and of the computer's clock themselves no contract can say anything.
+//! The computer that serves an office: connections, one after another, and a clock. Contracts describe its events, so that they can say which connection is
+//! served, and when. No contract can say anything of the sockets and of the computer's clock themselves.
 ghost use Rattle.std.specs.Prelude.{Option, option_map};
 ghost use Rattle.std.specs.Duration.{as_nanos};
 ghost use Rattle.std.specs.declared.net.socket_addr.SocketAddrV4.{SocketAddrV4 as Address};
@@ -11,36 +11,36 @@ use std::io::{Read, Write};
 use std::net::{Ipv4Addr, Net, OpenListener, OpenStream, SocketAddr, SocketAddrV4};
 use std::time::{Clock, Duration, SystemTime, UNIX_EPOCH};
 
-/// What serves connections: it takes them one after another, tells the time, and closes them.
+/// A host takes connections one after another, reads the clock, and closes connections.
 pub trait Host {
-    /// What a connection's bytes are read from.
+    /// The source of a connection's bytes.
     type Reader: Read + Drop;
 
-    /// What its response is written to.
+    /// The destination of its response.
     type Writer: Write + Drop;
 
     ghost events: { HostEvents Self Self.Reader Self.Writer };
 
-    /// Waits for the next connection, and takes it; none where a socket failed.
+    /// Waits for the next connection, and takes it. None if a socket failed.
     fn accept(&mut self) -> Option<(Self::Reader, Self::Writer)>
         ensures { events.takes self.old result self.new };
 
-    /// The time since 1970-01-01T00:00:00Z; none where the clock can't be read.
+    /// The time since 1970-01-01T00:00:00Z, or none if the clock can't be read.
     fn time(&mut self) -> Option<Duration>
         ensures { events.tells self.old (option_map as_nanos result) self.new };
 
-    /// Closes a connection, which has ended so.
+    /// Closes a connection that ended in this way.
     fn close(&mut self, writer: Self::Writer, ended: Ended)
         ensures { events.closes self.old writer ended self.new };
 }
 
-/// Where hosts are had.
+/// The place that opens hosts.
 pub trait Network {
     type Opened: Host + Drop;
 
     ghost binds: { Self → Address → Option Self.Opened → Type 0 };
 
-    /// What takes the connections to this address; none where it can't be had, as where another program has it.
+    /// The host that takes the connections to this address. None if the address isn't free, for example because another program has it.
     fn bind(&self, address: SocketAddrV4) -> Option<Self::Opened>
         ensures { binds self.now address result };
 }
@@ -52,7 +52,7 @@ pub fn loopback(port: u16) -> SocketAddrV4
     SocketAddrV4::new(Ipv4Addr::new(127, 0, 0, 1), port)
 }
 
-/// How many seconds a read or a write of a socket may wait.
+/// The most seconds that a read or a write of a socket may wait.
 pub const PATIENCE: u64 = 10;
 
 // A read or a write that waits longer fails.
@@ -125,6 +125,6 @@ impl<'a, N: Net + Clock> Host for ListeningHost<'a, N> {
         }
     }
 
-    // Its second handle is let go here.
+    // This drops the connection's second handle.
     fn close(&mut self, _writer: N::Stream, _ended: Ended) {}
 }

@@ -1,4 +1,4 @@
-//! The work that the words ask for.
+//! The work for which the words ask.
 ghost use Rattle.procure_config.specs.Jobs.{asked_by_job};
 ghost use Rattle.procure_programs.specs.Showing.{AsksPrintout};
 
@@ -11,7 +11,7 @@ use procure_config::fault::ProgramFault;
 use procure_config::job::Job;
 use procure_config::notice::notice_named;
 
-/// What a job prints of an office; none of a job that prints nothing of one. `Refused(NoRoute)` where it names a notice that can be none.
+/// The printout that a job asks for, or none if it prints nothing of an office. `Refused(NoRoute)` if it names a notice by a text that isn't an identifier.
 pub fn printout_of(job: &Job<'_>) -> Result<Option<Printout>, ProgramFault>
     ensures { AsksPrintout (asked_by_job job.now) result }
 {
@@ -34,7 +34,7 @@ pub fn printout_of(job: &Job<'_>) -> Result<Option<Printout>, ProgramFault>
     }
 }
 
-// Prints what a job asks of the office in a file.
+// Prints the text that a job asks for, of the office in a file.
 fn print_job(
     rt: &HostRuntime,
     job: &Job<'_>,
@@ -48,7 +48,8 @@ fn print_job(
     }
 }
 
-/// Does what the words ask for. Faults are looked for in this order: the settings, a notice that is no identifier, the office's file, and then the work.
+/// Does the work for which the words ask. The first fault counts: of the settings, then of a notice whose name isn't an identifier, then of the office's file,
+/// then of the work.
 pub fn run_job(rt: &HostRuntime, job: &Job<'_>) -> Result<(), ProgramFault> {
     match *job {
         Job::Desk { config } => run_desk(rt, config),

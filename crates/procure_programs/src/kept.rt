@@ -1,4 +1,4 @@
-//! What the programs do with an office that is kept, whatever keeps it.
+//! The work of the programs with an office that is stored, in any kind of store.
 ghost use Rattle.std.specs.Prelude.{IfErr, IfOk};
 ghost use Rattle.office_base.specs.Shelves.{Keeps};
 ghost use Rattle.procure_programs.specs.FaultsTold.{IsOfStore};
@@ -17,8 +17,8 @@ use office_values::settings::Settings;
 use office_wire::watched::WatchedWriter;
 use procure_config::fault::ProgramFault;
 
-/// Serves so many connections on 127.0.0.1 and this port, from an office on this shelf. Gives the shelf back, and what serving came to.
-/// Only for want of memory it doesn't begin; the shelf is let go then, and its store isn't closed, which loses nothing.
+/// Serves this many connections to 127.0.0.1 and this port, from an office in this store. Returns the store and the result of serving. Too little memory is the
+/// only reason not to begin; then the store is dropped without being closed, which loses nothing.
 #[tactic(auto, using(crate::proofs::FaultSteps::memory_is))]
 pub(crate) fn serve_office<H: StoredShelf + Drop>(
     rt: &HostRuntime,
@@ -38,7 +38,7 @@ pub(crate) fn serve_office<H: StoredShelf + Drop>(
     Ok((office.into_desk().into_shelf(), served))
 }
 
-/// Prints what the public sees of an office on this shelf. Gives the shelf back, where nothing changes, and what printing came to.
+/// Prints the text that the public sees of an office in this store. Returns the store, in which nothing changed, and the result of printing.
 pub(crate) fn print_office<H: Shelf + Drop>(
     rt: &HostRuntime,
     settings: Settings,

@@ -1,4 +1,4 @@
-//! What the programs do: they answer the standard input, serve an office that is kept over connections, and show what the public may see of it.
+//! The work of the programs. They answer the standard input, serve a stored office over connections, and print the texts that the public may see of it.
 #![tactic(auto)]
 
 pub mod blank;

@@ -18,7 +18,7 @@ use std::alloc::Global;
 use std::io::Write;
 use tender_papers::listing::listing_text;
 
-// Writes a page of the notices behind this one, or of all, and answers the last of them, where one more follows.
+// Writes a page of the notices after this one, or the first page. Returns the last notice of the page if more follow.
 fn write_page<H: Lookups, W: Write>(
     alloc: Global,
     shelf: &mut H,
@@ -39,8 +39,8 @@ fn write_page<H: Lookups, W: Write>(
     }
 }
 
-/// Writes a line for each notice, in the order of their identifiers, as `procure notices` prints them: page by page, so that no more than a page
-/// of them is held. `Output` where the writer fails, and else a refusal as `show` has it; some lines may be written then. Nothing changes, and nothing is
+/// Writes a line for each notice, in the order of their identifiers, as `procure notices` prints them. It goes page by page, so it never holds more than one
+/// page. `Output` if the writer fails; any other fault is a refusal as in `show`. After a fault some lines may be written. Nothing changes, and nothing is
 /// flushed.
 pub fn list_notices<H: Lookups, W: Write>(
     alloc: Global,

@@ -1,7 +1,7 @@
-//! Puts an empty database at a path that nothing has yet: its pages are smaller than those that the ported `sqlite` gives a new file.
+//! Puts an empty database at a path that nothing has yet. Its pages are smaller than those that the ported `sqlite` gives a new file.
 //!
-//! A file is put in one way only: by `hard_link`, which fails if its name is taken. So no file that exists is replaced or written to, whatever it holds. No
-//! contract can name what a file holds; this holds by how the module is built, and `tests/pages` tries it.
+//! The only way in which a file gets there is `hard_link`, which fails if its name is taken. So no existing file is replaced or written to, whatever it holds.
+//! No contract can name the content of a file. This holds because of the way the module is built, and `tests/pages` tries it.
 
 ghost use Rattle.std.specs.Prelude.{IfErr};
 ghost use Rattle.procure_programs.specs.FaultsTold.{IsOfStore};
@@ -15,9 +15,9 @@ use std::os::unix::fs::{FileExt, MetadataExt, OpenOptionsExt};
 use std::path::PathBuf;
 use std::string::String;
 
-/// Puts an empty database at the path if nothing has its name. It is written and synced under a second name, `PATH-procure-new`, then linked to the path, and
-/// the second name is removed. A file that exists is left to the store, an empty one too. So is a path beside which a log or a journal holds something: their
-/// pages are not those of the new file.
+/// Puts an empty database at the path if nothing has its name. The file is written and synced under a second name, `PATH-procure-new`, and linked to the path.
+/// Then the second name is removed. The store handles any file that exists, even an empty one. It also handles a path with a log or a journal that isn't empty,
+/// because their pages don't fit the new file.
 pub fn place_empty(rt: &HostRuntime, path: &str) -> Result<(), ProgramFault>
     ensures fault { IfErr result IsOfStore }
 {
@@ -47,7 +47,7 @@ fn second_name(rt: &HostRuntime, path: &str) -> io::Result<String> {
     Ok(format!(in rt.alloc(); "{path}-procure-new")?)
 }
 
-// A start that was stopped may have left the file its second name; the store refuses a file with two names. A file of its own under that name stays.
+// A stopped start may have left the file its second name, and the store rejects a file with two names. Another file that has this second name stays.
 fn leave_one_name(rt: &HostRuntime, real: &str) -> io::Result<()> {
     let beside = second_name(rt, real)?;
     let file = fs::metadata(rt, real)?;
@@ -60,7 +60,7 @@ fn leave_one_name(rt: &HostRuntime, real: &str) -> io::Result<()> {
     Ok(())
 }
 
-// Whether a log or a journal that isn't empty lies beside the file.
+// Whether there is a log or a journal beside the file that isn't empty.
 fn has_other(rt: &HostRuntime, path: &str) -> io::Result<bool> {
     let log = format!(in rt.alloc(); "{path}-wal")?;
     if has_bytes(rt, log.as_str())? {
@@ -78,7 +78,7 @@ fn has_bytes(rt: &HostRuntime, path: &str) -> io::Result<bool> {
     }
 }
 
-// While one start writes and links its file, another one in the same folder waits: else it could link a file that isn't written yet.
+// While one start writes and links its file, another start in the same folder waits. Otherwise it could link a file that isn't written yet.
 fn put_new(rt: &HostRuntime, path: &str) -> io::Result<()> {
     let folder = folder_of(rt, path)?;
     folder.lock()?;
@@ -108,7 +108,7 @@ fn remove_left(rt: &HostRuntime, beside: &str) -> io::Result<()> {
     }
 }
 
-// A file of this name was left by a start that was stopped.
+// A stopped start may have left a file of this name.
 fn write_beside(rt: &HostRuntime, beside: &str) -> io::Result<()> {
     remove_left(rt, beside)?;
     let new = OpenOptions::new()
@@ -120,7 +120,7 @@ fn write_beside(rt: &HostRuntime, beside: &str) -> io::Result<()> {
     new.sync_all()
 }
 
-// If the name is taken by now, or the file system has no hard links, nothing is put, and the store opens or makes the file.
+// If the name is taken by now, or the file system has no hard links, this puts nothing, and the store opens or makes the file.
 fn link_new(rt: &HostRuntime, beside: &str, path: &str) -> io::Result<()> {
     match fs::hard_link(rt, beside, path) {
         Err(error) => match error.kind() {

@@ -1,4 +1,4 @@
-//! What a program prints.
+//! The texts that a program prints.
 ghost use Rattle.std.specs.Prelude.{◌≡◌, true, IfErr, IfOk, OnErr, OnOk};
 ghost use Rattle.std.specs.Io.KnownBytes.{Appends};
 ghost use Rattle.office_base.specs.Shelves.{Looks};
@@ -17,7 +17,7 @@ use procure_config::fault::ProgramFault;
 use std::alloc::Global;
 use std::io::Write;
 
-/// Writes a text, all of it, and hands it on. `Output` where the writer fails or takes no more: a front of it was written then, or all.
+/// Writes a whole text and flushes it. `Output` if the writer fails or accepts no more; then a beginning of the text was written, or all of it.
 pub fn print_text<W: Write>(output: &mut WatchedWriter<W>, text: &[u8]) -> Result<(), ProgramFault>
     ensures whole { OnOk result (Appends output.old.contents output.new.contents text.now) }
     ensures flushed { OnOk result (output.new.is_flushed ≡ true) }
@@ -31,8 +31,8 @@ pub fn print_text<W: Write>(output: &mut WatchedWriter<W>, text: &[u8]) -> Resul
     }
 }
 
-/// Prints what the public sees at a desk by a query: what the programs `ledger`, `minutes`, `record` and `evaluation` do. A refusal is `Refused`, and then
-/// nothing is printed; `Output` as of `print_text`. Nothing changes.
+/// Prints the text that the public sees at a desk by a query, as the programs `ledger`, `minutes`, `record` and `evaluation` do. After a refusal (`Refused`),
+/// nothing is printed. `Output` means that the writer failed, as in `print_text`. Nothing changes.
 pub fn print<H: Shelf + Drop, W: Write>(
     desk: &mut Desk<H>,
     query: Query,
@@ -49,8 +49,8 @@ pub fn print<H: Shelf + Drop, W: Write>(
     }
 }
 
-/// Prints a line for each notice of an office, and hands them on: what the program `notices` does. `Output` where the writer fails, and else a refusal as
-/// `show` has it; some lines may be written then. Nothing changes.
+/// Prints a line for each notice of an office and flushes them, as the program `notices` does. `Output` if the writer fails; any other fault is a refusal as in
+/// `show`. After a fault some lines may be written. Nothing changes.
 pub fn print_notices<H: Lookups, W: Write>(
     alloc: Global,
     shelf: &mut H,

@@ -1,4 +1,4 @@
-//! How much of an office's file is kept at hand: so many bytes, whatever size its pages have.
+//! The memory for an office's file: a fixed number of bytes, whatever size its pages have.
 ghost use Rattle.std.specs.Prelude.{◌≡◌, ◌≤◌, ◌/◌, IfOk};
 ghost use Rattle.procure_programs.specs.PageSize.{page_size_in};
 
@@ -6,18 +6,18 @@ use office_store::path::Room;
 use std::fs;
 use std::io::{self, Read};
 
-/// The bytes of the file's pages that stay in memory: 8 MiB. They are taken as the file is opened. A page that isn't there costs a read and a digest,
-/// which with small pages is little beside a request.
+/// The bytes of the file's pages that stay in memory: 8 MiB. They are taken when the file is opened. A page that isn't in memory costs a read and a digest,
+/// which is little compared with a request if pages are small.
 pub const MEMORY: usize = 8_388_608;
 
-/// The bytes of pages by which the log grows before they are copied into the file: 4 MiB. Each copy writes a page once, however often it stands in the log.
+/// The bytes of pages by which the log grows before they are copied into the file: 4 MiB. Each copy writes a page once, however often the log has it.
 pub const LOG: usize = 4_194_304;
 
 /// The page size of a file that doesn't name one.
 pub const USUAL_PAGE: usize = 4096;
 
-/// The size of a file's pages, by its first bytes: two of them name it, the high one first, and 1 stands for 65,536. Where they name none that SQLite
-/// has, or the file ends before, it is the usual one.
+/// The size of a file's pages, by its first bytes. Two of them name it, the high one first, and 1 means 65,536. It is the usual size if they don't name a page
+/// size of SQLite, or if the file ends before them.
 pub fn page_size_in(head: &[u8]) -> usize
     ensures value { result ≡ page_size_in head.now }
     ensures low { 512 ≤ result }
@@ -32,7 +32,7 @@ pub fn page_size_in(head: &[u8]) -> usize
     }
 }
 
-/// How many pages and how many frames of the log these bytes make.
+/// The number of pages and the number of frames of the log that fit into these bytes.
 pub fn room_for(page_size: usize) -> Room
     requires { 512 ≤ page_size }
     ensures pages { result.pages ≡ MEMORY / page_size }
@@ -44,7 +44,7 @@ pub fn room_for(page_size: usize) -> Room
     }
 }
 
-// The file's first bytes, as many as there are, up to 18. Only a file is read: a pipe would wait for who writes.
+// The file's first bytes, at most 18. Only a file is read, because a read from a pipe would wait for its writer.
 fn read_head(rt: &HostRuntime, path: &str, head: &mut [u8; 18]) -> io::Result<usize>
     ensures { IfOk result (λ read. read ≤ 18) }
 {
@@ -54,7 +54,7 @@ fn read_head(rt: &HostRuntime, path: &str, head: &mut [u8; 18]) -> io::Result<us
     fs::open(rt, path)?.read(head)
 }
 
-/// The page size of the file at a path: the usual one where none can be read.
+/// The page size of the file at a path, or the usual one if it can't be read.
 pub fn page_size_at(rt: &HostRuntime, path: &str) -> usize
     ensures { 512 ≤ result }
 {

@@ -16,8 +16,8 @@ use procure_config::fault::ProgramFault;
 use std::alloc::Global;
 use std::io::{Read, Write};
 
-/// Serves the next connection, at the moment by the clock when it was taken, and closes it. Answers whether it was taken: not where a socket failed. `Input`
-/// where the clock can't be read; nothing is served then.
+/// Serves the next connection, at the moment that the clock shows after it was taken, and closes it. Returns whether a connection was taken; none is if a
+/// socket failed. `Input` if the clock can't be read; then nothing is served.
 pub fn take_one<T: Host, H: Shelf + Drop>(
     alloc: Global,
     host: &mut T,
@@ -35,7 +35,7 @@ pub fn take_one<T: Host, H: Shelf + Drop>(
     Ok(true)
 }
 
-// Serves the next connection, and asks behind it whether the store is shut. Where there is no memory to ask, that is asked behind the next.
+// Serves the next connection, and then asks whether the store is closed for good. If there is no memory to ask, it asks after the next connection.
 fn take_turn<T: Host, H: StoredShelf + Drop>(
     alloc: Global,
     host: &mut T,
@@ -53,7 +53,7 @@ fn take_turn<T: Host, H: StoredShelf + Drop>(
     Ok(())
 }
 
-// Serves so many connections.
+// Serves this many connections.
 fn take_turns<T: Host, H: StoredShelf + Drop>(
     alloc: Global,
     host: &mut T,
@@ -68,9 +68,9 @@ fn take_turns<T: Host, H: StoredShelf + Drop>(
     Ok(())
 }
 
-/// Serves so many connections, each at the moment by the clock when it was taken. A connection that can't be taken counts as one that
-/// has ended. `Store` behind the first connection after which the store is known to be shut for good: no other is taken. `Input` where the
-/// clock can't be read.
+/// Serves this many connections, each at the moment that the clock shows after it was taken. A connection that can't be taken counts as one that has ended.
+/// `Store` after the first connection after which the store is known to be closed for good; then no other connection is taken. `Input` if the clock can't be
+/// read.
 pub fn serve<T: Host, H: StoredShelf + Drop>(
     alloc: Global,
     host: &mut T,
@@ -87,7 +87,7 @@ pub fn serve<T: Host, H: StoredShelf + Drop>(
     take_turns(alloc, host, office, count)
 }
 
-/// Serves so many connections to 127.0.0.1 and this port, as `serve` does. `Input` also where the port can't be had; nothing is served then.
+/// Serves this many connections to 127.0.0.1 and this port, as `serve` does. `Input` also if the port isn't free; then nothing is served.
 #[tactic(auto, using(crate::proofs::ServingSteps::served_none))]
 pub fn serve_at<N: Network, H: StoredShelf + Drop>(
     alloc: Global,

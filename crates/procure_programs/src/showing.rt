@@ -1,4 +1,4 @@
-//! What the public sees of an office.
+//! The texts that the public sees of an office.
 ghost use Rattle.std.specs.Prelude.{◌≡◌, Err, IfErr, false};
 ghost use Rattle.office_commands.specs.Queries as queries;
 ghost use Rattle.office_commands.specs.Rights.{may_look};
@@ -14,16 +14,16 @@ use office_commands::queries::Query;
 use office_desk::desk::Desk;
 use procure_config::fault::ProgramFault;
 
-/// What a program prints of an office.
+/// The text that a program prints of an office.
 #[derive(Clone, Copy)]
 pub enum Printout {
-    /// What the public sees by a query.
+    /// The text that the public sees by a query.
     Seen(Query),
     /// A line for each notice.
     Notices,
 }
 
-/// What the public sees by a query: what the programs `ledger`, `minutes`, `record` and `evaluation` print. A refusal is `Refused`. Nothing changes.
+/// The text that the public sees by a query; the programs `ledger`, `minutes`, `record` and `evaluation` print it. A refusal is `Refused`. Nothing changes.
 pub fn show<H: Shelf + Drop>(desk: &mut Desk<H>, query: Query) -> Result<Vec<u8>, ProgramFault>
     ensures looks { Looks H.meaning desk.old.shelf desk.new.shelf (λ s. IsShown desk.old.settings query s result) }
     ensures settings { desk.new.settings ≡ desk.old.settings }

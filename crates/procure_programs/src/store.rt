@@ -1,4 +1,4 @@
-//! The programs over an office in a file. Each closes it in the end, so that the file alone is the office.
+//! The programs over an office in a file. Each of them closes the file in the end, so that the file alone is the office.
 ghost use Rattle.std.specs.Prelude.{IfErr, IfOk, IfSome};
 ghost use Rattle.sqlite_wal.specs.Files.{image_at};
 ghost use Rattle.sqlite_wal.specs.Reads.{AreClean};
@@ -25,7 +25,7 @@ use procure_config::fault::ProgramFault;
 use sqlite::{Alter, FileFrom, FileStore, Files, Start, Unknown};
 use sqlite_disk::Disk;
 
-// The office in a file, or a new one where nothing of an office stands there: in a new file, whose pages are small, where there is none.
+// Opens the office in a file, or makes a new one if the file holds nothing. If there is no file, the new file has small pages.
 #[tactic(auto, using(crate::proofs::FaultSteps::opening_is))]
 fn open_office<S: Start>(
     rt: &HostRuntime,
@@ -46,8 +46,7 @@ fn open_office<S: Start>(
     }
 }
 
-// Closes the store, and gives its files back with the result of the work. If it can't be closed, the store comes back with the fault of the work, or, if
-// there was none, with that of the closing.
+// Closes the store, and returns its files with the result of the work. If it can't be closed, it returns the store, and a fault of the work is reported first.
 fn close_office<D: Disk + Drop>(
     shelf: SqlShelf<FileStore<D>>,
     worked: Result<(), ProgramFault>,
@@ -64,14 +63,14 @@ fn close_office<D: Disk + Drop>(
     }
 }
 
-// Lets go of what is left of an office that couldn't be closed.
+// Drops the store of an office that couldn't be closed.
 fn let_go<D: Disk + Drop>(store: Option<FileStore<D>>) {
     if let Some(store) = store {
         drop(store.close());
     }
 }
 
-// Generic in the store, and not in the disk below it: so what stands over any shelf is not compared again at a store over files.
+// Generic in the store, not in the disk below it. So the prover doesn't compare the facts about any store again for a store over files.
 fn serve_shelf<A: Alter + Drop>(
     rt: &HostRuntime,
     settings: Settings,
@@ -85,7 +84,7 @@ fn serve_shelf<A: Alter + Drop>(
     serve_office(rt, settings, shelf, port, count)
 }
 
-// Generic in the store as `serve_shelf` is, and for the same reason.
+// Generic in the store, not in the disk below it, as `serve_shelf` is.
 fn print_shelf<A: Alter + Drop>(
     rt: &HostRuntime,
     settings: Settings,
@@ -97,7 +96,7 @@ fn print_shelf<A: Alter + Drop>(
     print_office(rt, settings, shelf, printout)
 }
 
-// Opens the office in a file and serves so many connections from it.
+// Opens the office in a file and serves this many connections from it.
 fn serve_open<S: Start>(
     rt: &HostRuntime,
     settings: Settings,
@@ -113,8 +112,8 @@ fn serve_open<S: Start>(
     serve_shelf(rt, settings, opened.shelf, port, count)
 }
 
-/// What a stop leaves of `serve_from`, be it between two connections or, where the disk takes nothing from some call on, at any write of a
-/// command: it goes as far as that, and its files aren't closed. From whatever then stands in them the next day goes on.
+/// The state that a stop of `serve_from` leaves. The stop comes between two connections, or at any write of a command if the disk accepts nothing from some
+/// call on. This function goes as far as that and doesn't close the files. The next day continues from any content that they then have.
 pub fn stop_from<S: Start>(
     rt: &HostRuntime,
     settings: Settings,
@@ -130,9 +129,9 @@ pub fn stop_from<S: Start>(
     Ok((shelf.put_down(), served))
 }
 
-/// Serves so many connections from the office in a file, whatever its two files held: `S` stands for that. Gives the files back, which are
-/// closed, and the result of serving. A fault comes alone if the office wasn't opened, and with its store if it couldn't be closed, as when the program is
-/// stopped there. What a stop leaves before that is told of `stop_from`.
+/// Serves this many connections from the office in a file. The type `S` says what its two files held, which may be anything. Returns the files, which are
+/// closed, and the result of serving. If the office couldn't be closed, as when the program is stopped there, the fault comes with its store; if it wasn't
+/// opened, the fault comes alone. `stop_from` says what a stop leaves before the closing.
 pub fn serve_from<S: Start>(
     rt: &HostRuntime,
     settings: Settings,
@@ -158,7 +157,7 @@ pub fn serve_from<S: Start>(
     }
 }
 
-// Says in a line on the standard error where the office didn't stand in the file as it was opened. Where that can't be written, nothing is lost.
+// Reports on the standard error if an office was made or migrated as the file was opened. If this can't be written, nothing is lost.
 fn tell_origin(rt: &HostRuntime, path: &str, origin: Origin) {
     let _ = match origin {
         Origin::Found => Ok(()),
@@ -169,8 +168,8 @@ fn tell_origin(rt: &HostRuntime, path: &str, origin: Origin) {
     };
 }
 
-/// Prints what the public sees of the office in a file, whatever its two files held, and says on the standard error where it was made or migrated
-/// there. Nothing changes. Gives back as `serve_from` does.
+/// Prints the text that the public sees of the office in a file, whatever its two files held. Reports on the standard error if the office was made or migrated
+/// there. Nothing else changes. Returns the files and the result, as `serve_from` does.
 pub fn print_from<S: Start>(
     rt: &HostRuntime,
     settings: Settings,
@@ -197,8 +196,8 @@ pub fn print_from<S: Start>(
     }
 }
 
-/// `serve_from`, for `main`: at `Unknown`, for which nothing is said of a file that isn't empty. What is proved of it is `serve_from`, whose
-/// code is the same for all that the files may hold.
+/// `serve_from` for `main`, with `Unknown`, of which no contract says anything unless the file is empty. The proof is that of `serve_from`, whose code is the
+/// same for every content of the files.
 pub fn serve_file(
     rt: &HostRuntime,
     settings: Settings,
@@ -215,7 +214,7 @@ pub fn serve_file(
     }
 }
 
-/// `print_from`, for `main`.
+/// `print_from` for `main`.
 pub fn print_file(
     rt: &HostRuntime,
     settings: Settings,

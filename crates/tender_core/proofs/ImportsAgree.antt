@@ -1,4 +1,4 @@
--- An import over lines that agree on the lines that it names.
+-- An import with two lists of lines that agree on the lines that its rows name.
 use Rattle.std.specs.Prelude.{◌≡◌, Bool, true, false, cond, ◌||◌, ℕ, List, [], ◌∷◌, ◌++◌, map, length, Option, Some, None, option_map, option_and_then}
 use Rattle.std.proofs.Common.{refl, sym, ap, ◌∙◌}
 use Rattle.std.specs.Ordering.{eq_by_cmp}
@@ -63,7 +63,7 @@ lines_put-agree m n (row ∷ rows) h =
     ap (λ c. put c ∷ map (imported_line_put m) rows) h.0
     ∙ ap (λ ps. imported_line_put n row ∷ ps) (lines_put-agree m n rows h.1)
 
--- the import is refused alike, and puts the same
+-- the conditions of its refusals are the same with both lists
 pub tests-agree : (m n : List Standing) (rows : ImportRows) → AgreeOnRows m n rows.file.rows → import_tests (import_on m rows) ≡ import_tests (import_on n rows)
 tests-agree m n rows h =
     rw (any_while_walking-agree cuts_nothing m n rows.file.rows h, any_while_walking-agree cuts_too_much m n rows.file.rows h, any_while_walking-agree passes_limit m n rows.file.rows h) refl
@@ -93,7 +93,7 @@ columns_step : (found : Option LineRow) → option_and_then (λ (x : Standing). 
 columns_step None = refl
 columns_step (Some row) = refl
 
--- the columns of a line in the office
+-- the columns of a line before a file are those of its row in the office
 pub columns_at-standings : (t : Tables) (q : List ℕ) → columns_at (standings t) q ≡ option_map columns_of_row (line_at q t)
 columns_at-standings t q = ap (option_and_then (λ (x : Standing). x.columns)) (find_standing-map t.lines q) ∙ columns_step (line_at q t)
 

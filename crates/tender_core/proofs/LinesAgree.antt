@@ -1,4 +1,4 @@
--- Publications and cancellations over lines that agree on the lines of their lots.
+-- Publications and cancellations with two lists of lines that agree on the lines of their lots.
 use Rattle.std.specs.Prelude.{◌≡◌, ℕ, ◌+◌, ◌-◌, Bool, not, ◌&&◌, ◌||◌, nat_lt, List, [], ◌∷◌, map, filter, is_some, Option}
 use Rattle.std.specs.List.{list_any}
 use Rattle.std.proofs.Common.{refl, ap, ◌∙◌}

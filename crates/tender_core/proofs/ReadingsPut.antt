@@ -1,4 +1,4 @@
--- An opening puts the readings of its tenders.
+-- Reading the tenders first and then making the changes of an opening gives the changes of its rule.
 use Rattle.std.proofs.Common.{◌≡◌, refl, ap, ◌∷◌, [], ◌++◌, List, ℕ, map, Option, Some, None}
 use Rattle.office_commands.specs.declared.item.Item.{Item}
 use Rattle.office_base.specs.declared.reading.Reading.{Reading}

@@ -1,4 +1,4 @@
--- Rows taken in order.
+-- Rows of a budget file, taken in order.
 use Rattle.std.specs.Prelude.{◌≡◌, ℕ, ◌+◌, ◌-◌, ◌*◌, ◌<◌, ◌≤◌, ◌^◌, Bool, true, false, cond, ◌||◌, List, [], ◌∷◌, Option, Some, None, IsSome, is_some, All}
 use Rattle.std.proofs.Common.{refl, sym, ap, ◌∙◌, arith}
 use Rattle.std.specs.List.{AllByRecursion}
@@ -15,12 +15,12 @@ use Rattle.office_base.specs.RowLaws.{RowsAreKept}
 use Rattle.office_base.proofs.RowLaws.{all-put, all-found}
 use Rattle.tender_core.specs.Walks.{AreNamed, IsAtMost, AreAtMost}
 
--- a standing that is there stays so, where one is put or not
+-- a line that is found is still found after a put of another line or its own
 there_by : (b : Bool) (s : Standing) (found : Option Standing) → is_some found ≡ true → is_some (cond b (Some s) found) ≡ true
 there_by true s found h = refl
 there_by false s found h = h
 
--- a row taken leaves the lines named
+-- after a row, the lines of the remaining rows are still among the lines
 pub named_after : RowsAreKept id_cmp standing_key → (m : List Standing) (row : BudgetRow) (rows : List BudgetRow) → AreNamed m rows → AreNamed (after_row m row) rows
 named_after laws m row rows named =
     let s : Standing = record { line = row.line; columns = Some (columns_after (columns_at m row.line) row) } in
@@ -44,7 +44,7 @@ columns_bound : (n : ℕ) (found : Option Standing) → at_option n found → Is
 columns_bound n None h = tt
 columns_bound n (Some s) h = h
 
--- the columns of a line are within the bound of all
+-- the columns of one line are within the bound of all lines
 pub columns_at-bound : (n : ℕ) (m : List Standing) (line : List ℕ) → AreAtMost n m → IsAtMost n (columns_at m line)
 columns_at-bound n m line h = columns_bound n (find_standing m line) (all-found nat_list_cmp_total standing_key (at_option n) m line tt h)
 
@@ -58,18 +58,18 @@ after_bound : (n : ℕ) (held : Option Columns) (row : BudgetRow) → row.amount
 after_bound n None row amount h = columns_for (is_cut row.kind) 0 0 n row.amount amount (omega arith) (omega arith)
 after_bound n (Some c) row amount h = columns_for (is_cut row.kind) c.appropriation c.free n row.amount amount h.0 h.1
 
--- a row adds at most the greatest sum
+-- a row raises the columns by at most the greatest sum
 pub after_row-bound : (n : ℕ) (m : List Standing) (row : BudgetRow) → row.amount ≤ 10 ^ 15 → AreAtMost n m → AreAtMost (n + 10 ^ 15) (after_row m row)
 after_row-bound n m row amount h =
     all-put nat_list_cmp_total standing_key (λ (s : Standing). IsAtMost (n + 10 ^ 15) s.columns) m _
     (after_bound n (columns_at m row.line) row amount (columns_at-bound n m row.line h))
     (all_weaker n (n + 10 ^ 15) m (omega arith) h)
 
--- in a file of any length sums stay small
+-- however long a file is, its columns stay below 2^126
 pub small_columns : (i len : ℕ) (m : List Standing) (line : List ℕ) → i < len → len < 2 ^ 64 → AreAtMost ((i + 1) * 10 ^ 15) m → IsAtMost (2 ^ 126) (columns_at m line)
 small_columns i len m line lt few h = weaker ((i + 1) * 10 ^ 15) (2 ^ 126) (columns_at m line) (omega arith) (columns_at-bound ((i + 1) * 10 ^ 15) m line h)
 
--- one row more
+-- taking the first row and then the remaining ones is taking all rows
 pub next_row : (rows rest : List BudgetRow) (row : BudgetRow) (m m' start : List Standing) → rows ≡ row ∷ rest → m' ≡ after_row m row
     → after_rows m rows ≡ start → after_rows m' rest ≡ start
 next_row rows rest row m m' start split taken h = ap (λ x. after_rows x rest) taken ∙ ap (after_rows m) (sym split) ∙ h

@@ -1,4 +1,4 @@
--- Rules: when each command is refused, and what it puts.
+-- The rules of commands: for each, the rows that it reads, the conditions of its refusals, and its changes.
 pub mod Import
 pub mod Register
 pub mod Publish

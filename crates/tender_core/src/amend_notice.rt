@@ -14,24 +14,24 @@ use office_values::moment::Moment;
 use office_values::refusal::{Refusal, Thing};
 use std::alloc::Global;
 
-/// The rows that the amendment of a notice looks at: the notice, and the clock.
+/// The rows that an amendment reads: the notice and the clock.
 #[derive(Drop)]
 pub struct AmendNoticeRows {
     pub notice: Option<NoticeRow>,
     pub clock: ClockRow,
 }
 
-/// The most amendments of a notice.
+/// The greatest number of amendments of a notice.
 const AMENDMENT_LIMIT: u64 = 50;
 
-// Whether the notice has all the amendments that it can have.
+// Whether the notice has as many amendments as it can have.
 fn has_all_amendments(notice: &NoticeRow) -> bool
     ensures { result ≡ has_all_amendments notice.now }
 {
     notice.amendments.get() >= AMENDMENT_LIMIT
 }
 
-// The notice with this deadline, one amendment and one release more; None exactly where it has all of either that it can have.
+// The notice with this deadline, one more amendment and one more release. None if it has as many amendments or releases as it can have.
 fn amended(deadline: Moment, notice: NoticeRow) -> Option<NoticeRow>
     ensures found { IfSome result (λ row. row ≡ amended deadline notice) }
     ensures none { IfNone result ((has_all_amendments notice || has_all_releases (Some notice)) ≡ true) }
@@ -46,7 +46,7 @@ fn amended(deadline: Moment, notice: NoticeRow) -> Option<NoticeRow>
     })
 }
 
-/// Why the amendment of a notice is refused.
+/// The refusal of the amendment, if one of its conditions is true.
 pub fn refusal(t: Moment, rows: &AmendNoticeRows, deadline: Moment) -> Option<Refusal>
     ensures { result ≡ first_of (amend_notice_tests rows.now t deadline) }
 {
@@ -68,7 +68,7 @@ pub fn refusal(t: Moment, rows: &AmendNoticeRows, deadline: Moment) -> Option<Re
     None
 }
 
-/// What the amendment of a notice puts. `Unavailable` where the notice isn't there, or counts no more amendments or releases.
+/// The changes of the amendment. `Unavailable` if the notice doesn't exist, or has as many amendments or releases as it can have.
 pub fn puts(
     alloc: Global,
     t: Moment,
@@ -86,7 +86,7 @@ pub fn puts(
     Ok(made)
 }
 
-/// Decides the amendment of a notice: its refusal, or what it puts.
+/// Decides the amendment of a notice: the result is its refusal or its changes.
 #[tactic(auto, unfolding(office_base::specs::Deciding::Decides))]
 pub fn decide_amend_notice(
     alloc: Global,

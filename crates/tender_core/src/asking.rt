@@ -1,11 +1,11 @@
-//! Who gives a command, and when.
+//! The caller and the moment of a command.
 ghost use Rattle.std.specs.Prelude.{◌≡◌, max};
 
 use office_base::records::ClockRow;
 use office_commands::command::Caller;
 use office_values::moment::Moment;
 
-/// Who gives a command, and the moment that is handed in.
+/// The caller of a command, and the moment at which the command came.
 #[derive(Clone, Copy)]
 pub struct Asking<'a> {
     pub moment: Moment,
@@ -13,7 +13,7 @@ pub struct Asking<'a> {
 }
 
 impl<'a> Asking<'a> {
-    /// The command's moment: the later of the moment handed in and the last accepted command's.
+    /// The moment of the command: the one at which it came, or that of the last accepted command if that is later.
     pub fn time(&self, clock: &ClockRow) -> Moment
         ensures { result ≡ max self.now.moment clock.now.moment }
     {

@@ -1,4 +1,4 @@
-//! Budget files with the lines that they name.
+//! Budget files together with the budget lines that they name.
 ghost use Rattle.std.specs.Prelude.{◌≡◌};
 ghost use Rattle.office_values.specs.Money.{total_limit};
 ghost use Rattle.tender_core.specs.Walks.{AreNamed, AreAtMost};
@@ -8,8 +8,8 @@ use office_base::standing::Standing;
 use office_commands::budget::BudgetRows;
 use std::marker::Model;
 
-/// The rows of a budget file with the lines that they name, as these stand before it: each row's line is among them, without columns
-/// where the office doesn't hold it, and no column is above 10^15.
+/// The rows of a budget file, and the budget lines that they name, with their columns before the file. A line that doesn't exist has no columns. No column is
+/// above 10^15.
 #[derive(Drop)]
 pub struct BudgetFile {
     lines: Table<Standing>,
@@ -28,7 +28,7 @@ impl Model for BudgetFile {
 }
 
 impl BudgetFile {
-    /// These rows on these lines. Takes no memory.
+    /// The value of these rows and the lines that they name. It allocates no memory.
     pub fn of(lines: Table<Standing>, rows: BudgetRows) -> BudgetFile
         requires named { AreNamed lines rows }
         requires fit { AreAtMost total_limit lines }
@@ -38,7 +38,7 @@ impl BudgetFile {
         BudgetFile { lines, rows }
     }
 
-    /// The lines and the rows.
+    /// The lines and the rows, moved out.
     pub fn into_parts(self) -> (Table<Standing>, BudgetRows)
         ensures lines { result.0 ≡ self.lines }
         ensures rows { result.1 ≡ self.rows }

@@ -24,8 +24,7 @@ use office_values::moment::Moment;
 use office_values::refusal::{Refusal, Thing};
 use std::alloc::Global;
 
-/// The rows that a cancellation looks at: the notice, its lots with the lines of those that are open, its awards, its tenders and
-/// their securities, and the clock.
+/// The rows that a cancellation reads: the notice, its lots, the budget lines of the open ones, its awards, its tenders, their securities, and the clock.
 #[derive(Drop)]
 pub struct CancelRows {
     pub notice: Option<NoticeRow>,
@@ -37,14 +36,14 @@ pub struct CancelRows {
     pub clock: ClockRow,
 }
 
-// Whether a lot is still undecided or awarded.
+// Whether some lot is still undecided or awarded.
 fn some_is_open(lots: &[LotRow]) -> bool
     ensures { result ≡ list_any is_open_lot lots.now }
 {
     lots.iter().any(|row| is_open(row))
 }
 
-/// Why the cancellation of a notice is refused.
+/// The refusal of the cancellation, if one of its conditions is true.
 pub fn refusal(rows: &CancelRows) -> Option<Refusal>
     ensures { result ≡ first_of (cancel_tests rows.now) }
 {
@@ -60,7 +59,7 @@ pub fn refusal(rows: &CancelRows) -> Option<Refusal>
     None
 }
 
-// The notice with one release more, cancelled where it was receiving tenders; None exactly where it has all that it can have.
+// The notice with one more release, cancelled if it was receiving tenders. None if it has as many releases as it can have.
 fn cancelled(notice: NoticeRow) -> Option<NoticeRow>
     ensures found { IfSome result (λ row. row ≡ cancelled_notice notice) }
     ensures none { IfNone result (has_all_releases (Some notice) ≡ true) }
@@ -78,7 +77,7 @@ fn cancelled(notice: NoticeRow) -> Option<NoticeRow>
     })
 }
 
-// The notice and the clock.
+// Appends the changes of the notice and the clock.
 fn push_notice(
     made: &mut Vec<Put>,
     t: Moment,
@@ -94,8 +93,8 @@ fn push_notice(
     Ok(())
 }
 
-// The lines, the lots that end, their awards, their tenders with the bytes of these, and their securities, behind what is there. (It owns nothing that each
-// early end would let go.)
+// Appends the changes of the lots that end: their budget lines, the lots, their awards, their tenders without the bytes, and their securities. It borrows all
+// rows, so that an early return has nothing to drop.
 fn push_ended(made: &mut Vec<Put>, rows: &CancelRows) -> Result<(), Refusal>
     ensures puts { OnOk result (made.new.items ≡ ((((((made.old.items
         ++ map (freed_line_put rows.now.lines (filter is_open_lot rows.now.lots)) (filter is_open_lot rows.now.lots))
@@ -116,9 +115,8 @@ fn push_ended(made: &mut Vec<Put>, rows: &CancelRows) -> Result<(), Refusal>
     Ok(())
 }
 
-/// What the cancellation of a notice puts: the lines, the lots, their awards, their tenders and the securities of these, the notice and
-/// the clock. `Unavailable` where the notice or the line of a lot that ends isn't there, the notice counts no more releases, or a line
-/// would have more free than 10^15.
+/// The changes of the cancellation: budget lines, lots, awards, tenders, securities, the notice and the clock. `Unavailable` if the notice or the budget line
+/// of a lot that ends doesn't exist. It is also the answer if the notice has as many releases as it can have, or if a line would have more than 10^15 free.
 pub fn puts(alloc: Global, t: Moment, rows: CancelRows) -> Result<Vec<Put>, Refusal>
     ensures puts { IfOk result (λ made. made.items ≡ cancel_puts rows t) }
     ensures whole { IfOk result (λ _. cancel_lacks rows ≡ false) }
@@ -133,7 +131,7 @@ pub fn puts(alloc: Global, t: Moment, rows: CancelRows) -> Result<Vec<Put>, Refu
     Ok(made)
 }
 
-/// Decides the cancellation of a notice: its refusal, or what it puts. Of the lines, those of the lots that are open are looked at.
+/// Decides the cancellation of a notice: the result is its refusal or its changes. It reads only the budget lines of lots that are still open.
 #[tactic(auto, unfolding(office_base::specs::Deciding::Decides))]
 pub fn decide_cancel(alloc: Global, t: Moment, rows: CancelRows) -> Result<Vec<Put>, Refusal>
     ensures { Decides result (first_of (cancel_tests rows)) (cancel_lacks rows) (cancel_puts rows t) }

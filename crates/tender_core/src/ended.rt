@@ -1,4 +1,4 @@
-//! What ends with the lots of a notice that is cancelled.
+//! The parts of a cancellation: the lots that end, and their budget lines, awards, tenders and securities.
 ghost use Rattle.std.specs.Prelude.{◌≡◌, ◌++◌, ◌<◌, ◌^◌, IfOk, IfErr, OnOk, filter, map};
 ghost use Rattle.std.specs.List.{list_any};
 ghost use Rattle.office_values.specs.declared.refusal.Refusal.TheVariants.{Unavailable};
@@ -18,14 +18,14 @@ use office_values::refusal::Refusal;
 use std::alloc::AllocError;
 use std::cmp::Ordering;
 
-/// Whether the lot is still undecided or awarded: money is reserved for it.
+/// Whether a lot is still undecided or awarded, so that money is reserved for it.
 pub fn is_open(lot: &LotRow) -> bool
     ensures { result ≡ is_open_lot lot.now }
 {
     matches!(lot.state, LotState::Undecided | LotState::Awarded)
 }
 
-// Whether the lot of these identifiers is one of those that end. The lots are in the order of their identifiers.
+// Whether the lot with these identifiers is one of those that end. The lots are in the order of their identifiers, so the search stops at the first later one.
 #[tactic(auto, unfolding(office_base::specs::Rows::row_at))]
 fn ends(lots: &[LotRow], notice: &Id, lot: &Id) -> bool
     ensures { result ≡ ends lots.now notice.now lot.now }
@@ -40,7 +40,7 @@ fn ends(lots: &[LotRow], notice: &Id, lot: &Id) -> bool
     false
 }
 
-/// Whether the line of a lot that ends isn't there.
+/// Whether the budget line of a lot that ends doesn't exist.
 pub fn some_lacks_line(lines: &Table<LineRow>, lots: &[LotRow]) -> bool
     ensures { result ≡ list_any (lacks_line lines.now) (filter is_open_lot lots.now) }
 {
@@ -52,7 +52,7 @@ pub fn some_lacks_line(lines: &Table<LineRow>, lots: &[LotRow]) -> bool
     false
 }
 
-// What the lots that end have reserved of a line.
+// The sum that the lots that end have reserved on a budget line.
 fn freed(line: &Id, lots: &[LotRow]) -> u128
     ensures sum { result ≡ freed line.now (filter is_open_lot lots.now) }
     ensures small { result < 2 ^ 110 }
@@ -66,8 +66,8 @@ fn freed(line: &Id, lots: &[LotRow]) -> u128
     sum
 }
 
-// The line of a lot, with what all lots that end had reserved of it free again. A line that isn't there, or a sum above the greatest
-// one, is a fault of the store, since no office that commands lead to has it.
+// The change of a lot's budget line: the money that all lots that end had reserved on it is free again. A line that doesn't exist, or a sum above 10^15, is
+// `Unavailable`: no office that its commands made has it.
 fn line_put(lines: &Table<LineRow>, lots: &[LotRow], lot: &LotRow) -> Result<Put, Refusal>
     ensures put { IfOk result (λ put. put ≡ freed_line_put lines.now (filter is_open_lot lots.now) lot.now) }
     ensures fault { IfErr result (λ e. e ≡ Unavailable) }
@@ -86,7 +86,7 @@ fn line_put(lines: &Table<LineRow>, lots: &[LotRow], lot: &LotRow) -> Result<Put
     }
 }
 
-/// The lines of the lots that end.
+/// Appends the changes of the budget lines of the lots that end.
 pub fn push_lines(
     made: &mut Vec<Put>,
     lines: &Table<LineRow>,
@@ -115,7 +115,7 @@ fn cancelled_lot(lot: &LotRow) -> Result<LotRow, AllocError>
     })
 }
 
-/// The lots that end.
+/// Appends the changes of the lots that end.
 pub fn push_lots(made: &mut Vec<Put>, lots: &[LotRow]) -> Result<(), Refusal>
     ensures puts { OnOk result (made.new.items ≡ made.old.items ++ map cancelled_lot_put (filter is_open_lot lots.now)) }
     ensures fault { IfErr result (λ e. e ≡ Unavailable) }
@@ -128,7 +128,7 @@ pub fn push_lots(made: &mut Vec<Put>, lots: &[LotRow]) -> Result<(), Refusal>
     Ok(())
 }
 
-/// Whether it is an active award of a lot that ends.
+/// Whether an award is active and its lot ends.
 pub fn is_ended_award(lots: &[LotRow], award: &AwardRow) -> bool
     ensures { result ≡ is_ended_award lots.now award.now }
 {
@@ -150,7 +150,7 @@ fn cancelled_award(award: &AwardRow) -> AwardRow
     }
 }
 
-/// The active awards of the lots that end.
+/// Appends the changes of the active awards of the lots that end.
 pub fn push_awards(made: &mut Vec<Put>, lots: &[LotRow], awards: &[AwardRow]) -> Result<(), Refusal>
     ensures puts { OnOk result (made.new.items ≡ made.old.items ++ map award_put (filter (is_ended_award lots.now) awards.now)) }
     ensures fault { IfErr result (λ e. e ≡ Unavailable) }
@@ -163,7 +163,7 @@ pub fn push_awards(made: &mut Vec<Put>, lots: &[LotRow], awards: &[AwardRow]) ->
     Ok(())
 }
 
-// Whether it is a sealed tender for a lot that ends.
+// Whether a tender is sealed and its lot ends.
 fn is_ended_envelope(lots: &[LotRow], envelope: &EnvelopeRow) -> bool
     ensures { result ≡ is_ended_envelope lots.now envelope.now }
 {
@@ -191,7 +191,7 @@ fn returned_envelope(envelope: &EnvelopeRow) -> EnvelopeRow
     }
 }
 
-/// The sealed tenders for the lots that end, returned unopened.
+/// Appends the changes of the sealed tenders of the lots that end: they are returned unopened.
 pub fn push_envelopes(
     made: &mut Vec<Put>,
     lots: &[LotRow],
@@ -208,7 +208,7 @@ pub fn push_envelopes(
     Ok(())
 }
 
-/// The bytes of the sealed tenders for the lots that end, which are kept no longer.
+/// Appends the changes that drop the bytes of the sealed tenders of the lots that end.
 pub fn push_drops(
     made: &mut Vec<Put>,
     lots: &[LotRow],
@@ -225,14 +225,14 @@ pub fn push_drops(
     Ok(())
 }
 
-// Whether it is a held security of a tender for a lot that ends.
+// Whether a security is held and its lot ends.
 fn is_ended_security(lots: &[LotRow], security: &SecurityRow) -> bool
     ensures { result ≡ is_ended_security lots.now security.now }
 {
     security.state == SecurityState::Held && ends(lots, &security.notice, &security.lot)
 }
 
-// The put of the security, gone back to its tenderer.
+// The change that returns a security to its tenderer.
 fn security_returned(security: &SecurityRow) -> Put
     ensures { result ≡ security_returned security.now }
 {
@@ -247,7 +247,7 @@ fn security_returned(security: &SecurityRow) -> Put
     })
 }
 
-/// The held securities of the tenders for the lots that end.
+/// Appends the changes that return the held securities of the lots that end.
 pub fn push_securities(
     made: &mut Vec<Put>,
     lots: &[LotRow],

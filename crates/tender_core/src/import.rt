@@ -23,7 +23,7 @@ use office_values::money::{TOTAL_LIMIT, Total};
 use office_values::refusal::{Refusal, Thing};
 use std::alloc::Global;
 
-/// The rows that an import looks at: the batch of that identifier, the lines that the file names with the file's own rows, and the clock.
+/// The rows that an import reads: the budget file with this identifier, the lines that the new file names with its own rows, and the clock.
 #[derive(Drop)]
 pub struct ImportRows {
     pub batch: Option<BatchRow>,
@@ -31,10 +31,10 @@ pub struct ImportRows {
     pub clock: ClockRow,
 }
 
-/// The most rows of one file.
+/// The greatest number of rows of a file.
 const ROW_LIMIT: usize = 500;
 
-// What was found while the rows were taken in order.
+// The problems that were found while the rows were taken in order.
 #[derive(Clone, Copy)]
 struct Findings {
     unknown: bool,
@@ -43,7 +43,7 @@ struct Findings {
     lacking: bool,
 }
 
-// The columns of a line, where the office holds it.
+// The columns of a budget line; None if the line doesn't exist.
 fn columns_at(lines: &Table<Standing>, line: &Id) -> Option<Columns>
     ensures { result ≡ columns_at lines.now line.now }
 {
@@ -53,7 +53,7 @@ fn columns_at(lines: &Table<Standing>, line: &Id) -> Option<Columns>
     }
 }
 
-// What is in both columns; nothing where the line isn't held.
+// The appropriation and the free money of a line; 0 and 0 if the line doesn't exist.
 fn amounts(held: Option<Columns>) -> (u128, u128)
     ensures appropriation { result.0 ≡ appropriation_of held }
     ensures free { result.1 ≡ free_of held }
@@ -64,7 +64,7 @@ fn amounts(held: Option<Columns>) -> (u128, u128)
     }
 }
 
-// Both columns of a line after a row of it.
+// The columns of a line after a row.
 fn columns_after(held: Option<Columns>, row: &BudgetRow) -> Columns
     requires { IsAtMost (2 ^ 126) held }
     ensures { result ≡ columns_after held row.now }
@@ -83,7 +83,7 @@ fn columns_after(held: Option<Columns>, row: &BudgetRow) -> Columns
     }
 }
 
-// What is found at one row.
+// The problems at one row.
 fn findings_at(held: Option<Columns>, row: &BudgetRow) -> Findings
     requires { IsAtMost (2 ^ 126) held }
     ensures unknown { result.unknown ≡ cuts_nothing held row.now }
@@ -110,7 +110,7 @@ fn findings_at(held: Option<Columns>, row: &BudgetRow) -> Findings
     }
 }
 
-// What was found at either.
+// The problems at one place or another.
 fn joined(first: Findings, second: Findings) -> Findings
     ensures unknown { result.unknown ≡ (first.unknown || second.unknown) }
     ensures short { result.short ≡ (first.short || second.short) }
@@ -138,7 +138,7 @@ fn take_row(lines: &mut Table<Standing>, row: &BudgetRow)
     });
 }
 
-// Takes the rows in order.
+// Takes the rows in order, and returns the problems at all of them.
 fn take_rows(lines: &mut Table<Standing>, rows: &[BudgetRow]) -> Findings
     requires named { AreNamed lines.old rows.now }
     requires fit { AreAtMost total_limit lines.old }
@@ -163,8 +163,7 @@ fn take_rows(lines: &mut Table<Standing>, rows: &[BudgetRow]) -> Findings
     all
 }
 
-// The line of a row, with its columns after all rows. A column that is no sum of money is a fault of the store, since no office
-// that commands lead to has it.
+// The change of a row's budget line, with its columns after all rows. A column above 10^15 is `Unavailable`; no office that its commands made has one.
 fn line_put(after: &Table<Standing>, row: &BudgetRow) -> Result<Put, Refusal>
     ensures put { IfOk result (λ put. put ≡ imported_line_put after.now row.now) }
     ensures fault { IfErr result (λ e. e ≡ Unavailable) }
@@ -178,7 +177,7 @@ fn line_put(after: &Table<Standing>, row: &BudgetRow) -> Result<Put, Refusal>
     }))
 }
 
-// Each row's line, the batch and the clock.
+// The changes of the import: the line of each row, the budget file and the clock.
 fn import_puts(
     alloc: Global,
     t: Moment,
@@ -205,8 +204,8 @@ fn import_puts(
     Ok(made)
 }
 
-/// Decides the import of a budget file: its refusal, or what it puts. `Unavailable` where a row would cut more than is appropriated to its
-/// line, of which as much is free, or a line would have more free than 10^15, as in no office that commands reach.
+/// Decides the import of a budget file: the result is its refusal or its changes. `Unavailable` if a row cuts more than the appropriation of its line although
+/// as much is free, or if a line would have more than 10^15 free. Neither is so in an office that its commands made.
 #[tactic(auto, unfolding(office_base::specs::Deciding::Decides))]
 pub fn decide_import(
     alloc: Global,

@@ -1,4 +1,4 @@
-//! The commands from the budget to the opening of tenders: their rules, and the decisions by them.
+//! The commands from the budget to the opening of tenders: their rules, and the decisions by these rules.
 #![tactic(auto)]
 
 pub mod amend_notice;

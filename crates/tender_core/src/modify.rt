@@ -17,7 +17,7 @@ use office_values::moment::Moment;
 use office_values::refusal::{Refusal, Thing};
 use std::alloc::Global;
 
-/// The rows that a modification looks at: the tender with its notice, and the clock.
+/// The rows that a modification reads: the tender, its notice and the clock.
 #[derive(Drop)]
 pub struct ModifyRows {
     pub envelope: Option<EnvelopeRow>,
@@ -25,7 +25,7 @@ pub struct ModifyRows {
     pub clock: ClockRow,
 }
 
-// The tender that comes in the place of this one, under its own receipt and with the same security.
+// The tender that replaces this one. It has its own receipt, and the old tender's security.
 fn replacing(
     clock: &ClockRow,
     t: Moment,
@@ -53,7 +53,7 @@ fn replacing(
     }
 }
 
-/// Why the modification of a tender is refused.
+/// The refusal of the modification, if one of its conditions is true.
 pub fn refusal(t: Moment, caller: &Caller, rows: &ModifyRows) -> Option<Refusal>
     ensures { result ≡ first_of (modify_tests rows.now t caller.now) }
 {
@@ -75,8 +75,8 @@ pub fn refusal(t: Moment, caller: &Caller, rows: &ModifyRows) -> Option<Refusal>
     None
 }
 
-/// What the modification of a tender puts: the old tender, whose bytes are dropped, the new one with its bytes, and the clock.
-/// `Unavailable` where the tender or its notice isn't there, or all receipts are given out.
+/// The changes of the modification: the old tender without its bytes, the new one with its bytes, and the clock. `Unavailable` if the tender or its notice
+/// doesn't exist, or all numbers of receipts are given.
 pub fn puts(
     alloc: Global,
     t: Moment,
@@ -106,7 +106,7 @@ pub fn puts(
     Ok(made)
 }
 
-/// Decides the modification of a tender: its refusal, or what it puts.
+/// Decides the modification of a tender: the result is its refusal or its changes.
 #[tactic(auto, unfolding(office_base::specs::Deciding::Decides))]
 pub fn decide_modify(
     alloc: Global,

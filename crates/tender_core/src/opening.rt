@@ -16,29 +16,28 @@ use office_values::moment::Moment;
 use office_values::refusal::{Refusal, Thing};
 use std::alloc::Global;
 
-/// A sealed tender, with what was read in it.
+/// A sealed tender, with its reading.
 #[derive(Drop)]
 pub struct OpenedTender {
     pub envelope: EnvelopeRow,
     pub reading: Reading,
 }
 
-/// The rows that an opening looks at, beside the sealed tenders: the notice, and the clock.
+/// The rows that an opening reads beside the sealed tenders: the notice and the clock.
 #[derive(Drop)]
 pub struct OpenRows {
     pub notice: Option<NoticeRow>,
     pub clock: ClockRow,
 }
 
-/// The sealed ones of a notice's tenders, which alone are opened: none that came late, was withdrawn or was given back. Takes no
-/// memory.
+/// Keeps only the sealed tenders of a notice, which are those to be opened. Late, withdrawn and returned ones are left out. It allocates no memory.
 pub fn keep_sealed(envelopes: &mut Vec<EnvelopeRow>)
     ensures { envelopes.new.items ≡ filter is_sealed_envelope envelopes.old.items }
 {
     envelopes.retain(|row| row.state == EnvelopeState::Sealed);
 }
 
-// The tender, opened and read.
+// The row of the tender, opened, with its reading.
 fn read_envelope(tender: &OpenedTender) -> EnvelopeRow
     ensures { result ≡ read_envelope tender.now }
 {
@@ -60,7 +59,7 @@ fn read_envelope(tender: &OpenedTender) -> EnvelopeRow
     }
 }
 
-// All tenders, opened and read.
+// Appends the changes of all tenders, each opened and with its reading.
 fn push_tenders(made: &mut Vec<Put>, tenders: &[OpenedTender]) -> Result<(), Refusal>
     ensures puts { OnOk result (made.new.items ≡ made.old.items ++ map read_put tenders.now) }
     ensures fault { IfErr result (λ e. e ≡ Unavailable) }
@@ -71,7 +70,7 @@ fn push_tenders(made: &mut Vec<Put>, tenders: &[OpenedTender]) -> Result<(), Ref
     Ok(())
 }
 
-// The notice, opened at this moment, with one release more; None exactly where it has all that it can have.
+// The notice, opened at this moment, with one more release. None if it has as many releases as it can have.
 fn opened(t: Moment, notice: NoticeRow) -> Option<NoticeRow>
     ensures found { IfSome result (λ row. row ≡ opened_notice t notice) }
     ensures none { IfNone result (has_all_releases (Some notice) ≡ true) }
@@ -85,7 +84,7 @@ fn opened(t: Moment, notice: NoticeRow) -> Option<NoticeRow>
     })
 }
 
-/// Why the opening of the tenders of a notice is refused.
+/// The refusal of the opening, if one of its conditions is true.
 pub fn refusal(t: Moment, rows: &OpenRows) -> Option<Refusal>
     ensures { result ≡ first_of (open_tests rows.now t) }
 {
@@ -107,8 +106,8 @@ pub fn refusal(t: Moment, rows: &OpenRows) -> Option<Refusal>
     None
 }
 
-/// What the opening of these tenders puts: the sealed ones of the notice, each with what was read in it. `Unavailable` where the notice
-/// isn't there, or counts no more releases.
+/// The changes of the opening. The tenders must be the sealed ones of the notice, each with its reading. `Unavailable` if the notice doesn't exist, or has as
+/// many releases as it can have.
 pub fn puts(
     alloc: Global,
     t: Moment,
@@ -128,8 +127,8 @@ pub fn puts(
     Ok(made)
 }
 
-/// Decides the opening of the tenders of a notice: its refusal, or what it puts. The tenders are the sealed ones of the notice, each
-/// with what was read in it.
+/// Decides the opening of the tenders of a notice: the result is its refusal or its changes. The tenders must be the sealed ones of the notice, each with its
+/// reading.
 #[tactic(auto, unfolding(office_base::specs::Deciding::Decides))]
 pub fn decide_open(
     alloc: Global,

@@ -1,4 +1,4 @@
-//! The decision on a tender that is presented.
+//! The decision on the submission of a tender.
 ghost use Rattle.std.specs.Prelude.{◌≡◌, ◌+◌, ◌++◌, ◌&&◌, IfOk, IfErr, OnOk, is_some, not};
 ghost use Rattle.std.specs.List.{list_any};
 ghost use Rattle.sha2.specs.Sha256.{sha256};
@@ -27,7 +27,7 @@ use office_values::moment::Moment;
 use office_values::refusal::{Refusal, Thing};
 use std::alloc::Global;
 
-/// The rows that a presentation looks at: the notice, the lot, the tenders of the lot, and the clock.
+/// The rows that a submission reads: the notice, the lot, the tenders of the lot, and the clock.
 #[derive(Drop)]
 pub struct PresentRows {
     pub notice: Option<NoticeRow>,
@@ -36,8 +36,7 @@ pub struct PresentRows {
     pub clock: ClockRow,
 }
 
-// A tender that is received, but for what comes with it: the clock before it and its moment, whose it is and for which lot, its
-// receipt, and whether it is in time.
+// A receipt that the office gives to a tender: the clock before it, its moment, tenderer, notice and lot, its number, and whether the tender is in time.
 #[derive(Clone, Copy)]
 struct Receipt {
     clock: ClockRow,
@@ -57,14 +56,14 @@ fn has_sealed(caller: &Caller, envelopes: &[EnvelopeRow]) -> bool
     envelopes.iter().any(|row| row.state == EnvelopeState::Sealed && is_by(caller, &row.tenderer))
 }
 
-// Whether a security is asked and none is named.
+// Whether the lot requires a security, and none is named.
 fn is_wanting(lot: &LotRow, security: &Option<NamedSecurity>) -> bool
     ensures { result ≡ (asks_security lot.now && not (is_some security.now)) }
 {
     lot.security.units() > 0 && security.is_none()
 }
 
-// Whether the named security is below what is asked.
+// Whether the named security is less than the lot requires.
 fn is_too_small(lot: &LotRow, security: &Option<NamedSecurity>) -> bool
     ensures { result ≡ holds_of (is_too_small lot.now) security.now }
 {
@@ -74,14 +73,14 @@ fn is_too_small(lot: &LotRow, security: &Option<NamedSecurity>) -> bool
     }
 }
 
-// Whether a security is named and none is asked.
+// Whether a security is named, and the lot requires none.
 fn isnt_asked(lot: &LotRow, security: &Option<NamedSecurity>) -> bool
     ensures { result ≡ (not (asks_security lot.now) && is_some security.now) }
 {
     lot.security.units() == 0 && security.is_some()
 }
 
-/// Why a tender that is presented is refused.
+/// The refusal of the submission, if one of its conditions is true.
 pub fn refusal(
     t: Moment,
     caller: &Caller,
@@ -118,7 +117,7 @@ pub fn refusal(
     None
 }
 
-// The tender, sealed where it is in time.
+// The row of the tender: sealed if it is in time, and returned if it is late.
 fn received(receipt: &Receipt, security: &Option<NamedSecurity>, sealed: &Sealed<'_>) -> EnvelopeRow
     ensures { result ≡ received sha256 receipt.now.clock receipt.now.t (Tenderer receipt.now.tenderer) receipt.now.notice receipt.now.lot security.now sealed.now receipt.now.in_time }
 {
@@ -148,7 +147,7 @@ fn received(receipt: &Receipt, security: &Option<NamedSecurity>, sealed: &Sealed
     }
 }
 
-// The security, held where the tender is in time.
+// The row of the security: held if the tender is in time, and returned if it is late.
 fn security_row(receipt: &Receipt, named: &NamedSecurity) -> SecurityRow
     ensures { result ≡ security_row receipt.now.clock (Tenderer receipt.now.tenderer) receipt.now.notice receipt.now.lot receipt.now.in_time named.now }
 {
@@ -168,7 +167,7 @@ fn security_row(receipt: &Receipt, named: &NamedSecurity) -> SecurityRow
     }
 }
 
-// The bytes, which are kept where the tender is in time.
+// Appends the change that stores the bytes, if the tender is in time.
 fn push_seal(
     alloc: Global,
     made: &mut Vec<Put>,
@@ -187,7 +186,7 @@ fn push_seal(
     Ok(())
 }
 
-// The security that is named.
+// Appends the change of the security, if one is named.
 fn push_security(
     made: &mut Vec<Put>,
     receipt: &Receipt,
@@ -202,14 +201,14 @@ fn push_security(
     Ok(())
 }
 
-// The clock, with the receipt given out.
+// The change of the clock, which counts the receipt.
 fn given_out(receipt: &Receipt) -> Put
     ensures { result ≡ receipt_clock receipt.now.clock receipt.now.t }
 {
     receipt_clock(receipt.clock, receipt.t, receipt.number)
 }
 
-// The tender, the clock, the bytes and the security.
+// The changes of the tender, the clock, the bytes and the security.
 fn received_puts(
     alloc: Global,
     receipt: &Receipt,
@@ -229,7 +228,7 @@ fn received_puts(
     Ok(made)
 }
 
-/// What a tender that is presented puts. `Unavailable` where no tenderer presents it, or all receipts are given out.
+/// The changes of the submission. `Unavailable` if the caller isn't a tenderer, or all numbers of receipts are given.
 pub fn puts(
     alloc: Global,
     t: Moment,
@@ -259,7 +258,7 @@ pub fn puts(
     received_puts(alloc, &receipt, &security, sealed)
 }
 
-/// Decides a tender that is presented: its refusal, or what it puts. Tenderers alone may present one.
+/// Decides the submission of a tender: the result is its refusal or its changes. Only a tenderer may submit one.
 #[tactic(auto, unfolding(office_base::specs::Deciding::Decides))]
 pub fn decide_present(
     alloc: Global,

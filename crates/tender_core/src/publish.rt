@@ -23,7 +23,7 @@ use office_values::money::Total;
 use office_values::refusal::{Refusal, Thing};
 use std::alloc::Global;
 
-/// The rows that a publication looks at: the notice of that identifier, the lines of its lots, and the clock.
+/// The rows that a publication reads: the notice with this identifier, the budget lines of its lots, and the clock.
 #[derive(Drop)]
 pub struct PublishRows {
     pub notice: Option<NoticeRow>,
@@ -31,13 +31,13 @@ pub struct PublishRows {
     pub clock: ClockRow,
 }
 
-/// The most lots of a notice.
+/// The greatest number of lots of a notice.
 const LOT_LIMIT: usize = 20;
 
-/// The most items of a lot.
+/// The greatest number of items of a lot.
 const ITEM_LIMIT: usize = 50;
 
-// What the lots want of a line: the estimates of those that are of it, added up.
+// The sum of the estimates of those lots that are on a budget line.
 fn wanted(line: &Id, lots: &[NewLot]) -> u128
     ensures { result ≡ wanted line.now lots.now }
 {
@@ -50,7 +50,7 @@ fn wanted(line: &Id, lots: &[NewLot]) -> u128
     sum
 }
 
-// What is free on a line; nothing where it isn't held.
+// The free money of a budget line; 0 if the line doesn't exist.
 fn free_on(lines: &Table<LineRow>, line: &Id) -> Total
     ensures { result ≡ free_in (find_line lines.now line.now) }
 {
@@ -60,28 +60,28 @@ fn free_on(lines: &Table<LineRow>, line: &Id) -> Total
     }
 }
 
-// Whether a lot is on a line that isn't held.
+// Whether the budget line of some lot doesn't exist.
 fn is_on_no_line(lines: &Table<LineRow>, lots: &[NewLot]) -> bool
     ensures { result ≡ list_any (is_on_no_line lines.now) lots.now }
 {
     lots.iter().any(|lot| lines.get(&lot.line).is_none())
 }
 
-// Whether the lots want more of this one's line than is free on it.
+// Whether the lots together need more money of this lot's budget line than is free on it.
 fn is_short(lines: &Table<LineRow>, lots: &[NewLot], lot: &NewLot) -> bool
     ensures { result ≡ is_short lines.now lots.now lot.now }
 {
     (free_on(lines, &lot.line).units() as u128) < wanted(&lot.line, lots)
 }
 
-// Whether the lots want more of a line than is free on it.
+// Whether the lots together need more money of some budget line than is free on it.
 fn some_is_short(lines: &Table<LineRow>, lots: &[NewLot]) -> bool
     ensures { result ≡ list_any (is_short lines.now lots.now) lots.now }
 {
     lots.iter().any(|lot| is_short(lines, lots, lot))
 }
 
-// Whether a lot has too many items.
+// Whether some lot has too many items.
 fn some_has_too_many_items(lots: &[NewLot]) -> bool
     ensures { result ≡ list_any has_too_many_items lots.now }
 {
@@ -89,14 +89,14 @@ fn some_has_too_many_items(lots: &[NewLot]) -> bool
         .any(|lot| lot.items.as_slice().len() > ITEM_LIMIT)
 }
 
-// Whether there are too many lots, or a lot has too many items.
+// Whether the notice has too many lots, or some lot too many items.
 fn is_too_long(lots: &[NewLot]) -> bool
     ensures { result ≡ (nat_lt 20 (length lots.now) || list_any has_too_many_items lots.now) }
 {
     lots.len() > LOT_LIMIT || some_has_too_many_items(lots)
 }
 
-/// Why the publication of a notice is refused.
+/// The refusal of the publication, if one of its conditions is true.
 pub fn refusal(t: Moment, rows: &PublishRows, new: &NewNotice) -> Option<Refusal>
     ensures { result ≡ first_of (publish_tests rows.now t new.now) }
 {
@@ -120,7 +120,7 @@ pub fn refusal(t: Moment, rows: &PublishRows, new: &NewNotice) -> Option<Refusal
     None
 }
 
-// The line of a lot, with what all lots want of it no longer free.
+// The change of a lot's budget line, after all lots on it have reserved their estimates.
 fn line_put(lines: &Table<LineRow>, lots: &[NewLot], lot: &NewLot) -> Result<Put, Refusal>
     ensures put { IfOk result (λ put. put ≡ reserving_line_put lines.now lots.now lot.now) }
     ensures fault { IfErr result (λ e. e ≡ Unavailable) }
@@ -132,12 +132,12 @@ fn line_put(lines: &Table<LineRow>, lots: &[NewLot], lot: &NewLot) -> Result<Put
             appropriation: row.appropriation,
             free: row.free.less(wanted(&lot.line, lots)),
         })),
-        // A lot on a line that isn't held was refused before.
+        // `refusal` rejects a lot whose budget line doesn't exist.
         None => Err(Refusal::Unavailable),
     }
 }
 
-// The lines of all lots.
+// Appends the changes of the budget lines of all lots.
 fn push_lines(made: &mut Vec<Put>, lines: &Table<LineRow>, lots: &[NewLot]) -> Result<(), Refusal>
     ensures puts { OnOk result (made.new.items ≡ made.old.items ++ map (reserving_line_put lines.now lots.now) lots.now) }
     ensures fault { IfErr result (λ e. e ≡ Unavailable) }
@@ -148,7 +148,7 @@ fn push_lines(made: &mut Vec<Put>, lines: &Table<LineRow>, lots: &[NewLot]) -> R
     Ok(())
 }
 
-// The lot, undecided, with its estimate reserved.
+// The change of a new lot: undecided, with its estimate reserved.
 fn lot_put(notice: Id, lot: NewLot) -> Put
     ensures { result ≡ new_lot_put notice lot }
 {
@@ -165,7 +165,7 @@ fn lot_put(notice: Id, lot: NewLot) -> Put
     })
 }
 
-// All lots.
+// Appends the changes of all lots.
 fn push_lots(made: &mut Vec<Put>, notice: Id, lots: Vec<NewLot>) -> Result<(), Refusal>
     ensures puts { OnOk result (made.new.items ≡ made.old.items ++ map (new_lot_put notice) lots.items) }
     ensures fault { IfErr result (λ e. e ≡ Unavailable) }
@@ -176,7 +176,7 @@ fn push_lots(made: &mut Vec<Put>, notice: Id, lots: Vec<NewLot>) -> Result<(), R
     Ok(())
 }
 
-// That tenders may be withdrawn late, where the notice says so.
+// Appends the change that allows late withdrawals, if the notice says `forfeits`.
 fn push_late(made: &mut Vec<Put>, notice: Id, late: LateWithdrawal) -> Result<(), Refusal>
     ensures puts { OnOk result (made.new.items ≡ made.old.items ++ late_puts notice late) }
     ensures fault { IfErr result (λ e. e ≡ Unavailable) }
@@ -187,7 +187,7 @@ fn push_late(made: &mut Vec<Put>, notice: Id, late: LateWithdrawal) -> Result<()
     Ok(())
 }
 
-// All lots, the notice, open for tenders, with its first release, and the clock.
+// Appends the changes of all lots, of the notice, which is open for tenders and has its first release, and of the clock.
 fn push_notice(
     made: &mut Vec<Put>,
     t: Moment,
@@ -217,8 +217,8 @@ fn push_notice(
     Ok(())
 }
 
-/// What the publication of a notice puts: the lines, the lots, the notice and the clock, and what the notice says of late withdrawals.
-/// `Unavailable` where the line of a lot isn't there.
+/// The changes of the publication: the budget lines, the lots, the notice, the clock, and the row that allows late withdrawals. `Unavailable` if the budget
+/// line of a lot doesn't exist.
 pub fn puts(
     alloc: Global,
     t: Moment,
@@ -238,7 +238,7 @@ pub fn puts(
     Ok(made)
 }
 
-/// Decides the publication of a notice: its refusal, or what it puts. Of the lines, those that its lots name are looked at.
+/// Decides the publication of a notice: the result is its refusal or its changes. It reads only the budget lines that its lots name.
 #[tactic(auto, unfolding(office_base::specs::Deciding::Decides))]
 pub fn decide_publish(
     alloc: Global,

@@ -1,4 +1,4 @@
-//! Receipts, as they are given out.
+//! The numbers and the lengths of tenders that are received.
 ghost use Rattle.std.specs.Prelude.{◌≡◌, ◌+◌, IfSome, IfNone, true, false, length};
 ghost use Rattle.office_base.specs.Transitions.{has_all_receipts, receipt_clock};
 
@@ -9,7 +9,7 @@ use office_commands::sealed::Sealed;
 use office_values::given::{GivenNumber, LastNumber};
 use office_values::moment::Moment;
 
-/// The number of the next receipt; None exactly where all are given out.
+/// The number of the next receipt; None if all numbers are given.
 pub fn next_receipt(clock: &ClockRow) -> Option<GivenNumber>
     ensures found { IfSome result (λ receipt. receipt ≡ clock.now.receipts + 1) }
     ensures few { IfSome result (λ _. has_all_receipts clock.now ≡ false) }
@@ -18,7 +18,7 @@ pub fn next_receipt(clock: &ClockRow) -> Option<GivenNumber>
     GivenNumber::read(clock.receipts.get() + 1)
 }
 
-/// The clock at the moment of the tender that got this receipt.
+/// The change of the clock, which moves to this moment and counts this receipt.
 pub fn receipt_clock(clock: ClockRow, t: Moment, receipt: GivenNumber) -> Put
     requires { receipt ≡ clock.receipts + 1 }
     ensures { result ≡ receipt_clock clock t }
@@ -30,7 +30,7 @@ pub fn receipt_clock(clock: ClockRow, t: Moment, receipt: GivenNumber) -> Put
     })
 }
 
-/// How many bytes are sealed.
+/// The length of the tender in bytes.
 pub fn length_of(sealed: &Sealed<'_>) -> TenderLength
     ensures { result ≡ length sealed.now }
 {

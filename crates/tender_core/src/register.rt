@@ -14,25 +14,25 @@ use office_values::refusal::Refusal;
 use office_values::text::TextLine;
 use std::alloc::Global;
 
-/// The rows that a registration looks at: the tenderer of that identifier, and the clock.
+/// The rows that a registration reads: the tenderer with this identifier, and the clock.
 #[derive(Drop)]
 pub struct RegisterRows {
     pub tenderer: Option<TendererRow>,
     pub clock: ClockRow,
 }
 
-/// Why the registration of a tenderer is refused.
+/// The refusal of the registration, if its condition is true.
 pub fn refusal(rows: &RegisterRows, tenderer: &Id) -> Option<Refusal>
     ensures { result ≡ first_of (register_tests rows.now tenderer.now) }
 {
-    // The clerk's own name is taken.
+    // The name `clerk` is reserved: a caller with this name is the clerk.
     if rows.tenderer.is_some() || tenderer.as_bytes() == b"clerk".as_slice() {
         return Some(Refusal::Exists);
     }
     None
 }
 
-/// What the registration of a tenderer puts, with the SHA-256 of the tenderer's key.
+/// The changes of the registration: the tenderer, with the SHA-256 of a key, and the clock.
 pub fn puts(
     alloc: Global,
     t: Moment,
@@ -56,7 +56,7 @@ pub fn puts(
     Ok(made)
 }
 
-/// Decides the registration of a tenderer, with the SHA-256 of the tenderer's key: its refusal, or what it puts.
+/// Decides the registration of a tenderer, with the SHA-256 of a key: the result is its refusal or its changes.
 #[tactic(auto, unfolding(office_base::specs::Deciding::Decides))]
 pub fn decide_register(
     alloc: Global,

@@ -1,4 +1,4 @@
-//! Tenders and their tenderers.
+//! Tests of tenders, their tenderers and their notices.
 ghost use Rattle.std.specs.Prelude.{◌≡◌};
 ghost use Rattle.office_commands.specs.Callers.{is_by};
 ghost use Rattle.office_base.specs.Rows.{holds_of};
@@ -11,7 +11,7 @@ use office_commands::command::Caller;
 use office_values::id::Id;
 use office_values::moment::Moment;
 
-/// Whether this tenderer calls.
+/// Whether the caller is this tenderer.
 pub fn is_by(caller: &Caller, tenderer: &Id) -> bool
     ensures { result ≡ is_by caller.now tenderer.now }
 {
@@ -22,7 +22,7 @@ pub fn is_by(caller: &Caller, tenderer: &Id) -> bool
     }
 }
 
-/// Whether the notice is there and a tender that comes at this moment is in time.
+/// Whether the notice exists, and a tender that comes at this moment is in time.
 pub fn is_in_time(t: Moment, notice: &Option<NoticeRow>) -> bool
     ensures { result ≡ holds_of (is_in_time t) notice.now }
 {
@@ -32,7 +32,7 @@ pub fn is_in_time(t: Moment, notice: &Option<NoticeRow>) -> bool
     }
 }
 
-/// Whether the notice is there and it is too late to modify or withdraw a tender of it.
+/// Whether the notice exists, and its deadline has come, so that a tender can't be modified or freely withdrawn.
 pub fn is_past_deadline(t: Moment, notice: &Option<NoticeRow>) -> bool
     ensures { result ≡ holds_of (is_past_deadline t) notice.now }
 {
@@ -42,14 +42,14 @@ pub fn is_past_deadline(t: Moment, notice: &Option<NoticeRow>) -> bool
     }
 }
 
-/// Whether the notice is there, its deadline is past, and it lets tenders be withdrawn then.
+/// Whether the notice exists, its deadline has come, and it allows withdrawals from then on.
 pub fn is_late(late: &Option<LateRow>, t: Moment, notice: &Option<NoticeRow>) -> bool
     ensures { result ≡ is_late late.now t notice.now }
 {
     late.is_some() && is_past_deadline(t, notice)
 }
 
-/// The tender, taken back by its tenderer.
+/// The tender, withdrawn.
 pub fn withdrawn(envelope: EnvelopeRow) -> EnvelopeRow
     ensures { result ≡ withdrawn envelope }
 {

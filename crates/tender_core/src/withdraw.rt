@@ -19,8 +19,7 @@ use office_values::moment::Moment;
 use office_values::refusal::{Refusal, Thing};
 use std::alloc::Global;
 
-/// The rows that a withdrawal looks at: the tender with its notice, its lot, what its notice says of late withdrawals, and its security;
-/// and the clock.
+/// The rows that a withdrawal reads: the tender, its notice, its lot, the row that allows late withdrawals, its security, and the clock.
 #[derive(Drop)]
 pub struct WithdrawRows {
     pub envelope: Option<EnvelopeRow>,
@@ -31,7 +30,7 @@ pub struct WithdrawRows {
     pub clock: ClockRow,
 }
 
-// Whether the tender can't be withdrawn where it is: from the deadline on one that was opened can be as well.
+// Whether the state of the tender forbids its withdrawal: only a sealed tender can be withdrawn, or from the deadline on also an opened one.
 fn cant_be_taken_back(is_late: bool, envelope: &EnvelopeRow) -> bool
     ensures { result ≡ cant_be_taken_back is_late envelope.now }
 {
@@ -42,7 +41,7 @@ fn cant_be_taken_back(is_late: bool, envelope: &EnvelopeRow) -> bool
     }
 }
 
-// Whether the tender is out of the running, or its lot isn't undecided.
+// Whether the tender can't win any more, or its lot is no longer undecided.
 fn is_decided(envelope: &EnvelopeRow, lot: &Option<LotRow>) -> bool
     ensures { result ≡ is_decided (Some envelope.now) lot.now }
 {
@@ -53,7 +52,7 @@ fn is_decided(envelope: &EnvelopeRow, lot: &Option<LotRow>) -> bool
     envelope.failed || is_closed
 }
 
-// Whether the notice is there and tenders for it are no longer in effect.
+// Whether the notice exists, and the validity of its tenders has ended.
 fn is_over(t: Moment, notice: &Option<NoticeRow>) -> bool
     ensures { result ≡ holds_of (is_expired t) notice.now }
 {
@@ -63,7 +62,7 @@ fn is_over(t: Moment, notice: &Option<NoticeRow>) -> bool
     }
 }
 
-// What becomes of the security that came with the tender.
+// Appends the change of the tender's security, if it has one: returned or forfeited.
 fn push_settled(
     made: &mut Vec<Put>,
     security: Option<SecurityRow>,
@@ -78,7 +77,7 @@ fn push_settled(
     Ok(())
 }
 
-// What is put of this tender and this security, before the deadline or from then on.
+// The changes of this tender and this security, before the deadline or from the deadline on.
 fn taken_back(
     alloc: Global,
     t: Moment,
@@ -105,7 +104,7 @@ fn taken_back(
     Ok(made)
 }
 
-/// Why the withdrawal of a tender is refused.
+/// The refusal of the withdrawal, if one of its conditions is true.
 pub fn refusal(t: Moment, caller: &Caller, rows: &WithdrawRows) -> Option<Refusal>
     ensures { result ≡ first_of (withdraw_tests rows.now t caller.now) }
 {
@@ -132,8 +131,7 @@ pub fn refusal(t: Moment, caller: &Caller, rows: &WithdrawRows) -> Option<Refusa
     None
 }
 
-/// What the withdrawal of a tender puts. `Unavailable` where the tender, its notice, its lot or the security that it names isn't
-/// there.
+/// The changes of the withdrawal. `Unavailable` if the tender, its notice, its lot or the security that it names doesn't exist.
 pub fn puts(alloc: Global, t: Moment, rows: WithdrawRows) -> Result<Vec<Put>, Refusal>
     ensures puts { IfOk result (λ made. made.items ≡ withdraw_puts rows t) }
     ensures whole { IfOk result (λ _. withdraw_lacks rows ≡ false) }
@@ -150,7 +148,7 @@ pub fn puts(alloc: Global, t: Moment, rows: WithdrawRows) -> Result<Vec<Put>, Re
     taken_back(alloc, t, rows.clock, envelope, rows.security, late)
 }
 
-/// Decides the withdrawal of a tender: its refusal, or what it puts.
+/// Decides the withdrawal of a tender: the result is its refusal or its changes.
 #[tactic(auto, unfolding(office_base::specs::Deciding::Decides))]
 pub fn decide_withdraw(
     alloc: Global,

@@ -1,4 +1,4 @@
--- What one read of a record does to the records that a reader has left.
+-- The effect of one read on the records that a reader hasn't read yet.
 use Rattle.std.proofs.Common.{◌≡◌, ℕ, ◌+◌, List, [], ◌∷◌, length, Some, refl, sym, ap, ◌∙◌, Bor, true, false, inl}
 use Rattle.std.specs.Prelude.{Bool, IsTrue}
 use Rattle.std.specs.Bool.{MatchBool}
@@ -10,12 +10,12 @@ use Rattle.csv.proofs.ReadFacts.{rows-end, rows-more}
 use Rattle.tender_papers.specs.Inside.Reading.{IsOfSource, IsReading, records_left}
 use Rattle.tender_papers.proofs.RecordSteps.{record_shortens, records_more, records_end}
 
--- the records left, by the bytes left
+-- the unread records follow from the unread bytes
 pub left_is : (reader : Reader (Bor (List ℕ))) (bytes : List ℕ) → source_of (λ s. Some s.now) reader ≡ Some bytes → records_left reader ≡ records_from default_config (length bytes + 1) (reader_state reader) bytes
 unfolding records_left
 left_is reader bytes e = rw e refl
 
--- the next record has these fields
+-- a read took the record with these fields, and the reader is between records again
 record StepsTo (old new : Reader (Bor (List ℕ))) (fields : List (List ℕ)) : Type 0 where
   reading : IsReading new
   read : records_left old ≡ fields ∷ records_left new
@@ -48,13 +48,13 @@ reads_none : (old new : Reader (Bor (List ℕ))) (fields : List (List ℕ)) → 
 reads_none old new fields h r =
     left_is old h.unread h.source ∙ records_end (length h.unread) old.state h.unread (rows-end (λ (s : Bor (List ℕ)). Some s.now) old new fields default_config h.unread h.config h.source r)
 
--- a read gives the next record, or tells that there is none
+-- a read takes the next record, or says correctly that there is none
 pub reads_next : (found : Bool) (old new : Reader (Bor (List ℕ))) (fields : List (List ℕ)) → IsReading old → took_first new ≡ true → is_flexible new ≡ is_flexible old → ReadRecord (λ s. Some s.now) old new found fields
     → (IsTrue found → IsReading new) × MatchBool found (records_left old ≡ fields ∷ records_left new) (records_left old ≡ [])
 reads_next true old new fields h first flexible r = let steps = reads_one old new fields h first flexible r in (λ _. steps.reading, steps.read)
 reads_next false old new fields h first flexible r = (λ e. cc e, reads_none old new fields h r)
 
--- a reader that takes records of any number of fields fails for memory or its source alone
+-- a reader that accepts records of any number of fields fails only because of memory or its source
 pub only_source : (old new : Reader (Bor (List ℕ))) (k : ErrorKind) → is_flexible old ≡ true → ExplainsRead (λ s. Some s.now) old new false k → IsOfSource k
 only_source old new (kind.Io e) flexible why = tt
 only_source old new kind.OutOfMemory flexible why = tt

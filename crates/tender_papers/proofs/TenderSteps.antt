@@ -1,4 +1,4 @@
--- The item records of a tender, as a loop gathers them, and their sums.
+-- The item records of a tender, as a loop collects them, and their sums.
 use Rattle.std.proofs.Common.{◌≡◌, ℕ, List, [], ◌∷◌, ◌++◌, Option, Some, None, refl, sym, ap, ◌∙◌, append_assoc}
 use Rattle.std.proofs.lemmas.List.{append-nil}
 use Rattle.std.specs.Prelude.{Bool, true, false, ◌&&◌, cond, option_map, option_and_then, is_some}
@@ -8,11 +8,11 @@ use Rattle.tender_papers.specs.Tender.{Paper, paper_below_head, is_item, item_re
 use Rattle.tender_papers.specs.Inside.TenderParts.{tender_ended_by}
 use Rattle.tender_papers.specs.declared.tender.ItemRecord.{ItemRecord}
 
--- item records before what is read below them
+-- item records that were read before, and then the content of the rest
 abbrev pub body_before : List ItemRecord → Option Paper → Option Paper
 body_before front body = option_map (λ p. (front ++ p.0, p.1)) body
 
--- four fields whose second isn't empty state no sum
+-- four fields of which the second isn't empty state no sum
 unstated : (a b c : Bool) (n : Option ℕ) → b ≡ false → cond ((a && b) && c) n None ≡ None
 unstated true true c n h = cc h
 unstated true false c n h = refl
@@ -31,7 +31,7 @@ no_sum (a ∷ b ∷ c ∷ []) row h = refl
 no_sum (a ∷ b ∷ c ∷ d ∷ []) row h = no_sum_of_four a b c d row h
 no_sum (a ∷ b ∷ c ∷ d ∷ e ∷ rest) row h = refl
 
--- what is read of a record that reads as this, and of those below it
+-- the content of a record, of which this item record was read or none, and of the records after it
 abbrev body_with : Option ItemRecord → Bool → List ItemRecord → Option ℕ → Option Paper
 body_with row all rows stated = cond (is_some row && all) (option_map (λ s. (cons_option row rows, s)) stated) None
 
@@ -41,7 +41,7 @@ with_row front row false rows stated = refl
 with_row front row true rows None = refl
 with_row front row true rows (Some s) = ap (λ (rs : List ItemRecord). Some (rs, s)) (sym (append_assoc front (row ∷ []) rows))
 
--- an item record, and what is below it
+-- after an item record, the loop has that record more
 pub body_more : (front : List ItemRecord) (r : List (List ℕ)) (rs : List (List (List ℕ))) (row : ItemRecord) → Some row ≡ item_record_of r
     → body_before front (paper_below_head (r ∷ rs)) ≡ body_before (front ++ row ∷ []) (paper_below_head rs)
 unfolding paper_below_head but_last last_of
@@ -52,7 +52,7 @@ body_more front r (x ∷ rs) row is =
     ap (λ o. body_before front (body_with o (list_all is_item below) (filter_map item_record_of below) stated)) (sym is)
     ∙ with_row front row (list_all is_item below) (filter_map item_record_of below) stated
 
--- a record that is no item record
+-- after a record that isn't an item record, the content is decided by `tender_ended_by`
 pub body_stops : (front : List ItemRecord) (r : List (List ℕ)) (rs : List (List (List ℕ))) → None ≡ item_record_of r → body_before front (paper_below_head (r ∷ rs)) ≡ tender_ended_by front r rs
 unfolding paper_below_head but_last last_of
 body_stops front r [] no_item = by (stated_of r)
@@ -64,7 +64,7 @@ body_stops front r (x ∷ rs) no_item =
     let below = but_last (x ∷ rs) in
     ap (λ o. body_before front (body_with o (list_all is_item below) (filter_map item_record_of below) (option_and_then stated_of (last_of (x ∷ rs))))) (sym no_item)
 
--- no closing record
+-- without a closing record, the file isn't a tender
 pub body_none : (front : List ItemRecord) → body_before front (paper_below_head []) ≡ None
 unfolding paper_below_head but_last last_of
 body_none front = refl

@@ -1,3 +1,3 @@
--- Words of private clauses: no public clause speaks of them.
+-- Definitions that only private clauses use.
 pub mod Reading
 pub mod TenderParts

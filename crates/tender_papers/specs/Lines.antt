@@ -1,11 +1,11 @@
--- Texts of lines, in a form of this office: a tab stands between two fields, a line feed behind the last.
+-- Lines of text in the format of this office: a tab separates two fields, and a line feed ends the line.
 use Rattle.std.specs.Prelude.{ℕ, List, [], ◌∷◌, ◌++◌, codes}
 
--- a field with the tab behind it
+-- a field that isn't the last of its line, with its tab
 abbrev pub tabbed : List ℕ → List ℕ
 tabbed field = field ++ codes "\t"
 
--- the last field of a line, with its line feed
+-- the last field of a line, with the line feed
 abbrev pub ended : List ℕ → List ℕ
 ended field = field ++ codes "\n"
 

@@ -1,4 +1,4 @@
--- Worked examples of files and texts.
+-- Examples of files and texts.
 use Rattle.std.specs.Prelude.{ℕ, suc, Bool, true, false, List, [], ◌∷◌, codes, replicate, Option, Some, None}
 use Rattle.std.proofs.Math.Nat.{zero-lt-suc}
 use Rattle.office_commands.specs.declared.budget.BudgetKind.TheVariants.{Add}
@@ -20,23 +20,23 @@ use Rattle.tender_papers.specs.Tender.{reading_of}
 use Rattle.tender_papers.specs.declared.evaluation.Finding.{Finding}
 use Rattle.tender_papers.specs.declared.minutes.OpenedTender.{OpenedTender}
 
--- a row that adds one unit and these more to a line
+-- a row that adds `more + 1` units to a line
 abbrev pub worked_row : List ℕ → ℕ → List ℕ → BudgetRow
 worked_row line more title = record { line = line; kind = Add; amount = suc more; title = title; some = zero-lt-suc more }
 
--- so many of an item
+-- an item with this quantity
 abbrev pub worked_item : List ℕ → ℕ → Item
 worked_item item quantity = record { id = item; title = codes "Paving"; quantity = quantity }
 
--- what a file says for three of the item I1
+-- the reading of a file for three of the item I1
 abbrev pub worked_reading : List ℕ → Reading
 worked_reading bytes = reading_of (worked_item (codes "I1") 3 ∷ []) (csv_records bytes)
 
--- what a file says for three of the item I1 and one of I2
+-- the reading of a file for three of the item I1 and one of I2
 abbrev pub worked_reading_of_two : List ℕ → Reading
 worked_reading_of_two bytes = reading_of (worked_item (codes "I1") 3 ∷ worked_item (codes "I2") 1 ∷ []) (csv_records bytes)
 
--- 1000, of which 400 is free, 300 reserved, 200 contracted and 100 paid
+-- a line with 1000, of which 400 are free, 300 reserved, 200 contracted and 100 paid
 abbrev pub worked_ledger_row : LedgerRow
 worked_ledger_row = record {
   line = codes "1000";
@@ -61,7 +61,7 @@ worked_envelope receipt state = record {
   failed = false;
 }
 
--- a notice whose deadline is 2026-03-01T12:00:00Z
+-- a notice with the deadline 2026-03-01T12:00:00Z
 abbrev pub worked_notice : NoticeRow
 worked_notice = record {
   notice = codes "N1";
@@ -78,7 +78,7 @@ worked_notice = record {
   performance = 0;
 }
 
--- a lot of three of the item I1
+-- a lot for three of the item I1
 abbrev pub worked_lot : List ℕ → List ℕ → LotRow
 worked_lot lot title = record {
   notice = codes "N1";
@@ -92,7 +92,7 @@ worked_lot lot title = record {
   reserved = 100;
 }
 
--- a tender of Alpha for a lot
+-- a tender of the firm Alpha for a lot
 abbrev pub worked_tender : ℕ → List ℕ → Reading → OpenedTender
 worked_tender receipt lot reading = record {
   lot = lot;
@@ -101,7 +101,7 @@ worked_tender receipt lot reading = record {
   reading = reading;
 }
 
--- a tender of T1 with nothing found of it but how it reads
+-- a tender of T1 that was read but not examined
 abbrev pub worked_finding : ℕ → Reading → Finding
 worked_finding receipt reading = record {
   receipt = receipt;
@@ -114,7 +114,7 @@ worked_finding receipt reading = record {
   failed = false;
 }
 
--- one that was found responsive, with a quality, points or none, and whether it is out of the running
+-- a tender of T1 that was found responsive, with these points for quality and these points in total
 abbrev pub worked_answer : ℕ → ℕ → ℕ → Option ℕ → Bool → Bool → Finding
 worked_answer receipt price quality points admissible failed = record {
   receipt = receipt;
@@ -127,7 +127,7 @@ worked_answer receipt price quality points admissible failed = record {
   failed = failed;
 }
 
--- an award of a lot
+-- an award of the lot L1
 abbrev pub worked_award : ℕ → ℕ → ℕ → AwardState → AwardRow
 worked_award award receipt price state =
     record { award = award; notice = codes "N1"; lot = codes "L1"; receipt = receipt; price = price; moment = 1772445600; state = state }

@@ -1,4 +1,4 @@
-//! Budget files.
+//! Reads budget files.
 ghost use Rattle.std.specs.Prelude.{◌≡◌, ◌+◌, ◌<◌, ◌^◌, length, IfOk};
 ghost use Rattle.csv.specs.Records.{fields_of};
 ghost use Rattle.tender_papers.specs.Files.{csv_records};
@@ -13,13 +13,13 @@ use office_values::text::TextLine;
 use std::alloc::{AllocError, AllocFailed, Global};
 use thiserror::Error;
 
-/// Why a budget file gives no rows.
+/// The reason why a budget file gives no rows.
 #[derive(Debug, Drop, Error)]
 pub enum BudgetFault {
-    /// Memory was refused.
+    /// There was too little memory.
     #[error("no memory")]
     NoMemory,
-    /// The number of the first faulty record, counted from 1 with the head; 1 also for an empty file.
+    /// The number of the first faulty record. The head is record 1, and an empty file is faulty at 1.
     #[error("row {0}")]
     BadRow(u32),
 }
@@ -57,7 +57,7 @@ fn kind_in(word: &[u8]) -> Option<BudgetKind>
     }
 }
 
-// The row that four fields are.
+// The row in four fields.
 fn row_in_fields(
     alloc: Global,
     line: &[u8],
@@ -91,7 +91,7 @@ fn row_in_fields(
     }))
 }
 
-// The row that a record is.
+// The row in a record.
 fn row_in(alloc: Global, row: &ByteRecord) -> Result<Option<BudgetRow>, AllocError>
     ensures { IfOk result (λ found. found ≡ row_of (fields_of row.now)) }
 {
@@ -108,7 +108,7 @@ fn is_budget_head(row: &ByteRecord) -> bool
     says(row, b"line", b"kind", b"amount", b"title")
 }
 
-// The rows behind the head, each read into the one `row`.
+// The rows after the head. Each record is read into the same `row`.
 fn read_rows(
     alloc: Global,
     reader: &mut Reader<&[u8]>,
@@ -130,10 +130,9 @@ fn read_rows(
     Ok(BudgetRows::from_vec(rows))
 }
 
-/// The rows of a budget file: CSV (RFC 4180), comma separated, in records that end in LF, CR LF or CR, with one byte order
-/// mark dropped from the front. Record 1 is `line,kind,amount,title`. Each other is a row: an identifier, `add` or `cut`,
-/// a number of 1 to 10^15 and a line of text. `BadRow` comes exactly where a record is none of these, for the first such
-/// record; `NoMemory` where memory was refused.
+/// The rows of a budget file. The file is CSV (RFC 4180), separated by commas, with records that end in LF, CR LF or CR. One byte order mark at the beginning
+/// is dropped. Record 1 is `line,kind,amount,title`. Every other record is a row: an identifier, `add` or `cut`, a number from 1 to 10^15, and a line of text.
+/// `BadRow` names the first record that has another form. `NoMemory` means too little memory.
 pub fn read_budget(alloc: Global, text: &[u8]) -> Result<BudgetRows, BudgetFault>
     requires { length text.now < 2 ^ 32 }
     ensures { Gives result (budget_of (csv_records text.now)) }

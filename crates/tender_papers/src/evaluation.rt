@@ -1,4 +1,4 @@
-//! How the awards of a notice came about, as a text (UNCITRAL Model Law 2011, articles 11, 25 and 43), written lot by lot.
+//! The evaluation of a notice, as a text (UNCITRAL Model Law 2011, articles 11, 25 and 43). It is written lot by lot.
 ghost use Rattle.std.specs.Prelude.{◌≡◌, ◌++◌, IfOk};
 ghost use Rattle.tender_papers.specs.Evaluation.{answer_word, award_line, award_word, evaluation_end, evaluation_head, finding_fields, finding_line, lot_state_line, lot_word, number_or_dash, standing_word};
 ghost use Rattle.tender_papers.specs.Lines.{line, tabbed};
@@ -13,8 +13,8 @@ use office_values::text::Bytes;
 use std::alloc::{AllocError, Global};
 use std::marker::Model;
 
-/// What was found of a tender that was opened: how it reads, whether its examination found it responsive and of which quality, its thousandths
-/// of points, whether it may win, and whether it is out of the running.
+/// An opened tender as its evaluation shows it: its reading, the result of its examination, and its points in thousandths. `admissible` is true if it can win.
+/// `failed` is true if it can't win any more, because its tenderer failed to sign or withdrew it late.
 #[derive(Clone, Copy)]
 pub struct Finding {
     pub receipt: GivenNumber,
@@ -27,12 +27,13 @@ pub struct Finding {
     pub failed: bool,
 }
 
-// As much as the head and the last line take at most, and a lot with some tenders.
+// The first and the last line together are shorter than this.
 const HEAD_ROOM: usize = 64;
 
+// The lines of a lot with some tenders are about this long.
 const LOT_ROOM: usize = 1024;
 
-/// The word for how far a lot has come.
+/// The word for the state of a lot.
 pub fn lot_word(state: LotState) -> &'static str
     ensures { result.now ≡ lot_word state }
 {
@@ -45,7 +46,7 @@ pub fn lot_word(state: LotState) -> &'static str
     }
 }
 
-// The word for how far an award has come.
+// The word for the state of an award.
 fn award_word(state: AwardState) -> &'static [u8]
     ensures { result.now ≡ award_word state }
 {
@@ -57,7 +58,7 @@ fn award_word(state: AwardState) -> &'static [u8]
     }
 }
 
-// The word for what an examination answered.
+// The word for the result of an examination; a dash if there was none.
 fn answer_word(responsive: Option<bool>) -> &'static [u8]
     ensures { result.now ≡ answer_word responsive }
 {
@@ -68,7 +69,7 @@ fn answer_word(responsive: Option<bool>) -> &'static [u8]
     }
 }
 
-// The word for whether a tender is out of the running, or may win.
+// The word for a tender that can't win any more, or for one that is admissible; a dash if neither is true.
 fn standing_word(failed: bool, admissible: bool) -> &'static [u8]
     ensures { result.now ≡ standing_word failed admissible }
 {
@@ -81,7 +82,7 @@ fn standing_word(failed: bool, admissible: bool) -> &'static [u8]
     }
 }
 
-// A quality that may be absent, as a number.
+// The points for quality as a number, if there are any.
 fn number_of(quality: Option<Quality>) -> Option<u64>
     ensures { result ≡ quality }
 {
@@ -91,7 +92,7 @@ fn number_of(quality: Option<Quality>) -> Option<u64>
     }
 }
 
-// A number that may be absent and isn't the last field of its line.
+// Appends a number or a dash, as a field that isn't the last of its line.
 fn put_number(lines: &mut Lines, number: Option<u64>) -> Result<(), AllocError>
     ensures { IfOk result (λ _. lines.new ≡ lines.old ++ tabbed (number_or_dash number)) }
 {
@@ -101,7 +102,7 @@ fn put_number(lines: &mut Lines, number: Option<u64>) -> Result<(), AllocError>
     }
 }
 
-// What was found of a tender, up to the end of its line.
+// Appends the reading and the examination of a tender, up to the end of its line.
 fn put_finding(lines: &mut Lines, finding: &Finding) -> Result<(), AllocError>
     ensures { IfOk result (λ _. lines.new ≡ lines.old ++ line (finding_fields finding.now finding.now.reading)) }
 {
@@ -119,8 +120,8 @@ fn put_finding(lines: &mut Lines, finding: &Finding) -> Result<(), AllocError>
     }
 }
 
-/// The text of an evaluation, written lot by lot: a line that names the notice; for each lot a line with how far it has come, one for each of
-/// its tenders, and one for each of its awards; `END` closes them. A tab stands between two fields, and a line feed behind each line.
+/// The text of an evaluation, written lot by lot. It has a line that names the notice. For each lot it has a line with the lot's state, a line for each tender
+/// and a line for each award. Its last line is `END`. A tab separates two fields, and a line feed ends each line.
 #[derive(Drop)]
 pub struct EvaluationText {
     lines: Lines,
@@ -135,7 +136,7 @@ impl Model for EvaluationText {
 }
 
 impl EvaluationText {
-    /// The line of the notice, with room for so many lots.
+    /// Begins the text with the line of the notice, and allocates memory for so many lots.
     pub fn begin(alloc: Global, notice: Id, lots: usize) -> Result<EvaluationText, AllocError>
         ensures { IfOk result (λ text. text ≡ evaluation_head notice) }
     {
@@ -145,7 +146,7 @@ impl EvaluationText {
         Ok(EvaluationText { lines })
     }
 
-    /// The line of a lot.
+    /// Appends the line of a lot.
     pub fn put_lot(&mut self, lot: Id, state: LotState) -> Result<(), AllocError>
         ensures { IfOk result (λ _. self.new ≡ self.old ++ lot_state_line lot state) }
     {
@@ -154,7 +155,7 @@ impl EvaluationText {
         self.lines.last(lot_word(state).as_bytes())
     }
 
-    /// The line of a tender of the lot.
+    /// Appends the line of a tender for the lot.
     pub fn put_tender(&mut self, finding: &Finding) -> Result<(), AllocError>
         ensures { IfOk result (λ _. self.new ≡ self.old ++ finding_line finding.now) }
     {
@@ -164,7 +165,7 @@ impl EvaluationText {
         put_finding(&mut self.lines, finding)
     }
 
-    /// The line of an award of the lot.
+    /// Appends the line of an award of the lot.
     pub fn put_award(&mut self, award: &AwardRow) -> Result<(), AllocError>
         ensures { IfOk result (λ _. self.new ≡ self.old ++ award_line award.now) }
     {
@@ -175,7 +176,7 @@ impl EvaluationText {
         self.lines.last(award_word(award.state))
     }
 
-    /// The whole text.
+    /// Appends the last line, and returns the text.
     pub fn end(self) -> Result<Bytes, AllocError>
         ensures { IfOk result (λ text. text ≡ self ++ evaluation_end) }
     {

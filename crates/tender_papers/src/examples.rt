@@ -1,4 +1,4 @@
-//! Worked examples of the definitions.
+//! Examples of the definitions, computed.
 ghost use Rattle.std.specs.Prelude.{◌≡◌, ◌∷◌, ◌++◌, [], codes, Ok, Err, Some, None, true, false};
 ghost use Rattle.office_base.specs.declared.reading.Reading.TheVariants.{Unreadable, Nonconforming, Priced};
 ghost use Rattle.office_base.specs.declared.records.AwardState.TheVariants.{Failed};
@@ -13,7 +13,7 @@ ghost use Rattle.tender_papers.specs.Minutes.{minutes_text};
 ghost use Rattle.tender_papers.specs.Register.{register_text};
 ghost use Rattle.tender_papers.specs.WorkedPapers.{worked_answer, worked_award, worked_envelope, worked_finding, worked_lot, worked_notice, worked_ledger_row, worked_reading, worked_reading_of_two, worked_row, worked_tender};
 
-/// Budget files.
+/// Examples of budget files.
 pub fn worked_budgets()
     ensures two_rows { budget_of (csv_records (codes "line,kind,amount,title\n1000,add,1000,Roads\n2000,add,50,Parks\n"))
         ≡ Ok (worked_row (codes "1000") 999 (codes "Roads") ∷ worked_row (codes "2000") 49 (codes "Parks") ∷ []) }
@@ -21,7 +21,7 @@ pub fn worked_budgets()
     ensures no_head { budget_of (csv_records []) ≡ Err 1 }
 {}
 
-/// Tenders for three of the item I1, and in the last clause for one of I2 too.
+/// Examples of tenders for three of the item I1. In the last clause the lot also asks for one of I2.
 pub fn worked_tenders()
     ensures corrected_sums { worked_reading (codes "item,quantity,unit,total\nI1,3,10,40\nTOTAL,,,40\n") ≡ Priced 40 30 2 }
     ensures with_mark_and_returns { worked_reading (239 ∷ 187 ∷ 191 ∷ codes "item,quantity,unit,total\r\nI1,3,10,40\r\nTOTAL,,,40\r\n") ≡ Priced 40 30 2 }
@@ -37,7 +37,7 @@ pub fn worked_tenders()
     ensures other_order { worked_reading_of_two (codes "item,quantity,unit,total\nI2,1,5,5\nI1,3,10,30\nTOTAL,,,35\n") ≡ Nonconforming }
 {}
 
-/// A text of each kind.
+/// An example of each kind of text.
 pub fn worked_printed_texts()
     ensures ledger { ledger_text (worked_ledger_row ∷ [])
         ≡ codes "LEDGER\nline\tappropriation\tfree\treserved\tcontracted\tpaid\n1000\t1000\t400\t300\t200\t100\n" }

@@ -1,4 +1,4 @@
-//! The ledger of an office.
+//! The ledger of an office, as a text.
 ghost use Rattle.std.specs.Prelude.{◌≡◌, ◌++◌, IfOk};
 ghost use Rattle.tender_papers.specs.Ledger.{ledger_columns, ledger_line, ledger_text};
 ghost use Rattle.tender_papers.specs.Lines.{line};
@@ -8,12 +8,13 @@ use office_base::ledger::LedgerRow;
 use office_values::text::Bytes;
 use std::alloc::{AllocError, Global};
 
-// As much as the head takes at most, and a row.
+// The first two lines together are shorter than this.
 const HEAD_ROOM: usize = 64;
 
+// The line of a budget line is shorter than this.
 const ROW_ROOM: usize = 128;
 
-// The names of the columns, behind what is there.
+// Appends the names of the columns.
 fn put_columns(lines: &mut Lines) -> Result<(), AllocError>
     ensures { IfOk result (λ _. lines.new ≡ lines.old ++ line ledger_columns) }
 {
@@ -25,7 +26,7 @@ fn put_columns(lines: &mut Lines) -> Result<(), AllocError>
     lines.last(b"paid")
 }
 
-// The line of a budget line, behind what is there.
+// Appends the line of a budget line.
 fn put_line(lines: &mut Lines, row: &LedgerRow) -> Result<(), AllocError>
     ensures { IfOk result (λ _. lines.new ≡ lines.old ++ ledger_line row.now) }
 {
@@ -37,8 +38,8 @@ fn put_line(lines: &mut Lines, row: &LedgerRow) -> Result<(), AllocError>
     lines.last_number(row.pots.paid.units())
 }
 
-/// The text of a ledger: a line that names it, one of the columns, and one for each of these budget lines, in their order. A tab stands
-/// between two fields, and a line feed behind each line.
+/// The text of a ledger: a line `LEDGER`, a line with the names of the columns, and a line for each of these budget lines, in their order. A tab separates two
+/// fields, and a line feed ends each line.
 pub fn ledger_text(alloc: Global, rows: &[LedgerRow]) -> Result<Bytes, AllocError>
     ensures { IfOk result (λ text. text ≡ ledger_text rows.now) }
 {

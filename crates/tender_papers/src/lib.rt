@@ -1,4 +1,4 @@
-//! Papers of a procurement office: files that come in, as CSV, and texts that go out.
+//! The files that people submit to a procurement office, in CSV, and the texts that the office shows.
 #![tactic(auto)]
 
 pub mod budget;

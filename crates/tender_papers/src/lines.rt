@@ -1,4 +1,4 @@
-//! Texts of lines, field by field.
+//! Texts that are written line by line and field by field.
 ghost use Rattle.std.specs.Prelude.{◌≡◌, ◌++◌, [], IfOk, decimal};
 ghost use Rattle.tender_papers.specs.Lines.{ended, tabbed};
 
@@ -22,7 +22,7 @@ impl Model for Lines {
 }
 
 impl Lines {
-    /// An empty text, with room for `head` bytes and for `rows` rows of `row` bytes.
+    /// An empty text with memory for `head` bytes, and for `rows` rows of `row` bytes each.
     pub(crate) fn with_room(
         alloc: Global,
         head: usize,
@@ -37,7 +37,7 @@ impl Lines {
         })
     }
 
-    /// A field that isn't the last of its line.
+    /// Appends a field that isn't the last of its line.
     pub(crate) fn field(&mut self, text: &[u8]) -> Result<(), AllocError>
         ensures { IfOk result (λ _. self.new ≡ self.old ++ tabbed text.now) }
     {
@@ -46,7 +46,7 @@ impl Lines {
         Ok(())
     }
 
-    /// The last field of a line.
+    /// Appends the last field of a line.
     pub(crate) fn last(&mut self, text: &[u8]) -> Result<(), AllocError>
         ensures { IfOk result (λ _. self.new ≡ self.old ++ ended text.now) }
     {
@@ -55,21 +55,21 @@ impl Lines {
         Ok(())
     }
 
-    /// A number that isn't the last field of its line.
+    /// Appends a number that isn't the last field of its line.
     pub(crate) fn number(&mut self, number: u64) -> Result<(), AllocError>
         ensures { IfOk result (λ _. self.new ≡ self.old ++ tabbed (decimal number)) }
     {
         self.field(Buffer::new().format(number).as_bytes())
     }
 
-    /// A number that is the last field of its line.
+    /// Appends a number that is the last field of its line.
     pub(crate) fn last_number(&mut self, number: u64) -> Result<(), AllocError>
         ensures { IfOk result (λ _. self.new ≡ self.old ++ ended (decimal number)) }
     {
         self.last(Buffer::new().format(number).as_bytes())
     }
 
-    /// The text. Takes no memory.
+    /// The bytes of the text. It allocates no memory.
     pub(crate) fn into_bytes(self) -> Bytes
         ensures { result ≡ self }
     {

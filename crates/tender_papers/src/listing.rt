@@ -1,4 +1,4 @@
-//! The list of an office's notices.
+//! The list of an office's notices, as a text.
 ghost use Rattle.std.specs.Prelude.{◌≡◌, ◌++◌, ◌∷◌, [], IfOk, decimal};
 ghost use Rattle.office_values.specs.Moments.{moment_text};
 ghost use Rattle.tender_papers.specs.Lines.{line, tabbed};
@@ -10,10 +10,10 @@ use office_values::moment::Moment;
 use office_values::text::Bytes;
 use std::alloc::{AllocError, Global};
 
-// As much as a row takes, with a title of some words.
+// The line of a notice with a title of some words is about this long.
 const ROW_ROOM: usize = 192;
 
-/// The word for how far a notice has come.
+/// The word for the state of a notice.
 pub fn notice_word(state: NoticeState) -> &'static str
     ensures { result.now ≡ notice_word state }
 {
@@ -24,7 +24,7 @@ pub fn notice_word(state: NoticeState) -> &'static str
     }
 }
 
-// A moment that may be absent and isn't the last field of its line.
+// Appends a moment or a dash, as a field that isn't the last of its line.
 fn put_moment(lines: &mut Lines, moment: Option<Moment>) -> Result<(), AllocError>
     ensures { IfOk result (λ _. lines.new ≡ lines.old ++ tabbed (moment_or_dash moment)) }
 {
@@ -34,7 +34,7 @@ fn put_moment(lines: &mut Lines, moment: Option<Moment>) -> Result<(), AllocErro
     }
 }
 
-// When a notice was published, its deadline, and when it was opened.
+// Appends the moments of a notice: its publication, its deadline and its opening.
 fn put_moments(lines: &mut Lines, row: &NoticeRow) -> Result<(), AllocError>
     ensures { IfOk result (λ _. lines.new ≡ lines.old
         ++ tabbed (moment_text row.now.published) ++ tabbed (moment_text row.now.deadline) ++ tabbed (moment_or_dash row.now.opened)) }
@@ -44,7 +44,7 @@ fn put_moments(lines: &mut Lines, row: &NoticeRow) -> Result<(), AllocError>
     put_moment(lines, row.opened)
 }
 
-// How often a notice was amended, how many releases it has, and its title, up to the end of its line.
+// Appends the numbers of amendments and releases of a notice, and its title, up to the end of the line.
 fn put_counts(lines: &mut Lines, row: &NoticeRow) -> Result<(), AllocError>
     ensures { IfOk result (λ _. lines.new ≡ lines.old ++ line (decimal row.now.amendments ∷ decimal row.now.releases ∷ row.now.title ∷ [])) }
 {
@@ -53,7 +53,7 @@ fn put_counts(lines: &mut Lines, row: &NoticeRow) -> Result<(), AllocError>
     lines.last(row.title.as_str().as_bytes())
 }
 
-// The line of a notice, behind what is there.
+// Appends the line of a notice.
 fn put_notice(lines: &mut Lines, row: &NoticeRow) -> Result<(), AllocError>
     ensures { IfOk result (λ _. lines.new ≡ lines.old ++ listing_line row.now) }
 {
@@ -63,8 +63,8 @@ fn put_notice(lines: &mut Lines, row: &NoticeRow) -> Result<(), AllocError>
     put_counts(lines, row)
 }
 
-/// The lines of these notices, in their order: name, how far it has come, when it was published, deadline, when it was opened (`-` where it
-/// wasn't), how often it was amended, how many releases it has, title. A tab stands between two fields, and a line feed behind each line.
+/// The lines of these notices, in their order. The fields are the identifier, the state, the moments of publication, deadline and opening (`-` if there was
+/// none), the numbers of amendments and releases, and the title. A tab separates two fields, and a line feed ends each line.
 pub fn listing_text(alloc: Global, rows: &[NoticeRow]) -> Result<Bytes, AllocError>
     ensures { IfOk result (λ text. text ≡ listing_text rows.now) }
 {

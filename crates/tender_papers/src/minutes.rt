@@ -1,4 +1,4 @@
-//! The minutes of an opening (UNCITRAL Model Law 2011, article 42).
+//! The minutes of an opening, as a text (UNCITRAL Model Law 2011, article 42).
 ghost use Rattle.std.specs.Prelude.{◌≡◌, ◌++◌, ◌∷◌, [], IfOk, filter};
 ghost use Rattle.std.specs.List.{flat_map};
 ghost use Rattle.office_values.specs.Moments.{moment_text};
@@ -14,7 +14,7 @@ use office_values::moment::Moment;
 use office_values::text::Bytes;
 use std::alloc::{AllocError, Global};
 
-/// A tender that was opened: its lot, its receipt, who presented it, and what it was found to say.
+/// An opened tender: its lot, its receipt, its tenderer and its reading.
 #[derive(Drop)]
 pub struct OpenedTender {
     pub lot: Id,
@@ -23,12 +23,13 @@ pub struct OpenedTender {
     pub reading: Reading,
 }
 
-// As much as the head and the last line take at most, and a lot or a tender.
+// The first three lines and the last one together are shorter than this.
 const HEAD_ROOM: usize = 320;
 
+// The line of a lot or a tender is shorter than this.
 const ROW_ROOM: usize = 544;
 
-// What a tender was found to say, up to the end of its line.
+// Appends the reading of a tender, up to the end of its line.
 fn put_reading(lines: &mut Lines, reading: Reading) -> Result<(), AllocError>
     ensures { IfOk result (λ _. lines.new ≡ lines.old ++ line (reading_fields reading)) }
 {
@@ -48,7 +49,7 @@ fn put_reading(lines: &mut Lines, reading: Reading) -> Result<(), AllocError>
     }
 }
 
-// The line of a tender, behind what is there.
+// Appends the line of a tender.
 fn put_tender(lines: &mut Lines, tender: &OpenedTender) -> Result<(), AllocError>
     ensures { IfOk result (λ _. lines.new ≡ lines.old ++ tender_line tender.now) }
 {
@@ -60,7 +61,7 @@ fn put_tender(lines: &mut Lines, tender: &OpenedTender) -> Result<(), AllocError
     put_reading(lines, tender.reading)
 }
 
-// The lines of the tenders for a lot, behind what is there.
+// Appends the lines of the tenders for a lot.
 fn put_tenders(lines: &mut Lines, lot: Id, tenders: &[OpenedTender]) -> Result<(), AllocError>
     ensures { IfOk result (λ _. lines.new ≡ lines.old ++ flat_map tender_line (filter (is_of lot) tenders.now)) }
 {
@@ -72,7 +73,7 @@ fn put_tenders(lines: &mut Lines, lot: Id, tenders: &[OpenedTender]) -> Result<(
     Ok(())
 }
 
-// The lines of a lot, behind what is there.
+// Appends the lines of a lot.
 fn put_lot(lines: &mut Lines, lot: &LotRow, tenders: &[OpenedTender]) -> Result<(), AllocError>
     ensures { IfOk result (λ _. lines.new ≡ lines.old ++ lot_lines tenders.now lot.now) }
 {
@@ -82,7 +83,7 @@ fn put_lot(lines: &mut Lines, lot: &LotRow, tenders: &[OpenedTender]) -> Result<
     put_tenders(lines, lot.lot, tenders)
 }
 
-// The line of a moment, behind what is there.
+// Appends the line of a moment.
 fn put_moment(lines: &mut Lines, word: &[u8], moment: Moment) -> Result<(), AllocError>
     ensures { IfOk result (λ _. lines.new ≡ lines.old ++ line (word.now ∷ moment_text moment ∷ [])) }
 {
@@ -90,7 +91,7 @@ fn put_moment(lines: &mut Lines, word: &[u8], moment: Moment) -> Result<(), Allo
     lines.last(&moment.text())
 }
 
-// The first three lines, behind what is there.
+// Appends the first three lines.
 fn put_head(lines: &mut Lines, notice: &NoticeRow, opened: Moment) -> Result<(), AllocError>
     ensures { IfOk result (λ _. lines.new ≡ lines.old ++ minutes_head notice.now opened) }
 {
@@ -101,9 +102,9 @@ fn put_head(lines: &mut Lines, notice: &NoticeRow, opened: Moment) -> Result<(),
     put_moment(lines, b"opened", opened)
 }
 
-/// The text of the minutes of an opening: three lines on the notice, its deadline and when its tenders were opened; for each of these
-/// lots, in their order, a line, and one for each of these tenders that is for it, in their order; `END` closes them. A tab stands
-/// between two fields, and a line feed behind each line.
+/// The text of the minutes of an opening. It begins with three lines: the notice, its deadline and the moment of the opening. For each of these lots, in order,
+/// it has a line for the lot and one for each of these tenders that is for the lot. Its last line is `END`. A tab separates two fields, and a line feed ends
+/// each line.
 pub fn minutes_text(
     alloc: Global,
     notice: &NoticeRow,

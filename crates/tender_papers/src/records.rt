@@ -1,4 +1,4 @@
-//! The records of a CSV file, one at a time.
+//! Reads a CSV file record by record.
 ghost use Rattle.std.specs.Prelude.{◌≡◌, ◌∷◌, [], IfOk, IsTrue, option_map};
 ghost use Rattle.std.specs.Bool.{MatchBool};
 ghost use Rattle.csv.specs.Reading.{error_kind};
@@ -12,7 +12,7 @@ use office_values::money::Total;
 use office_values::number::read_number;
 use std::alloc::{AllocError, Global};
 
-/// A reader of the records of a text, before the first. It takes records of any number of fields.
+/// A reader before the first record of a text. It accepts records with any number of fields.
 pub(crate) fn records_of(alloc: Global, text: &[u8]) -> Reader<&[u8]>
     ensures reading { IsReading result }
     ensures records { records_left result ≡ csv_records text.now }
@@ -24,8 +24,8 @@ pub(crate) fn records_of(alloc: Global, text: &[u8]) -> Reader<&[u8]>
         .from_reader(alloc, text)
 }
 
-// Why such a reader gives no record: for want of memory. `csv` leaves open that the source failed too, which bytes at hand never do;
-// a record of another number of fields is none of its errors.
+// The error of such a reader is always too little memory. `csv` also allows a failure of the source, but bytes in memory never fail. A record with another
+// number of fields is no error.
 fn want_of_memory(error: Error) -> AllocError
     requires { IsOfSource (error_kind error) }
 {
@@ -35,7 +35,7 @@ fn want_of_memory(error: Error) -> AllocError
     }
 }
 
-/// The next record into `row`, and whether there was one.
+/// Reads the next record into `row`. The answer says whether there was one.
 pub(crate) fn next_record(
     reader: &mut Reader<&[u8]>,
     row: &mut ByteRecord,
@@ -52,7 +52,7 @@ pub(crate) fn next_record(
     }
 }
 
-/// The fields of a record of four.
+/// The fields of a record, if there are exactly four.
 pub(crate) fn four_fields(row: &ByteRecord) -> Option<(&[u8], &[u8], &[u8], &[u8])>
     ensures { option_map (λ f. (f.0.now, f.1.now, f.2.now, f.3.now)) result
         ≡ four_of (fields_of row.now) }
@@ -63,7 +63,7 @@ pub(crate) fn four_fields(row: &ByteRecord) -> Option<(&[u8], &[u8], &[u8], &[u8
     Some((row.get(0)?, row.get(1)?, row.get(2)?, row.get(3)?))
 }
 
-/// Whether a record is these four words.
+/// Whether a record has exactly four fields, and they are these four words.
 pub(crate) fn says(
     row: &ByteRecord,
     first: &[u8],
@@ -79,7 +79,7 @@ pub(crate) fn says(
     }
 }
 
-/// The sum that a field writes.
+/// The sum that a field writes; None if it isn't a number up to 10^15.
 pub(crate) fn total_in(field: &[u8]) -> Option<Total>
     ensures { result ≡ number_of field.now }
 {

@@ -1,4 +1,4 @@
-//! The register of a notice's tenders.
+//! The register of a notice's tenders, as a text.
 ghost use Rattle.std.specs.Prelude.{◌≡◌, ◌++◌, IfOk};
 ghost use Rattle.tender_papers.specs.Register.{register_line, register_text, state_word};
 
@@ -8,12 +8,13 @@ use office_values::id::Id;
 use office_values::text::Bytes;
 use std::alloc::{AllocError, Global};
 
-// As much as the head takes at most, and a row.
+// The first line is shorter than this.
 const HEAD_ROOM: usize = 48;
 
+// The line of a tender is shorter than this.
 const ROW_ROOM: usize = 128;
 
-// The word for where a tender is.
+// The word for the state of a tender.
 fn word_of(state: EnvelopeState) -> &'static [u8]
     ensures { result.now ≡ state_word state }
 {
@@ -25,7 +26,7 @@ fn word_of(state: EnvelopeState) -> &'static [u8]
     }
 }
 
-// The line of a tender, behind what is there.
+// Appends the line of a tender.
 fn put_envelope(lines: &mut Lines, row: &EnvelopeRow) -> Result<(), AllocError>
     ensures { IfOk result (λ _. lines.new ≡ lines.old ++ register_line row.now) }
 {
@@ -36,8 +37,8 @@ fn put_envelope(lines: &mut Lines, row: &EnvelopeRow) -> Result<(), AllocError>
     lines.last(word_of(row.state))
 }
 
-/// The text of the register of a notice: a line that names it, and one for each of these tenders, in their order: receipt, lot, moment,
-/// length and where it is. It shows no digest and no tenderer. A tab stands between two fields, and a line feed behind each line.
+/// The text of the register of a notice: a line that names it, and a line for each of these tenders, in their order. The fields are the receipt, the lot, the
+/// moment, the length and the state, but neither a digest nor a tenderer. A tab separates two fields, and a line feed ends each line.
 pub fn register_text(alloc: Global, notice: Id, rows: &[EnvelopeRow]) -> Result<Bytes, AllocError>
     ensures { IfOk result (λ text. text ≡ register_text notice rows.now) }
 {

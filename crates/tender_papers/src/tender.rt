@@ -1,4 +1,4 @@
-//! Tenders, as their files say them.
+//! Reads tender files.
 ghost use Rattle.std.specs.Prelude.{◌≡◌, ◌≤◌, ◌*◌, ◌^◌, IfOk, length};
 ghost use Rattle.std.specs.List.{count_by, list_all};
 ghost use Rattle.csv.specs.Records.{fields_of};
@@ -20,7 +20,7 @@ use std::marker::Model;
 // The greatest unit price.
 const UNIT_LIMIT: u64 = 1_000_000_000;
 
-/// What a tender's file says of an item: its name, how many, the unit price, and what they come to by the tenderer's reckoning.
+/// An item in a tender file: its name, quantity and unit price, and the total that the tenderer states.
 #[derive(Drop)]
 pub struct ItemRecord {
     pub name: Bytes,
@@ -29,7 +29,7 @@ pub struct ItemRecord {
     pub total: Total,
 }
 
-// A file that has the form of a tender: its item records, and the sum that it states.
+// The content of a file that has the form of a tender: its item records, and the sum that it states.
 #[derive(Drop)]
 struct Paper {
     rows: Vec<ItemRecord>,
@@ -45,7 +45,7 @@ impl Model for Paper {
 }
 
 impl ItemRecord {
-    // Quantity times unit price.
+    // The quantity times the unit price.
     fn price(&self) -> u128
         ensures value { result ≡ self.now.quantity * self.now.unit }
         ensures bound { result ≤ 10 ^ 30 }
@@ -54,7 +54,7 @@ impl ItemRecord {
     }
 }
 
-// The item record that four fields are.
+// The item record in four fields.
 fn item_in_fields(
     alloc: Global,
     name: &[u8],
@@ -80,7 +80,7 @@ fn item_in_fields(
     }))
 }
 
-// The item record that a record is.
+// The item record in a record.
 fn item_in(alloc: Global, row: &ByteRecord) -> Result<Option<ItemRecord>, AllocError>
     ensures { IfOk result (λ found. found ≡ item_record_of (fields_of row.now)) }
 {
@@ -109,7 +109,7 @@ fn is_tender_head(row: &ByteRecord) -> bool
     says(row, b"item", b"quantity", b"unit", b"total")
 }
 
-// The tender that a record closes, where none stands below it.
+// The tender that ends with the record `row`. None if `row` states no sum, or if another record follows.
 fn read_end(
     reader: &mut Reader<&[u8]>,
     row: &mut ByteRecord,
@@ -127,7 +127,7 @@ fn read_end(
     Ok(Some(Paper { rows, stated }))
 }
 
-// What stands below the head, each record read into the one `row`.
+// The content of the records after the head. Each record is read into the same `row`.
 fn read_body(
     alloc: Global,
     reader: &mut Reader<&[u8]>,
@@ -146,7 +146,7 @@ fn read_body(
     Ok(None)
 }
 
-// The tender that a file is, where it has the form of one.
+// The content of a file, if it has the form of a tender.
 fn read_paper(alloc: Global, bytes: &[u8]) -> Result<Option<Paper>, AllocError>
     ensures { IfOk result (λ paper. paper ≡ paper_of (csv_records bytes.now)) }
 {
@@ -158,14 +158,14 @@ fn read_paper(alloc: Global, bytes: &[u8]) -> Result<Option<Paper>, AllocError>
     read_body(alloc, &mut reader, &mut row)
 }
 
-// Whether an item record names this item with its quantity.
+// Whether an item record names this item and its quantity.
 fn is_for(row: &ItemRecord, item: &Item) -> bool
     ensures { result ≡ is_for row.now item.now }
 {
     row.name.as_slice() == item.id.as_bytes() && row.quantity.units() == item.quantity.get()
 }
 
-// Whether item records are for these items, one for one and in their order.
+// Whether the item records are for these items, one for each, in their order.
 fn are_for(rows: &[ItemRecord], items: &[Item]) -> bool
     ensures { result ≡ are_for rows.now items.now }
 {
@@ -191,7 +191,7 @@ fn are_units(rows: &[ItemRecord]) -> bool
     rows.iter().all(|row| row.unit.units() <= UNIT_LIMIT)
 }
 
-// The corrected sum, where it is an amount. The loop ends at a sum that is none, so that no sum wraps.
+// The corrected sum, if it is within the bound of an amount. The loop ends as soon as the sum is above the bound, so no sum overflows.
 fn corrected_amount(rows: &[ItemRecord]) -> Option<Amount>
     ensures { result ≡ corrected_amount rows.now }
 {
@@ -205,7 +205,7 @@ fn corrected_amount(rows: &[ItemRecord]) -> Option<Amount>
     Amount::read(sum as u64)
 }
 
-// How many totals of item records are wrong.
+// The number of item records whose stated total is wrong.
 fn wrong_totals(rows: &[ItemRecord]) -> u64
     ensures value { result ≡ count_by is_wrong rows.now }
     ensures bound { result ≤ length rows.now }
@@ -219,7 +219,7 @@ fn wrong_totals(rows: &[ItemRecord]) -> u64
     wrong
 }
 
-// How many figures the correction changes.
+// The number of figures that the correction changes.
 fn count_corrections(rows: &[ItemRecord], stated: Total, corrected: Amount) -> CorrectionCount
     requires { corrected ≡ corrected_of rows.now }
     ensures { result ≡ corrections_of rows.now stated }
@@ -232,11 +232,11 @@ fn count_corrections(rows: &[ItemRecord], stated: Total, corrected: Amount) -> C
     }
 }
 
-/// What the file of a tender for a lot of these items says: CSV (RFC 4180), comma separated, in records that end in LF, CR LF or CR,
-/// with one byte order mark dropped from the front. It is `Unreadable` unless record 1 is `item,quantity,unit,total`, the last is
-/// `TOTAL`, two empty fields and a number, and each between is a field and three numbers. It is `Nonconforming` where the records
-/// between aren't for the items, one for one in their order and with their quantities, a unit price is above 10^9, or the sum of
-/// quantities times unit prices is above 10^12. Else it is `Priced` at that sum.
+/// The reading of a tender file for a lot with these items. The file is CSV (RFC 4180), separated by commas, with records that end in LF, CR LF or CR. One byte
+/// order mark at the beginning is dropped. It is `Unreadable` unless record 1 is `item,quantity,unit,total`, the last record is `TOTAL`, two empty fields and a
+/// number, and every other record is a field and three numbers. It is `Nonconforming` if the item records aren't for the items, one for each, in their order
+/// and with their quantities. So it is if a unit price is above 10^9, or the sum of quantities times unit prices above 10^12. Otherwise it is `Priced` at that
+/// sum.
 pub fn read_tender(alloc: Global, bytes: &[u8], items: &[Item]) -> Result<Reading, AllocError>
     ensures { IfOk result (λ reading. reading ≡ reading_of items.now (csv_records bytes.now)) }
 {

@@ -1,4 +1,4 @@
-//! An office in memory whose store breaks once, for tests. It stands apart from them, so that its proof is made beside theirs.
+//! An office in memory whose store fails once, for tests. It is a crate of its own, so that its proof runs beside those of the tests.
 #![tactic(auto)]
 
 pub mod shelf;

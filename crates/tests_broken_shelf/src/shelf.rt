@@ -1,4 +1,4 @@
-//! A shelf whose store breaks once, for tests.
+//! A store that fails once, for tests.
 ghost use Rattle.std.specs.Prelude.{◌≡◌};
 ghost use Rattle.office_base.specs.Faults.{one_fault_more};
 ghost use Rattle.office_base.specs.Tables.{IsSorted};
@@ -16,7 +16,7 @@ use office_values::given::AskedNumber;
 use office_values::id::Id;
 use std::alloc::Global;
 
-// Breaks, or passes the call on and counts its fault.
+// Fails, or passes the call on and counts its fault.
 macro_rules! passed {
     ($shelf:ident, $call:expr) => {{
         if $shelf.breaks() {
@@ -29,10 +29,10 @@ macro_rules! passed {
     }};
 }
 
-/// An office in memory whose store breaks at one call. Every other call is passed to the office.
+/// An office in memory whose store fails at one call. It passes every other call to the office.
 pub struct BrokenShelf {
     shelf: MemoryShelf,
-    // How many calls are still passed on before that one.
+    // The number of calls that it still passes on before that one.
     left: u64,
     faults: u64,
 }
@@ -48,7 +48,7 @@ impl Drop for BrokenShelf {
 }
 
 impl BrokenShelf {
-    /// An empty office that breaks after so many calls.
+    /// An empty office that fails after this many calls.
     pub fn new(alloc: Global, left: u64) -> BrokenShelf {
         BrokenShelf {
             shelf: MemoryShelf::new(alloc),
@@ -57,7 +57,7 @@ impl BrokenShelf {
         }
     }
 
-    /// The office, whose store never breaks.
+    /// The office in memory, whose store never fails.
     pub fn into_memory(self) -> MemoryShelf {
         let BrokenShelf {
             shelf,
@@ -67,7 +67,7 @@ impl BrokenShelf {
         shelf
     }
 
-    // Whether the store breaks at this call.
+    // Whether the store fails at this call.
     fn breaks(&mut self) -> bool
         ensures kept { self.new.shelf ≡ self.old.shelf }
         ensures counted { self.new.faults ≡ self.old.faults }
@@ -263,7 +263,7 @@ impl Lookups for BrokenShelf {
         passed!(self, self.shelf.list_amounts_of_line(line))
     }
 
-    // Each fault is named, since the contract of the ledger says for each why it comes.
+    // Each fault is named, because the contract of the ledger says of each why it comes.
     fn ledger(&mut self) -> Result<Vec<LedgerRow>, ShelfFault> {
         if self.breaks() {
             return Err(self.counted(ShelfFault::Store));

@@ -1,4 +1,4 @@
-//! What an office on disks says of one row of each of its tables.
+//! Questions to an office on disks about one row of each of its tables.
 use crate::office::OfficeOnDisks;
 use office_base::counts::Sequence;
 use office_base::ledger::LineAmounts;
@@ -6,46 +6,46 @@ use office_base::shelf::{Lookups, ShelfFault};
 use office_values::given::AskedNumber;
 use office_values::id::Id;
 
-/// A question of an office.
+/// A question to an office.
 #[derive(Clone, Copy)]
 pub enum Question {
-    /// For the line `1000`.
+    /// The line `1000`.
     Line,
-    /// For the budget file `B1`.
+    /// The budget file `B1`.
     Batch,
-    /// For the tenderer `T1`.
+    /// The tenderer `T1`.
     Tenderer,
-    /// For the notice `N1`.
+    /// The notice `N1`.
     Notice,
-    /// For its lot `L1`.
+    /// The lot `L1` of the notice.
     Lot,
-    /// For the tender of receipt 1.
+    /// The tender with receipt 1.
     Envelope,
-    /// For the bytes of receipt 1.
+    /// The sealed bytes of receipt 1.
     Seal,
-    /// For security 1.
+    /// Security 1.
     Security,
-    /// For award 1.
+    /// Award 1.
     Award,
-    /// For contract 1.
+    /// Contract 1.
     Contract,
-    /// For its performance security.
+    /// The performance security of the contract.
     Performance,
-    /// For its entry `P1`.
+    /// The entry `P1` of the contract.
     Entry,
-    /// For what is reserved on the line `1000`.
+    /// The reserved money on the line `1000`.
     Reservations,
-    /// For the first release of the notice `N1`.
+    /// The first release of the notice `N1`.
     Release,
-    /// For the merge of its releases.
+    /// The merge of its releases.
     Compiled,
-    /// For the clock.
+    /// The clock.
     Clock,
-    /// For the ledger.
+    /// The ledger.
     Ledger,
 }
 
-// Whether a row is there.
+// Whether the row exists.
 fn is_there<R: Drop>(answer: Result<Option<R>, ShelfFault>) -> Result<bool, ShelfFault> {
     Ok(answer?.is_some())
 }
@@ -55,7 +55,7 @@ fn are_there<R: Drop>(answer: Result<Vec<R>, ShelfFault>) -> Result<bool, ShelfF
     Ok(!answer?.is_empty())
 }
 
-// Whether there are lots that may have reserved something.
+// Whether there are lots that may have reserved money.
 fn are_reserved(answer: Result<LineAmounts, ShelfFault>) -> Result<bool, ShelfFault> {
     let amounts = answer?;
     Ok(!amounts.reserved.as_slice().is_empty())
@@ -94,7 +94,7 @@ fn ask_for_tenders<H: Lookups>(
     }
 }
 
-// Over any shelf, so that it is proved once, and not of a store over a file over a disk.
+// Over any store, so that it is proved once, and not for a store over a file over a disk.
 fn ask<H: Lookups>(shelf: &mut H, question: Question) -> Option<Result<bool, ShelfFault>> {
     let notice = Id::read(b"N1")?;
     match question {
@@ -111,7 +111,7 @@ fn ask<H: Lookups>(shelf: &mut H, question: Question) -> Option<Result<bool, She
 }
 
 impl OfficeOnDisks {
-    /// Whether there is what is asked for.
+    /// Whether the row or the rows of the question exist.
     pub fn asks(&mut self, question: Question) -> Option<Result<bool, ShelfFault>> {
         ask(&mut self.shelf, question)
     }

@@ -1,11 +1,11 @@
-//! What stands in files, whether or not they are an office's: statements on them, a question, and all rows.
+//! The content of files, whether or not they are an office's: statements on them, a question, and all rows.
 use crate::disks::Disks;
 use sqlite::{Connection, FileStore, Options, Row};
 use sqlite_disk::{Fuse, Memory};
 use sqlite_value::value::ValueRef;
 use std::alloc::{AllocError, Global};
 
-/// A database in files on disks, which is open.
+/// An open database in files on disks.
 pub struct Database {
     conn: Connection<FileStore<Fuse<Memory>>>,
 }
@@ -16,7 +16,7 @@ impl Drop for Database {
     }
 }
 
-// Appends what tells a value from any other of its column, and ends it.
+// Appends bytes that no other value of this column has, and the end of the value.
 fn append_value(bytes: &mut Vec<u8>, value: ValueRef<'_>) -> Result<(), AllocError> {
     match value {
         ValueRef::Null => bytes.extend_from_slice(b"null")?,
@@ -37,7 +37,7 @@ fn append_row(bytes: &mut Vec<u8>, row: &Row) -> Option<()> {
 }
 
 impl Database {
-    /// The database in these files; None where they can't be used, or read.
+    /// The database in these files. None if they can't be used or read.
     pub fn open(alloc: Global, disks: Disks) -> Option<Database> {
         let files = disks.into_files();
         if !files.may_be_used() {
@@ -49,12 +49,12 @@ impl Database {
         }
     }
 
-    /// Runs these statements. Whether all were run.
+    /// Runs these statements. Returns whether all were run.
     pub fn changes(&mut self, statements: &str) -> bool {
         self.conn.execute_batch(statements).is_ok()
     }
 
-    /// The number that a question has for its answer.
+    /// The number that answers a question.
     pub fn number(&mut self, question: &str) -> Option<i64> {
         match self.conn.query_row(question, &[]) {
             Ok(row) => row.get(0).ok(),
@@ -62,7 +62,7 @@ impl Database {
         }
     }
 
-    /// Appends all values that a question has for its answers. Whether it has answers, perhaps none.
+    /// Appends all values in the answers to a question. None if it can't be asked.
     pub fn append_all(&mut self, bytes: &mut Vec<u8>, question: &str) -> Option<()> {
         for row in &self.conn.query_all(question, &[]).ok()? {
             append_row(bytes, row)?;
@@ -70,7 +70,7 @@ impl Database {
         Some(())
     }
 
-    /// Its files, once it is closed; None where it can't be.
+    /// Its files after it is closed. None if it can't be closed.
     pub fn close(self) -> Option<Disks> {
         let Database { conn } = self;
         match conn.close_files() {

@@ -3,7 +3,7 @@ use sqlite::Files;
 use sqlite_disk::{Crash, Disk, Fuse, Memory};
 use std::alloc::{AllocError, Global};
 
-/// The log and the database file, on disks that take so many calls each, and fail at every one behind them.
+/// The log and the database file, each on a disk that accepts this many calls and fails at every later one.
 pub struct Disks {
     pub(crate) files: Files<Fuse<Memory>>,
 }
@@ -34,7 +34,7 @@ impl Disks {
         }
     }
 
-    /// Copies of what stands in these files, on disks that take so many calls.
+    /// Copies of the content of these files, on disks that accept this many calls.
     pub fn fused(&self, alloc: Global, log_calls: u64, db_calls: u64) -> Result<Disks, AllocError> {
         let log = copied(alloc, self.files.log.inner().bytes())?;
         let db = copied(alloc, self.files.db.inner().bytes())?;
@@ -46,19 +46,19 @@ impl Disks {
         })
     }
 
-    /// What a process that ends leaves: all that it has written.
+    /// The files that a process leaves when it ends: everything that it has written.
     pub fn left_by_the_process(&self, alloc: Global) -> Result<Disks, AllocError> {
         self.fused(alloc, u64::MAX, u64::MAX)
     }
 
-    /// What a machine that ends leaves: what was flushed, and nothing that was written behind it.
+    /// The files that a machine leaves when it ends: only bytes that were flushed, and none that were written later.
     pub fn left_by_the_machine(mut self, alloc: Global) -> Result<Disks, AllocError> {
         self.files.log.crash();
         self.files.db.crash();
         self.left_by_the_process(alloc)
     }
 
-    /// Whether the same bytes stand in these files as in those.
+    /// Whether these files have the same bytes as those.
     pub fn has_bytes_of(&self, other: &Disks) -> bool {
         let (ours, theirs) = (&self.files, &other.files);
         ours.log.inner().bytes() == theirs.log.inner().bytes()

@@ -1,5 +1,5 @@
-//! An office in two files on disks in memory, which stop after so many calls, for tests. It stands apart from the tests, so that its proof is made beside
-//! theirs, and its types end the drops that they would prove.
+//! An office in two files on disks in memory that stop after some calls, for tests. It is a crate of its own, so that its proof runs beside those of the tests.
+//! Its types also spare the tests the proofs of their drops.
 #![tactic(auto)]
 
 pub mod asking;

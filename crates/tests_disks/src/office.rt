@@ -1,4 +1,4 @@
-//! An office in two files on disks in memory: opened, changed and put down.
+//! An office in two files on disks in memory: opened, changed and closed, or stopped.
 use crate::disks::Disks;
 use office_base::ledger::LedgerRow;
 use office_base::puts::Put;
@@ -10,7 +10,7 @@ use sqlite::{FileStore, Options};
 use sqlite_disk::{Fuse, Memory};
 use std::alloc::Global;
 
-/// An office in two files, which is open.
+/// An open office in two files.
 pub struct OfficeOnDisks {
     pub(crate) shelf: SqlShelf<FileStore<Fuse<Memory>>>,
 }
@@ -21,12 +21,12 @@ impl Drop for OfficeOnDisks {
     }
 }
 
-/// Why no office is opened.
+/// The reason why no office is opened.
 #[derive(Drop)]
 pub enum Unopened {
-    /// What stands in the files is none; they come back.
+    /// The content of the files isn't an office. The files are returned.
     NotAnOffice(Disks),
-    /// The files can't be used, or read, or what they hold can't be made an office; they come back as they were left.
+    /// The files can't be used or read, or no office can be made of their content. The files are returned as they were left.
     Unusable(Disks),
 }
 
@@ -48,17 +48,17 @@ impl OfficeOnDisks {
         }
     }
 
-    /// Makes the changes of a command. Whether they are made.
+    /// Makes the changes of a command. Returns whether they are made.
     pub fn apply(&mut self, puts: Vec<Put>) -> bool {
         self.shelf.apply(puts).is_ok()
     }
 
-    /// The rows of its ledger; None where they can't be had.
+    /// The rows of its ledger, or None if it has none.
     pub fn ledger(&mut self) -> Option<Vec<LedgerRow>> {
         self.shelf.ledger().ok()
     }
 
-    /// Whether its store was shut for good; None where there is no memory to ask.
+    /// Whether its store was closed for good. None if there is no memory to ask.
     pub fn is_shut(&mut self) -> Option<bool> {
         match self.shelf.is_shut() {
             Ok(shut) => Some(shut),
@@ -71,7 +71,7 @@ impl OfficeOnDisks {
         shelf
     }
 
-    /// Its files, once it is closed; None where it can't be.
+    /// Its files after it is closed. None if it can't be closed.
     pub fn close(self) -> Option<Disks> {
         match self.into_shelf().close_files() {
             Ok(files) => Some(Disks { files }),
@@ -89,7 +89,7 @@ impl OfficeOnDisks {
         }
     }
 
-    /// Whether it could be closed, and its files, whether or not it could.
+    /// Whether it could be closed, and its files in both cases.
     pub fn put_down(self) -> (bool, Disks) {
         match self.into_shelf().into_connection().close_files() {
             Ok(files) => (true, Disks { files }),

@@ -7,7 +7,7 @@ use tender_papers::budget::read_budget;
 // A row: its line, its kind, its amount and its title.
 type Row<'a> = (&'a str, BudgetKind, u64, &'a str);
 
-// Files, and their rows.
+// Files, each with its rows.
 const FILES: &[(&[u8], &[Row<'_>])] = &[
     (
         b"line,kind,amount,title\n1000,add,1000,Roads\n2000,add,50,Parks\n",
@@ -29,7 +29,7 @@ const FILES: &[(&[u8], &[Row<'_>])] = &[
     ),
 ];
 
-// Files that have no rows, and what is told of them.
+// Files that have no rows, each with the reported fault.
 const FAULTS: &[(&[u8], &str)] = &[
     (
         b"\xef\xbb\xbf\xef\xbb\xbfline,kind,amount,title\n1,add,1,A\n",
@@ -43,14 +43,14 @@ const FAULTS: &[(&[u8], &str)] = &[
         b"line,kind,amount,title\n1,add,1,A\n2,add,1,B\n3,add,0,C\n4,add,0,D\n",
         "row 4",
     ),
-    // An empty line is no record.
+    // An empty line isn't a record.
     (
         b"line,kind,amount,title\n\n1,add,1,A\n\n2,add,x,B\n",
         "row 3",
     ),
 ];
 
-// Files with a record of three or of five fields, and what is told of them: the record's number, and never want of memory.
+// Files with a record of three or of five fields, each with the reported fault. It is the record's number, never too little memory.
 const OF_OTHER_LENGTHS: &[(&[u8], &str)] = &[
     (b"line,kind,amount\n1,add,1,A\n", "row 1"),
     (b"line,kind,amount\n1,add,1\n", "row 1"),
@@ -67,7 +67,7 @@ const OF_OTHER_LENGTHS: &[(&[u8], &str)] = &[
     ),
 ];
 
-// Records, and the row that each is.
+// Records, each with its row.
 const ROWS: &[(&[u8], Row<'_>)] = &[
     (
         b"1,add,1000000000000000,A",
@@ -87,7 +87,7 @@ const ROWS: &[(&[u8], Row<'_>)] = &[
     (b"1,add,1,\xc3\xa9", ("1", Add, 1, "\u{e9}")),
 ];
 
-// Records that are no rows.
+// Records that aren't rows.
 const NO_ROWS: &[&[u8]] = &[
     b"1,add,1000000000000001,A",
     b"1,add,00000000000000007,A",
@@ -108,7 +108,7 @@ const NO_ROWS: &[&[u8]] = &[
     b"1,add,1",
 ];
 
-// A title of 200 letters, the most that one has.
+// A title of 200 letters, the longest that is allowed.
 const TITLE: &[u8] = &[b'A'; 200];
 
 fn is_row(row: &BudgetRow, wanted: &Row<'_>) -> bool {
@@ -119,7 +119,7 @@ fn is_row(row: &BudgetRow, wanted: &Row<'_>) -> bool {
         && row.title.as_str() == title
 }
 
-// Whether these are the rows that are wanted, which are two at most.
+// Whether these are the expected rows, at most two.
 fn are_rows(rows: &[BudgetRow], wanted: &[Row<'_>]) -> bool {
     match (rows, wanted) {
         ([], []) => true,
@@ -140,7 +140,7 @@ fn has_rows(alloc: Global, file: &[u8], wanted: &[Row<'_>]) -> bool {
     }
 }
 
-// What is told of a file of less than a thousand bytes that has no rows.
+// The fault that is reported of a file of less than a thousand bytes without rows.
 fn fault_in(alloc: Global, file: &[u8]) -> Option<String> {
     if file.len() >= 1000 {
         return None;
@@ -183,7 +183,7 @@ fn reads_files(rt: HostRuntime) {
     assert!(rt; all_are_told(alloc, FAULTS));
 }
 
-// A file of one record under the head, written in two parts.
+// A file with the head line and one record, which is written in two parts.
 fn file_of(alloc: Global, record: &[u8], rest: &[u8]) -> Result<Vec<u8>, AllocError> {
     let mut file = Vec::from_slice(alloc, b"line,kind,amount,title\n")?;
     file.extend_from_slice(record)?;

@@ -1,5 +1,5 @@
-//! Tests of public calls of low crates, apart from these, so that each of them is proved once and not once more with its tests: values and rights, requests,
-//! budgets and tenders as they are read, texts as they are written, merges. Settings and SQL have crates beside this one.
+//! Tests of public calls of low crates: values and rights, requests, budget files and tenders, printed texts, merges. The tests are in a crate of their own, so
+//! that a change of them doesn't void the proofs of those crates. Settings and SQL have other crates of tests.
 #![tactic(auto)]
 
 #[cfg(test)]

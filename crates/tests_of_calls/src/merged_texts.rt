@@ -1,9 +1,9 @@
-//! Merges in stored texts, by the forms of these.
+//! Merges in stored texts, for each form that a text can have.
 use crate::merges::merges_each;
 
-/// What a merge in the stored text meets, and what it leaves to a tree.
+/// Forms that a merge meets in the stored text, and forms that it leaves to a tree.
 const TEXT_FORMS: [(&[&str], &str); 11] = [
-    // New names before, between and after those that stand, beside names that go and stay.
+    // New names before, between and after old ones, beside names that are removed or stay.
     (
         &[
             r#"{"b":1,"d":{"x":[1,{"y":"}"}],"z":"\"]"},"f":3}"#,
@@ -11,7 +11,7 @@ const TEXT_FORMS: [(&[&str], &str); 11] = [
         ],
         r#"{"a":0,"c":2,"d":{"w":1,"x":[1,{"y":"}"}],"z":4},"f":3,"g":5}"#,
     ),
-    // An item that is known, one that isn't, and one that is new, inside an item of a list.
+    // A known item, an unknown one and a new one, inside an item of a list.
     (
         &[
             r#"{"c":[{"id":"1","t":[{"id":"x","v":1},{"id":"y","v":2}]},{"id":"2","t":[]}]}"#,
@@ -19,7 +19,7 @@ const TEXT_FORMS: [(&[&str], &str); 11] = [
         ],
         r#"{"c":[{"id":"1","t":[{"id":"x","v":1},{"id":"y","v":4},{"id":"z","v":3}]},{"id":"2","s":1,"t":[]},{"id":"3"}]}"#,
     ),
-    // Names that begin another.
+    // Names with which another name begins.
     (
         &[
             r#"{"ab":1,"abc":{"a":2},"b":3}"#,
@@ -27,7 +27,7 @@ const TEXT_FORMS: [(&[&str], &str); 11] = [
         ],
         r#"{"a":0,"ab":1,"abc":{"":4,"a":2,"ab":5},"abd":6,"b":3}"#,
     ),
-    // An empty object and an empty list, filled; a list that an object replaces, and the reverse.
+    // An empty object and an empty list that are filled; a list that an object replaces, and the reverse.
     (
         &[
             r#"{"a":{},"b":[],"c":[{"id":"1"}],"d":{"e":1}}"#,
@@ -63,7 +63,7 @@ const TEXT_FORMS: [(&[&str], &str); 11] = [
         ],
         r#"{"l":[{"id":"1","w":3}]}"#,
     ),
-    // An id that stands twice in a release, of an item that is known and of one that is new.
+    // An id that a release has twice, once of a known item and once of a new one.
     (
         &[
             r#"{"l":[{"id":"1","v":1}]}"#,
@@ -71,7 +71,7 @@ const TEXT_FORMS: [(&[&str], &str); 11] = [
         ],
         r#"{"l":[{"id":"1","v":1,"w":2},{"id":"2","v":1,"w":3}]}"#,
     ),
-    // Numbers and texts that aren't told by their bytes.
+    // Numbers at the bounds of their types, and a text with an escape.
     (
         &[
             r#"{"a":-1,"b":18446744073709551615,"c":"\u0001"}"#,
@@ -79,7 +79,7 @@ const TEXT_FORMS: [(&[&str], &str); 11] = [
         ],
         r#"{"a":-1,"b":-9223372036854775808,"c":"\u0001","d":0}"#,
     ),
-    // No object: another kind is merged into an object, and an object into another kind.
+    // Values that aren't objects: another kind is merged into an object, and an object into another kind.
     (
         &[r#"{"a":1}"#, "[1]", r#"{"b":[2,null]}"#],
         r#"{"b":[2,null]}"#,

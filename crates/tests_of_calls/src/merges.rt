@@ -15,7 +15,7 @@ const OTHER: &str = r#"{"p":[{"id":"B"}]}"#;
 
 const SUPPLIER: &str = r#"{"p":[{"id":"A","roles":["tenderer","supplier"]}]}"#;
 
-/// Columns, as far as four values, and what they merge to.
+/// Columns of up to four values, each with their merge.
 const MERGES: [(&[&str], &str); 14] = [
     (&[], "null"),
     (&[r#"{"a":null}"#], "{}"),
@@ -39,26 +39,26 @@ const MERGES: [(&[&str], &str); 14] = [
         &[r#"{"a":{"b":1}}"#, r#"{"a":{"b":null,"c":2}}"#],
         r#"{"a":{"c":2}}"#,
     ),
-    // A null member takes away what was there, and nothing beside it.
+    // A null member removes the old member, and nothing else.
     (&[r#"{"p":1,"q":2}"#, r#"{"p":null}"#], r#"{"q":2}"#),
-    // The same id twice in one list, also where the item is new.
+    // The same id twice in one list, also if the item is new.
     (
         &[r#"[{"id":"A","v":1,"w":1},{"id":"B"},{"id":"A","v":2}]"#],
         r#"[{"id":"A","v":2,"w":1},{"id":"B"}]"#,
     ),
-    // A null inside an array that is no id list stays.
+    // A null inside an array that isn't a list of ids stays.
     (
         &[r#"{"a":["x"]}"#, r#"{"a":[null,"y",null]}"#],
         r#"{"a":[null,"y",null]}"#,
     ),
-    // A literal between two objects, and an empty array between two id lists.
+    // A literal between two objects, and an empty array between two lists of ids.
     (&[r#"{"a":1}"#, "true", r#"{"b":2}"#], r#"{"b":2}"#),
     (
         &[r#"[{"id":"A"}]"#, "[]", r#"[{"id":"B"}]"#],
         r#"[{"id":"B"}]"#,
     ),
     (&[r#"[{"id":"A"}]"#, "[]"], "[]"),
-    // Ids that are numbers make no id list.
+    // Ids that are numbers don't make a list of ids.
     (&[r#"[{"id":1,"v":1}]"#, r#"[{"id":1}]"#], r#"[{"id":1}]"#),
     (&[r#"{"a":1}"#, "null"], "null"),
 ];
@@ -71,7 +71,7 @@ fn parsed(alloc: Global, texts: &[&str]) -> Option<Vec<Value>> {
     Some(values)
 }
 
-/// Whether this is how the value is printed.
+/// Whether the value is printed as this text.
 fn is_printed(alloc: Global, value: &Value, want: &str) -> bool {
     match value.to_string(alloc) {
         Ok(text) => text.as_str() == want,
@@ -79,7 +79,7 @@ fn is_printed(alloc: Global, value: &Value, want: &str) -> bool {
     }
 }
 
-/// Whether this is the text that keeps the merge.
+/// Whether this is the text that stores the merge.
 fn is_kept(alloc: Global, merge: &Value, want: &str) -> bool {
     match merge_to_text(alloc, merge) {
         Ok(text) => text.as_str() == want,
@@ -104,7 +104,7 @@ fn merges_one_by_one(alloc: Global, values: &[Value], want: &str) -> bool {
     is_kept(alloc, &merge, want)
 }
 
-/// The text that keeps the merge, each value merged into the text of those before it.
+/// The text that stores the merge, after each value is merged into the text of the earlier ones.
 fn merged_as_text(alloc: Global, values: &[Value]) -> Option<String> {
     let mut stored = String::from_str(alloc, "null").ok()?;
     for value in values {
@@ -131,7 +131,7 @@ fn merges_to(alloc: Global, texts: &[&str], want: &str) -> bool {
     }
 }
 
-/// Whether each column merges to what it should: at once, one by one, and as text.
+/// Whether each column has the expected merge: at once, one by one, and as text.
 pub(crate) fn merges_each(alloc: Global, rows: &[(&[&str], &str)]) -> bool {
     for (texts, want) in rows {
         if !merges_to(alloc, texts, want) {
@@ -146,7 +146,8 @@ fn merges_columns(rt: HostRuntime) {
     assert!(rt; merges_each(rt.alloc(), &MERGES));
 }
 
-/// Lists so long that their items are found in an index of their ids: each stays in its place, and new ones follow, one that comes twice once.
+/// Lists so long that their items are found by an index of their ids. Each item stays in its place, and new items follow. A new item that comes twice follows
+/// once.
 const LONG_LISTS: [(&[&str], &str); 1] = [(
     &[
         r#"[{"id":"I10","v":1},{"id":"I11","v":1},{"id":"I12","v":1},{"id":"I13","v":1},{"id":"I14","v":1},{"id":"I15","v":1},{"id":"I16","v":1},{"id":"I17","v":1},{"id":"I18","v":1},{"id":"I19","v":1},{"id":"I20","v":1},{"id":"I21","v":1},{"id":"I22","v":1},{"id":"I23","v":1},{"id":"I24","v":1},{"id":"I25","v":1},{"id":"I26","v":1},{"id":"I27","v":1},{"id":"I28","v":1},{"id":"I29","v":1},{"id":"I30","v":1},{"id":"I31","v":1},{"id":"I32","v":1},{"id":"I33","v":1},{"id":"I34","v":1},{"id":"I35","v":1},{"id":"I36","v":1},{"id":"I37","v":1},{"id":"I38","v":1},{"id":"I39","v":1},{"id":"K"}]"#,
@@ -169,11 +170,11 @@ const UPDATE: &str =
 const UPDATED: &str =
     r#"{"date":"2026-01-06T09:00:00Z","id":"ocds-a1b2c3-N1-2026-01-06T09:00:00Z","ocid":"ocds-a1b2c3-N1","tag":["compiled"],"tender":{"id":"N1"}}"#;
 
-/// Releases, the identifier of their process, and what they compile to.
+/// Releases, the OCID of their procurement, and their compiled release.
 const COMPILED: [(&[&str], &str, &str); 3] = [
     (&[TENDER, UPDATE], "ocds-a1b2c3-N1", UPDATED),
     (&[UPDATE, TENDER], "ocds-a1b2c3-N1", UPDATED),
-    // Of equal dates the later in the list is the later release.
+    // Of releases with equal dates, the later one in the list counts as the later one.
     (
         &[
             r#"{"date":"2026-01-05","a":1}"#,
@@ -219,7 +220,7 @@ const PUBLISHED: &str =
 const AMENDED: &str =
     r#"{"buyer":{"id":"B-city","name":"City Office"},"date":"2026-02-10T09:00:00Z","id":"ocds-a1b2c3-N1-0002","initiationType":"tender","language":"en","ocid":"ocds-a1b2c3-N1","tag":["tenderAmendment"],"tender":{"amendments":[{"date":"2026-02-10T09:00:00Z","description":"Deadline moved from 2026-03-01T12:00:00Z to 2026-03-02T12:00:00Z","id":"0002","rationale":"More time"}],"id":"N1","tenderPeriod":{"endDate":"2026-03-02T12:00:00Z"}}}"#;
 
-/// The releases so far of a notice that is published and amended, the date of the last, and what they compile to.
+/// The releases so far of a notice that is published and amended, the date of the last one, and their compiled release.
 const LIFE: [(&[&str], &str, &str); 2] = [
     (
         &[PUBLISHED],
@@ -250,7 +251,7 @@ fn heads_to(alloc: Global, ocid: &str, date: &str, merge: Value, want: &str) -> 
     }
 }
 
-/// Whether a kept text compiles so.
+/// Whether the stored text gives this compiled release.
 fn kept_compiles(alloc: Global, kept: &str, date: &str, want: &str) -> bool {
     match merge_from_text(alloc, kept) {
         Ok(merge) => heads_to(alloc, "ocds-a1b2c3-N1", date, merge, want),
@@ -258,7 +259,7 @@ fn kept_compiles(alloc: Global, kept: &str, date: &str, want: &str) -> bool {
     }
 }
 
-/// Whether a merge of bodies that is kept as text and carried on is what is made anew from them, and compiles so.
+/// Whether a merge of bodies that is stored as text and continued equals the merge that is made of them at once, and gives this compiled release.
 fn carried_on_compiles(alloc: Global, values: &[Value], date: &str, want: &str) -> bool {
     match merged_as_text(alloc, values) {
         Some(kept) => {
@@ -286,13 +287,13 @@ fn life_compiles(alloc: Global) -> bool {
     true
 }
 
-// A merge that is kept as text and carried on compiles to what all releases compile to, and so does one that is made anew from them.
+// A merge that is stored as text and continued gives the same compiled release as all releases. So does one that is made of them at once.
 #[test]
 fn kept_merges_compile_alike(rt: HostRuntime) {
     assert!(rt; life_compiles(rt.alloc()));
 }
 
-/// Whether a release without its head is this, and with that of a compiled one that.
+/// Whether a release without its head is this, and with the head of a compiled release that.
 fn changes_head(alloc: Global, release: &str, bare: &str, want: &str) -> bool {
     match Value::from_str(alloc, release) {
         Ok(release) => {
@@ -310,7 +311,7 @@ fn takes_heads_off_and_puts_them_on(rt: HostRuntime) {
     assert!(rt; changes_head(rt.alloc(), release, r#"{"n":1}"#, compiled));
 }
 
-/// Whether a kept text is told to be an object, and read as a merge that is kept as the same text.
+/// Whether a stored text is reported to be an object, and read as a merge that is stored as this text.
 fn is_read_back(alloc: Global, kept: &str) -> bool {
     match merge_from_text(alloc, kept) {
         Ok(merge) => { matches!(is_object(alloc, kept), Ok(true)) && is_kept(alloc, &merge, kept) }
@@ -331,8 +332,8 @@ fn tells_objects_from_other_values(rt: HostRuntime) {
     }
 }
 
-/// Texts that keep a merge in another form than the office's, each with what a value more makes of it: names in no order, twice the same, or with an escape;
-/// spaces; a fraction.
+/// Texts that store a merge in another form than the office's, each with its merge with one more value. Their names have no order, come twice, or have an
+/// escape; or they have spaces or a fraction.
 const OTHER_FORMS: [(&str, &str); 6] = [
     (r#"{"b":1,"a":2}"#, r#"{"a":3,"b":1}"#),
     (
@@ -352,7 +353,7 @@ fn becomes(alloc: Global, stored: &str, value: &Value, want: &str) -> bool {
     }
 }
 
-// At a second try where the first isn't right: one allocation of a test may be refused.
+// Tries twice, because a test may refuse one allocation.
 fn become_so(alloc: Global, value: &Value) -> bool {
     for (stored, want) in &OTHER_FORMS {
         if !becomes(alloc, stored, value, want) && !becomes(alloc, stored, value, want) {
@@ -372,7 +373,7 @@ fn carries_on_merges_in_any_form(rt: HostRuntime) -> Result<(), Fail> {
     Ok(())
 }
 
-/// Texts that are no JSON, some of them in parts that the value doesn't touch.
+/// Texts that aren't JSON, some of them in parts that the value doesn't touch.
 const NO_JSON: [&str; 16] = [
     "",
     " ",
@@ -410,7 +411,7 @@ fn keep_none(alloc: Global, value: &Value) -> bool {
     true
 }
 
-// A text that is no JSON keeps no merge: not that of no values, and memory isn't wanting either.
+// A text that isn't JSON stores no merge. This isn't the merge of no values, and it isn't reported as too little memory.
 #[test]
 fn refuses_texts_that_are_no_json(rt: HostRuntime) -> Result<(), Fail> {
     let value = Value::from_str(rt.alloc(), r#"{"a":1}"#)?;
@@ -418,7 +419,7 @@ fn refuses_texts_that_are_no_json(rt: HostRuntime) -> Result<(), Fail> {
     Ok(())
 }
 
-/// Whether a merge leaves what it should in the target: what was there, where it was refused memory.
+/// Whether a merge leaves the expected value in the target: the old one if it was refused memory.
 fn leaves(alloc: Global, target: &mut Value, value: &Value) -> bool {
     let is_merged = merge_into(alloc, target, value).is_ok();
     let want = if is_merged {
@@ -454,7 +455,7 @@ fn nested(alloc: Global, name: &str) -> Result<String, Fail> {
     Ok(text)
 }
 
-// What stands 99 members deep, each named `a`.
+// The value 99 members deep, where each member is named `a`.
 fn deepest(merge: &Value) -> Option<&Value> {
     let mut place = merge;
     for _ in 0..99 {

@@ -1,7 +1,7 @@
 //! Moments and their texts.
 use office_values::moment::Moment;
 
-// Seconds from the epoch, and the texts of their moments.
+// Seconds since 1970, each with the text of its moment.
 const MOMENTS: &[(u64, &str)] = &[
     (0, "1970-01-01T00:00:00Z"),
     (68_169_599, "1972-02-28T23:59:59Z"),
@@ -11,7 +11,7 @@ const MOMENTS: &[(u64, &str)] = &[
     (4_102_444_799, "2099-12-31T23:59:59Z"),
 ];
 
-// Texts of no moments.
+// Texts that aren't moments.
 const NO_MOMENTS: &[&str] = &[
     "",
     "2026-02-29T00:00:00Z",
@@ -36,7 +36,7 @@ const NO_MOMENTS: &[&str] = &[
     "0000-00-00T00:00:00Z",
 ];
 
-// Whether the moment of this second is printed as the text, and the text is read as that moment.
+// Whether the moment of this second is printed as this text, and the text is read as this moment.
 fn is_moment(second: u64, text: &str) -> bool {
     match (Moment::from_second(second), Moment::read(text.as_bytes())) {
         (Some(moment), Some(read)) => {
@@ -75,7 +75,7 @@ fn reads_nothing_else(rt: HostRuntime) {
     assert!(rt; Moment::from_second(4_102_444_800).is_none());
 }
 
-// Whether the fifth second is the later one of it and the epoch, in either order.
+// Whether the later one of the fifth second and the first is the fifth, in either order.
 fn later_is_taken() -> bool {
     match Moment::from_second(5) {
         Some(early) => {

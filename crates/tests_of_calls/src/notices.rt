@@ -1,4 +1,4 @@
-//! Tender notices: bounds, what lots and items can be, and what weighs the price.
+//! Notices: bounds, allowed lots and items, and the weight of the price.
 use office_commands::amounts::{Estimate, amount_of};
 use office_commands::command::CommandKind;
 use office_commands::commands::Command;
@@ -13,7 +13,7 @@ use office_values::money::Amount;
 use office_values::text::TextLine;
 use std::alloc::Global;
 
-// An item of this identifier; None where that is none, or memory is wanting.
+// An item with this identifier. None if it isn't an identifier or memory is too small.
 fn item(alloc: Global, id: &str) -> Option<Item> {
     Some(Item {
         id: Id::read(id.as_bytes())?,
@@ -69,7 +69,7 @@ fn notice(alloc: Global, ids: &[&str]) -> Option<NewNotice> {
     })
 }
 
-// Whether two items are taken, and copied.
+// Whether two items are accepted and copied.
 fn items_are_copied(alloc: Global) -> bool {
     let Some(all) = items(alloc, &["I2", "I1"]) else {
         return false;
@@ -88,7 +88,7 @@ fn lots_have_items_of_their_own(rt: HostRuntime) {
     assert!(rt; items_are_copied(alloc));
 }
 
-// Whether two lots are taken, and given back.
+// Whether two lots are accepted and returned.
 fn lots_are_kept(alloc: Global) -> bool {
     match lots(alloc, &["L2", "L1"]) {
         Some(all) => all.as_slice().len() == 2 && all.into_vec().len() == 2,

@@ -1,4 +1,4 @@
-//! Tenders whose reading is known, and a text of each kind as it is printed.
+//! Tenders whose reading is known, and a printed text of each kind.
 use office_base::counts::{AmendmentCount, ReleaseCount, TenderLength};
 use office_base::ledger::{LedgerRow, Pots};
 use office_base::reading::Reading;
@@ -19,14 +19,14 @@ use tender_papers::minutes::{OpenedTender, minutes_text};
 use tender_papers::register::register_text;
 use tender_papers::tender::read_tender;
 
-// What a file says: the sum that it states, the corrected one, and how many figures were corrected; or why it says none.
+// The reading of a file: its stated sum, the corrected sum and the number of corrected figures, or the reason why it has no price.
 enum Said {
     Unreadable,
     Nonconforming,
     Priced(u64, u64, u64),
 }
 
-// Files for three of the item I1. A record of three or of five fields is read, and never told as want of memory.
+// Files for three of the item I1. A record of three or of five fields is read, and never reported as too little memory.
 const FOR_AN_ITEM: &[(&[u8], Said)] = &[
     (
         b"item,quantity,unit,total\nI1,3,10,40\nTOTAL,,,40\n",
@@ -88,15 +88,15 @@ const FOR_TWO_ITEMS: &[(&[u8], Said)] = &[
     ),
 ];
 
-// The ledger of one line.
+// The ledger of one budget line.
 const LEDGER: &[u8] =
     b"LEDGER\nline\tappropriation\tfree\treserved\tcontracted\tpaid\n1000\t1000\t400\t300\t200\t100\n";
 
-// The register of a sealed envelope and of one that was withdrawn.
+// The register of a sealed tender and of a withdrawn one.
 const REGISTER: &[u8] =
     b"REGISTER\tN1\n1\tL1\t2026-02-02T10:00:00Z\t3\tsealed\n2\tL1\t2026-02-02T10:00:00Z\t3\twithdrawn\n";
 
-// The minutes of tenders of each kind of reading, each below its lot.
+// The minutes of tenders with each kind of reading, each below its lot.
 const MINUTES: &[u8] =
     b"MINUTES\tN1\tRoad repair\ndeadline\t2026-03-01T12:00:00Z\nopened\t2026-03-01T12:00:01Z\nlot\tL1\tNorth\ntender\t1\tT1\tAlpha\tHigh Street 1\tpriced\t40\t30\t2\ntender\t3\tT1\tAlpha\tHigh Street 1\tunreadable\nlot\tL2\tSouth\ntender\t2\tT1\tAlpha\tHigh Street 1\tnonconforming\nEND\n";
 
@@ -136,7 +136,7 @@ fn is_said(reading: Reading, said: &Said) -> bool {
     }
 }
 
-// Whether each file says what it should of these items.
+// Whether each file has the expected reading for these items.
 fn all_say(alloc: Global, items: &[Item], files: &[(&[u8], Said)]) -> bool {
     for (text, said) in files {
         let Ok(reading) = read_tender(alloc, text, items) else {
@@ -291,12 +291,12 @@ fn tenderer(alloc: Global) -> Option<TendererRow> {
     })
 }
 
-// How these bytes read for three of the item I1.
+// The reading of these bytes for three of the item I1.
 fn reading(alloc: Global, bytes: &[u8]) -> Option<Reading> {
     read_tender(alloc, bytes, &[item(alloc, b"I1", 3)?]).ok()
 }
 
-// A tender of Alpha for a lot, of these bytes.
+// A tender of Alpha for a lot, with these bytes.
 fn tender(alloc: Global, receipt: u64, lot: &[u8], bytes: &[u8]) -> Option<OpenedTender> {
     Some(OpenedTender {
         lot: Id::read(lot)?,
@@ -316,7 +316,7 @@ fn tenders(alloc: Global) -> Option<[OpenedTender; 3]> {
     ])
 }
 
-// Whether the minutes of the notice, of its lots and of the tenders are printed.
+// Whether the minutes of the notice, its lots and the tenders are printed.
 fn are_printed(
     alloc: Global,
     notice: &NoticeRow,

@@ -12,7 +12,7 @@ use office_wire::counted::CountedReader;
 use office_wire::request::{Request, read_request};
 use std::alloc::Global;
 
-// The request of this line and this body.
+// The request with this line and this body.
 fn request_of(alloc: Global, line: &str, body: &[u8]) -> Option<Request> {
     let head = format!(in alloc; "{line} HTTP/1.1\r\nContent-Length: {}\r\n\r\n", body.len()).ok()?;
     let mut bytes = head.as_bytes().to_vec(alloc).ok()?;
@@ -25,7 +25,7 @@ fn tenderer() -> Option<Caller> {
     Some(Caller::Tenderer(Id::read(b"T1")?))
 }
 
-// What a request asks, or its refusal.
+// The command or query of a request, or its refusal.
 fn asked_of<'a>(
     alloc: Global,
     routes: &Routes,
@@ -38,7 +38,7 @@ fn asked_of<'a>(
     }
 }
 
-// What is asked, of which kind.
+// The kind of a command or query.
 fn kind_of(asked: &Asked<'_>) -> Endpoint {
     match asked {
         Asked::Does(command) => Commands(command.kind()),
@@ -46,7 +46,7 @@ fn kind_of(asked: &Asked<'_>) -> Endpoint {
     }
 }
 
-// Whether a request of this line and this body asks for this.
+// Whether a request with this line and this body asks this.
 fn asks_for(
     alloc: Global,
     routes: &Routes,
@@ -89,7 +89,7 @@ const REGISTRATION: &[u8] =
 
 const AMENDMENT: &[u8] = b"{\"id\":\"E1\",\"kind\":\"cut\",\"amount\":5,\"rationale\":\"less\"}";
 
-// Each route but those of tenderers alone, with a body that it takes.
+// Each route except those for tenderers alone, with a body that it accepts.
 const OF_CLERKS: [(&str, &[u8], Endpoint); 27] = [
     (
         "POST /budget/B1",
@@ -188,7 +188,7 @@ const OF_CLERKS: [(&str, &[u8], Endpoint); 27] = [
     ("GET /contracts/17", b"", Queries(QueryKind::Contract)),
 ];
 
-// The routes of tenderers alone.
+// The routes for tenderers alone.
 const OF_TENDERERS: [(&str, &[u8], Endpoint); 5] = [
     (
         "POST /notices/N1/lots/L1/tenders?security=G1&amount=50",
@@ -226,7 +226,7 @@ fn takes_each_route(rt: HostRuntime) {
     assert!(rt; tenderers_ask(rt.alloc()));
 }
 
-// Whether a refusal has this number and is about this name, or none.
+// Whether a refusal has this number and is about this name, or about none.
 fn is_about(why: &Refusal, number: u8, name: &str) -> bool {
     let told = match why.what() {
         Some(What::Name(told)) => told,
@@ -235,7 +235,7 @@ fn is_about(why: &Refusal, number: u8, name: &str) -> bool {
     why.number() == number && told == name
 }
 
-// Requests of the clerk's with the number and the name of their refusal; the number 0 where there is none.
+// Requests of the clerk, each with the number and the name of its refusal; the number is 0 if there is none.
 const REFUSED: [(&str, &[u8], (u8, &str)); 28] = [
     ("GET /lines/1000/", b"", (4, "")),
     ("GET /tenders/01", b"", (4, "")),
@@ -309,7 +309,7 @@ fn refuses(rt: HostRuntime) {
 
 const TENDER: &str = "POST /notices/N1/lots/L1/tenders?security=%47%31&x=1&amount=050";
 
-// Whether a tender is presented whose security has the reference G1 and the amount 50, with three sealed bytes.
+// Whether this submits a tender of three sealed bytes, whose security has the reference G1 and the amount 50.
 fn is_tender(asked: &Asked<'_>) -> bool {
     match asked {
         Asked::Does(
@@ -349,7 +349,7 @@ fn reads_tenders(rt: HostRuntime) {
     assert!(rt; reads_tender(rt.alloc()));
 }
 
-// Whether what PUBLICATION says is published: its deadline, its weight, and of its first lot the estimate and the number of items.
+// Whether this publishes the notice of PUBLICATION: its deadline, its weight, and the estimate and the number of items of its first lot.
 fn is_publication(asked: &Asked<'_>) -> bool {
     match asked {
         Asked::Does(Command::Publish { content, .. }) => match content.lots.as_slice().first() {
@@ -387,7 +387,7 @@ fn reads_publications(rt: HostRuntime) {
     assert!(rt; reads_publication(rt.alloc()));
 }
 
-// Looks at a page of a list, and the identifier behind which it begins; none where it is the first.
+// Queries for a page of a list, each with the identifier after which the page begins, or none for the first page.
 const PAGES: [(&str, Option<&str>); 6] = [
     ("GET /notices", None),
     ("GET /notices?x=1&AFTER=N1", None),
@@ -405,7 +405,7 @@ fn is_behind(after: &Option<Id>, key: Option<&str>) -> bool {
     }
 }
 
-// Whether a page is asked for that begins behind this identifier.
+// Whether this asks for the page after this identifier.
 fn is_page(asked: &Asked<'_>, key: Option<&str>) -> bool {
     match asked {
         Asked::Looks(Query::Notices { after }) => is_behind(after, key),

@@ -1,4 +1,4 @@
-//! Requests as they are read from a stream, and bytes as they are sent.
+//! Requests that are read from a stream, and bytes that are sent.
 use crate::streams::{Drip, make_narrow};
 use office_wire::counted::CountedReader;
 use office_wire::fault::ReadFault;
@@ -19,13 +19,13 @@ fn is_post(request: &Request) -> bool {
         && request.body() == b"hello".as_slice()
 }
 
-/// Reads a request, by as many reads as may be.
+/// Reads a request, without a limit on the reads.
 fn read<R: BufRead + Drop>(alloc: Global, reader: R) -> Result<Request, ReadFault> {
     let mut counted = CountedReader::new(reader);
     read_request(alloc, &mut counted)
 }
 
-/// Whether what was read is the request of POST.
+/// Whether the request of POST was read.
 fn is_post_read(outcome: Result<Request, ReadFault>) -> bool {
     match outcome {
         Ok(request) => is_post(&request),
@@ -33,7 +33,7 @@ fn is_post_read(outcome: Result<Request, ReadFault>) -> bool {
     }
 }
 
-/// POST, and a request behind it.
+/// POST, followed by another request.
 const TWO: &[u8] =
     b"POST /budget/B1?x=y HTTP/1.1\r\nOffice-Caller: clerk\r\nCONTENT-length:  5 \r\nA:\r\n\r\nhelloGET / HTTP/1.0\n\nrest";
 
@@ -88,7 +88,7 @@ fn tells_fields(rt: HostRuntime) {
     assert!(rt; reads_fields(rt.alloc()));
 }
 
-/// Whether POST is read to its end by reads of at most so many bytes.
+/// Whether POST is read to its end by reads of at most this many bytes.
 fn is_read_by(alloc: Global, most: usize) -> bool {
     let mut reader = Drip::over(POST, most);
     reader.is_interrupted = most % 2 == 0;
@@ -102,7 +102,7 @@ fn reads_whatever_a_read_gives(rt: HostRuntime) {
     }
 }
 
-/// Whether POST is read through a buffer of so many bytes.
+/// Whether POST is read through a buffer of this many bytes.
 fn is_read_through(alloc: Global, size: usize) -> bool {
     match BufReader::with_capacity(alloc, size, Drip::over(POST, 7)) {
         Ok(reader) => is_post_read(read(alloc, reader)),
@@ -117,7 +117,7 @@ fn reads_through_small_buffers(rt: HostRuntime) {
     }
 }
 
-/// Whether reading fails where the reader does, after so many reads of a byte.
+/// Whether reading fails if the reader fails after this many reads of a byte.
 fn fails_after(alloc: Global, reads: u32) -> bool {
     let mut drip = Drip::over(POST, 1);
     drip.reads = reads;
@@ -135,7 +135,7 @@ fn fails_where_the_reader_fails(rt: HostRuntime) {
     }
 }
 
-/// Whether a reader of so many reads gives POST or runs out, a byte at a time and each read interrupted once.
+/// Whether a reader of this many reads gives POST or runs out. It reads a byte at a time, and each read is interrupted once.
 fn counts_to(alloc: Global, reads: u32) -> bool {
     let all = 2 * POST.len() as u32;
     let mut drip = Drip::over(POST, 1);
@@ -162,7 +162,7 @@ fn counts_reads(rt: HostRuntime) {
     }
 }
 
-/// The refusal of an input of this request alone.
+/// The refusal of an input that has only this request.
 fn refusal_of(alloc: Global, input: &[u8]) -> Option<ReadFault> {
     read(alloc, input).err()
 }
@@ -193,13 +193,13 @@ fn refuses_bad_heads(rt: HostRuntime) {
     assert!(rt; refuses_each(rt.alloc(), &BAD_HEADS, ReadFault::BadHead));
 }
 
-/// Bodies whose length is too much.
+/// Bodies that are too long by their stated length.
 const LONG_BODIES: [&[u8]; 2] = [
     b"POST / HTTP/1.1\r\nContent-Length: 65537\r\n\r\n",
     b"POST / HTTP/1.1\r\nContent-Length: 99999999999999999999999\r\n\r\n",
 ];
 
-/// Inputs of a front, of so many times what follows it, and of an end, with their refusals: too many fields, and long lines.
+/// Inputs with a beginning, a part that is repeated this many times, and an end, each with its refusal: too many fields, and long lines.
 const LONG: [(&[u8], &[u8], u32, &[u8], Option<ReadFault>); 5] = [
     (GET, b"a: b\r\n", 65, b"\r\n", Some(ReadFault::TooLong)),
     (GET, b"a: b\r\n", 64, b"\r\n", None),
@@ -208,7 +208,7 @@ const LONG: [(&[u8], &[u8], u32, &[u8], Option<ReadFault>); 5] = [
     (b"", b"x", 8192, b"", Some(ReadFault::TooLong)),
 ];
 
-/// Heads of 8,192 bytes, and of one more.
+/// Heads of 8,192 bytes, and of one byte more.
 const WHOLE_HEADS: [(&[u8], &[u8], u32, &[u8], Option<ReadFault>); 2] = [
     (LONG_FIELD, b"x", 8167, b"\r\n\r\n", None),
     (
@@ -225,7 +225,7 @@ const GET: &[u8] = b"GET / HTTP/1.1\r\n";
 /// 21 bytes.
 const LONG_FIELD: &[u8] = b"GET / HTTP/1.1\r\nlong:";
 
-/// The front, so many times what follows it, and the end.
+/// The beginning, the part that is repeated this many times, and the end.
 fn filled(
     alloc: Global,
     front: &[u8],
@@ -269,13 +269,13 @@ fn takes_a_head_of_8192_bytes(rt: HostRuntime) {
     assert!(rt; answers_each(rt.alloc(), &WHOLE_HEADS));
 }
 
-/// Codings that are refused as such.
+/// Codings, each of which is refused as a coding.
 const CODINGS: [&[u8]; 2] = [
     b"POST / HTTP/1.1\r\nTransfer-Encoding: chunked\r\n\r\n0\r\n\r\n",
     b"POST / HTTP/1.1\r\ntransfer-encoding: x\r\nContent-Length: 5\r\n\r\n",
 ];
 
-/// Inputs whose other faults are told before their coding.
+/// Inputs with a coding whose other faults are reported first.
 const CODED: [(&[u8], &[u8], u32, &[u8], Option<ReadFault>); 4] = [
     (
         b"POST / HTTP/1.1\r\ntransfer-encoding: x\r\nContent-Length: 65537\r\n\r\n",
@@ -314,7 +314,7 @@ fn refuses_codings_last(rt: HostRuntime) {
     one_meaning();
 }
 
-/// Whether reading is refused so, and leaves this behind it.
+/// Whether reading is refused with this fault and leaves these bytes.
 fn is_refused_before(alloc: Global, input: &[u8], fault: ReadFault, rest: &[u8]) -> bool {
     let mut reader = CountedReader::new(input);
     let told = read_request(alloc, &mut reader).err();
@@ -322,7 +322,7 @@ fn is_refused_before(alloc: Global, input: &[u8], fault: ReadFault, rest: &[u8])
     told == Some(fault) && left == rest
 }
 
-/// Inputs, their refusals, and what is left behind them.
+/// Inputs, each with its refusal and the bytes that are left.
 const LEFT: [(&[u8], ReadFault, &[u8]); 3] = [
     (
         b"PUT / HTTP/1.1\r\nContent-Length: 65537\r\n\r\nrest",
@@ -350,7 +350,7 @@ fn stands_behind_each(alloc: Global) -> bool {
     true
 }
 
-/// Whether a head without an end is refused once it has 8,192 bytes.
+/// Whether a head without an end is refused after 8,192 bytes.
 fn stands_behind_8192_bytes(alloc: Global) -> bool {
     match filled(alloc, LONG_FIELD, b"x", 8171, b"behind\r\n\r\n") {
         Ok(input) => is_refused_before(alloc, &input, ReadFault::TooLong, b"behind\r\n\r\n"),
@@ -404,7 +404,7 @@ fn takes_empty_lines_and_leading_zeros(rt: HostRuntime) {
     assert!(rt; reads_zeros(rt.alloc()));
 }
 
-/// Whether a writer of so many writes, of two bytes each, takes this of a greeting, and all calls do as it should.
+/// Whether a writer of this many writes, of two bytes each, accepts this beginning of a greeting, and all calls report the expected results.
 fn sends_front(alloc: Global, writes: u32, wanted: &[u8], is_whole: bool) -> bool {
     let mut writer = WatchedWriter::new(make_narrow(alloc, 2, writes, ErrorKind::BrokenPipe));
     let is_sent = send(&mut writer, b"hello").is_ok();
@@ -433,7 +433,7 @@ fn sends_all_or_a_front(rt: HostRuntime) {
     assert!(rt; sends_into_list(rt.alloc()));
 }
 
-/// Whether a writer that takes nothing fails at the first byte, and not before.
+/// Whether a writer that accepts nothing fails at the first byte, and not earlier.
 fn fails_at_once(alloc: Global, most: usize, writes: u32, kind: ErrorKind) -> bool {
     let mut writer = WatchedWriter::new(make_narrow(alloc, most, writes, kind));
     let is_empty_sent = send(&mut writer, b"").is_ok();

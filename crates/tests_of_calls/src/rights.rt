@@ -1,4 +1,4 @@
-//! Tests of rights, kinds and sealed bytes.
+//! Rights of callers, kinds of commands and queries, and sealed bytes.
 use office_commands::budget::{BudgetKind, BudgetRow, BudgetRows};
 use office_commands::command::{Caller, CommandKind, QueryKind, may, may_look};
 use office_commands::commands::Command;
@@ -9,7 +9,7 @@ use office_values::money::Total;
 use office_values::text::TextLine;
 use std::alloc::Global;
 
-// Each kind of command, and whether it is the clerk's; else it is the tenderers'.
+// Each kind of command, and whether it is the clerk's; otherwise it is the tenderers'.
 const COMMANDS: &[(CommandKind, bool)] = &[
     (CommandKind::Import, true),
     (CommandKind::Register, true),
@@ -49,13 +49,13 @@ const QUERIES: &[(QueryKind, bool, bool, bool)] = &[
     (QueryKind::Contract, false, true, true),
 ];
 
-// The digest of "abc": FIPS 180-4's example of one block.
+// The digest of "abc", FIPS 180-4's example of one block.
 const DIGEST: [u8; 32] = [
     0xba, 0x78, 0x16, 0xbf, 0x8f, 0x01, 0xcf, 0xea, 0x41, 0x41, 0x40, 0xde, 0x5d, 0xae, 0x22, 0x23,
     0xb0, 0x03, 0x61, 0xa3, 0x96, 0x17, 0x7a, 0x9c, 0xb4, 0x10, 0xff, 0x61, 0xf2, 0x00, 0x15, 0xad,
 ];
 
-// Counts of bytes, and whether so many can be sealed.
+// Numbers of bytes, each with whether this many can be sealed.
 const COUNTS: &[(usize, bool)] = &[(0, false), (1, true), (32_768, true), (32_769, false)];
 
 fn tenderer() -> Option<Caller> {
@@ -127,7 +127,7 @@ fn rows(alloc: Global) -> Option<BudgetRows> {
     Some(BudgetRows::from_vec(rows))
 }
 
-// Whether these are the one row that cuts 7 off the line 1000.
+// Whether this is the one row that cuts 7 off the line 1000.
 fn is_row(rows: &[BudgetRow]) -> bool {
     match rows {
         [row] => {
@@ -192,7 +192,7 @@ fn are_kept(alloc: Global) -> bool {
     }
 }
 
-// Whether bytes past the bound are no sealed bytes.
+// Whether bytes beyond the bound aren't accepted as sealed bytes.
 fn are_bounded(alloc: Global) -> bool {
     match vec![in alloc; b'x'; 32_769] {
         Ok(bytes) => SealedBytes::from_vec(bytes).is_none(),
@@ -207,7 +207,7 @@ fn sealed_bytes_are_kept_and_copied(rt: HostRuntime) {
     assert!(rt; are_bounded(alloc));
 }
 
-// Whether so many bytes can be sealed.
+// Whether this many bytes can be sealed.
 fn can_be_sealed(alloc: Global, count: usize) -> Option<bool> {
     match vec![in alloc; b'x'; count] {
         Ok(bytes) => Some(Sealed::read(&bytes).is_some()),

@@ -10,7 +10,7 @@ use office_wire::watched::WatchedWriter;
 use std::alloc::{AllocError, Global};
 use std::io::{BufRead, BufReader, ErrorKind};
 
-/// Answers each request with its body, and counts them. What is refused for want of memory is told otherwise than the rest.
+/// Answers each request with its body, and counts them. A refusal for too little memory gets another answer than the other refusals.
 #[derive(Drop)]
 struct Echo {
     total: u8,
@@ -42,10 +42,10 @@ impl Responder for Echo {
 const INPUT: &[u8] =
     b"at 2026-01-05T09:00:00Z\nPOST / HTTP/1.1\r\nContent-Length: 5\r\n\r\nhelloat 2026-01-05T09:00:00Z\nPOST / HTTP/1.1\r\nContent-Length: 1\r\n\r\n!";
 
-/// Where the first block ends.
+/// The end of the first block.
 const FIRST: usize = 67;
 
-/// What a run ends with, what it has written, and whether the reader and the writer failed.
+/// The end of a run, its output, and whether the reader and the writer failed.
 #[derive(Drop)]
 struct Outcome {
     end: Result<u64, RunFault>,
@@ -69,7 +69,7 @@ fn run_over<R: BufRead + Drop>(alloc: Global, reader: R, reads: u32) -> Outcome 
     }
 }
 
-/// Whether a run over all that a reader gives ends so, with this text, and neither side fails.
+/// Whether a run over everything that a reader gives ends in this way, with this text and without a fault of reader or writer.
 fn runs_to<R: BufRead + Drop>(
     alloc: Global,
     reader: R,
@@ -83,7 +83,7 @@ fn runs_to<R: BufRead + Drop>(
         && !outcome.is_write_failed
 }
 
-/// How a run over so many of the input's bytes ends, and what it writes.
+/// The end and the output of a run over this many bytes of the input.
 fn end_at(end: usize) -> (Result<u64, RunFault>, &'static [u8]) {
     if end == 0 {
         (Ok(0), b"".as_slice())
@@ -110,7 +110,7 @@ fn answers_what_comes_before_the_end(rt: HostRuntime) {
     }
 }
 
-/// Lines that begin no block.
+/// Lines with which no block begins.
 const WRONG: [&[u8]; 5] = [
     b"At 2026-01-05T09:00:00Z\n",
     b"at 2026-13-05T09:00:00Z\n",
@@ -133,7 +133,7 @@ fn refuses_wrong_lines(rt: HostRuntime) {
     assert!(rt; refuses_each_line(rt.alloc()));
 }
 
-/// Whether a run ends where its stream breaks, after so many reads of a byte, with so many bytes written.
+/// Whether a run ends with `Read` if its stream breaks after this many reads of a byte, and has written this many bytes.
 fn breaks_after(alloc: Global, reads: u32, written: usize) -> bool {
     let mut reader = Drip::over(INPUT, 1);
     reader.reads = reads;
@@ -149,7 +149,7 @@ fn ends_where_a_stream_breaks(rt: HostRuntime) {
     }
 }
 
-/// Whether a run of so many reads of a byte, and one more at the end, reads all or gives out.
+/// Whether a run with this many reads of a byte, and one more at the end, reads everything or runs out of reads.
 fn counts_to(alloc: Global, reads: u32) -> bool {
     let all = INPUT.len() as u32 + 1;
     let outcome = run_over(alloc, Drip::over(INPUT, 1), reads);
@@ -236,14 +236,14 @@ fn flushes_what_was_written(rt: HostRuntime) {
     assert!(rt; flushes_in_the_end(rt.alloc()));
 }
 
-/// Requests that are refused, each with `more` behind its head.
+/// Requests that are refused, each with `more` after its head.
 const REFUSED: [&[u8]; 3] = [
     b"nonsense\nmore",
     b"POST / HTTP/1.1\r\nContent-Length: 65537\r\n\r\nmore",
     b"POST / HTTP/1.1\r\nTransfer-Encoding: chunked\r\n\r\nmore",
 ];
 
-/// The first block, and a block of this request.
+/// The first block, and a block with this request.
 fn blocks_with(alloc: Global, request: &[u8]) -> Result<Vec<u8>, AllocError> {
     let mut input = INPUT[..FIRST].to_vec(alloc)?;
     input.extend_from_slice(&INPUT[..24])?;
@@ -317,7 +317,7 @@ fn serves_one_request(rt: HostRuntime) {
     assert!(rt; serves_no_more_than_one(rt.alloc()));
 }
 
-/// Whether neither a reader that fails nor one of too few reads has a request answered.
+/// Whether no request is answered if the reader fails or has too few reads.
 fn serves_no_cut_request(alloc: Global) -> bool {
     let mut desk = Echo { total: 0 };
     let mut broken = Drip::over(INPUT, 1);

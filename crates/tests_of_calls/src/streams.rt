@@ -1,11 +1,11 @@
-//! Readers and writers that give little, are interrupted or fail.
+//! Readers and writers that are slow, interrupted or fail.
 ghost use Rattle.std.specs.Prelude.{◌≤◌, length, IfOk};
 
 use std::alloc::Global;
 use std::io;
 use std::io::{BufRead, ErrorKind, Read, Write};
 
-/// Gives at most so many bytes a read, is interrupted before each where asked, and fails once so many reads were made.
+/// Gives at most this many bytes a read. If asked, it is interrupted before each read. It fails after this many reads.
 #[derive(Drop)]
 pub struct Drip<'a> {
     pub rest: &'a [u8],
@@ -28,7 +28,7 @@ impl Drip<'_> {
 }
 
 impl Drip<'_> {
-    /// Counts a read, and answers how many bytes it may give.
+    /// Counts a read, and returns the most bytes that it may give.
     fn begin(&mut self) -> io::Result<usize>
         ensures { IfOk result (λ n. n ≤ length self.new.rest.now) }
     {
@@ -74,7 +74,7 @@ impl BufRead for Drip<'_> {
     }
 }
 
-/// Takes at most so many bytes a write, and so many writes; counts how often it is flushed.
+/// Accepts at most this many bytes a write, and this many writes; counts the flushes.
 #[derive(Drop)]
 pub struct Narrow {
     pub bytes: Vec<u8>,
@@ -108,7 +108,7 @@ impl Write for Narrow {
     }
 }
 
-/// Takes nothing yet.
+/// A writer that has accepted nothing yet.
 pub fn make_narrow(alloc: Global, most: usize, writes: u32, kind: ErrorKind) -> Narrow {
     Narrow {
         bytes: Vec::new(alloc),

@@ -80,7 +80,7 @@ const THINGS: &[(Thing, &str)] = &[
 // Texts that are identifiers.
 const IDENTIFIERS: &[&str] = &["a", "B-1_x.Y", "00000000000000000000000000000032"];
 
-// Texts that are no identifiers.
+// Texts that aren't identifiers.
 const NO_IDENTIFIERS: &[&str] = &[
     "",
     "000000000000000000000000000000033",
@@ -109,13 +109,13 @@ const IN_ORDER: &[(&str, &str)] = &[
 // Texts that are lines.
 const LINES: &[&str] = &["x", " \"\\,", "Stra\u{df}e \u{1f6a7}"];
 
-// A line of 200 letters, the most that one has.
+// A line of 200 letters, the longest that is allowed.
 const LONGEST: &[u8] = &[b'x'; 200];
 
 // A text of one letter more.
 const TOO_LONG: &[u8] = &[b'x'; 201];
 
-// Bytes that are no lines.
+// Bytes that aren't lines.
 const NO_LINES: &[&[u8]] = &[
     b"",
     b"a\nb",
@@ -130,7 +130,7 @@ const NO_LINES: &[&[u8]] = &[
     TOO_LONG,
 ];
 
-// Bytes that are no text.
+// Bytes that aren't a text.
 const RAW: &[u8] = b"a\x00\xff";
 
 // Units of money, whether they are an amount, and whether they are a sum.
@@ -143,7 +143,7 @@ const MONEY: &[(u64, bool, bool)] = &[
     (u64::MAX, false, false),
 ];
 
-// Whether every refusal has its number, name and status, and the eighth and the ninth alone tell what they are about.
+// Whether every refusal has its number, name and status, and only the eighth and the ninth say what they are about.
 fn refusals_are_told() -> bool {
     for (refusal, number, name, status) in REFUSALS {
         let (number, about) = (*number, refusal.what().is_some());
@@ -200,7 +200,7 @@ fn refusals_tell_what_they_are_about(rt: HostRuntime) {
     assert!(rt; rows_are_told());
 }
 
-// Whether the text is an identifier, kept as it is.
+// Whether the text is an identifier, and stored without a change.
 fn is_identifier(text: &str) -> bool {
     match Id::read(text.as_bytes()) {
         Some(id) => id.as_str() == text,
@@ -254,7 +254,7 @@ fn identifiers_are_in_the_order_of_their_bytes(rt: HostRuntime) {
     assert!(rt; identifiers_are_in_order());
 }
 
-// Whether the text is a line, kept and copied as it is.
+// Whether the text is a line, and stored and copied without a change.
 fn is_line(alloc: Global, text: &str) -> bool {
     let Ok(Some(line)) = TextLine::read(alloc, text.as_bytes()) else {
         return false;
@@ -291,7 +291,7 @@ fn reads_lines_of_text(rt: HostRuntime) {
     assert!(rt; other_bytes_are_refused(alloc));
 }
 
-// Whether bytes that are no text are kept and copied as they are.
+// Whether bytes that aren't a text are stored and copied without a change.
 fn are_kept(alloc: Global) -> bool {
     let Ok(raw) = Vec::from_slice(alloc, RAW) else {
         return false;
@@ -308,7 +308,7 @@ fn bytes_are_kept_and_copied(rt: HostRuntime) {
     assert!(rt; are_kept(rt.alloc()));
 }
 
-// Whether so many units are an amount, kept as they are, or none, as they should.
+// Whether this many units are an amount without a change, or none, as expected.
 fn is_amount(units: u64, taken: bool) -> bool {
     match Amount::read(units) {
         Some(amount) => taken && amount.units() == units,
@@ -316,7 +316,7 @@ fn is_amount(units: u64, taken: bool) -> bool {
     }
 }
 
-// Whether so many units gave a sum of as many, or none, as they should.
+// Whether this many units gave a sum without a change, or none, as expected.
 fn is_total(total: Option<Total>, units: u64, taken: bool) -> bool {
     match total {
         Some(total) => taken && total.units() == units,
@@ -348,7 +348,7 @@ fn want_of_memory_is_unavailable(rt: HostRuntime) {
     assert!(rt; Refusal::from(AllocError).number() == 32);
 }
 
-// Whether the number is taken, and kept as it is.
+// Whether the number is accepted without a change.
 fn is_taken<const LOW: u64, const HIGH: u64>(number: u64) -> bool {
     match Bounded::<LOW, HIGH>::read(number) {
         Some(taken) => taken.get() == number,
@@ -356,7 +356,7 @@ fn is_taken<const LOW: u64, const HIGH: u64>(number: u64) -> bool {
     }
 }
 
-// Whether a number is taken at both bounds and refused beyond them.
+// Whether a number is accepted at both bounds and refused beyond them.
 fn keeps_bounds<const LOW: u64, const HIGH: u64>(beyond: &[u64]) -> bool {
     for number in beyond {
         if Bounded::<LOW, HIGH>::read(*number).is_some() {
@@ -379,7 +379,7 @@ fn numbers_have_their_bounds(rt: HostRuntime) {
     assert!(rt; bounds_are_kept());
 }
 
-// What is left of a sum of 1000 without so many.
+// The rest of a sum of 1000 without this many units.
 fn left(units: u128) -> Option<u64> {
     Some(Total::read(1000)?.less(units).units())
 }

@@ -13,10 +13,10 @@ use office_base::puts::Put;
 use office_values::refusal::{Refusal, What};
 use std::alloc::Global;
 
-/// Whether there was memory for all rows that a decision looks at, and what was decided.
+/// Whether memory was large enough for all rows of a decision, and the decision.
 pub type Decided = (bool, Result<Vec<Put>, Refusal>);
 
-/// A command, with what the rows that its decision looks at have in them.
+/// A command, with the contents of the rows by which it is decided.
 #[derive(Clone, Copy)]
 pub enum Case {
     Finding(Finding),
@@ -37,7 +37,7 @@ pub enum Case {
     Withdrawn(Withdrawn),
 }
 
-/// What is decided: changes; or a refusal, which may be about a field or a thing of this name.
+/// The expected decision: changes, or a refusal, which may be about a field or a thing of this name.
 #[derive(Clone, Copy)]
 pub enum Wanted {
     Puts(&'static [Made]),
@@ -45,7 +45,7 @@ pub enum Wanted {
     RefusedOf(&'static str, &'static str),
 }
 
-// What is decided; None where memory is wanting for the rows.
+// The decision. None if memory is too small for the rows.
 fn decided(alloc: Global, case: &Case) -> Option<Decided> {
     match case {
         Case::Finding(case) => case.decide(alloc),
@@ -77,7 +77,7 @@ fn is_refused(why: Refusal, wanted: &Wanted) -> bool {
     }
 }
 
-// The decision is this one; None where memory is wanting.
+// Whether this is the decision. None if memory is too small.
 fn is_decided(alloc: Global, case: &Case, wanted: &Wanted) -> Option<bool> {
     let (whole, answer) = decided(alloc, case)?;
     match (&answer, wanted) {
@@ -89,7 +89,7 @@ fn is_decided(alloc: Global, case: &Case, wanted: &Wanted) -> Option<bool> {
     }
 }
 
-/// Each case is decided so, at the second try where the first finds no memory.
+/// Whether each case is decided as expected. It is tried twice if memory is too small at the first try.
 pub fn are_decided(alloc: Global, rows: &[(Case, Wanted)]) -> bool {
     for (case, wanted) in rows {
         let right = match is_decided(alloc, case, wanted) {

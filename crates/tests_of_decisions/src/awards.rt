@@ -1,4 +1,4 @@
-//! Examinations of tenders, and what comes of awards.
+//! Examinations of tenders, and the commands on awards.
 use crate::answers::{Case, Decided, Wanted, are_decided};
 use crate::made::{Made, MadeContract, MadeNotice, MadeTender};
 use crate::rows;
@@ -14,22 +14,22 @@ use office_commands::tender::{NamedSecurity, Quality};
 use office_values::money::Amount;
 use std::alloc::Global;
 
-// Opened, with what the price weighs.
+// An opened notice, with the weight of the price.
 fn notice(alloc: Global, weight: u64) -> Option<NoticeRow> {
     rows::notice(alloc, NoticeState::Opened, weight, 7)
 }
 
-// A lot for which nothing is decided.
+// An undecided lot.
 fn undecided(alloc: Global) -> Option<LotRow> {
     rows::lot(alloc, "L1", LotState::Undecided, 600)
 }
 
-// A lot that is awarded.
+// An awarded lot.
 fn awarded(alloc: Global) -> Option<LotRow> {
     rows::lot(alloc, "L1", LotState::Awarded, 500)
 }
 
-// The first tender, at the price 500, with what its examination found.
+// The first tender, at the price 500, with the finding of its examination.
 fn tender(responsive: Option<bool>) -> Option<EnvelopeRow> {
     let reading: Option<Reading> = rows::price(500);
     Some(EnvelopeRow {
@@ -38,7 +38,7 @@ fn tender(responsive: Option<bool>) -> Option<EnvelopeRow> {
     })
 }
 
-// What an examination finds where the price weighs 60 points.
+// The finding of an examination if the price has a weight of 60.
 #[derive(Clone, Copy)]
 pub struct Finding {
     pub quality: u64,
@@ -107,7 +107,7 @@ fn tenders_are_examined(rt: HostRuntime) {
     assert!(rt; are_decided(rt.alloc(), &FINDINGS));
 }
 
-// What becomes of an award in this state, at this second.
+// The failing of an award in this state, at this second.
 #[derive(Clone, Copy)]
 pub struct Failing {
     pub second: u64,
@@ -174,7 +174,7 @@ fn awards_fail(rt: HostRuntime) {
     assert!(rt; are_decided(rt.alloc(), &FAILINGS));
 }
 
-// The signing of the contract of an active award, at this second. The notice asks for a performance security of so much, and one of so much is named.
+// The signing of the contract of an active award, at this second. The notice asks for a performance security of one amount, and one of the other is named.
 #[derive(Clone, Copy)]
 pub struct Signing {
     pub second: u64,
@@ -182,7 +182,7 @@ pub struct Signing {
     pub named: Option<u64>,
 }
 
-// The notice, which asks for a performance security of so much.
+// The notice, which asks for a performance security of this amount.
 fn asking(alloc: Global, asked: u64) -> Option<NoticeRow> {
     let performance = Amount::read(asked)?;
     Some(NoticeRow {
@@ -215,7 +215,7 @@ impl Signing {
     }
 }
 
-// Behind the standstill, where none is asked and none is named.
+// After the standstill, with no performance security asked for and none named.
 const PLAINLY: Signing = Signing {
     second: 864_020,
     asked: 0,
@@ -279,7 +279,7 @@ fn contracts_are_signed(rt: HostRuntime) {
     assert!(rt; are_decided(rt.alloc(), &SIGNINGS));
 }
 
-// Before the standstill is over, too: what is named is looked at first.
+// Also before the standstill is over, because the named security is checked first.
 static UNSECURED: [(Case, Wanted); 3] = [
     (
         Case::Signing(Signing {

@@ -7,7 +7,7 @@ use office_commands::notice::Weight;
 use office_commands::tender::Quality;
 use std::alloc::Global;
 
-// How a tender stands: it may win; or its tenderer failed to sign, it wasn't examined, wasn't responsive, or came late.
+// The state of a tender: it is admissible, its tenderer failed to sign, it wasn't examined, it wasn't responsive, or it came late.
 #[derive(Clone, Copy)]
 enum Stand {
     Admissible,
@@ -17,10 +17,10 @@ enum Stand {
     Late,
 }
 
-// A priced tender: its receipt, price and quality, and how it stands.
+// A priced tender: its receipt, price and quality, and its state.
 type Offer = ([u64; 3], Stand);
 
-// What the price weighs, the offers, and the receipt of the best one, if one may win.
+// The weight of the price, the offers, and the receipt of the best one, if one is admissible.
 type Choice = (u64, &'static [Offer], Option<u64>);
 
 fn row_of(offer: &Offer) -> Option<EnvelopeRow> {
@@ -42,7 +42,7 @@ fn row_of(offer: &Offer) -> Option<EnvelopeRow> {
     })
 }
 
-// The receipt of the best offer, if one may win; None where memory is wanting.
+// The receipt of the best offer, if one is admissible. None if memory is too small.
 fn best_of(alloc: Global, weight: u64, offers: &[Offer]) -> Option<Option<u64>> {
     let weight: Weight = Weight::read(weight)?;
     let mut rows: Vec<EnvelopeRow> = Vec::new(alloc);
@@ -55,7 +55,7 @@ fn best_of(alloc: Global, weight: u64, offers: &[Offer]) -> Option<Option<u64>> 
     }
 }
 
-// The best offers are these, at the second try where the first finds no memory.
+// Whether the best offers are these. Each is tried twice if memory is too small at the first try.
 fn are_best(alloc: Global, choices: &[Choice]) -> bool {
     for (weight, offers, wanted) in choices {
         let found = match best_of(alloc, *weight, offers) {
@@ -99,7 +99,7 @@ fn of_equal_prices_the_earlier_receipt_wins(rt: HostRuntime) {
     assert!(rt; are_best(rt.alloc(), &BY_RECEIPT));
 }
 
-// Of 60 points for the price, 500 has 60 and 600 has 50.
+// With a weight of 60 for the price, 500 has 60 points and 600 has 50.
 const TWO: &[Offer] = &[
     ([1, 500, 10], Stand::Admissible),
     ([2, 600, 40], Stand::Admissible),
@@ -147,7 +147,7 @@ const LATE: Offer = ([1, 100, 0], Stand::Late);
 
 const DEARER: Offer = ([2, 900, 0], Stand::Admissible);
 
-// Each alone, and beside a dearer one that may win; and no offer.
+// Each inadmissible tender alone, and beside a dearer one that is admissible; and no tender.
 static INADMISSIBLE: [Choice; 9] = [
     (0, &[FAILED], None),
     (0, &[FAILED, DEARER], Some(2)),

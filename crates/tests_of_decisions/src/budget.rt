@@ -1,4 +1,4 @@
-//! Budget files that are taken in.
+//! Budget files that are imported.
 ghost use Rattle.std.specs.Prelude.{◌≡◌, ◌∷◌, [], IfSome, IsSome};
 ghost use Rattle.office_values.specs.Money.{total_limit};
 ghost use Rattle.office_base.specs.Standings.{find_standing};
@@ -18,7 +18,7 @@ use std::alloc::Global;
 use tender_core::budget_file::BudgetFile;
 use tender_core::import::{ImportRows, decide_import};
 
-// A line, with this sum appropriated and this one free where it is held.
+// A line, with its appropriated and its free money if it exists.
 fn standing(line: Id, held: Option<(Total, Total)>) -> Standing
     ensures line { result.line ≡ line }
     ensures fits { IsAtMost total_limit result.columns }
@@ -74,7 +74,7 @@ fn sums(held: Option<[u64; 2]>) -> Option<(Total, Total)> {
     Some((Total::read(appropriation)?, Total::read(free)?))
 }
 
-// A file of two rows of the line 1000.
+// A file with two rows for the line 1000.
 fn file(alloc: Global, import: &Import) -> Option<BudgetFile> {
     let line = rows::id("1000")?;
     let lines = lines(alloc, standing(line, sums(import.held)))?;
@@ -83,7 +83,7 @@ fn file(alloc: Global, import: &Import) -> Option<BudgetFile> {
     Some(BudgetFile::of(lines, both(alloc, first, second)?))
 }
 
-// The import of two rows of a line with these sums, appropriated and free, where it is held.
+// The import of two rows for a line with this appropriated and free money, if it exists.
 #[derive(Clone, Copy)]
 pub struct Import {
     pub held: Option<[u64; 2]>,
@@ -161,7 +161,7 @@ fn lines_come_to_be_held_by_a_file(rt: HostRuntime) {
     assert!(rt; are_decided(rt.alloc(), &COME_TO_BE_HELD));
 }
 
-// A cut of all of a line of which 100 is appropriated and 900 free, as of none that commands lead to.
+// A cut of the whole appropriation of a line that has 100 appropriated and 900 free. No commands lead to such a line.
 static CUT_TO_NOTHING: [(Case, Wanted); 1] = [(
     Case::Import(Import {
         held: Some([100, 900]),

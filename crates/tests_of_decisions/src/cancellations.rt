@@ -11,7 +11,7 @@ use office_base::rows::Rows;
 use std::alloc::Global;
 use tender_core::cancel::{CancelRows, decide_cancel};
 
-// The cancellation of a notice with one lot in this state, for which 600 is reserved, and 300 more free on its line.
+// The cancellation of a notice with one lot in this state. The lot has 600 reserved, and its line has 300 more free.
 #[derive(Clone, Copy)]
 pub struct Cancellation {
     pub lot: LotState,
@@ -23,7 +23,7 @@ fn lines(alloc: Global) -> Option<Table<LineRow>> {
     Some(lines)
 }
 
-// An award, where the lot is awarded.
+// An award, if the lot is awarded.
 fn award(lot: LotState) -> Option<AwardRow> {
     if lot == LotState::Awarded {
         rows::award(AwardState::Active)
@@ -32,7 +32,7 @@ fn award(lot: LotState) -> Option<AwardRow> {
     }
 }
 
-// A tender, sealed where nothing was read in it.
+// A tender, which is sealed if it has no reading.
 fn tenders(alloc: Global, reading: Option<Reading>) -> Option<Rows<EnvelopeRow>> {
     let row = EnvelopeRow {
         failed: false,
@@ -41,7 +41,7 @@ fn tenders(alloc: Global, reading: Option<Reading>) -> Option<Rows<EnvelopeRow>>
     Some(rows::of(alloc, Some(row)))
 }
 
-// There is one row of each kind, and one award where the lot is awarded.
+// Whether there is one row of each kind, and one award if the lot is awarded.
 fn are_whole(rows: &CancelRows, lot: LotState) -> bool {
     rows.notice.is_some()
         && rows::is_one(&rows.lots)
@@ -51,7 +51,7 @@ fn are_whole(rows: &CancelRows, lot: LotState) -> bool {
 }
 
 impl Cancellation {
-    // The notice was opened where something was decided, and then a price was read in the tender.
+    // The state of the notice and the reading of its tender. It was opened and the tender has a price if a lot was decided.
     fn opened(&self) -> (NoticeState, Option<Reading>) {
         if self.lot == LotState::Undecided {
             (NoticeState::Receiving, None)

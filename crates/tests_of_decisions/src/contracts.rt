@@ -1,4 +1,4 @@
-//! Payments under contracts, and their amendments and ends.
+//! Payments under contracts, changes of contracts, and their ends.
 use crate::answers::{Case, Decided, Wanted, are_decided};
 use crate::made::{Made, MadeContract, MadeEntry, MadeNotice};
 use crate::rows;
@@ -27,7 +27,7 @@ const NOTICE: Made = Made::Notice(MadeNotice {
     opened: None,
 });
 
-// An entry of this name and amount, after a payment of 100 of 500.
+// A payment with this name and amount, after a payment of 100 of 500.
 #[derive(Clone, Copy)]
 pub struct Payment {
     pub entry: &'static str,
@@ -86,7 +86,7 @@ fn payments_are_entered(rt: HostRuntime) {
     assert!(rt; are_decided(rt.alloc(), &PAYMENTS));
 }
 
-// A change of the contract, with 300 free on its line and a raise of 100 before.
+// A change of the contract, whose line has 300 free, after a raise of 100.
 #[derive(Clone, Copy)]
 pub struct Change {
     pub kind: ChangeKind,
@@ -173,7 +173,7 @@ fn contracts_are_cut(rt: HostRuntime) {
     assert!(rt; are_decided(rt.alloc(), &CUTS));
 }
 
-// The end of a contract of which 100 was paid, and which has a performance security; it has ended already where a second is given.
+// The end of a contract of which 100 was paid, and which has a performance security. If a second is given, it ended then already.
 #[derive(Clone, Copy)]
 pub struct End {
     pub ended: Option<u64>,

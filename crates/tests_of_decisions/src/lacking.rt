@@ -1,5 +1,5 @@
-//! Decisions over rows of which one that another speaks of is gone, as in no office that commands reach: Unavailable, and nothing is put.
-//! With all of them there the same command is accepted.
+//! Decisions by rows of which one is missing although another row refers to it. This can't happen in a reached office. The answer is `Unavailable`, and nothing
+//! changes. With all rows, the same command is accepted.
 use crate::answers::Decided;
 use crate::rows;
 use award_core::amend_contract::{AmendContractRows, decide_amend_contract};
@@ -31,7 +31,7 @@ use tender_core::withdraw::{WithdrawRows, decide_withdraw};
 // A command.
 #[derive(Clone, Copy)]
 enum Deed {
-    // At this second, with the deadline at second 9, after which the notice lets tenders be withdrawn.
+    // At this second. The deadline is at second 9, and the notice allows withdrawals after it.
     Withdraw(u64),
     Modify,
     Examine,
@@ -44,7 +44,7 @@ enum Deed {
     Cancel,
 }
 
-// What is gone: a row, or what came to the contract, of which more was paid.
+// The missing row; or for `Sum`, more money was paid under the contract than it had.
 #[derive(Clone, Copy, PartialEq, Eq)]
 enum Gone {
     Nothing,
@@ -57,7 +57,7 @@ enum Gone {
     Sum,
 }
 
-// The row, unless it is gone.
+// The row, unless it is missing.
 fn unless<R: Drop>(is_gone: bool, row: Option<R>) -> Option<R> {
     if is_gone { None } else { row }
 }
@@ -136,7 +136,7 @@ fn examined(alloc: Global, gone: Gone) -> Option<Decided> {
     ))
 }
 
-// To nobody, since no tender was presented: without a line there would be no money for one.
+// The award goes to nobody, because no tender was submitted. With a winner, a missing line would mean too little money.
 fn awarded(alloc: Global, gone: Gone) -> Option<Decided> {
     let (t, clock) = (rows::at(50)?, rows::clock(1, 0)?);
     let (notice, lot) = (opened(alloc, 0), lot(alloc, LotState::Undecided));
@@ -187,7 +187,7 @@ fn signed(alloc: Global, gone: Gone) -> Option<Decided> {
     Some((whole, decide_sign(alloc, t, rows, none)))
 }
 
-// A payment of a contract of 500: of more where what came to it is gone.
+// A payment of the whole contract of 500, or of more if `Sum` is missing.
 fn paid(alloc: Global, gone: Gone) -> Rows<EntryRow> {
     let amount = if gone == Gone::Sum { 501 } else { 500 };
     rows::of(alloc, rows::entry("E1", EntryKind::Payment, amount))
@@ -291,7 +291,7 @@ fn decided(alloc: Global, deed: Deed, gone: Gone) -> Option<Decided> {
     }
 }
 
-// It is accepted where nothing is gone, and else Unavailable; None where memory is wanting.
+// Whether the command is accepted if nothing is missing, and otherwise `Unavailable`. None if memory is too small.
 fn is_right(alloc: Global, deed: Deed, gone: Gone) -> Option<bool> {
     let (whole, answer) = decided(alloc, deed, gone)?;
     let nothing = gone == Gone::Nothing;
@@ -304,7 +304,7 @@ fn is_right(alloc: Global, deed: Deed, gone: Gone) -> Option<bool> {
     }
 }
 
-// Each is right, at the second try where the first finds no memory.
+// Whether each answer is right. It is tried twice if memory is too small at the first try.
 fn are_right(alloc: Global, deed: Deed, all: &[Gone]) -> bool {
     for gone in all {
         let right = match is_right(alloc, deed, *gone) {
@@ -324,7 +324,7 @@ fn withdrawals_want_the_security(rt: HostRuntime) {
     assert!(rt; are_right(rt.alloc(), Deed::Withdraw(8), &all));
 }
 
-// Without its notice no tender is late.
+// Without its notice, no tender is late.
 #[test]
 fn late_withdrawals_want_the_lot(rt: HostRuntime) {
     let all = [Gone::Nothing, Gone::Notice, Gone::Lot, Gone::Security];

@@ -1,4 +1,4 @@
-//! Worked rows of the decisions on all commands, and of the choice of the best tender.
+//! Tests of the decisions on all commands, and of the choice of the best tender.
 #![tactic(auto)]
 
 #[cfg(test)]

@@ -8,7 +8,7 @@ use office_base::records::{AwardState, EnvelopeRow, LotState, NoticeState, Secur
 use office_base::rows::Rows;
 use std::alloc::Global;
 
-// One tender, with what its examination found.
+// One tender, with the finding of its examination.
 fn tenders(
     alloc: Global,
     reading: Option<Reading>,
@@ -21,7 +21,7 @@ fn tenders(
     Some(rows::of(alloc, Some(row)))
 }
 
-// There is one row of each kind.
+// Whether there is one row of each kind.
 fn are_whole(rows: &AwardRows) -> bool {
     rows.notice.is_some()
         && rows.lot.is_some()
@@ -30,7 +30,7 @@ fn are_whole(rows: &AwardRows) -> bool {
         && rows::is_one(&rows.securities)
 }
 
-// The award of a lot that has 600 reserved, 300 more free on its line, and one tender.
+// The award of a lot that has 600 reserved and one tender, and whose line has 300 more free.
 #[derive(Clone, Copy)]
 pub struct Award {
     pub price: u64,

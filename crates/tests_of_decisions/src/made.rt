@@ -1,4 +1,4 @@
-//! What decisions put, but for what all records of a kind have in common here.
+//! The changes that decisions make, without the parts that all records of a kind have in common here.
 use office_base::puts::Put;
 use office_base::reading::Reading;
 use office_base::records::{
@@ -13,31 +13,31 @@ use office_values::text::TextLine;
 /// A change that a decision makes.
 #[derive(Clone, Copy)]
 pub enum Made {
-    /// What is appropriated and what is free.
+    /// The appropriated and the free money.
     Line([u64; 2]),
     Batch,
     Tenderer,
     Notice(MadeNotice),
-    /// The estimate, and what is reserved.
+    /// The state, and the estimate and the reserved money.
     Lot(LotState, [u64; 2]),
     Tender(MadeTender),
-    /// The receipt, the count of bytes, and the first of them.
+    /// The receipt, the number of bytes, and the first of them.
     Seal([u64; 3]),
     NoSeal(u64),
     Security(u64, SecurityState),
     /// The price, and the second.
     Award(AwardState, [u64; 2]),
     Contract(MadeContract),
-    /// That tenders for N1 may be withdrawn late.
+    /// Tenders for N1 may be withdrawn late.
     Late,
-    /// The performance security of the first contract: its amount.
+    /// The performance security of the first contract: its amount and its state.
     Performance(u64, SecurityState),
     Entry(MadeEntry),
-    /// The second, and the last receipt and award.
+    /// The second, the last receipt and the last award.
     Clock([u64; 3]),
 }
 
-/// A notice: the deadline, the amendments and the releases, its state, and when it was opened.
+/// A notice: its deadline, its numbers of amendments and of releases, its state, and the second of its opening.
 #[derive(Clone, Copy)]
 pub struct MadeNotice {
     pub numbers: [u64; 3],
@@ -45,7 +45,7 @@ pub struct MadeNotice {
     pub opened: Option<u64>,
 }
 
-/// A tender: its receipt, second, length, the first byte of its digest and its security; and what came of it.
+/// A tender: its receipt, second, length, first byte of its digest and security; its state, its price, and its examination.
 #[derive(Clone, Copy)]
 pub struct MadeTender {
     pub numbers: [u64; 5],
@@ -56,7 +56,7 @@ pub struct MadeTender {
     pub failed: bool,
 }
 
-/// A contract: when it was signed, what was released, when it ended, and how.
+/// A contract: the second of its signing and the released amount, the second of its end, and how it ended.
 #[derive(Clone, Copy)]
 pub struct MadeContract {
     pub numbers: [u64; 2],
@@ -64,7 +64,7 @@ pub struct MadeContract {
     pub how: Option<How>,
 }
 
-/// An entry E2: its kind, amount and second, and its rationale, if it has any.
+/// An entry E2: its kind, amount and second, and its rationale, if it has one.
 #[derive(Clone, Copy)]
 pub struct MadeEntry {
     pub kind: EntryKind,
@@ -72,7 +72,7 @@ pub struct MadeEntry {
     pub rationale: Option<&'static str>,
 }
 
-/// The changes are these, in their order.
+/// Whether these are the changes, in their order.
 pub fn are_made(puts: &[Put], wanted: &[Made]) -> bool {
     if puts.len() != wanted.len() {
         return false;
@@ -130,7 +130,7 @@ fn is_tenderer(row: &TendererRow) -> bool {
         )
 }
 
-// The moment of this second, or none where none is given.
+// Whether the moment is at this second, or absent if none is given.
 fn is_at(moment: Option<Moment>, second: Option<u64>) -> bool {
     match (moment, second) {
         (Some(moment), Some(second)) => moment.second() == second,
@@ -162,7 +162,7 @@ fn is_lot(row: &LotRow, state: LotState, sums: [u64; 2]) -> bool {
         && row.state == state
 }
 
-// The price that was read, or nothing where none is given.
+// Whether this price was read, or none if none is given.
 fn is_price(reading: &Option<Reading>, price: Option<u64>) -> bool {
     match (reading, price) {
         (Some(Reading::Priced { corrected, .. }), Some(units)) => corrected.units() == units,
@@ -228,7 +228,7 @@ fn is_contract(row: &ContractRow, wanted: &MadeContract) -> bool {
         && row.how == wanted.how
 }
 
-// The rationale is this one, or there is none.
+// Whether the rationale is this one, or absent if none is given.
 fn is_rationale(rationale: &Option<TextLine>, wanted: Option<&str>) -> bool {
     match (rationale, wanted) {
         (Some(rationale), Some(wanted)) => rationale.as_str() == wanted,

@@ -13,7 +13,7 @@ use tender_core::amend_notice::{AmendNoticeRows, decide_amend_notice};
 use tender_core::publish::{PublishRows, decide_publish};
 use tender_core::register::{RegisterRows, decide_register};
 
-// The registration of a new tenderer of this name.
+// The registration of a new tenderer with this name.
 #[derive(Clone, Copy)]
 pub struct Registration {
     pub tenderer: &'static str,
@@ -33,7 +33,7 @@ impl Registration {
     }
 }
 
-// A new name, and the clerk's own, which is taken.
+// A new name, and the clerk's name, which is taken.
 static REGISTRATIONS: [(Case, Wanted); 2] = [
     (
         Case::Registration(Registration { tenderer: "T1" }),
@@ -50,7 +50,7 @@ fn tenderers_are_registered(rt: HostRuntime) {
     assert!(rt; are_decided(rt.alloc(), &REGISTRATIONS));
 }
 
-// The publication of a notice with one lot of this line and estimate; 300 is free on the line 1000, and tenders may or may not be withdrawn late.
+// The publication of a notice with one lot of this line and estimate. The line 1000 has 300 free, and tenders may or may not be withdrawn late.
 #[derive(Clone, Copy)]
 pub struct Publication {
     pub line: &'static str,
@@ -180,7 +180,7 @@ fn notices_are_published(rt: HostRuntime) {
     assert!(rt; are_decided(rt.alloc(), &PUBLICATIONS));
 }
 
-// The deadline, which was second 9, comes to be this one.
+// An amendment that moves the deadline from second 9 to this one.
 #[derive(Clone, Copy)]
 pub struct Delay {
     pub second: u64,

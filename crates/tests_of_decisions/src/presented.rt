@@ -1,4 +1,4 @@
-//! Tenders that are presented.
+//! Tenders that are submitted.
 use crate::answers::{Case, Decided, Wanted, are_decided};
 use crate::made::{Made, MadeTender};
 use crate::rows;
@@ -12,7 +12,7 @@ use office_commands::tender::NamedSecurity;
 use std::alloc::Global;
 use tender_core::present::{PresentRows, decide_present};
 
-// A security of this amount; none of 0.
+// A security of this amount, or none if it is 0.
 fn named(amount: u64) -> Option<NamedSecurity> {
     Some(NamedSecurity {
         reference: rows::id("S1")?,
@@ -20,7 +20,7 @@ fn named(amount: u64) -> Option<NamedSecurity> {
     })
 }
 
-// T1's first tender, where there is one.
+// T1's first tender, if there is one.
 fn earlier(alloc: Global, there: bool, reading: Option<Reading>) -> Option<Rows<EnvelopeRow>> {
     if !there {
         return Some(Rows::from_vec(Vec::new(alloc)));
@@ -32,7 +32,7 @@ fn earlier(alloc: Global, there: bool, reading: Option<Reading>) -> Option<Rows<
     Some(rows::of(alloc, Some(row)))
 }
 
-// T1 presents a tender at this second with a security of this amount, perhaps after another. The notice receives tenders until second 9.
+// T1 submits a tender at this second with a security of this amount, perhaps after another tender. The notice receives tenders until second 9.
 #[derive(Clone, Copy)]
 pub struct Presented {
     pub second: u64,

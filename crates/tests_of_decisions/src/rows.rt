@@ -1,4 +1,4 @@
-//! Records that decisions look at. None is answered where memory is wanting.
+//! Records by which commands are decided. Each function returns None if memory is too small.
 use office_base::counts::{AmendmentCount, CorrectionCount, ReleaseCount, TenderLength};
 use office_base::reading::Reading;
 use office_base::records::{
@@ -31,7 +31,7 @@ pub fn text(alloc: Global, text: &str) -> Option<TextLine> {
     TextLine::read(alloc, text.as_bytes()).ok()?
 }
 
-/// The row, or none where there is none or memory is wanting, as `is_one` tells.
+/// A list of the row. It is empty if there is no row or memory is too small; `is_one` shows whether it has the row.
 pub fn of<R: Drop>(alloc: Global, row: Option<R>) -> Rows<R> {
     let mut rows = Vec::new(alloc);
     if let Some(row) = row {
@@ -40,12 +40,12 @@ pub fn of<R: Drop>(alloc: Global, row: Option<R>) -> Rows<R> {
     Rows::from_vec(rows)
 }
 
-/// There is one row.
+/// Whether there is one row.
 pub fn is_one<R: Drop>(rows: &Rows<R>) -> bool {
     rows.as_slice().len() == 1
 }
 
-/// The line 1000, with 900 appropriated and so much of it free.
+/// The line 1000, with 900 appropriated and this much of it free.
 pub fn line(alloc: Global, free: u64) -> Option<LineRow> {
     Some(LineRow {
         line: id("1000")?,
@@ -55,7 +55,7 @@ pub fn line(alloc: Global, free: u64) -> Option<LineRow> {
     })
 }
 
-/// The clock at second 5, with the last receipt and award.
+/// The clock at second 5, with the last receipt and the last award.
 pub fn clock(receipts: u64, awards: u64) -> Option<ClockRow> {
     Some(ClockRow {
         moment: at(5)?,
@@ -64,7 +64,7 @@ pub fn clock(receipts: u64, awards: u64) -> Option<ClockRow> {
     })
 }
 
-/// The notice N1 in this state, whose deadline is at second 9, with what the price weighs and so many releases.
+/// The notice N1 in this state, with its deadline at second 9, this weight of the price, and this many releases.
 pub fn notice(alloc: Global, state: NoticeState, weight: u64, releases: u64) -> Option<NoticeRow> {
     Some(NoticeRow {
         notice: id("N1")?,
@@ -94,7 +94,7 @@ pub fn items(alloc: Global) -> Option<Items> {
     Items::read(items)
 }
 
-/// The lot of N1 of this name, on the line 1000, in this state and with so much reserved; it asks for a security of 50.
+/// The lot of N1 with this name, on the line 1000, in this state and with this much reserved. It asks for a security of 50.
 pub fn lot(alloc: Global, lot: &str, state: LotState, reserved: u64) -> Option<LotRow> {
     Some(LotRow {
         notice: id("N1")?,
@@ -118,7 +118,7 @@ pub fn price(units: u64) -> Option<Reading> {
     })
 }
 
-/// T1's tender of this receipt for the first lot of N1: opened where something was read in it, else sealed.
+/// T1's tender with this receipt for the first lot of N1. It is opened if it has a reading, and otherwise sealed.
 pub fn tender(receipt: u64, reading: Option<Reading>) -> Option<EnvelopeRow> {
     let state = if reading.is_some() {
         EnvelopeState::Opened
@@ -142,7 +142,7 @@ pub fn tender(receipt: u64, reading: Option<Reading>) -> Option<EnvelopeRow> {
     })
 }
 
-/// The security of this number that came with T1's tender.
+/// The security with this number that came with T1's tender.
 pub fn security(number: u64, state: SecurityState) -> Option<SecurityRow> {
     Some(SecurityRow {
         security: GivenNumber::read(number)?,
@@ -165,7 +165,7 @@ pub fn performance(amount: u64, state: SecurityState) -> Option<PerformanceRow> 
     })
 }
 
-/// The first award, of the first lot of N1 to the first tender at 500, at second 20.
+/// The first award: the first lot of N1 goes to the first tender at 500, at second 20.
 pub fn award(state: AwardState) -> Option<AwardRow> {
     Some(AwardRow {
         award: GivenNumber::read(1)?,
@@ -178,7 +178,7 @@ pub fn award(state: AwardState) -> Option<AwardRow> {
     })
 }
 
-/// The contract of that award; ended where a second is given.
+/// The contract of that award. It has ended if a moment is given.
 pub fn contract(ended: Option<Moment>) -> Option<ContractRow> {
     Some(ContractRow {
         contract: GivenNumber::read(1)?,

@@ -12,12 +12,12 @@ use std::alloc::Global;
 use tender_core::modify::{ModifyRows, decide_modify};
 use tender_core::withdraw::{WithdrawRows, decide_withdraw};
 
-// It receives tenders until second 9.
+// A notice that receives tenders until second 9.
 fn notice(alloc: Global) -> Option<NoticeRow> {
     rows::notice(alloc, NoticeState::Receiving, 0, 1)
 }
 
-// This tenderer puts another tender in the place of T1's, at this second.
+// This tenderer replaces T1's tender by another one, at this second.
 #[derive(Clone, Copy)]
 pub struct Modified {
     pub second: u64,
@@ -40,7 +40,7 @@ impl Modified {
     }
 }
 
-// T1's tender after it was withdrawn or another came in its place.
+// T1's tender after it was withdrawn or replaced.
 const WITHDRAWN: Made = Made::Tender(MadeTender {
     numbers: [1, 6, 1, 7, 1],
     state: EnvelopeState::Withdrawn,
@@ -92,8 +92,8 @@ fn tenders_are_modified(rt: HostRuntime) {
     assert!(rt; are_decided(rt.alloc(), &MODIFIED));
 }
 
-// This tenderer withdraws T1's tender, at this second. It is sealed or opened, its lot is still undecided or not, and its notice lets tenders be
-// withdrawn late or not.
+// This tenderer withdraws T1's tender at this second. The tender is sealed or opened, its lot is in this state, and its notice allows late withdrawals or
+// doesn't.
 #[derive(Clone, Copy)]
 pub struct Withdrawn {
     pub second: u64,
@@ -128,7 +128,7 @@ impl Withdrawn {
     }
 }
 
-// In time, and what is refused where the notice says nothing of late withdrawals.
+// A withdrawal in time. Its notice doesn't allow late ones.
 const IN_TIME: Withdrawn = Withdrawn {
     second: 8,
     tenderer: "T1",
@@ -137,7 +137,7 @@ const IN_TIME: Withdrawn = Withdrawn {
     late: false,
 };
 
-// Taken back in time.
+// The changes of a withdrawal in time.
 const TAKEN_BACK: &[Made] = &[
     WITHDRAWN,
     Made::NoSeal(1),
@@ -175,7 +175,7 @@ fn tenders_are_withdrawn(rt: HostRuntime) {
     assert!(rt; are_decided(rt.alloc(), &WITHDRAWALS));
 }
 
-// At the deadline, where the notice lets it.
+// A withdrawal at the deadline, which the notice allows.
 const AT_THE_DEADLINE: Withdrawn = Withdrawn {
     second: 9,
     tenderer: "T1",
@@ -184,7 +184,7 @@ const AT_THE_DEADLINE: Withdrawn = Withdrawn {
     late: true,
 };
 
-// When tenders for the notice are no longer in effect.
+// The second from which tenders for the notice are no longer valid.
 const EXPIRY: u64 = 9 + 90 * 86400;
 
 static LATE_WITHDRAWALS: [(Case, Wanted); 5] = [

@@ -1,5 +1,5 @@
-//! A store that breaks once: what was asked then is answered `Unavailable`, nothing has changed, and the same request is answered as ever when
-//! it is sent again.
+//! A store that fails once. The request at that moment is answered with `Unavailable`, nothing has changed, and the same request gets its usual answer when it
+//! is sent again.
 use office_base::shelf::Lookups;
 use std::alloc::Global;
 use tests_broken_shelf::shelf::BrokenShelf;
@@ -7,7 +7,7 @@ use tests_transcripts::published::PUBLISHED;
 use tests_transcripts::session::played;
 use tests_transcripts::setup::{MONEY, NOTICE, TENDERERS};
 
-// Every kind of command and of look, but those that end a notice, and looks at what is published. Behind PUBLISHED.
+// To be played after PUBLISHED. A procurement to the end of its contract, with every kind of command except for a cancellation, and several queries.
 static TO_THE_END: &str = r#"
 at 2026-02-10T09:00:00Z clerk POST /notices/N1/amend
 > {"deadline":"2026-03-01T12:00:00Z","rationale":"Once more"}
@@ -106,7 +106,7 @@ at 2026-05-01T09:00:00Z public GET /ledger
 | 1000\t1000\t800\t0\t0\t200
 "#;
 
-// A notice cancelled, with an award.
+// A cancelled notice with an award.
 static CANCELLED: &str = r#"
 at 2026-02-10T10:00:00Z T1 POST /notices/N1/lots/L1/tenders?security=G1&amount=50
 | item,quantity,unit,total
@@ -135,7 +135,7 @@ at 2026-03-03T10:00:00Z public GET /ledger
 | 1000\t1000\t1000\t0\t0\t0
 "#;
 
-// What is answered where the store breaks.
+// The answer if the store fails.
 static BREAKS: &str = r#"
 at 2026-01-05T09:00:00Z clerk POST /budget/B1
 | line,kind,amount,title
@@ -143,7 +143,7 @@ at 2026-01-05T09:00:00Z clerk POST /budget/B1
 = 503 {"name":"Unavailable","refusal":32}
 "#;
 
-// Whether the store that breaks behind so many calls broke while the transcripts were played; None where they say otherwise.
+// Whether the store that fails after this many calls failed while the transcripts were played. None if an answer isn't as written.
 fn is_broken(alloc: Global, left: u64, transcripts: &[&str]) -> Option<bool> {
     match played(alloc, BrokenShelf::new(alloc, left), 1, transcripts) {
         Ok(mut shelf) => Some(shelf.faults() > 0),
@@ -151,7 +151,7 @@ fn is_broken(alloc: Global, left: u64, transcripts: &[&str]) -> Option<bool> {
     }
 }
 
-// The same, at the second try where the first fails: one allocation of a test may be refused.
+// Whether the store failed, tried twice if the first try gives None, because a test may refuse one allocation.
 fn breaks(alloc: Global, left: u64, transcripts: &[&str]) -> Option<bool> {
     match is_broken(alloc, left, transcripts) {
         Some(broke) => Some(broke),
@@ -159,7 +159,8 @@ fn breaks(alloc: Global, left: u64, transcripts: &[&str]) -> Option<bool> {
     }
 }
 
-// Plays the transcripts over a store that breaks at its first call, its second, and so on, until it doesn't break any more, within 1000 calls.
+// Plays the transcripts over a store that fails at its first call, then at its second, and so on, until it doesn't fail any more. That happens within 1000
+// calls.
 fn breaks_anywhere(alloc: Global, transcripts: &[&str]) -> bool {
     for left in 0..1000 {
         match breaks(alloc, left, transcripts) {
@@ -184,7 +185,7 @@ fn a_store_that_breaks_changes_nothing(rt: HostRuntime) {
     );
 }
 
-// Whether an import over a store that breaks at its first call is answered so, and then is answered as ever over the office that it keeps.
+// Whether an import over a store that fails at its first call gets this answer, and then the usual one over the office that the store holds.
 fn is_told_broken(alloc: Global) -> bool {
     match played(alloc, BrokenShelf::new(alloc, 0), 0, &[BREAKS]) {
         Ok(shelf) => played(alloc, shelf.into_memory(), 0, &[MONEY]).is_ok(),

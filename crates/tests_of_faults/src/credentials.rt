@@ -5,7 +5,7 @@ use office_wire::counted::CountedReader;
 use office_wire::request::read_request;
 use std::alloc::Global;
 
-// Requests, and what is found in each; None where it is refused with `BadKey`.
+// Requests, each with its name and key. None if it is refused with `BadKey`.
 const REQUESTS: &[(&[u8], Option<Credentials<'_>>)] = &[
     (
         b"GET / HTTP/1.1\r\noffice-CALLER:  clerk \r\nOffice-Key: abc\r\n\r\n",
@@ -27,7 +27,7 @@ const REQUESTS: &[(&[u8], Option<Credentials<'_>>)] = &[
     ),
 ];
 
-// Whether this is found in the request that stands at the front of these bytes.
+// Whether the request at the beginning of these bytes has this name and key.
 fn is_found(alloc: Global, bytes: &[u8], wanted: &Option<Credentials<'_>>) -> bool {
     let mut reader = CountedReader::new(bytes);
     let Ok(request) = read_request(alloc, &mut reader) else {
@@ -40,7 +40,7 @@ fn is_found(alloc: Global, bytes: &[u8], wanted: &Option<Credentials<'_>>) -> bo
     }
 }
 
-// At a second try where the first isn't right: one allocation of a test may be refused.
+// Tries each twice, because a test may refuse one allocation.
 fn all_are_found(alloc: Global) -> bool {
     for (bytes, wanted) in REQUESTS {
         if !is_found(alloc, bytes, wanted) && !is_found(alloc, bytes, wanted) {

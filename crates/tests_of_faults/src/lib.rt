@@ -1,5 +1,4 @@
-//! What crates up to HTTP do together where a transcript can't say it: stores that break, runs and how they end, plans, a client over TCP, names and keys, and
-//! responses.
+//! Tests of crates up to HTTP that a transcript can't express: stores that fail, runs and their ends, plans, a client over TCP, names and keys, and responses.
 #![tactic(auto)]
 
 #[cfg(test)]

@@ -1,4 +1,4 @@
-//! One request over a connection of TCP: a client connects and writes it, and the office answers.
+//! One request over a TCP connection: a client connects and writes it, and the office answers.
 use office_base::shelf::Shelf;
 use office_http::office::{Office, serve_one};
 use office_memory::memory::MemoryShelf;
@@ -51,7 +51,7 @@ fn office<H: Shelf + Drop>(alloc: Global, shelf: H) -> Result<Office<H>, AllocEr
     Ok(Office::new(alloc, desk_over(alloc, shelf)?)?)
 }
 
-// What a client is told that sends these bytes to the office.
+// The bytes that a client gets after it sent these bytes to the office.
 fn asked<H: Shelf + Drop>(
     rt: &HostRuntime,
     office: &mut Office<H>,
@@ -66,7 +66,7 @@ fn asked<H: Shelf + Drop>(
     }
 }
 
-// Whether the office tells a client what this block says.
+// Whether a client gets the answer of this block.
 fn is_answered<H: Shelf + Drop>(rt: &HostRuntime, office: &mut Office<H>, block: &str) -> bool {
     let Ok(block) = read(rt.alloc(), block.trim()) else {
         return false;
@@ -77,7 +77,7 @@ fn is_answered<H: Shelf + Drop>(rt: &HostRuntime, office: &mut Office<H>, block:
     }
 }
 
-// Whether an office over this shelf tells each client what its block says.
+// Whether clients of an office over this store get the answers of these blocks.
 fn is_told<H: Shelf + Drop>(rt: &HostRuntime, shelf: H, blocks: &[&str]) -> bool {
     let Ok(mut office) = office(rt.alloc(), shelf) else {
         return false;
@@ -101,7 +101,7 @@ at 2026-01-05T09:00:02Z bytes
 = 400 {"name":"BadHead","refusal":1}
 "#;
 
-// Whether it tells so in memory, at a second try where it doesn't at the first: one allocation of a test may be refused.
+// Whether clients of an office in memory get the answers of these blocks. Tries twice, because a test may refuse one allocation.
 fn tells(rt: &HostRuntime, blocks: &[&str]) -> bool {
     let alloc = rt.alloc();
     is_told(rt, MemoryShelf::new(alloc), blocks) || is_told(rt, MemoryShelf::new(alloc), blocks)

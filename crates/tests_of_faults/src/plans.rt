@@ -1,4 +1,4 @@
-//! Commands planned before they are done: the changes and the reply are known, and nothing is done until the plan is.
+//! Commands that are planned before they are done. The changes and the reply are known, and nothing changes until the plan is carried out.
 use office_base::shelf::Shelf;
 use office_commands::command::Caller;
 use office_http::{Asked, command_of};
@@ -11,19 +11,19 @@ use tests_transcripts::blocks::{Block, read};
 use tests_transcripts::session::Session;
 use tests_transcripts::setup::{MONEY, TENDERERS};
 
-// Nothing is there. Then MONEY is planned: it puts a line, the batch and the clock.
+// The line doesn't exist. Then MONEY is planned, whose changes are a line, the budget file and the clock.
 static NO_LINE: &str = r#"
 at 2026-01-05T09:00:00Z public GET /lines/1000
 = 404 {"name":"NoSuch","refusal":9,"what":"line"}
 "#;
 
-// All is free.
+// All money is free.
 static FREE: &str = r#"
 at 2026-01-05T09:00:00Z public GET /lines/1000
 = 200 {"appropriation":1000,"contracted":0,"free":1000,"line":"1000","paid":0,"reserved":0,"title":"Roads"}
 "#;
 
-// A notice with two lots: it puts a line for each, the lots, the notice and the clock, its release, and the merge of its releases.
+// A notice with two lots. Its changes are a line for each, the lots, the notice and the clock, its release, and the merge of its releases.
 static TWO_LOTS: &str = r#"
 at 2026-02-01T09:00:00Z clerk POST /notices/N1
 > {"title":"Road repair","deadline":"2026-03-01T12:00:00Z","validity_days":90,"standstill_days":10,"criteria":"price","lots":[
@@ -32,13 +32,13 @@ at 2026-02-01T09:00:00Z clerk POST /notices/N1
 = 200 {"moment":"2026-02-01T09:00:00Z","notice":"N1","release":1}
 "#;
 
-// None is free.
+// No money is free.
 static RESERVED: &str = r#"
 at 2026-02-01T09:00:00Z public GET /lines/1000
 = 200 {"appropriation":1000,"contracted":0,"free":0,"line":"1000","paid":0,"reserved":1000,"title":"Roads"}
 "#;
 
-// What the clerk's command in this block would do.
+// The plan of the clerk's command in this block.
 fn planned<H: Shelf + Drop>(session: &mut Session<H>, block: &Block) -> Option<Planned> {
     let mut reader = CountedReader::new(block.request.as_slice());
     let Ok(request) = read_request(session.alloc, &mut reader) else {
@@ -61,7 +61,7 @@ fn shows<H: Shelf + Drop>(session: &mut Session<H>, transcript: &str) -> bool {
     session.play(transcript).is_ok()
 }
 
-// Whether what was planned is done, with the reply that is wanted.
+// Whether the plan is carried out, with the expected reply.
 fn is_done<H: Shelf + Drop>(session: &mut Session<H>, planned: Planned, response: &[u8]) -> bool {
     match session.desk.commit(planned) {
         Ok(reply) => response.ends_with(&reply),
@@ -69,8 +69,8 @@ fn is_done<H: Shelf + Drop>(session: &mut Session<H>, planned: Planned, response
     }
 }
 
-// Whether a command is planned with so many changes and the reply that its block wants, while the office shows what it showed before, and is
-// done then, and the office shows the other.
+// Whether a command is planned with this many changes and the reply of its block, while the office still shows the first text. Then the plan is carried out,
+// and the office shows the second text.
 fn is_planned_in<H: Shelf + Drop>(
     session: &mut Session<H>,
     block: &Block,
@@ -86,7 +86,7 @@ fn is_planned_in<H: Shelf + Drop>(
     is_told && is_before && is_done && shows(session, shown[1])
 }
 
-// The same in the office of this shelf behind these transcripts.
+// Whether a command is planned and carried out in this way, in the office of this store after these transcripts.
 fn is_planned_once<H: Shelf + Drop>(
     alloc: Global,
     shelf: H,
@@ -106,7 +106,7 @@ fn is_planned_once<H: Shelf + Drop>(
     }
 }
 
-// The same over an empty office, at the second try where the first isn't: one allocation of a test may be refused.
+// Whether a command is planned and carried out in this way, over an empty office. Tries twice, because a test may refuse one allocation.
 fn is_planned(
     alloc: Global,
     before: &[&str],

@@ -11,7 +11,7 @@ use std::io::{BufRead, BufReader, Cursor, Read};
 use tests_transcripts::blocks::{Block, Fault, read};
 use tests_transcripts::session::{desk_over, played};
 
-// An import and a look.
+// An import and a query.
 static IMPORT: &str = r#"
 at 2026-01-05T09:00:00Z clerk POST /budget/B1
 | line,kind,amount,title
@@ -34,7 +34,7 @@ at 2026-01-05T09:00:00Z clerk POST /budget/B1
 = 409 {"name":"Exists","refusal":10}
 "#;
 
-// A request that the input cuts off: its place is lost.
+// A request that the input cuts off, so that the place in the input is lost.
 static CUT: &str = r#"
 at 2026-01-05T09:00:00Z bytes
 | POST /budget/B2 HTTP/1.1\r
@@ -53,7 +53,7 @@ at 2026-01-05T09:00:00Z bytes
 = 413 {"name":"TooLong","refusal":2}
 "#;
 
-// A request in a coding.
+// A request with a transfer coding.
 static CODED: &str = r#"
 at 2026-01-05T09:00:00Z bytes
 | POST /budget/B1 HTTP/1.1\r
@@ -62,14 +62,14 @@ at 2026-01-05T09:00:00Z bytes
 = 501 {"name":"Coding","refusal":3}
 "#;
 
-/// An input, and what is wanted for it.
+/// An input, and the expected output.
 #[derive(Drop)]
 struct Script {
     input: Vec<u8>,
     wanted: Vec<u8>,
 }
 
-// Appends a block to the input, and its response to what is wanted.
+// Appends a block to the input, and its response to the expected output.
 fn append_block(script: &mut Script, block: &Block) -> Result<(), Fault> {
     script.input.extend_from_slice(b"at ")?;
     script.input.extend_from_slice(&block.moment.text())?;
@@ -100,7 +100,7 @@ fn script_of(alloc: Global, transcripts: &[&str]) -> Result<Script, Fault> {
     Ok(script)
 }
 
-// What a run over the office of this shelf writes, and how it ends.
+// The output and the end of a run over the office of this store.
 fn told<H: Shelf + Drop, R: BufRead + Drop>(
     alloc: Global,
     shelf: H,
@@ -113,7 +113,7 @@ fn told<H: Shelf + Drop, R: BufRead + Drop>(
     Ok((writer.into_inner(), outcome))
 }
 
-// Whether a run of what is read over an empty office writes what is wanted, and ends so.
+// Whether a run over an empty office has this output and this end.
 fn is_told<R: BufRead + Drop>(
     alloc: Global,
     reader: R,
@@ -126,7 +126,7 @@ fn is_told<R: BufRead + Drop>(
     }
 }
 
-// Whether a run of these transcripts, with some bytes behind them, is answered as they say and ends so.
+// Whether a run of these transcripts, followed by some bytes, has the expected output and this end.
 fn ends_once(
     alloc: Global,
     transcripts: &[&str],
@@ -138,7 +138,7 @@ fn ends_once(
     Ok(is_told(alloc, script.input.as_slice(), &script.wanted, end))
 }
 
-// The same, at the second try where the first isn't: one allocation of a test may be refused.
+// Whether a run has the expected output and this end. Tries twice, because a test may refuse one allocation.
 fn ends(alloc: Global, transcripts: &[&str], rest: &[u8], end: Result<u64, RunFault>) -> bool {
     match ends_once(alloc, transcripts, rest, end) {
         Ok(true) => true,
@@ -173,7 +173,7 @@ fn runs_are_answered_to_their_end(rt: HostRuntime) {
     assert!(rt; ends(alloc, &[IMPORT, LOOK, AGAIN], b"", Ok(3)));
 }
 
-// Whether the import and the look, cut off behind so many bytes, are answered with what is wanted, and the run ends so.
+// Whether the import and the query, cut off after this many bytes, have the expected output and this end.
 fn is_cut_told(
     alloc: Global,
     count: usize,
@@ -187,7 +187,7 @@ fn is_cut_told(
     }
 }
 
-// The same, where they are answered as these transcripts are.
+// Whether the import and the query, cut off after this many bytes, have the output of these transcripts and this end.
 fn is_cut(
     alloc: Global,
     count: usize,
@@ -198,7 +198,7 @@ fn is_cut(
     is_cut_told(alloc, count, &wanted.wanted, end)
 }
 
-// Whether it ends as it should. The import's block has 172 bytes, both have 224; an `at` line has 24.
+// Whether the run has the right end. The import's block has 172 bytes, and both blocks have 224. An `at` line has 24.
 fn is_cut_right(alloc: Global, count: usize) -> Result<bool, Fault> {
     match count {
         0 => is_cut(alloc, count, &[], Ok(0)),
@@ -211,7 +211,7 @@ fn is_cut_right(alloc: Global, count: usize) -> Result<bool, Fault> {
     }
 }
 
-// At a second try where the first isn't right: one allocation of a test may be refused.
+// Tries twice, because a test may refuse one allocation.
 fn ends_right(alloc: Global, count: usize) -> bool {
     matches!(is_cut_right(alloc, count), Ok(true)) || matches!(is_cut_right(alloc, count), Ok(true))
 }
@@ -230,7 +230,7 @@ fn an_input_ends_anywhere(rt: HostRuntime) {
     assert!(rt; ends_right_anywhere(rt.alloc()));
 }
 
-// Whether the import and the look are answered where they come in two pieces, the first of so many bytes.
+// Whether the import and the query are answered if they come in two pieces, the first one of this many bytes.
 fn is_read_in_pieces(alloc: Global, count: usize) -> Result<bool, Fault> {
     let script = script_of(alloc, &[IMPORT, LOOK])?;
     match script.input.split_at_checked(count) {
@@ -239,7 +239,7 @@ fn is_read_in_pieces(alloc: Global, count: usize) -> Result<bool, Fault> {
     }
 }
 
-// The same where they come byte by byte.
+// Whether the import and the query are answered if they come byte by byte.
 fn is_read_byte_by_byte(alloc: Global) -> Result<bool, Fault> {
     let script = script_of(alloc, &[IMPORT, LOOK])?;
     match BufReader::with_capacity(alloc, 1, script.input.as_slice()) {
@@ -248,7 +248,7 @@ fn is_read_byte_by_byte(alloc: Global) -> Result<bool, Fault> {
     }
 }
 
-// At a second try where the first isn't right.
+// Tries twice, because a test may refuse one allocation.
 fn comes_in_pieces(alloc: Global, count: usize) -> bool {
     matches!(is_read_in_pieces(alloc, count), Ok(true))
         || matches!(is_read_in_pieces(alloc, count), Ok(true))
@@ -272,7 +272,7 @@ fn an_input_comes_in_pieces(rt: HostRuntime) {
     assert!(rt; right);
 }
 
-// Whether a reader that fails within the second block ends the run there: the first block is answered.
+// Whether a reader that fails within the second block ends the run there, after the answer to the first block.
 fn is_failing_reader_told(alloc: Global) -> Result<bool, Fault> {
     let whole = script_of(alloc, &[IMPORT, LOOK])?;
     let wanted = script_of(alloc, &[IMPORT])?.wanted;
@@ -291,7 +291,7 @@ fn a_reader_fails(rt: HostRuntime) {
     assert!(rt; right);
 }
 
-// How a run over the office of this shelf ends whose writer takes 20 bytes alone, and the shelf then.
+// The end of a run over the office of this store whose writer accepts only 20 bytes, and the store after it.
 fn narrow_run<H: Shelf + Drop>(
     alloc: Global,
     shelf: H,
@@ -304,7 +304,7 @@ fn narrow_run<H: Shelf + Drop>(
     Ok((outcome, office.into_desk().into_shelf()))
 }
 
-// Whether a run whose writer fails tells so, and has imported.
+// Whether a run whose writer fails ends with `Write`, and has imported.
 fn is_failing_writer_told(alloc: Global) -> Result<bool, Fault> {
     let script = script_of(alloc, &[IMPORT, LOOK])?;
     let (end, shelf) = narrow_run(alloc, MemoryShelf::new(alloc), &script.input)?;
@@ -320,7 +320,7 @@ fn a_writer_fails(rt: HostRuntime) {
     assert!(rt; right);
 }
 
-// What is served of a request by the office of this shelf, and the shelf then.
+// The result and the output of serving one request by the office of this store, and the store after it.
 fn served<H: Shelf + Drop>(
     alloc: Global,
     shelf: H,
@@ -333,7 +333,7 @@ fn served<H: Shelf + Drop>(
     Ok((served, writer.into_inner(), office.into_desk().into_shelf()))
 }
 
-// Whether an empty office serves this one request as its block says, and a desk over its shelf then answers these transcripts.
+// Whether an empty office serves this one request as its block says, and a desk over its store then answers these transcripts.
 fn is_served(alloc: Global, block: &str, then: &[&str]) -> Result<bool, Fault> {
     let block = read(alloc, block.trim())?;
     let (served, text, shelf) = served(alloc, MemoryShelf::new(alloc), &block)?;
@@ -341,7 +341,7 @@ fn is_served(alloc: Global, block: &str, then: &[&str]) -> Result<bool, Fault> {
     Ok(served == Ok(()) && text.as_slice() == block.response.as_slice() && rest.is_ok())
 }
 
-// At a second try where the first isn't right.
+// Tries twice, because a test may refuse one allocation.
 fn serves(alloc: Global, block: &str, then: &[&str]) -> bool {
     matches!(is_served(alloc, block, then), Ok(true))
         || matches!(is_served(alloc, block, then), Ok(true))

@@ -2,7 +2,7 @@
 use std::io;
 use std::io::{BufRead, ErrorKind, Read};
 
-/// Gives these bytes, and fails where others would end.
+/// Gives these bytes, and fails instead of ending.
 #[derive(Drop)]
 pub(crate) struct Faulty<'a> {
     rest: &'a [u8],

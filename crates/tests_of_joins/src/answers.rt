@@ -1,4 +1,4 @@
-//! Answers of several rows: the first, and all.
+//! Answers with several rows: the first row, and all of them.
 use crate::values::row_of;
 use office_base::records::CompiledRow;
 use office_base::shelf::ShelfFault;
@@ -7,7 +7,7 @@ use sqlite::Row;
 use sqlite_value::value::ValueRef::Text;
 use std::alloc::Global;
 
-// A merge with this notice, if any, is the first of the rows.
+// Whether the first of the rows is the merge of this notice, or there is none.
 fn is_first(alloc: Global, rows: &[Row], notice: Option<&str>) -> bool {
     match (first::<CompiledRow>(alloc, rows), notice) {
         (Ok(Some(one)), Some(notice)) => one.notice.as_str() == notice,
@@ -16,7 +16,7 @@ fn is_first(alloc: Global, rows: &[Row], notice: Option<&str>) -> bool {
     }
 }
 
-// The rows are two, and the second has this notice.
+// Whether there are two rows, and the second has this notice.
 fn are_two(alloc: Global, rows: &[Row], notice: &str) -> bool {
     match all::<CompiledRow>(alloc, rows) {
         Ok(found) => match found.as_slice() {

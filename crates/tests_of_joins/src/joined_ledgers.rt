@@ -1,4 +1,4 @@
-//! Tests of the ledger that is added up from joined rows.
+//! The ledger that is added up from joined rows.
 use office_base::ledger::{ContractSums, LedgerRow, LineAmounts};
 use office_base::records::EntryKind;
 use office_base::shelf::ShelfFault;
@@ -46,7 +46,7 @@ fn row(line: &str, appropriation: u64, lot: Option<JoinedLot>) -> Option<JoinedR
     })
 }
 
-// The ledger of these rows; None where one of them is none.
+// The ledger of these rows. None if a row is missing.
 fn added_up(
     alloc: Global,
     rows: &[Option<JoinedRow>],
@@ -63,7 +63,7 @@ fn added_up(
     Some(sums.finish())
 }
 
-// A line of the ledger; and its appropriation, what lots have reserved, what is contracted and what was paid.
+// A line of the ledger, with its appropriation and its reserved, contracted and paid money.
 type Told = (&'static str, [u64; 4]);
 
 fn is_told(row: &LedgerRow, told: &Told) -> bool {
@@ -85,7 +85,7 @@ fn are_told(rows: &[LedgerRow], told: &[Told]) -> bool {
     true
 }
 
-// The ledger of these rows is this one.
+// Whether the ledger of these rows is this one.
 fn is_ledger(alloc: Global, rows: &[Option<JoinedRow>], told: &[Told]) -> bool {
     match added_up(alloc, rows) {
         Some(Ok(ledger)) => are_told(ledger.as_slice(), told),
@@ -93,7 +93,7 @@ fn is_ledger(alloc: Global, rows: &[Option<JoinedRow>], told: &[Told]) -> bool {
     }
 }
 
-// What the rows of two lines add up to.
+// The sums of the rows of two lines.
 static LEDGER: [Told; 2] = [("1000", [1000, 30, 130, 20]), ("2000", [50, 0, 0, 0])];
 
 #[test]
@@ -134,7 +134,7 @@ fn a_contract_is_overdrawn(rt: HostRuntime) {
     assert!(rt; matches!(added_up(rt.alloc(), &rows), Some(Err(ShelfFault::Store))));
 }
 
-// What is left of a contract that was cut by more than it was signed for, and then raised.
+// The outstanding amount of a contract that was cut by more than its signed value, and then raised.
 static RAISED_AND_CUT: [Told; 1] = [("1000", [1000, 0, 30, 0])];
 
 #[test]
@@ -154,7 +154,7 @@ fn raises_and_cuts_count(rt: HostRuntime) {
     assert!(rt; is_ledger(rt.alloc(), &rows, &RAISED_AND_CUT));
 }
 
-// What the lots of these rows have reserved and their contracts come to; None where one of them is none.
+// The reserved amounts of the lots in these rows, and the amounts of their contracts. None if a row is missing.
 fn listed(alloc: Global, rows: &[Option<JoinedLot>]) -> Option<Result<LineAmounts, ShelfFault>> {
     let mut list = AmountList::new(alloc);
     for row in rows {
@@ -172,7 +172,7 @@ fn is_sum(sums: &ContractSums, wanted: [u128; 3]) -> bool {
     [sums.gained, sums.lost, sums.paid] == wanted
 }
 
-// Three lots have reserved this, and two contracts come to this.
+// Whether three lots have reserved these amounts, and two contracts have those.
 pub(crate) fn are_amounts(amounts: &LineAmounts) -> bool {
     let reserved = match amounts.reserved.as_slice() {
         [first, second, third] => [first.units(), second.units(), third.units()] == [7, 0, 30],

@@ -6,7 +6,7 @@ use sqlite_value::value::ValueRef;
 use sqlite_value::value::ValueRef::{Int, Null, Text};
 use std::alloc::Global;
 
-// A line with a lot, its contract and an entry; with less and less of them.
+// A line with a lot, its contract and an entry, then with fewer of them.
 static READ: [[ValueRef<'static>; 12]; 4] = [
     [
         Text(b"1000"),
@@ -76,7 +76,7 @@ fn all_are_read(alloc: Global) -> bool {
     true
 }
 
-// A word that is no kind; an amount behind an entry that is NULL; a sum behind a contract that is NULL; an entry behind a lot that is NULL; a contract of number 0.
+// A word that isn't a kind; an amount after a NULL entry; a sum after a NULL contract; an entry after a NULL lot; a contract with number 0.
 static REFUSED: [[ValueRef<'static>; 9]; 5] = [
     [
         Text(b"N1"),
@@ -135,7 +135,7 @@ static REFUSED: [[ValueRef<'static>; 9]; 5] = [
     ],
 ];
 
-// Whether these values of a lot are refused, alone and behind their line.
+// Whether these values of a lot are refused, alone and after those of their line.
 fn are_refused(alloc: Global, lot: &[ValueRef<'static>; 9]) -> bool {
     let mut values = [
         Text(b"1000"),

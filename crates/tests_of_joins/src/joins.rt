@@ -1,4 +1,4 @@
-//! Tests of the selects over a store in memory.
+//! The selects over a store in memory.
 use crate::joined_ledgers::are_amounts;
 use office_base::ledger::LedgerRow;
 use office_ledger::adding::{amounts_of_rows, ledger_of_rows};
@@ -38,7 +38,7 @@ fn joined_of_line(alloc: Global, line: &str) -> Option<Vec<Row>> {
         .ok()
 }
 
-// Two lines: what is reserved, contracted and paid of the first; what is appropriated and contracted of the second.
+// Whether the first line has the expected reserved, contracted and paid money, and the second the expected appropriation and contracted money.
 fn are_lines(ledger: &[LedgerRow]) -> bool {
     match ledger {
         [roads, parks] => {

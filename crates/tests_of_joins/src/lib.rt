@@ -1,4 +1,4 @@
-//! Tests of records as rows of SQL values, of the ledger's joined rows, and of the selects that show these.
+//! Tests of records as rows of SQL values, of the joined rows of the ledger, and of the selects that show them.
 #![tactic(auto)]
 
 #[cfg(test)]

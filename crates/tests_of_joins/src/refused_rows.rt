@@ -1,4 +1,4 @@
-//! Rows that no office writes, which are read as faults of the store.
+//! Rows that no office writes. Each is read as a fault of the store.
 use crate::values::{
     DIGEST, award_of, contract_of, entry_of, envelope_of, lot_of, notice_of, performance_of, row_of,
 };
@@ -21,7 +21,7 @@ fn is_refused<R: Stored + Drop>(alloc: Global, values: &[ValueRef<'_>]) -> bool 
     }
 }
 
-// No name, less than nothing, no number, too few values, and too many.
+// No identifier, a negative number, no number, too few values, and too many.
 static LINES_REFUSED: [&[ValueRef<'static>]; 5] = [
     &[Text(b"10 00"), Text(b"Roads"), Int(1000), Int(395)],
     &[Text(b"1000"), Text(b"Roads"), Int(1000), Int(-1)],
@@ -61,7 +61,7 @@ fn refuses_words_and_numbers(rt: HostRuntime) {
     assert!(rt; is_refused::<EntryRow>(alloc, &entry_of(b"cut", Text(b""))));
 }
 
-// What can't have been read and found in a tender.
+// Readings and findings that a tender can't have.
 static READINGS_REFUSED: [[ValueRef<'static>; 6]; 6] = [
     [Text(b"unreadable"), Int(1), Null, Null, Null, Null],
     [Text(b"priced"), Int(1), Int(1), Null, Null, Null],
@@ -80,7 +80,7 @@ fn all_readings_are_refused(alloc: Global) -> bool {
     true
 }
 
-// Texts that no lot's items have.
+// Texts that the items of a lot can't have.
 static ITEMS_REFUSED: [&[u8]; 7] = [
     b"",
     b"I1\t3\tPaving",

@@ -74,7 +74,7 @@ fn is_clock_back(alloc: Global, values: &[ValueRef<'_>]) -> bool {
     }
 }
 
-// A clock of version 1 is read as one, and is that of version 2 but for the version.
+// Whether a clock of version 1 is read as one, and equals that of version 2 except for the version.
 fn is_former_clock_back(alloc: Global, values: &[ValueRef<'_>], second: &[ValueRef<'_>]) -> bool {
     match read::<FormerClock>(alloc, values) {
         Some(former) => are_same(&clock_values(&former.row), second),
@@ -96,7 +96,7 @@ fn is_notice_back(alloc: Global, values: &[ValueRef<'_>]) -> bool {
     }
 }
 
-// A notice without its last value is one of version 1, and is this one if that is 0.
+// Whether a notice without its last value is one of version 1, and equals this one if that value is 0.
 fn is_former_notice_back(alloc: Global, values: &[ValueRef<'_>]) -> bool {
     let Some((_, former)) = values.split_last() else {
         return false;
@@ -187,7 +187,7 @@ fn budgets_come_back(rt: HostRuntime) {
     assert!(rt; is_former_clock_back(alloc, &[Int(1), Int(8), Int(3), Int(0)], &clock));
 }
 
-// States of notices, and when they were opened.
+// States of notices, each with the moment of its opening.
 static NOTICES: [(&[u8], ValueRef<'static>); 3] = [
     (b"receiving", Null),
     (b"opened", Int(0)),
@@ -232,7 +232,7 @@ fn notices_come_back(rt: HostRuntime) {
     assert!(rt; all_lots_come_back(alloc));
 }
 
-// The rows are one tender of these values.
+// Whether the rows are one tender with these values.
 fn are_envelope(alloc: Global, rows: &[Row], values: &[ValueRef<'_>]) -> bool {
     match all::<EnvelopeRow>(alloc, rows) {
         Ok(found) => match found.as_slice() {
@@ -294,7 +294,7 @@ fn all_awards_come_back(alloc: Global) -> bool {
     true
 }
 
-// When contracts ended, and how.
+// The moments at which contracts ended, each with the way in which it ended.
 static CONTRACTS: [(ValueRef<'static>, ValueRef<'static>); 3] = [
     (Null, Null),
     (Int(9), Text(b"regular")),
@@ -310,7 +310,7 @@ fn all_contracts_come_back(alloc: Global) -> bool {
     true
 }
 
-// Kinds of entries, and their rationales.
+// Kinds of entries, each with a rationale.
 static ENTRIES: [(&[u8], ValueRef<'static>); 3] = [
     (b"raise", Text(b"More sand")),
     (b"cut", Text(b"Less sand")),

@@ -1,13 +1,13 @@
-//! Rows of values, and those that an office writes, of one record each.
+//! Rows of values, one for each record that an office writes.
 use sqlite::{Connection, Row};
 use sqlite_value::value::ValueRef;
 use sqlite_value::value::ValueRef::{Blob, Int, Text};
 use std::alloc::Global;
 
-/// What a SHA-256 may be, with a zero byte in it.
+/// A possible SHA-256, with a zero byte in it.
 pub(crate) const DIGEST: &[u8] = b"\x00\x0123456789abcdef0123456789ABCDEF";
 
-// Selects of so many values.
+// Selects of this many values.
 static SELECTS: [&str; 17] = [
     "SELECT NULL",
     "SELECT ?1",
@@ -28,14 +28,14 @@ static SELECTS: [&str; 17] = [
     "SELECT ?1, ?2, ?3, ?4, ?5, ?6, ?7, ?8, ?9, ?10, ?11, ?12, ?13, ?14, ?15, ?16",
 ];
 
-/// A row of an answer, of these values; None where it was not answered.
+/// A row of an answer with these values. None if there was no answer.
 pub(crate) fn row_of(alloc: Global, values: &[ValueRef<'_>]) -> Option<Row> {
     let sql = SELECTS.get(values.len())?;
     let mut conn = Connection::open_in_memory(alloc).ok()?;
     conn.query_row(sql, values).ok()
 }
 
-/// A notice in this state, that was opened then and asks for this performance security.
+/// A notice in this state, with the moment of its opening and its performance security.
 pub(crate) fn notice_of<'a>(
     state: &'a [u8],
     opened: ValueRef<'a>,
@@ -57,7 +57,7 @@ pub(crate) fn notice_of<'a>(
     ]
 }
 
-/// A lot of these items in this state.
+/// A lot in this state, with these items.
 pub(crate) fn lot_of<'a>(items: &'a [u8], state: &'a [u8]) -> [ValueRef<'a>; 9] {
     [
         Text(b"N1"),
@@ -72,7 +72,7 @@ pub(crate) fn lot_of<'a>(items: &'a [u8], state: &'a [u8]) -> [ValueRef<'a>; 9] 
     ]
 }
 
-/// A tender in this state, with the four columns of its reading, then whether it was found responsive, and its quality.
+/// A tender in this state, with the four columns of its reading, then whether it is responsive, and its quality.
 pub(crate) fn envelope_of<'a>(state: &'a [u8], read: [ValueRef<'a>; 6]) -> [ValueRef<'a>; 16] {
     let [word, stated, corrected, corrections, responsive, quality] = read;
     [
@@ -121,7 +121,7 @@ pub(crate) fn award_of(state: &[u8]) -> [ValueRef<'_>; 7] {
     ]
 }
 
-/// A contract that ended then, and how it did.
+/// A contract that ended at this moment, in this way.
 pub(crate) fn contract_of<'a>(ended: ValueRef<'a>, how: ValueRef<'a>) -> [ValueRef<'a>; 9] {
     [
         Int(1),

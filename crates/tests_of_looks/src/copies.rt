@@ -1,4 +1,4 @@
-//! Another office with the rows of a publication, but for one that is left out.
+//! Another office with the rows of a publication, except for one row that is left out.
 use office_base::counts::Sequence;
 use office_base::puts::Put;
 use office_base::records::ReleaseRow;
@@ -7,7 +7,7 @@ use office_values::id::Id;
 use office_values::refusal::Refusal;
 use std::alloc::{AllocError, Global};
 
-/// What isn't copied.
+/// The row that isn't copied.
 #[derive(Clone, Copy)]
 pub(crate) enum LeftOut {
     Merge,
@@ -82,7 +82,7 @@ fn rows_but<H: Shelf>(
     Ok(puts)
 }
 
-/// Puts them into another office.
+/// Puts these rows into another office.
 pub(crate) fn copy_but<H: Shelf>(
     alloc: Global,
     from: &mut H,

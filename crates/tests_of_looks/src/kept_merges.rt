@@ -1,5 +1,5 @@
-//! An office that keeps no merge of a notice's releases: its record is the same, and the next publication keeps a merge; where a release is no object,
-//! nothing is published, for the merge would lose it.
+//! An office that stores no merge of a notice's releases. Its record is the same, and the next publication stores a merge. If a release isn't an object,
+//! nothing is published, because the merge would lose it.
 use crate::copies::{LeftOut, copy_but};
 use crate::unreadable_texts::change_text;
 use crate::wrong_merges::NOT_GONE_ON;
@@ -12,7 +12,7 @@ use tests_transcripts::published::{AMENDED, PUBLISHED};
 use tests_transcripts::session::played;
 use tests_transcripts::setup::{MONEY, NOTICE, TENDERERS};
 
-// Whether a merge is kept; None where that can't be told.
+// Whether a merge is stored. None if this can't be found out.
 fn keeps_merge<H: Shelf>(shelf: &mut H, notice: &Id) -> Option<bool> {
     match shelf.get_compiled(notice) {
         Ok(merge) => Some(merge.is_some()),
@@ -29,7 +29,7 @@ fn all_of(
     Some([one?, copied?, looked_at?, amended?])
 }
 
-// The other office with the notice that is published in the one, without the merge of its releases; and whether the one keeps it.
+// The other office with the notice of the first one, without the merge of its releases; and whether the first one stores this merge.
 fn without_merge<H: Shelf + Drop>(
     alloc: Global,
     one: H,
@@ -46,7 +46,7 @@ fn without_merge<H: Shelf + Drop>(
     Some((other, in_one))
 }
 
-// Whether the merge is kept in the one, and in the other before all looks, behind looks at it, and behind an amendment.
+// Whether the merge is stored in the first office, and in the other one before all queries, after the queries, and after an amendment.
 fn merges_kept<H: Shelf + Drop>(alloc: Global, one: H, other: H) -> Option<[bool; 4]> {
     let notice = Id::read(b"N1")?;
     let (mut other, in_one) = without_merge(alloc, one, other, &notice)?;
@@ -57,12 +57,12 @@ fn merges_kept<H: Shelf + Drop>(alloc: Global, one: H, other: H) -> Option<[bool
     all_of(in_one, copied, looked_at, keeps_merge(&mut other, &notice))
 }
 
-// The same over offices in memory.
+// The answers over offices in memory.
 fn merges_in_memory(alloc: Global) -> Option<[bool; 4]> {
     merges_kept(alloc, MemoryShelf::new(alloc), MemoryShelf::new(alloc))
 }
 
-// The same over offices in SQL.
+// The answers over offices in SQL.
 fn merges_in_sql(alloc: Global) -> Option<[bool; 4]> {
     match (in_sql(alloc), in_sql(alloc)) {
         (Some(one), Some(other)) => merges_kept(alloc, one, other),
@@ -70,7 +70,7 @@ fn merges_in_sql(alloc: Global) -> Option<[bool; 4]> {
     }
 }
 
-// That the first of two tries that doesn't fail is right: one allocation of a test may be refused.
+// Whether the first of two tries that doesn't fail is right, because a test may refuse one allocation.
 fn are_right(first: Option<[bool; 4]>, second: Option<[bool; 4]>) -> bool {
     match first.or(second) {
         Some(kept) => kept == [true, false, false, true],
@@ -78,7 +78,7 @@ fn are_right(first: Option<[bool; 4]>, second: Option<[bool; 4]>) -> bool {
     }
 }
 
-// Whether nothing is published where no merge is kept and the release has this text, and no record is shown.
+// Whether nothing is published and no record is shown if no merge is stored and the release has this text.
 fn isnt_merged<H: Shelf + Drop>(alloc: Global, one: H, other: H, text: &str) -> Option<bool> {
     let notice = Id::read(b"N1")?;
     let (mut other, _) = without_merge(alloc, one, other, &notice)?;
@@ -105,7 +105,7 @@ fn isnt_merged_in_sql(alloc: Global, text: &str) -> Option<bool> {
     }
 }
 
-// At a second try where the first isn't right: one allocation of a test may be refused.
+// Tries twice, because a test may refuse one allocation.
 fn is_right_in_memory(alloc: Global, text: &str) -> bool {
     matches!(isnt_merged_in_memory(alloc, text), Some(true))
         || matches!(isnt_merged_in_memory(alloc, text), Some(true))

@@ -1,4 +1,4 @@
-//! Looks at more than a request can bring: the terms of many lots of 50 items whose titles are as long as any, and the evaluation of 5,000 tenders.
+//! Answers that are larger than any request: the terms of many lots with 50 items whose titles have the greatest length, and the evaluation of 5,000 tenders.
 use office_base::counts::{CorrectionCount, TenderLength};
 use office_base::puts::Put;
 use office_base::reading::Reading;
@@ -21,7 +21,7 @@ use tests_sql_office::office::in_sql;
 use tests_transcripts::session::{desk_over, played};
 use tests_transcripts::setup::{MONEY, NOTICE, TENDERERS};
 
-// A title as long as any.
+// A title of the greatest length.
 static TITLE: [u8; 200] = [b't'; 200];
 
 const LOTS: u8 = 20;
@@ -73,7 +73,7 @@ fn lot(alloc: Global, number: u8) -> Option<LotRow> {
     })
 }
 
-// So many lots.
+// All lots, of which there are LOTS.
 fn lots(alloc: Global) -> Option<Vec<Put>> {
     let mut puts = Vec::new(alloc);
     for number in 0..LOTS {
@@ -82,7 +82,7 @@ fn lots(alloc: Global) -> Option<Vec<Put>> {
     Some(puts)
 }
 
-// The terms of a notice with these lots behind its own.
+// The terms of a notice that has these lots after its own.
 fn terms_of<H: Shelf + Drop>(alloc: Global, shelf: H) -> Option<Vec<u8>> {
     let notice = Id::read(b"N1")?;
     let mut shelf = played(alloc, shelf, 0, &[MONEY, TENDERERS, NOTICE]).ok()?;
@@ -129,7 +129,7 @@ fn push_lot(text: &mut Vec<u8>, number: u8) -> Option<()> {
     push(text, b"\"}")
 }
 
-// What they are to be.
+// The expected terms.
 fn terms_wanted(alloc: Global) -> Option<Vec<u8>> {
     let mut text = Vec::new(alloc);
     push(&mut text, TERMS_BEFORE)?;
@@ -140,7 +140,7 @@ fn terms_wanted(alloc: Global) -> Option<Vec<u8>> {
     Some(text)
 }
 
-// An opened tender of a price of 1000, found responsive and of quality 10.
+// An opened tender with a price of 1000, found responsive and of quality 10.
 fn tender(receipt: u64) -> Option<EnvelopeRow> {
     Some(EnvelopeRow {
         receipt: GivenNumber::read(receipt)?,
@@ -163,7 +163,7 @@ fn tender(receipt: u64) -> Option<EnvelopeRow> {
     })
 }
 
-// The notice, opened, by points of which the price weighs 60.
+// The notice after its opening. Points decide, and the price has a weight of 60.
 fn opened(row: NoticeRow) -> Option<Put> {
     let weight = Weight::read(60)?;
     let mut row = row;
@@ -173,7 +173,7 @@ fn opened(row: NoticeRow) -> Option<Put> {
     Some(Put::Notice(row))
 }
 
-// The notice, and so many tenders of its lot.
+// The notice, and all tenders of its lot, of which there are TENDERS.
 fn opened_with_tenders(alloc: Global, row: NoticeRow) -> Option<Vec<Put>> {
     let mut puts = Vec::new(alloc);
     puts.push(opened(row)?).ok()?;
@@ -184,7 +184,7 @@ fn opened_with_tenders(alloc: Global, row: NoticeRow) -> Option<Vec<Put>> {
     Some(puts)
 }
 
-// The evaluation of such a notice.
+// The evaluation of this notice.
 fn evaluation_of<H: Shelf + Drop>(alloc: Global, shelf: H) -> Option<Vec<u8>> {
     let notice = Id::read(b"N1")?;
     let mut shelf = played(alloc, shelf, 0, &[MONEY, TENDERERS, NOTICE]).ok()?;
@@ -194,7 +194,7 @@ fn evaluation_of<H: Shelf + Drop>(alloc: Global, shelf: H) -> Option<Vec<u8>> {
     desk.look(&Caller::Clerk, Query::Evaluation { notice }).ok()
 }
 
-// What it is to be.
+// The expected evaluation.
 fn evaluation_wanted(alloc: Global) -> Option<Vec<u8>> {
     let mut text = Vec::new(alloc);
     push(&mut text, b"EVALUATION\tN1\nlot\tL1\tundecided\n")?;
@@ -209,7 +209,7 @@ fn evaluation_wanted(alloc: Global) -> Option<Vec<u8>> {
     Some(text)
 }
 
-// Whether a text is there and as it is to be.
+// Whether a text exists and is the expected one.
 fn is_as_wanted(told: Option<Vec<u8>>, wanted: Option<Vec<u8>>) -> bool {
     match (told, wanted) {
         (Some(told), Some(wanted)) => told.as_slice() == wanted.as_slice(),
@@ -237,7 +237,7 @@ fn right_in_sql(alloc: Global) -> bool {
     }
 }
 
-// At a second try where the first isn't right: one allocation of a test may be refused.
+// Tries twice, because a test may refuse one allocation.
 #[test]
 fn looks_are_large(rt: HostRuntime) {
     let alloc = rt.alloc();

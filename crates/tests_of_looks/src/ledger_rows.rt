@@ -1,4 +1,4 @@
-//! The rows of the ledger, one at a time: each line, lot, contract and entry in the order of the keys, and the ledger that they add up to.
+//! The rows of the ledger, one at a time. Each line, lot, contract and entry comes in the order of the keys; then the ledger to which they add up.
 use office_ledger::joined::JoinedRow;
 use office_store::shelf::SqlShelf;
 use sqlite::Alter;
@@ -75,7 +75,7 @@ at 2026-03-14T10:00:00Z public GET /ledger
 | 2000\t5\t5\t0\t0\t0
 "#;
 
-// A row, by its line, its lot with what is reserved, its contract with what is signed, and its entry with its amount.
+// A row: its line, its lot with the reserved money, its contract with the signed amount, and its entry with its amount.
 type Wanted = (
     &'static str,
     Option<(&'static str, u64)>,
@@ -91,19 +91,19 @@ const ROWS: [Wanted; 5] = [
     ("2000", None, None, None),
 ];
 
-// The lot of a row, with what is reserved for it.
+// The lot of a row, with its reserved money.
 fn lot_of(row: &JoinedRow) -> Option<(&str, u64)> {
     let lot = row.lot.as_ref()?;
     Some((lot.lot.as_str(), lot.reserved.units()))
 }
 
-// Its contract, with what is signed.
+// The contract of a row, with its signed amount.
 fn contract_of(row: &JoinedRow) -> Option<(u64, u64)> {
     let contract = row.lot.as_ref()?.contract.as_ref()?;
     Some((contract.contract.get(), contract.signed.units()))
 }
 
-// Its entry, with its amount.
+// The entry of a row, with its amount.
 fn entry_of(row: &JoinedRow) -> Option<(&str, u64)> {
     let entry = row.lot.as_ref()?.contract.as_ref()?.entry.as_ref()?;
     Some((entry.entry.as_str(), entry.amount.get()))
@@ -116,7 +116,7 @@ fn is_row(row: &JoinedRow, wanted: &Wanted) -> bool {
         && entry_of(row) == wanted.3
 }
 
-// Whether these are the first rows of the ledger. The rest is dropped.
+// Whether these are the first rows of the ledger. The other rows are dropped.
 fn are_first<S: Alter>(shelf: &mut SqlShelf<S>, wanted: &[Wanted]) -> bool {
     let Ok(mut rows) = shelf.ledger_rows() else {
         return false;
@@ -130,7 +130,7 @@ fn are_first<S: Alter>(shelf: &mut SqlShelf<S>, wanted: &[Wanted]) -> bool {
     true
 }
 
-// Whether these are all of them; and behind the last comes none, however often it is asked for.
+// Whether these are all rows of the ledger. After the last one there is none, however often it is asked for.
 fn are_all<S: Alter>(shelf: &mut SqlShelf<S>, wanted: &[Wanted]) -> bool {
     let Ok(mut rows) = shelf.ledger_rows() else {
         return false;
@@ -144,7 +144,7 @@ fn are_all<S: Alter>(shelf: &mut SqlShelf<S>, wanted: &[Wanted]) -> bool {
     matches!(rows.next(), Ok(None)) && matches!(rows.next(), Ok(None))
 }
 
-// Whether the office behind LOTS has these rows, and answers the ledger as ever where two were taken and the rest dropped.
+// Whether the office after LOTS has these rows, and still answers the ledger after two rows were taken and the others dropped.
 fn has_rows(alloc: Global) -> Result<bool, Wrong> {
     let office = in_sql(alloc).ok_or(Wrong::Unopened)?;
     let mut office = played(alloc, office, 0, &[MONEY, TENDERERS, LOTS])?;
@@ -158,7 +158,7 @@ fn has_rows(alloc: Global) -> Result<bool, Wrong> {
 #[test]
 fn rows_one_at_a_time(rt: HostRuntime) -> Result<(), Fail> {
     let alloc = rt.alloc();
-    // At a second try where the first isn't right: one allocation of a test may be refused.
+    // Tries twice, because a test may refuse one allocation.
     let has = matches!(has_rows(alloc), Ok(true)) || matches!(has_rows(alloc), Ok(true));
     assert!(rt; has);
     Ok(())

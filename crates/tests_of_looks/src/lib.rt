@@ -1,6 +1,6 @@
-//! What is read of an office where a transcript can't say it: merges that aren't kept or that other hands wrote, releases that are missing or can't be read,
-//! the ledger's rows one at a time, looks at more than a request can bring, what the programs show the public, and what they answer over connections and
-//! sockets that a test makes up.
+//! Tests of queries that a transcript can't express. There are merges that aren't stored or that another program wrote, releases that are missing or can't be
+//! read, and the ledger's rows one at a time. There are also answers that are larger than any request, texts that the programs print, and connections and
+//! sockets of a test's own.
 #![tactic(auto)]
 
 #[cfg(test)]

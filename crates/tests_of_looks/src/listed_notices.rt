@@ -1,4 +1,4 @@
-//! The list of all notices, as it is printed: page by page, each notice once, and a writer that takes no more.
+//! The list of all notices, as it is printed: page by page, each notice once, and to a writer that accepts no more.
 use office_base::puts::Put;
 use office_base::records::{NoticeRow, NoticeState};
 use office_base::shelf::Shelf;
@@ -13,7 +13,7 @@ use tests_sql_office::office::in_sql;
 use tests_transcripts::session::played;
 use tests_transcripts::setup::{MONEY, NOTICE, TENDERERS};
 
-// How many notices there are beside the last: they are one page, just a page, a page and one more, two pages, and more.
+// Numbers of notices beside the last one. They make one page, a full page, a page and one more, two pages, and more.
 static COUNTS: [u64; 5] = [0, 99, 100, 199, 205];
 
 fn name_of(alloc: Global, number: u64) -> Option<Id> {
@@ -21,7 +21,7 @@ fn name_of(alloc: Global, number: u64) -> Option<Id> {
     Id::read(name.as_bytes())
 }
 
-// The row under the name of this number; the first was opened.
+// The row under the name of this number; the first notice was opened.
 fn numbered(alloc: Global, row: &NoticeRow, number: u64) -> Option<NoticeRow> {
     let notice = name_of(alloc, number)?;
     let mut row = row.clone().ok()?;
@@ -33,7 +33,7 @@ fn numbered(alloc: Global, row: &NoticeRow, number: u64) -> Option<NoticeRow> {
     Some(row)
 }
 
-// So many notices like this one.
+// This many notices like this one.
 fn notices_like(alloc: Global, row: &NoticeRow, count: u64) -> Option<Vec<Put>> {
     let mut puts = Vec::new(alloc);
     for number in 0..count {
@@ -42,7 +42,7 @@ fn notices_like(alloc: Global, row: &NoticeRow, count: u64) -> Option<Vec<Put>> 
     Some(puts)
 }
 
-// An office with so many notices before `N1`.
+// An office with this many notices before `N1`.
 fn with_notices<H: Shelf + Drop>(alloc: Global, shelf: H, count: u64) -> Option<H> {
     let notice = Id::read(b"N1")?;
     let mut shelf = played(alloc, shelf, 0, &[MONEY, TENDERERS, NOTICE]).ok()?;
@@ -51,7 +51,7 @@ fn with_notices<H: Shelf + Drop>(alloc: Global, shelf: H, count: u64) -> Option<
     Some(shelf)
 }
 
-// The lines of such an office.
+// The lines of this office.
 fn lines_of(alloc: Global, count: u64) -> Option<Vec<u8>> {
     let mut lines = Vec::new(alloc);
     for number in 0..count {
@@ -71,7 +71,7 @@ fn lines_of(alloc: Global, count: u64) -> Option<Vec<u8>> {
     Some(lines)
 }
 
-// Whether all notices of such an office are listed; None where memory is wanting.
+// Whether all notices of this office are listed. None if memory is too small.
 fn is_listed<H: Shelf + Drop>(alloc: Global, shelf: H, count: u64) -> Option<bool> {
     let mut shelf = with_notices(alloc, shelf, count)?;
     let mut output = WatchedWriter::new(Vec::new(alloc));
@@ -92,7 +92,7 @@ fn listed_in_sql(alloc: Global, count: u64) -> bool {
     }
 }
 
-// At a second try where the first isn't right: one allocation of a test may be refused.
+// Tries each twice, because a test may refuse one allocation.
 fn are_listed_in_memory(alloc: Global, counts: &[u64]) -> bool {
     for count in counts {
         if !listed_in_memory(alloc, *count) && !listed_in_memory(alloc, *count) {
@@ -117,7 +117,7 @@ fn all_notices_are_listed(rt: HostRuntime) {
     assert!(rt; are_listed_in_sql(rt.alloc(), &COUNTS));
 }
 
-// Whether a writer that has no more room is told.
+// Whether a writer that is full is reported.
 fn is_full_writer_told(alloc: Global) -> bool {
     let Some(mut shelf) = with_notices(alloc, MemoryShelf::new(alloc), 1) else {
         return false;

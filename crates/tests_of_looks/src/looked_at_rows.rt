@@ -1,4 +1,4 @@
-//! Looks at rows that no commands lead to: a contract from which more has gone than came, and a tender that was opened and not read.
+//! Queries for rows to which no commands lead: a contract from which more money went out than came in, and a tender that was opened but not read.
 use office_base::counts::TenderLength;
 use office_base::puts::Put;
 use office_base::reading::Reading;
@@ -20,10 +20,10 @@ use tests_sql_office::office::in_sql;
 use tests_transcripts::session::{desk_over, played};
 use tests_transcripts::setup::{MONEY, NOTICE, TENDERERS};
 
-// What a look is answered; None where memory is wanting.
+// The answer to a query. None if memory is too small.
 type Told = Option<Result<Vec<u8>, Refusal>>;
 
-// A contract over so much.
+// A contract of this amount.
 fn contract_over(signed: u64) -> Option<ContractRow> {
     Some(ContractRow {
         contract: GivenNumber::read(1)?,
@@ -38,7 +38,7 @@ fn contract_over(signed: u64) -> Option<ContractRow> {
     })
 }
 
-// A payment of 1 under it.
+// A payment of 1 under the contract.
 fn payment() -> Option<EntryRow> {
     Some(EntryRow {
         contract: GivenNumber::read(1)?,
@@ -50,7 +50,7 @@ fn payment() -> Option<EntryRow> {
     })
 }
 
-// A contract over so much, under which 1 was paid.
+// A contract of this amount, under which 1 was paid.
 fn paid_contract(alloc: Global, signed: u64) -> Option<Vec<Put>> {
     let mut puts = Vec::new(alloc);
     puts.push(Put::Contract(contract_over(signed)?)).ok()?;
@@ -58,7 +58,7 @@ fn paid_contract(alloc: Global, signed: u64) -> Option<Vec<Put>> {
     Some(puts)
 }
 
-// What the clerk is told of it.
+// The clerk's answer for this contract.
 fn told_of_contract<H: Shelf + Drop>(alloc: Global, shelf: H, signed: u64) -> Told {
     let contract = AskedNumber::read(1)?;
     let mut shelf = shelf;
@@ -67,7 +67,7 @@ fn told_of_contract<H: Shelf + Drop>(alloc: Global, shelf: H, signed: u64) -> To
     Some(desk.look(&Caller::Clerk, Query::Contract { contract }))
 }
 
-// An opened tender that reads so.
+// An opened tender with this reading.
 fn opened_tender(reading: Option<Reading>) -> Option<EnvelopeRow> {
     Some(EnvelopeRow {
         receipt: GivenNumber::read(1)?,
@@ -86,7 +86,7 @@ fn opened_tender(reading: Option<Reading>) -> Option<EnvelopeRow> {
     })
 }
 
-// The notice, opened, with this tender.
+// The notice after its opening, with this tender.
 fn opened(alloc: Global, row: NoticeRow, reading: Option<Reading>) -> Option<Vec<Put>> {
     let mut row = row;
     row.state = NoticeState::Opened;
@@ -97,7 +97,7 @@ fn opened(alloc: Global, row: NoticeRow, reading: Option<Reading>) -> Option<Vec
     Some(puts)
 }
 
-// What the clerk is told of the evaluation of such a notice.
+// The clerk's answer for the evaluation of this notice.
 fn told_of_tender<H: Shelf + Drop>(alloc: Global, shelf: H, reading: Option<Reading>) -> Told {
     let notice = Id::read(b"N1")?;
     let mut shelf = played(alloc, shelf, 0, &[MONEY, TENDERERS, NOTICE]).ok()?;
@@ -124,13 +124,13 @@ static CONTRACT: &[u8] =
 static EVALUATION: &[u8] =
     b"EVALUATION\tN1\nlot\tL1\tundecided\ntender\t1\tT1\tnonconforming\nEND\n";
 
-// Whether a contract is shown from which no more has gone than came, and another isn't.
+// Whether a contract from which no more money went out than came in is shown, and another one isn't.
 fn shows_contracts<H: Shelf + Drop>(alloc: Global, one: H, other: H) -> bool {
     is_text(told_of_contract(alloc, one, 1), CONTRACT)
         && is_unavailable(told_of_contract(alloc, other, 0))
 }
 
-// Whether an evaluation is shown of a tender that was read, and of another isn't.
+// Whether the evaluation of a tender that was read is shown, and that of another tender isn't.
 fn shows_evaluations<H: Shelf + Drop>(alloc: Global, one: H, other: H) -> bool {
     let read = told_of_tender(alloc, one, Some(Reading::Nonconforming));
     is_text(read, EVALUATION) && is_unavailable(told_of_tender(alloc, other, None))
@@ -158,7 +158,7 @@ fn evaluations_in_sql(alloc: Global) -> bool {
 #[test]
 fn looked_at_rows(rt: HostRuntime) {
     let alloc = rt.alloc();
-    // At a second try where the first isn't right: one allocation of a test may be refused.
+    // Tries twice, because a test may refuse one allocation.
     assert!(rt; right_in_memory(alloc) || right_in_memory(alloc));
     assert!(rt; contracts_in_sql(alloc) || contracts_in_sql(alloc));
     assert!(rt; evaluations_in_sql(alloc) || evaluations_in_sql(alloc));

@@ -1,4 +1,4 @@
-//! A release that is missing among those of its notice, as where other hands took its row away: no package is shown, and nothing in its place.
+//! A release of a notice that is missing, for example because another program removed its row. No package is shown, and nothing in its place.
 use crate::copies::{LeftOut, copy_but};
 use crate::unreadable_texts::NOT_SHOWN;
 use office_base::counts::Sequence;
@@ -21,7 +21,7 @@ at 2026-02-11T09:00:00Z clerk POST /notices/N1/amend
 = 200 {"moment":"2026-02-11T09:00:00Z","notice":"N1","release":3}
 "#;
 
-// Whether neither package of a notice is shown of whose releases this one wasn't copied into the other office.
+// Whether neither package of a notice is shown if this one of its releases wasn't copied into the other office.
 fn isnt_shown<H: Shelf + Drop>(
     alloc: Global,
     one: H,
@@ -60,7 +60,7 @@ fn isnt_shown_in_sql(alloc: Global, number: u64) -> Result<bool, Wrong> {
     isnt_shown(alloc, one, other, number)
 }
 
-// At a second try where the first isn't right: one allocation of a test may be refused.
+// Tries twice, because a test may refuse one allocation.
 fn is_right_in_memory(alloc: Global, number: u64) -> bool {
     matches!(isnt_shown_in_memory(alloc, number), Ok(true))
         || matches!(isnt_shown_in_memory(alloc, number), Ok(true))
@@ -71,7 +71,7 @@ fn is_right_in_sql(alloc: Global, number: u64) -> bool {
         || matches!(isnt_shown_in_sql(alloc, number), Ok(true))
 }
 
-// The first, one in the middle, and the last.
+// The first release, one in the middle, and the last.
 #[test]
 fn packages_are_not_cut_at_a_gap(rt: HostRuntime) {
     let alloc = rt.alloc();

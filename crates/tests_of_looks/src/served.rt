@@ -1,4 +1,4 @@
-//! Connections of a host that a test makes up: what comes over each, when it comes, and what is written.
+//! Connections of a host that a test defines: the bytes that come over each, the moment at which they come, and the output.
 use office_base::shelf::Shelf;
 use office_http::office::Office;
 use office_memory::memory::MemoryShelf;
@@ -17,14 +17,15 @@ use std::io::{Cursor, ErrorKind, Read, Write};
 use std::time::Duration;
 use tests_transcripts::session::desk_over;
 
-/// A host: what comes over its connections, none of one that can't be taken; and the second that its clock tells next, none where it can't be read.
+/// A host. It has the bytes that come over its connections, or none for a connection that can't be taken. It also has the second that its clock shows next, or
+/// none if the clock can't be read.
 #[derive(Drop)]
 struct Scripted {
     alloc: Global,
     came: &'static [Option<&'static [u8]>],
     taken: usize,
     second: Option<u64>,
-    /// All that was written, connection by connection.
+    /// The whole output, connection by connection.
     told: Vec<u8>,
 }
 
@@ -77,11 +78,11 @@ pub(crate) static CAME: [Option<&[u8]>; 4] = [Some(IMPORT), None, Some(LOOK), So
 
 static LATER: [Option<&[u8]>; 1] = [Some(LOOK)];
 
-// What is told over the three that can be taken.
+// The output over the three connections that can be taken.
 pub(crate) static TOLD: &[u8] =
     b"HTTP/1.1 200 OK\r\nContent-Type: application/json\r\nContent-Length: 55\r\nConnection: close\r\n\r\n{\"batch\":\"B1\",\"moment\":\"2026-01-05T09:00:00Z\",\"rows\":1}HTTP/1.1 200 OK\r\nContent-Type: application/json\r\nContent-Length: 99\r\nConnection: close\r\n\r\n{\"appropriation\":700,\"contracted\":0,\"free\":700,\"line\":\"1000\",\"paid\":0,\"reserved\":0,\"title\":\"Roads\"}HTTP/1.1 400 Bad Request\r\nContent-Type: application/json\r\nContent-Length: 30\r\nConnection: close\r\n\r\n{\"name\":\"BadHead\",\"refusal\":1}";
 
-// What is told over the third.
+// The output over the third.
 static LOOKED: &[u8] =
     b"HTTP/1.1 200 OK\r\nContent-Type: application/json\r\nContent-Length: 99\r\nConnection: close\r\n\r\n{\"appropriation\":700,\"contracted\":0,\"free\":700,\"line\":\"1000\",\"paid\":0,\"reserved\":0,\"title\":\"Roads\"}";
 
@@ -115,7 +116,7 @@ fn needs_a_clock<H: Shelf + Drop>(alloc: Global, office: &mut Office<H>) -> bool
     matches!(&taken, Err(ProgramFault::Input)) && host.told.is_empty()
 }
 
-// How serving a connection ends.
+// The end of serving a connection.
 fn ending<H: Shelf + Drop, R: Read + Drop, W: Write>(
     alloc: Global,
     office: &mut Office<H>,
@@ -126,7 +127,7 @@ fn ending<H: Shelf + Drop, R: Read + Drop, W: Write>(
     ended.result()
 }
 
-// The command of the connection that ends is done, and the next connection is answered.
+// Whether the command of the connection that ends is done, and the next connection is answered.
 fn ends_alone<H: Shelf + Drop>(alloc: Global, office: &mut Office<H>) -> bool {
     let mut full = WatchedWriter::new(Cursor::new([0u8; 20]));
     let ended = ending(alloc, office, IMPORT, &mut full);
@@ -166,7 +167,7 @@ const FRONT_OF_BLOCK: &[u8] = b"at 2026-0";
 static NO_LINE: &[u8] =
     b"HTTP/1.1 404 Not Found\r\nContent-Type: application/json\r\nContent-Length: 43\r\nConnection: close\r\n\r\n{\"name\":\"NoSuch\",\"refusal\":9,\"what\":\"line\"}";
 
-// What answering these bytes came to.
+// The result of answering these bytes.
 fn answered<H: Shelf + Drop>(
     alloc: Global,
     office: &mut Office<H>,
@@ -184,18 +185,18 @@ fn answers_blocks<H: Shelf + Drop>(alloc: Global, office: &mut Office<H>) -> boo
     is_done && matches!(&cut, Err(ProgramFault::Input)) && told.as_slice() == NO_LINE
 }
 
-/// What is tried of an office that is served.
+/// The trials of an office that is served.
 #[derive(Clone, Copy)]
 enum Tried {
     /// Each connection that can be taken is answered, at the clock's second, and the other one is passed over.
     Turns,
-    /// Nothing is served where the clock can't be read.
+    /// Nothing is served if the clock can't be read.
     NoClock,
-    /// A writer that takes no more ends its connection and nothing else.
+    /// A writer that accepts no more ends only its own connection.
     FullWriter,
-    /// Nothing is told where the reader fails inside a request.
+    /// Nothing is written if the reader fails inside a request.
     BrokenReader,
-    /// Blocks are answered on an output, and a front of one is a fault of the input.
+    /// Blocks are answered on an output, and the beginning of a block is a fault of the input.
     Blocks,
 }
 
@@ -212,7 +213,7 @@ fn is_so<H: Shelf + Drop>(alloc: Global, shelf: H, tried: Tried) -> bool {
     }
 }
 
-// At a second try where the first isn't right: one allocation of a test may be refused.
+// Tries twice, because a test may refuse one allocation.
 fn is_right(alloc: Global, tried: Tried) -> bool {
     is_so(alloc, MemoryShelf::new(alloc), tried) || is_so(alloc, MemoryShelf::new(alloc), tried)
 }

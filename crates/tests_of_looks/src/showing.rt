@@ -1,4 +1,4 @@
-//! What the public is shown, and how a refusal is told.
+//! The texts that the public sees, and the line that reports a refusal.
 use office_base::shelf::Shelf;
 use office_commands::queries::Query;
 use office_desk::desk::Desk;
@@ -25,7 +25,7 @@ static REQUESTS: [&[u8]; 2] = [
     b"POST /notices/N1 HTTP/1.1\r\nOffice-Caller: clerk\r\nOffice-Key: abc\r\nContent-Length: 248\r\n\r\n{\"title\":\"Road repair\",\"deadline\":\"2026-03-01T12:00:00Z\",\"validity_days\":90,\"standstill_days\":10,\"criteria\":\"price\",\"lots\":[{\"id\":\"L1\",\"title\":\"North\",\"line\":\"1000\",\"estimate\":600,\"security\":50,\"items\":[{\"id\":\"I1\",\"title\":\"Paving\",\"quantity\":3}]}]}",
 ];
 
-// A desk over this shelf, after these requests; None where memory is wanting.
+// A desk over this store after these requests. None if memory is too small.
 fn desk_over<H: Shelf + Drop>(alloc: Global, shelf: H) -> Option<Desk<H>> {
     let settings = read_settings(alloc, SETTINGS).ok()?;
     let routes = Routes::new(alloc).ok()?;
@@ -46,7 +46,7 @@ fn shows_ledger<H: Shelf + Drop>(desk: &mut Desk<H>) -> bool {
     }
 }
 
-// Whether the ledger is printed, all of it, and handed on.
+// Whether the whole ledger is printed and flushed.
 fn prints_ledger<H: Shelf + Drop>(alloc: Global, desk: &mut Desk<H>) -> bool {
     let mut output = WatchedWriter::new(Vec::new(alloc));
     let is_printed = print(desk, Query::Ledger, &mut output).is_ok() && output.is_flushed();
@@ -54,7 +54,7 @@ fn prints_ledger<H: Shelf + Drop>(alloc: Global, desk: &mut Desk<H>) -> bool {
     is_printed && text.as_slice() == LEDGER
 }
 
-// Whether the minutes of this notice are refused with this line, and exit code 1.
+// Whether the minutes of this notice are refused with this line, and exit status 1.
 fn refuses_minutes<H: Shelf + Drop>(
     alloc: Global,
     desk: &mut Desk<H>,
@@ -73,7 +73,7 @@ fn refuses_minutes<H: Shelf + Drop>(
     }
 }
 
-// Whether an office over this shelf shows its ledger, and no minutes of a notice that isn't opened, nor of one that isn't there.
+// Whether an office over this store shows its ledger, but no minutes of a notice that isn't opened or doesn't exist.
 fn shows<H: Shelf + Drop>(alloc: Global, shelf: H) -> bool {
     let Some(mut desk) = desk_over(alloc, shelf) else {
         return false;
@@ -87,7 +87,7 @@ fn shows<H: Shelf + Drop>(alloc: Global, shelf: H) -> bool {
 #[test]
 fn the_public_is_shown(rt: HostRuntime) -> Result<(), Fail> {
     let alloc = rt.alloc();
-    // At a second try where the first isn't right: one allocation of a test may be refused.
+    // Tries twice, because a test may refuse one allocation.
     assert!(rt; shows(alloc, MemoryShelf::new(alloc)) || shows(alloc, MemoryShelf::new(alloc)));
     Ok(())
 }

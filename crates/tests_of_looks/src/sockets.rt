@@ -1,5 +1,5 @@
-//! Sockets and a clock that a test makes up, below the computer that serves an office: which address is asked for, how long a read and a write may wait, at
-//! which second a connection is answered, and what is written.
+//! Sockets and a clock that a test defines, below the computer that serves an office. They record which address is asked for, how long a read and a write may
+//! wait, at which second a connection is answered, and the output.
 use crate::served::{BEGIN, CAME, TOLD, office};
 use office_base::stored::StoredShelf;
 use office_http::office::Office;
@@ -17,16 +17,16 @@ use std::os::fd::{AsRawFd, RawFd};
 use std::rc::Rc;
 use std::time::{Clock, Duration};
 
-/// What was asked of the sockets, and told over them.
+/// The calls of the sockets, and the output over them.
 #[derive(Clone, Copy)]
 struct Seen {
-    /// How many connections were to be taken.
+    /// The number of connections that were to be taken.
     taken: usize,
-    /// How often it was asked that a read wait for ten seconds at most.
+    /// How often a read was limited to ten seconds.
     reads: u32,
-    /// How often that of a write.
+    /// How often a write was limited to ten seconds.
     writes: u32,
-    /// How much was written of what is to be told; None once anything else was.
+    /// How much of the expected output was written. None after anything else was written.
     told: Option<usize>,
 }
 
@@ -37,7 +37,7 @@ const NOTHING: Seen = Seen {
     told: Some(0),
 };
 
-// How much was written of what is to be told, behind these bytes too.
+// How much of the expected output is written after these bytes too.
 fn told_behind(told: Option<usize>, bytes: &[u8]) -> Option<usize> {
     let told = told?;
     let (_, left) = TOLD.split_at_checked(told)?;
@@ -48,7 +48,7 @@ fn told_behind(told: Option<usize>, bytes: &[u8]) -> Option<usize> {
     }
 }
 
-// One where it is ten seconds.
+// 1 if the wait is ten seconds.
 fn one_if_ten(wait: Option<Duration>) -> u32 {
     match wait {
         Some(wait) if wait == Duration::from_secs(10) => 1,
@@ -56,19 +56,19 @@ fn one_if_ten(wait: Option<Duration>) -> u32 {
     }
 }
 
-// What comes over the connection that is taken behind so many; None where taking it fails.
+// The bytes that come over the connection that is taken after this many. None if taking it fails.
 fn came_behind(came: &'static [Option<&'static [u8]>], taken: usize) -> Option<&'static [u8]> {
     *came.get(taken)?
 }
 
-// What is left of it behind so many bytes.
+// The rest of these bytes after this many are read.
 fn rest_of(taken: usize, read: usize) -> Option<&'static [u8]> {
     let (_, rest) = came_behind(&CAME, taken)?.split_at_checked(read)?;
     Some(rest)
 }
 
-/// A handle of a connection: how many were taken before it, and how much of what comes over it was read. It holds no reference to that: a bound on a type
-/// that holds one isn't covered by the prover's borrow checker.
+/// A handle of a connection: how many were taken before it, and how many of its bytes were read. It holds no reference to these bytes, because the prover's
+/// borrow checker doesn't cover a bound on a type that holds one.
 #[derive(Drop)]
 struct Stream {
     number: usize,
@@ -131,7 +131,7 @@ impl AsRawFd for Stream {
     }
 }
 
-/// The sockets of a computer, where one port is free, and its clock, which tells the last billionth of a second. They take the connections themselves.
+/// The sockets of a computer, where one port is free, and its clock, which shows the last billionth of a second. They take the connections themselves.
 #[derive(Drop)]
 struct Sockets {
     seen: Rc<Cell<Seen>>,
@@ -165,7 +165,7 @@ impl AsRawFd for Sockets {
     }
 }
 
-// Whether it is port 8083 of the computer itself.
+// Whether this is port 8083 of the computer itself.
 fn is_free(address: SocketAddr) -> bool {
     match address {
         SocketAddr::V4(address) => {
@@ -203,7 +203,7 @@ impl Clock for Sockets {
     }
 }
 
-// Whether an office is served at the free port, and at none that is taken.
+// Whether an office is served at the free port, and not at a port that isn't free.
 fn is_served<H: StoredShelf + Drop>(
     alloc: Global,
     sockets: &Sockets,
@@ -217,7 +217,7 @@ fn is_served<H: StoredShelf + Drop>(
     is_refused && serve_at(alloc, &computer, office, 8083, 4).is_ok()
 }
 
-// Whether it is, and each of its three connections is answered behind what it may wait; the one that can't be taken counts.
+// Whether an office is served, and each of its three connections is answered after its limits for waiting are set. The connection that can't be taken counts.
 fn serves_at_sockets<H: StoredShelf + Drop>(alloc: Global, shelf: H) -> bool {
     let Ok(seen) = Rc::new(alloc, Cell::new(NOTHING)) else {
         return false;
@@ -232,7 +232,7 @@ fn serves_at_sockets<H: StoredShelf + Drop>(alloc: Global, shelf: H) -> bool {
     is_served && is_asked && seen.told == Some(TOLD.len())
 }
 
-// Generic in the store, so that what stands over any shelf is not compared again at this one.
+// Generic in the store, so that the prover doesn't compare the facts about any store again at this one.
 fn serves_over<A: Alter + Drop>(alloc: Global, shelf: SqlShelf<A>) -> bool {
     serves_at_sockets(alloc, shelf)
 }
@@ -247,6 +247,6 @@ fn serves_in_sql(alloc: Global) -> bool {
 #[test]
 fn sockets_are_served(rt: HostRuntime) {
     let alloc = rt.alloc();
-    // At a second try where the first isn't right: one allocation of a test may be refused.
+    // Tries twice, because a test may refuse one allocation.
     assert!(rt; serves_in_sql(alloc) || serves_in_sql(alloc));
 }

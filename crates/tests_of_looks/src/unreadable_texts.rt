@@ -1,4 +1,4 @@
-//! A stored release whose text isn't a JSON object can't be merged: it is a fault of the store wherever it would be shown.
+//! A stored release whose text isn't a JSON object can't be merged. It is a fault of the store wherever it would be shown.
 use office_base::counts::Sequence;
 use office_base::json_text::JsonText;
 use office_base::puts::Put;
@@ -20,7 +20,7 @@ at 2026-02-01T09:00:00Z public GET /notices/N1/record
 = 503 {"name":"Unavailable","refusal":32}
 "#;
 
-/// Gives the notice's first release this text; nothing where it has none.
+/// Gives the notice's first release this text, if it has one.
 pub(crate) fn change_text<H: Shelf>(
     alloc: Global,
     shelf: &mut H,
@@ -39,7 +39,7 @@ pub(crate) fn change_text<H: Shelf>(
     Ok(())
 }
 
-// Whether neither package of a notice is shown whose release has this text.
+// Whether neither package of a notice is shown if its release has this text.
 fn isnt_shown<H: Shelf + Drop>(alloc: Global, shelf: H, text: &str) -> Result<bool, Wrong> {
     let mut shelf = played(alloc, shelf, 0, &[MONEY, TENDERERS, NOTICE])?;
     if change_text(alloc, &mut shelf, text).is_err() {
@@ -49,7 +49,7 @@ fn isnt_shown<H: Shelf + Drop>(alloc: Global, shelf: H, text: &str) -> Result<bo
     Ok(true)
 }
 
-// At a second try where the first isn't right: one allocation of a test may be refused.
+// Tries twice, because a test may refuse one allocation.
 fn is_right(alloc: Global, text: &str) -> bool {
     matches!(isnt_shown(alloc, MemoryShelf::new(alloc), text), Ok(true))
         || matches!(isnt_shown(alloc, MemoryShelf::new(alloc), text), Ok(true))

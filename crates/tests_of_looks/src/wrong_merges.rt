@@ -1,5 +1,5 @@
-//! Merges that no office keeps, put beside a notice's releases by other hands: one that is no object is a fault of the store wherever it is met, and one
-//! whose names aren't in order is carried on to the merge that it reads as.
+//! Merges that no office stores, put beside a notice's releases by another program. A merge that isn't an object is a fault of the store wherever it is needed.
+//! A merge whose names aren't in order is continued as the merge that it reads as.
 use office_base::json_text::JsonText;
 use office_base::puts::Put;
 use office_base::records::CompiledRow;
@@ -13,7 +13,7 @@ use tests_transcripts::published::AMENDED;
 use tests_transcripts::session::{Wrong, played};
 use tests_transcripts::setup::{MONEY, NOTICE, TENDERERS};
 
-/// Nothing is published over it, and no record is shown.
+/// Nothing is published after this merge, and no record is shown.
 pub(crate) static NOT_GONE_ON: &str = r#"
 at 2026-02-01T09:00:00Z public GET /notices/N1/record
 = 503 {"name":"Unavailable","refusal":32}
@@ -32,7 +32,7 @@ at 2026-02-10T09:00:00Z clerk POST /notices/N1/amend
 = 200 {"moment":"2026-02-10T09:00:00Z","notice":"N1","release":2}
 "#;
 
-// A merge with its names in no order, and the one that it is carried on to.
+// A merge with its names in no order, and the merge after the next release.
 const OUT_OF_ORDER: &str = r#"{"tender":{"title":"Old","id":"N1"},"a":1}"#;
 
 const CARRIED_ON: &str =
@@ -45,7 +45,7 @@ fn put_merge<H: Shelf>(alloc: Global, shelf: &mut H, row: CompiledRow) -> Result
     Ok(())
 }
 
-// Gives the notice's merge this text: the row that was there.
+// Gives the notice's merge this text. Returns the row that it replaces.
 fn change_merge<H: Shelf>(
     alloc: Global,
     shelf: &mut H,
@@ -58,7 +58,7 @@ fn change_merge<H: Shelf>(
     Ok(before)
 }
 
-// An office with a notice whose merge has this text, and the row that was there.
+// An office with a notice whose merge has this text, and the row that it replaces.
 fn changed<H: Shelf + Drop>(
     alloc: Global,
     shelf: H,
@@ -72,7 +72,7 @@ fn changed<H: Shelf + Drop>(
     }
 }
 
-// Whether such an office publishes nothing and shows no record, and goes on as ever once its merge is there again.
+// Whether this office publishes nothing and shows no record, and continues as usual after its merge is restored.
 fn isnt_begun_anew<H: Shelf + Drop>(alloc: Global, shelf: H, text: &str) -> Result<bool, Wrong> {
     let (shelf, before) = changed(alloc, shelf, text)?;
     let mut shelf = played(alloc, shelf, 0, &[NOT_GONE_ON])?;
@@ -97,7 +97,7 @@ fn isnt_begun_anew_in_memory(alloc: Global, text: &str) -> bool {
     )
 }
 
-// Whether a merge with its names in no order is carried on to this one.
+// Whether a merge with its names in no order is continued as this one.
 fn carries_on<H: Shelf + Drop>(alloc: Global, shelf: H) -> Result<bool, Wrong> {
     let (shelf, before) = changed(alloc, shelf, OUT_OF_ORDER)?;
     let mut shelf = played(alloc, shelf, 0, &[MOVED])?;
@@ -114,7 +114,7 @@ fn carries_on_in_sql(alloc: Global) -> bool {
     }
 }
 
-// At a second try where the first isn't right: one allocation of a test may be refused.
+// Tries twice, because a test may refuse one allocation.
 fn is_right_in_memory(alloc: Global, text: &str) -> bool {
     isnt_begun_anew_in_memory(alloc, text) || isnt_begun_anew_in_memory(alloc, text)
 }

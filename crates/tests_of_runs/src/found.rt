@@ -1,9 +1,9 @@
-//! What is found of a topic, counted and printed.
+//! The findings about a topic, counted and printed.
 use crate::stores::Told;
 use std::io;
 use tests_transcripts::session::Wrong;
 
-/// A file of transcripts: how many of its lines were played, how many requests that took over all stores, and whether all is as written.
+/// A file of transcripts: how many of its lines were played, how many requests that took over all stores, and whether every answer is as written.
 #[derive(Clone, Copy)]
 pub(crate) struct Topic<'a> {
     pub(crate) name: &'a str,
@@ -28,13 +28,13 @@ impl Topic<'_> {
         self.requests = self.requests.saturating_add(requests);
     }
 
-    /// Prints what is wrong here.
+    /// Prints a fault at this place.
     pub(crate) fn tell(&mut self, rt: &HostRuntime, place: &str, wrong: &str) -> io::Result<()> {
         self.is_right = false;
         println!(rt; "{}: {place}: {wrong}", self.name)
     }
 
-    /// Prints the name of a piece that isn't there.
+    /// Prints the name of a piece that doesn't exist.
     pub(crate) fn tell_missing(
         &mut self,
         rt: &HostRuntime,
@@ -45,7 +45,7 @@ impl Topic<'_> {
         println!(rt; "{}: {title}: no piece {name} is there", self.name)
     }
 
-    /// Prints the line of the topic. Whether all is as written.
+    /// Prints the line of the topic. Returns whether every answer is as written.
     pub(crate) fn conclude(&self, rt: &HostRuntime) -> io::Result<bool> {
         let Topic {
             name,
@@ -66,7 +66,7 @@ impl Topic<'_> {
     }
 }
 
-// What was told, or nothing where an answer is otherwise than written, which is printed.
+// The answers of a play, or nothing if an answer isn't as written, which is printed.
 fn told_of(
     rt: &HostRuntime,
     topic: &mut Topic,
@@ -83,7 +83,7 @@ fn told_of(
     }
 }
 
-/// Counts the requests of a play, where each answer is as written.
+/// Counts the requests of a play, if each answer is as written.
 pub(crate) fn find_play(
     rt: &HostRuntime,
     topic: &mut Topic,
@@ -96,7 +96,7 @@ pub(crate) fn find_play(
     Ok(())
 }
 
-/// Counts the requests of a play up to an answer that is otherwise than written, and prints that. It is wrong that there is none.
+/// Counts the requests of a play up to an answer that isn't as written, and prints this answer. If every answer is as written, this is a fault.
 pub(crate) fn find_wrong(
     rt: &HostRuntime,
     topic: &mut Topic,
@@ -118,7 +118,7 @@ pub(crate) fn find_wrong(
     }
 }
 
-/// Counts the requests of two lives that are told the same, and something.
+/// Counts the requests of two lives, which must get the same answers, and at least one.
 pub(crate) fn find_alike(
     rt: &HostRuntime,
     topic: &mut Topic,

@@ -1,6 +1,6 @@
-//! `tests_of_runs FILE..`: plays the transcripts in these files to an office in memory, to one in SQL and to one in a file, and prints what it finds. The
-//! form of the files is told at the head of `data/setup.txt`. Status 1 where anything isn't as written, 2 where it can't be printed. With `refuse` as the first
-//! word it tries one request while memory is refused (`refusing.rt`).
+//! `tests_of_runs FILE..`: plays the transcripts in these files to an office in memory, to one in SQL and to one in a file, and prints its findings. The head
+//! of `data/setup.txt` describes the form of the files. The status is 1 if an answer isn't as written, and 2 if the output fails. If the first word is
+//! `refuse`, it tries one request while memory is refused (`refusing.rt`).
 #![tactic(auto)]
 
 mod found;
@@ -18,7 +18,7 @@ use std::process::ExitCode;
 use std::{env, fs, io};
 use topics::{File, play_all};
 
-// The words behind the program's name.
+// The words after the program's name.
 fn words_of(rt: &HostRuntime) -> io::Result<Vec<String>> {
     let mut words = Vec::new(rt.alloc());
     for word in env::args(rt)?.skip(1) {
@@ -27,7 +27,7 @@ fn words_of(rt: &HostRuntime) -> io::Result<Vec<String>> {
     Ok(words)
 }
 
-// The files that these words name.
+// The files with these names.
 fn files_of(rt: &HostRuntime, names: Vec<String>) -> io::Result<Vec<File>> {
     let mut files = Vec::new(rt.alloc());
     for name in names {

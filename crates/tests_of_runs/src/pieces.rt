@@ -2,7 +2,7 @@
 use crate::sections::Piece;
 use std::alloc::{AllocError, Global};
 
-// Where the first piece of this name stands.
+// The place of the first piece with this name.
 fn index_of(pieces: &[Piece], name: &str) -> Option<usize> {
     let mut index = 0usize;
     for piece in pieces {
@@ -14,12 +14,12 @@ fn index_of(pieces: &[Piece], name: &str) -> Option<usize> {
     None
 }
 
-/// Whether a piece of this name is there.
+/// Whether a piece with this name exists.
 pub(crate) fn has(pieces: &[Piece], name: &str) -> bool {
     index_of(pieces, name).is_some()
 }
 
-/// The first of these names, which blanks part, that no piece has.
+/// The first of these names, which blanks separate, that no piece has.
 pub(crate) fn missing<'n>(pieces: &[Piece], names: &'n str) -> Option<&'n str> {
     for name in names.split(" ") {
         if !has(pieces, name) {
@@ -29,7 +29,7 @@ pub(crate) fn missing<'n>(pieces: &[Piece], names: &'n str) -> Option<&'n str> {
     None
 }
 
-/// The blocks of these names, which are played now.
+/// The blocks with these names, which now count as played.
 pub(crate) fn blocks_of<'a>(
     alloc: Global,
     pieces: &mut [Piece<'a>],

@@ -1,9 +1,9 @@
-//! `tests_of_runs refuse STORE FIRST STEP COUNT FILE`: the blocks of a file are played to an office in such a store, `memory` or `sql`, and the last of them is
-//! tried with one allocation after another refused: from the first on, so many, each so far behind the one before.
+//! `tests_of_runs refuse STORE FIRST STEP COUNT FILE`: plays the blocks of a file to an office in this kind of store, `memory` or `sql`. The last block is
+//! tried COUNT times, each time with one allocation refused: that of number FIRST, then one STEP later, and so on.
 use crate::trials::{Fault, Found, InMemory, InSql, Numbers, try_all};
 use std::{fs, io};
 
-// The number that such a word is.
+// The number in the word at this place.
 fn number_in(words: &[String], at: usize) -> Option<u64> {
     words.get(at)?.as_str().parse::<u64>().ok()
 }
@@ -20,7 +20,7 @@ fn tell_words(rt: &HostRuntime, number: u64, words: &str) -> io::Result<()> {
     println!(rt; "{number}: {words}")
 }
 
-// Prints what is wrong where the allocation of this number was refused.
+// Prints the fault that was found when the allocation of this number was refused.
 fn tell_fault(rt: &HostRuntime, number: u64, fault: &Fault) -> io::Result<()> {
     match fault {
         Fault::Played(wrong) => println!(rt; "{number}: {wrong}"),
@@ -38,7 +38,7 @@ fn tell_fault(rt: &HostRuntime, number: u64, fault: &Fault) -> io::Result<()> {
     }
 }
 
-// Prints what was found. Whether all is as it must be.
+// Prints the findings. Returns whether there was no fault.
 fn tell(rt: &HostRuntime, found: Result<Found, (u64, Fault)>) -> io::Result<bool> {
     match found {
         Ok(
@@ -62,7 +62,7 @@ fn tell_form(rt: &HostRuntime) -> io::Result<bool> {
     Ok(false)
 }
 
-/// Tries what these words say. Whether all is as it must be.
+/// Does what these words say. Returns whether there was no fault.
 pub(crate) fn refuse(rt: &HostRuntime, words: &[String]) -> io::Result<bool> {
     let (Some(store), Some(numbers), Some(file)) = (words.get(1), numbers_in(words), words.get(5))
     else {

@@ -1,5 +1,5 @@
-//! All rows of an office as bytes, so that what an office holds is compared record by record. A record stands there as its row of SQL values, which no other
-//! record has (`office_tables`).
+//! All rows of an office as bytes, so that two offices are compared record by record. The bytes of a record are its row of SQL values, which no other record
+//! has (`office_tables`).
 use office_base::records::{
     AwardRow, BatchRow, CompiledRow, ContractRow, EntryRow, EnvelopeRow, LateRow, LineRow, LotRow,
     NoticeRow, PerformanceRow, ReleaseRow, SealRow, SecurityRow, TendererRow,
@@ -28,7 +28,7 @@ use office_values::refusal::Refusal;
 use sqlite_value::value::ValueRef;
 use std::alloc::{AllocError, Global};
 
-// Rows that are written. Each part comes behind a byte for what it is, and its length: so no other rows have the same bytes.
+// Rows as bytes. Each part follows a byte for its kind and its length, so other rows have other bytes.
 #[derive(Drop)]
 struct RowBytes {
     alloc: Global,
@@ -172,7 +172,7 @@ impl AsRow for PerformanceRow {
     }
 }
 
-// The batch that the first line of a block imports.
+// The budget file that the first line of a block imports.
 fn batch_in(line: &str) -> Option<Id> {
     let (_, name) = line.split_once(" POST /budget/")?;
     Id::read(name.as_bytes())
@@ -185,7 +185,7 @@ fn put_batch_in<H: Lookups>(rows: &mut RowBytes, shelf: &mut H, line: &str) -> R
     Ok(())
 }
 
-// The lines, the tenderers, the clock, and the batches that these blocks import: no list has them.
+// The lines, the tenderers, the clock, and the budget files that these blocks import, which no list has.
 fn put_office<H: Lookups>(rows: &mut RowBytes, shelf: &mut H, blocks: &str) -> Result<(), Refusal> {
     rows.put_all(shelf.list_lines()?)?;
     rows.put_all(shelf.list_tenderers_after(None, u32::MAX)?)?;
@@ -227,7 +227,7 @@ fn put_awards<H: Lookups>(rows: &mut RowBytes, shelf: &mut H, notice: &Id) -> Re
     Ok(())
 }
 
-// The lots of a notice, what was published of it, and whether its tenders may be withdrawn late.
+// The lots of a notice, its publications, and whether its tenders may be withdrawn late.
 fn put_of_notice<H: Lookups>(
     rows: &mut RowBytes,
     shelf: &mut H,
@@ -250,8 +250,8 @@ fn put_notices<H: Lookups>(rows: &mut RowBytes, shelf: &mut H) -> Result<(), Ref
     Ok(())
 }
 
-/// All rows of an office to which nothing but these blocks was sent. Batches are asked for by the names that the blocks give them, since no list has them. What
-/// belongs to a notice, a tender or a contract is found by it: a row whose notice, tender or contract isn't there isn't seen.
+/// All rows of an office to which only these blocks were sent. Budget files are looked up by the names in the blocks, because no list has them. Rows of a
+/// notice, a tender or a contract are found through it. So a row isn't seen if its notice, tender or contract is missing.
 pub(crate) fn rows_of<H: Lookups>(
     alloc: Global,
     shelf: &mut H,

@@ -1,7 +1,8 @@
-//! A file of transcripts, taken apart. Behind lines that begin with `#` come sections, each with a first line that begins with `== `: a piece, blocks under
-//! a name, or what is played. The form is told in full at the head of `data/setup.txt`. What isn't written so is no section.
+//! A file of transcripts, split into sections. First come lines that begin with `#`, then sections, each with a first line that begins with `== `. A section is
+//! a piece, which has blocks under a name, or a line that says what is played. The head of `data/setup.txt` describes the whole form. Anything else isn't a
+//! section.
 
-/// Blocks under a name, and whether any line of a file has said yet that they are played.
+/// Blocks under a name, and whether a line of a file has played them yet.
 #[derive(Clone, Copy)]
 pub(crate) struct Piece<'a> {
     pub(crate) name: &'a str,
@@ -9,14 +10,14 @@ pub(crate) struct Piece<'a> {
     pub(crate) is_played: bool,
 }
 
-/// What is to be found of the pieces that a line names.
+/// The expectation for the pieces that a line names.
 #[derive(Clone, Copy)]
 pub(crate) enum Kind {
     /// Each answer is as written.
     Play,
-    /// One answer is otherwise than written.
+    /// One answer isn't as written.
     Wrong,
-    /// Two lives, and that both are answered alike then.
+    /// Two lives, after which both offices give the same answers.
     Alike,
 }
 
@@ -24,7 +25,7 @@ pub(crate) enum Kind {
 #[derive(Clone, Copy)]
 pub(crate) enum Section<'a> {
     Piece(Piece<'a>),
-    /// What is to be found, a title, and the names of pieces.
+    /// The expectation, a title, and the names of pieces.
     Played(Kind, &'a str, &'a str),
 }
 
@@ -38,7 +39,7 @@ pub(crate) fn are_comments(lines: &str) -> bool {
     true
 }
 
-// Whether a word names a piece: capital letters, digits and `_` alone.
+// Whether a word names a piece: it has only capital letters, digits and `_`.
 fn is_name(word: &str) -> bool {
     for byte in word.as_bytes() {
         if !byte.is_ascii_uppercase() && !byte.is_ascii_digit() && *byte != b'_' {
@@ -57,8 +58,8 @@ fn kind_of(word: &str) -> Option<Kind> {
     }
 }
 
-/// The section that these lines are, without the `== ` in front of them; None where they are none. A piece has blocks, and a line that says what is played
-/// has nothing behind it.
+/// The section in these lines, without the `== ` at its beginning, or None if they aren't one. A piece has blocks, and a line that says what is played has
+/// nothing after it.
 pub(crate) fn section_of(lines: &str) -> Option<Section<'_>> {
     let (first, rest) = lines.split_once("\n").unwrap_or((lines, ""));
     let (word, line) = first.split_once(" ")?;

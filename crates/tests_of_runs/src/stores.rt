@@ -1,4 +1,4 @@
-//! The stores that transcripts are played over: an office in memory, one in SQL in memory, and one in a file.
+//! The stores over which transcripts are played: an office in memory, one in SQL in memory, and one in a file.
 use crate::times::{play_piece, play_pieces};
 use office_base::shelf::Shelf;
 use office_memory::memory::MemoryShelf;
@@ -11,7 +11,7 @@ use std::fs;
 use tests_sql_office::office::in_sql;
 use tests_transcripts::session::{Session, Wrong};
 
-/// What an office is held in.
+/// A kind of store.
 #[derive(Clone, Copy)]
 pub(crate) enum Store {
     Memory,
@@ -32,21 +32,21 @@ impl Store {
     }
 }
 
-/// How many requests an office was sent, and what it answered to the last pieces.
+/// The number of requests that were sent to an office, and its answers to the last pieces.
 #[derive(Drop)]
 pub(crate) struct Told {
     pub(crate) sent: u64,
     pub(crate) answers: Vec<u8>,
 }
 
-/// Pieces that are played in turn, and the pieces behind them whose answers are told.
+/// Pieces that are played in turn, then the pieces whose answers count.
 #[derive(Clone, Copy)]
 pub(crate) struct Life<'a> {
     pub(crate) before: &'a [&'a str],
     pub(crate) told: &'a [&'a str],
 }
 
-// Lives a life in the office of this shelf.
+// Plays a life to the office of this store.
 fn lived<H: Shelf + Drop>(alloc: Global, shelf: H, life: Life<'_>) -> Result<Told, Wrong> {
     let mut session = Session::new(alloc, shelf, 0)?;
     play_pieces(&mut session, life.before)?;
@@ -58,7 +58,7 @@ fn lived<H: Shelf + Drop>(alloc: Global, shelf: H, life: Life<'_>) -> Result<Tol
     })
 }
 
-// Plays one piece more to the office of this shelf.
+// Plays one more piece to the office of this store.
 fn continued<H: Shelf + Drop>(
     alloc: Global,
     shelf: H,
@@ -75,7 +75,8 @@ fn continued<H: Shelf + Drop>(
     })
 }
 
-// The same to one in SQL. It is generic in the store, and not in what is below it: so the shelf's calls are not compared again at a file.
+// Plays one more piece to an office in SQL. It is generic in the store, not in the layer below it. So the prover doesn't compare the store's calls again for a
+// file.
 fn continued_in_sql<S: Alter + Drop>(
     alloc: Global,
     shelf: SqlShelf<S>,
@@ -85,7 +86,7 @@ fn continued_in_sql<S: Alter + Drop>(
     continued(alloc, shelf, told, piece)
 }
 
-// Plays pieces more to the office in the file, which is opened again for each.
+// Plays more pieces to the office in the file, which is opened again for each.
 fn reopened(rt: &HostRuntime, path: &str, mut told: Told, pieces: &[&str]) -> Result<Told, Wrong> {
     for piece in pieces {
         match SqlShelf::open_from(rt, path, Unknown, ROOM) {
@@ -98,24 +99,24 @@ fn reopened(rt: &HostRuntime, path: &str, mut told: Told, pieces: &[&str]) -> Re
     Ok(told)
 }
 
-// Little enough for a file to be read and copied again and again.
+// So little memory that the file is read and copied often.
 const ROOM: Room = Room {
     pages: 64,
     frames: 100,
 };
 
-// The file of an office, and the one beside it that keeps what was written last.
+// The file of an office, and the log beside it, which has the newest changes.
 const PATH: &str = "tests_of_runs.office";
 
 const LOG: &str = "tests_of_runs.office-wal";
 
-// Removes the office's files, if they are there. One that stays has an office in which the first requests are refused.
+// Removes the office's files, if they exist. If one stays, it has an office that refuses the first requests.
 fn remove(rt: &HostRuntime) {
     let _office = fs::remove_file(rt, PATH);
     let _log = fs::remove_file(rt, LOG);
 }
 
-// Lives a life in a new office in a file, which is opened again for each piece.
+// Plays a life to a new office in a file, which is opened again for each piece.
 fn lived_in_file(rt: &HostRuntime, life: Life<'_>) -> Result<Told, Wrong> {
     let nothing = Told {
         sent: 0,
@@ -126,7 +127,7 @@ fn lived_in_file(rt: &HostRuntime, life: Life<'_>) -> Result<Told, Wrong> {
     reopened(rt, PATH, told, life.told)
 }
 
-/// Lives a life in an empty office in such a store: what is told, or the first answer that is otherwise than written.
+/// Plays a life to an empty office in this kind of store. Returns the answers, or the first answer that isn't as written.
 pub(crate) fn told_in(rt: &HostRuntime, store: Store, life: Life<'_>) -> Result<Told, Wrong> {
     let alloc = rt.alloc();
     match store {

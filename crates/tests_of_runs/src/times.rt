@@ -1,8 +1,8 @@
-//! Pieces played to an office. A block that begins with a number is sent so often.
+//! Pieces that are played to an office. A block that begins with a number is sent this many times.
 use office_base::shelf::Shelf;
 use tests_transcripts::session::{Session, Wrong};
 
-// How often a block is sent, and the block without that number; None where it begins with none.
+// The number of times that a block is sent, and the block without this number. None if it begins with no number.
 fn counted(block: &str) -> Option<(u32, &str)> {
     let (count, block) = block.split_once(" ")?;
     match count.parse::<u32>() {
@@ -22,7 +22,7 @@ fn play_numbered<H: Shelf + Drop>(
     session.play(block.as_str())
 }
 
-// Sends a block so often, numbered from 1.
+// Sends a block this many times, numbered from 1.
 fn play_times<H: Shelf + Drop>(
     session: &mut Session<H>,
     count: u32,
@@ -41,7 +41,7 @@ fn play_block<H: Shelf + Drop>(session: &mut Session<H>, block: &str) -> Result<
     }
 }
 
-/// Plays the blocks of a piece, which empty lines part, up to the first that is answered otherwise than it says.
+/// Plays the blocks of a piece, which empty lines separate, up to the first wrong answer.
 pub(crate) fn play_piece<H: Shelf + Drop>(
     session: &mut Session<H>,
     piece: &str,

@@ -1,4 +1,4 @@
-//! Files of transcripts, each on one topic: what they say is played over each store, and what was found is printed.
+//! Files of transcripts, each on one topic. They are played over each store, and the findings are printed.
 use crate::found::{Topic, find_alike, find_play, find_wrong};
 use crate::pieces::{blocks_of, has, missing};
 use crate::sections::{Kind, Piece, Section, are_comments, section_of};
@@ -6,14 +6,14 @@ use crate::stores::{Life, STORES, told_in};
 use std::alloc::AllocError;
 use std::io;
 
-/// A file, and what stands in it; nothing where it can't be read.
+/// A file with its content, or without one if it can't be read.
 #[derive(Drop)]
 pub(crate) struct File {
     pub(crate) name: String,
     pub(crate) text: Option<String>,
 }
 
-// Where something is found: the topic, the title of what is played, and the store.
+// The place of a finding: the topic, the title of the played line, and the store.
 fn place_of(
     rt: &HostRuntime,
     topic: &Topic,
@@ -23,7 +23,7 @@ fn place_of(
     format!(in rt.alloc(); "{}: {title}, {store}", topic.name)
 }
 
-// Plays pieces over each store, where each answer is to be as written, or one otherwise.
+// Plays pieces over each store. Each answer must be as written, or exactly one must not, as `is_wrong` says.
 fn play(
     rt: &HostRuntime,
     topic: &mut Topic,
@@ -47,7 +47,7 @@ fn play(
     Ok(())
 }
 
-// Lives two lives over each store, which are to be told the same.
+// Plays two lives over each store, which must get the same answers.
 fn play_alike(
     rt: &HostRuntime,
     topic: &mut Topic,
@@ -64,7 +64,7 @@ fn play_alike(
     Ok(())
 }
 
-// Plays two lives and what is behind both, whose names ` | ` parts.
+// Plays two lives and the pieces that follow both. ` | ` separates their names.
 fn play_lives(
     rt: &HostRuntime,
     topic: &mut Topic,
@@ -98,7 +98,7 @@ fn play_lives(
     play_alike(rt, topic, title, one, other)
 }
 
-// Plays pieces of these names.
+// Plays the pieces with these names.
 fn play_names(
     rt: &HostRuntime,
     topic: &mut Topic,
@@ -162,7 +162,7 @@ fn follow_all<'a>(
     Ok(())
 }
 
-// Prints each piece behind the first so many that the topic doesn't play, unless it plays none.
+// Prints each piece of the topic that it doesn't play, unless it plays nothing. The first pieces are those of other files.
 fn tell_unplayed(
     rt: &HostRuntime,
     topic: &mut Topic,
@@ -180,7 +180,7 @@ fn tell_unplayed(
     Ok(())
 }
 
-// Plays what a file says, and prints a line for it. Whether all is as written.
+// Plays what a file says, and prints a line for it. Returns whether every answer is as written.
 fn play_file<'a>(
     rt: &HostRuntime,
     pieces: &mut Vec<Piece<'a>>,
@@ -196,7 +196,7 @@ fn play_file<'a>(
     topic.conclude(rt)
 }
 
-/// Plays all files in turn, with a line for each. Whether there are any, and all is as written.
+/// Plays all files in turn, with a line for each. Returns whether there are files and every answer is as written.
 pub(crate) fn play_all(rt: &HostRuntime, files: &[File]) -> io::Result<bool> {
     if files.is_empty() {
         println!(rt; "no files are named")?;

@@ -1,8 +1,8 @@
-//! A request that is tried while one of its allocations is refused, each time another: whether it is answered as is written, or as `Unavailable`; and whether
-//! the office then holds what it held, record by record, and answers the same request as is written.
+//! Tries a request while one of its allocations is refused, each time another one. The answer must be as written or `Unavailable`. After `Unavailable` the
+//! office must hold the same rows as before, and answer the same request as written.
 //!
-//! Who refuses stands before the C library (`tests/refused_rows`), and hears by lines on the standard error what to do: `refuse N` says that the Nth allocation
-//! from there on is refused, none of number 0, and `enough` that no further one is.
+//! A library that is loaded before the C library refuses (`tests/refused_rows`). It follows lines on the standard error. `refuse N` means that the Nth
+//! allocation from then on is refused, or none if N is 0. `enough` means that no further one is refused.
 use crate::rows::rows_of;
 use office_base::shelf::{Lookups, Shelf};
 use office_memory::memory::MemoryShelf;
@@ -12,18 +12,18 @@ use tests_sql_office::office::{SqlOffice, in_sql};
 use tests_transcripts::blocks::{Block, read};
 use tests_transcripts::session::{Session, Wrong, played};
 
-/// What is wrong of a trial.
+/// The fault of a trial.
 #[derive(Drop)]
 pub(crate) enum Fault {
-    /// The blocks before the request are answered otherwise than written, or it can't be read.
+    /// An answer to the blocks before the request isn't as written, or the request can't be read.
     Played(Wrong),
-    /// No office can be made, or its rows can't be read; or the standard error can't be written.
+    /// No office can be made, its rows can't be read, or the standard error can't be written.
     NoOffice,
-    /// The request is answered otherwise: by this.
+    /// The request gets this answer instead.
     Answer(Vec<u8>),
-    /// The request was answered `Unavailable`, and changed a row.
+    /// The answer was `Unavailable`, and a row changed.
     Changed,
-    /// It was answered as is written, and the rows are others than without a refusal.
+    /// The answer was as written, but the rows differ from those without a refusal.
     Rows,
 }
 
@@ -39,7 +39,7 @@ impl From<Wrong> for Fault {
     }
 }
 
-/// Which allocations are refused: from the first on, so many, each so far behind the one before.
+/// The numbers of the allocations that are refused: the first one, the step from one to the next, and how many.
 #[derive(Clone, Copy)]
 pub(crate) struct Numbers {
     pub(crate) first: u64,
@@ -47,23 +47,23 @@ pub(crate) struct Numbers {
     pub(crate) count: u64,
 }
 
-/// How often a request was answered as is written, and how often as `Unavailable`.
+/// How often the answer was as written, and how often it was `Unavailable`.
 #[derive(Clone, Copy)]
 pub(crate) struct Found {
     pub(crate) answered: u64,
     pub(crate) unavailable: u64,
 }
 
-/// Where an office is made.
+/// Makes offices.
 pub(crate) trait Maker {
-    /// What it is held in.
+    /// The type of their store.
     type Office: Shelf + Drop;
 
-    /// An empty one; None where memory is wanting.
+    /// An empty office. None if memory is too small.
     fn made(&self, alloc: Global) -> Option<Self::Office>;
 }
 
-/// In memory.
+/// Makes offices in memory.
 #[derive(Drop)]
 pub(crate) struct InMemory;
 
@@ -75,7 +75,7 @@ impl Maker for InMemory {
     }
 }
 
-/// In SQL in memory.
+/// Makes offices in SQL in memory.
 #[derive(Drop)]
 pub(crate) struct InSql;
 
@@ -87,7 +87,7 @@ impl Maker for InSql {
     }
 }
 
-// A request: the blocks before it, those and its own, and what the office holds before it and behind it.
+// A request, with the blocks before it, all blocks, and the rows of the office before and after it.
 #[derive(Drop)]
 struct Asked<'a> {
     before: &'a str,
@@ -100,7 +100,7 @@ struct Asked<'a> {
 static UNAVAILABLE: &[u8] =
     b"HTTP/1.1 503 Service Unavailable\r\nContent-Type: application/json\r\nContent-Length: 35\r\nConnection: close\r\n\r\n{\"name\":\"Unavailable\",\"refusal\":32}";
 
-// Tells whoever refuses.
+// Writes a line for the library that refuses.
 fn say(rt: &HostRuntime, line: &str) -> Result<(), Fault> {
     let mut output = rt.stderr();
     match output.write_all(line.as_bytes()) {
@@ -116,7 +116,7 @@ fn rows_in<H: Lookups>(alloc: Global, shelf: &mut H, blocks: &str) -> Result<Vec
     }
 }
 
-// An office behind these blocks.
+// An office to which these blocks were played.
 fn office_behind<M: Maker>(alloc: Global, maker: &M, blocks: &str) -> Result<M::Office, Fault> {
     let Some(office) = maker.made(alloc) else {
         return Err(Fault::NoOffice);
@@ -127,7 +127,7 @@ fn office_behind<M: Maker>(alloc: Global, maker: &M, blocks: &str) -> Result<M::
     Ok(played(alloc, office, 0, &[blocks])?)
 }
 
-// What is answered to the block while whoever refuses does what this line says.
+// The answer to the block while the library that refuses follows this line.
 fn told_by<H: Shelf + Drop>(
     rt: &HostRuntime,
     session: &mut Session<H>,
@@ -140,7 +140,7 @@ fn told_by<H: Shelf + Drop>(
     Ok(Vec::from_slice(rt.alloc(), answer.bytes())?)
 }
 
-// What is answered to the block while the allocation of this number is refused, none of number 0, and the office then.
+// The answer to the block while the allocation of this number is refused (none if it is 0), and the store after it.
 fn answered_without<H: Shelf + Drop>(
     rt: &HostRuntime,
     shelf: H,
@@ -153,7 +153,7 @@ fn answered_without<H: Shelf + Drop>(
     Ok((session.into_shelf(), told))
 }
 
-// A fault where the request isn't answered as is written, or leaves other rows than it must.
+// A fault if the request isn't answered as written, or leaves other rows than it must.
 fn conclude<H: Lookups>(
     alloc: Global,
     shelf: &mut H,
@@ -170,7 +170,7 @@ fn conclude<H: Lookups>(
     Ok(())
 }
 
-// A fault where the rows aren't those before the request.
+// A fault if the rows aren't those before the request.
 fn compare<H: Lookups>(alloc: Global, shelf: &mut H, asked: &Asked<'_>) -> Result<(), Fault> {
     let rows = rows_in(alloc, shelf, asked.all)?;
     if rows.as_slice() != asked.rows.as_slice() {
@@ -179,7 +179,7 @@ fn compare<H: Lookups>(alloc: Global, shelf: &mut H, asked: &Asked<'_>) -> Resul
     Ok(())
 }
 
-// Asks once more, with ample memory, where nothing changed before.
+// If nothing changed, sends the request again with enough memory.
 fn ask_again<H: Shelf + Drop>(rt: &HostRuntime, shelf: H, asked: &Asked<'_>) -> Result<(), Fault> {
     let mut shelf = shelf;
     compare(rt.alloc(), &mut shelf, asked)?;
@@ -187,7 +187,7 @@ fn ask_again<H: Shelf + Drop>(rt: &HostRuntime, shelf: H, asked: &Asked<'_>) -> 
     conclude(rt.alloc(), &mut shelf, asked, told)
 }
 
-// Tries the request once. Whether it was answered `Unavailable`.
+// Tries the request once. Returns whether the answer was `Unavailable`.
 fn try_over<H: Shelf + Drop>(
     rt: &HostRuntime,
     shelf: H,
@@ -203,7 +203,7 @@ fn try_over<H: Shelf + Drop>(
     Ok(false)
 }
 
-// Tries it once, over an office of its own.
+// Tries the request once, over an office of its own.
 fn try_one<M: Maker>(
     rt: &HostRuntime,
     maker: &M,
@@ -214,7 +214,7 @@ fn try_one<M: Maker>(
     try_over(rt, office, asked, number)
 }
 
-// What an office holds behind the blocks before the request.
+// The rows of an office after the blocks before the request.
 fn rows_before<M: Maker>(
     alloc: Global,
     maker: &M,
@@ -225,8 +225,8 @@ fn rows_before<M: Maker>(
     rows_in(alloc, &mut office, all)
 }
 
-// What it holds behind the request, where that is answered as is written. It is sent to an office whose rows weren't read before, as at each trial, so that it
-// takes as much memory.
+// The rows of an office after the request, if its answer is as written. As in each trial, its rows weren't read before, so that the request takes as much
+// memory.
 fn rows_behind<M: Maker>(
     rt: &HostRuntime,
     maker: &M,
@@ -242,7 +242,7 @@ fn rows_behind<M: Maker>(
     rows_in(rt.alloc(), &mut office, all)
 }
 
-// The last of these blocks, and what the office holds before it and behind it.
+// The last of these blocks, and the rows of the office before and after it.
 fn asked_last<'a, M: Maker>(
     rt: &HostRuntime,
     maker: &M,
@@ -286,8 +286,8 @@ fn try_each<M: Maker>(
     Ok(found)
 }
 
-/// Tries the last of these blocks behind the others, with one allocation after another refused, each time over an office that is made anew. What was found, or
-/// the number of the refusal at which something is wrong, and what.
+/// Tries the last of these blocks after the others, with one allocation after another refused, each time over a new office. Returns the counts, or a fault with
+/// the number of the refused allocation.
 pub(crate) fn try_all<M: Maker>(
     rt: &HostRuntime,
     maker: &M,

@@ -1,4 +1,4 @@
-//! How the faults of the program are told.
+//! The lines with which the program reports its faults.
 use office_values::refusal::Refusal;
 use procure_config::fault::ProgramFault;
 use procure_config::settings::{SettingName, SettingsFault};
@@ -6,7 +6,7 @@ use procure_config::telling::tell;
 use std::alloc::Global;
 use std::io::Cursor;
 
-// Faults of settings, and their lines.
+// Faults of settings, each with its line.
 const SETTINGS_FAULTS: &[(SettingsFault, &str)] = &[
     (
         SettingsFault::Member(SettingName::ClerkKey),
@@ -16,7 +16,7 @@ const SETTINGS_FAULTS: &[(SettingsFault, &str)] = &[
     (SettingsFault::NoMemory, "procure: Unavailable"),
 ];
 
-/// Whether a fault is told in this line, with status 1.
+/// Whether a fault is reported in this line, with status 1.
 pub(crate) fn is_told(alloc: Global, fault: &ProgramFault, line: &str) -> bool {
     let mut text = Vec::new(alloc);
     let (status, is_whole) = tell(&mut text, fault);

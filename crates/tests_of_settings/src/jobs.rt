@@ -1,4 +1,4 @@
-//! Words on the command line, and what the program makes of them.
+//! Words on the command line, and the jobs that they ask for.
 use procure_config::fault::exit_code;
 use procure_config::job::{Job, job_of};
 use std::alloc::Global;
@@ -6,7 +6,7 @@ use std::alloc::Global;
 // A version of the program.
 const VERSION: &str = "1.2.3";
 
-// Words, and the job that they ask for.
+// Words, with the job that they ask for.
 type Asked<'a> = (&'a [&'a str], Job<'a>);
 
 // Words that ask for a desk.
@@ -17,7 +17,7 @@ const DESKS: &[Asked<'_>] = &[(
     },
 )];
 
-// Words that ask to serve.
+// Words that ask to serve an office.
 const SERVED: &[Asked<'_>] = &[
     (
         &["procure", "serve", "office.toml", "office.db", "1", "1"],
@@ -62,7 +62,7 @@ const SERVED: &[Asked<'_>] = &[
     ),
 ];
 
-// Words that ask for what is of a whole office.
+// Words that ask for a text about a whole office.
 const LEDGERS: &[Asked<'_>] = &[
     (
         &["procure", "ledger", "office.toml", "office.db"],
@@ -80,7 +80,7 @@ const LEDGERS: &[Asked<'_>] = &[
     ),
 ];
 
-// Words that ask for the papers of a notice.
+// Words that ask for a text about a notice.
 const PAPERS: &[Asked<'_>] = &[
     (
         &["procure", "minutes", "office.toml", "office.db", "N1"],
@@ -108,7 +108,7 @@ const PAPERS: &[Asked<'_>] = &[
     ),
 ];
 
-// Words that ask for no job, and a part of what is told of them.
+// Words that ask for no job, each with a part of the reported text.
 const NO_JOBS: &[(&[&str], &str)] = &[
     (&[], "Usage: procure <COMMAND>"),
     (&["procure"], "Usage: procure <COMMAND>"),
@@ -138,7 +138,7 @@ const NO_JOBS: &[(&[&str], &str)] = &[
     (&["procure", "evaluation", "a", "b"], "<NOTICE>"),
 ];
 
-// Words that ask to serve with a port or a count out of bounds, and a part of what is told of them.
+// Words that ask to serve with a port or a count out of bounds, each with a part of the reported text.
 const OUT_OF_BOUNDS: &[(&[&str], &str)] = &[
     (
         &["procure", "serve", "a", "b", "0", "1"],
@@ -167,7 +167,7 @@ const OUT_OF_BOUNDS: &[(&[&str], &str)] = &[
     ),
 ];
 
-// The words that a job keeps: the settings, the store or "", the notice or "".
+// The words of a job: the settings, the store or "", and the notice or "".
 fn words_of<'a>(job: &Job<'a>) -> (&'a str, &'a str, &'a str) {
     match *job {
         Job::Desk { config } => (config, "", ""),
@@ -191,7 +191,7 @@ fn words_of<'a>(job: &Job<'a>) -> (&'a str, &'a str, &'a str) {
     }
 }
 
-// Its kind, and the port and the count, or 0.
+// The kind of a job, with its port and its count, or 0.
 fn numbers_of(job: &Job<'_>) -> (u8, u16, u32) {
     match *job {
         Job::Desk { .. } => (0, 0, 0),
@@ -240,7 +240,7 @@ fn asks_for_papers_of_a_notice(rt: HostRuntime) {
     assert!(rt; are_asked(rt.alloc(), PAPERS));
 }
 
-// Whether the words name no job, and this is a part of what is told. Status 2 is that of `Arguments`, so it isn't want of memory.
+// Whether the words name no job, and this is a part of the reported text. Status 2 is that of `Arguments`, so this isn't too little memory.
 fn is_told(alloc: Global, words: &[&str], part: &str) -> bool {
     let Err(fault) = job_of(alloc, VERSION, words) else {
         return false;

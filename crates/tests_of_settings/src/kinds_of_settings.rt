@@ -3,7 +3,7 @@ use office_values::settings::{Currency, Extensions, Language, Prefix};
 use office_values::text::TextLine;
 use std::alloc::{AllocError, Global};
 
-// Texts that are no prefix.
+// Texts that aren't prefixes.
 const NO_PREFIXES: &[&str] = &[
     "",
     "ocds-a1b2c",
@@ -14,10 +14,10 @@ const NO_PREFIXES: &[&str] = &[
     "ocds-a1b2\u{e9}",
 ];
 
-// Texts that are no currency.
+// Texts that aren't currencies.
 const NO_CURRENCIES: &[&str] = &["", "EU", "EURO", "eur", "EU1", "EU "];
 
-// Texts that are no language.
+// Texts that aren't languages.
 const NO_LANGUAGES: &[&str] = &["", "e", "eng", "EN", "e1"];
 
 fn none_is_a_prefix() -> bool {
@@ -67,7 +67,7 @@ fn reads_a_language(rt: HostRuntime) {
     assert!(rt; none_is_a_language());
 }
 
-// How many extensions so many lines are; None where they are too many.
+// The number of extensions that this many lines give. None if they are too many.
 fn taken(alloc: Global, count: usize) -> Result<Option<usize>, AllocError> {
     let mut lines = Vec::new(alloc);
     for _ in 0..count {

@@ -1,4 +1,4 @@
-//! Tests of settings, of the command line, and of the lines in which the program's faults are told.
+//! Tests of settings, of the command line, and of the lines with which the program reports its faults.
 #![tactic(auto)]
 
 #[cfg(test)]

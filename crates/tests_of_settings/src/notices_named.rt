@@ -3,7 +3,7 @@ use crate::faults::is_told;
 use procure_config::notice::notice_named;
 use std::alloc::Global;
 
-// Texts that name no notice.
+// Texts that don't name a notice.
 const NO_NOTICES: &[&str] = &[
     "",
     "N 1",

@@ -4,7 +4,7 @@ use office_values::text::TextLine;
 use procure_config::settings::{SettingsFault, read_settings};
 use std::alloc::{AllocError, Global};
 
-// The members of the worked settings: the place, the name and the value of each.
+// The members of the example settings, each with its place, its name and its value.
 const TOP: &[(usize, &str, &str)] = &[
     (0, "prefix", "\"ocds-a1b2c3\""),
     (1, "currency", "\"EUR\""),
@@ -19,10 +19,10 @@ const TOP: &[(usize, &str, &str)] = &[
     ),
 ];
 
-// Those of the buyer.
+// The members of the buyer.
 const BUYER: &[(usize, &str, &str)] = &[(7, "id", "\"city\""), (8, "name", "\"City Office\"")];
 
-// A place, a faulty value there or "" for none, and the member that is named.
+// A place, a faulty value there (or "" for none), and the member that the fault names.
 const FAULTY: &[(usize, &str, &str)] = &[
     (0, "", "prefix"),
     (0, "\"ocds-a1b2c\"", "prefix"),
@@ -49,13 +49,13 @@ const FAULTY: &[(usize, &str, &str)] = &[
     (8, "", "buyer.name"),
 ];
 
-// Texts with several faulty members, and the first.
+// Texts with several faulty members, each with the first of them.
 const FIRST_FAULTY: &[(&[u8], &str)] = &[
     (b"", "prefix"),
     (b"buyer = 1\nprefix = \"ocds-a1b2c3\"", "currency"),
 ];
 
-// Texts that are no TOML.
+// Texts that aren't TOML.
 const NO_TOML: &[&[u8]] = &[b"prefix = ", b"{}", b"prefix = \"\xff\"", b"a = 1\na = 2"];
 
 fn push_member(text: &mut String, name: &str, value: &str) -> Result<(), AllocError> {
@@ -68,7 +68,7 @@ fn push_member(text: &mut String, name: &str, value: &str) -> Result<(), AllocEr
     text.push_str("\n")
 }
 
-// Appends members, of which that of this place has another value, or where that is empty is left out.
+// Appends members. The one at this place has another value, or is left out if that is empty.
 fn push_members(
     text: &mut String,
     members: &[(usize, &str, &str)],
@@ -81,7 +81,7 @@ fn push_members(
     Ok(())
 }
 
-// Appends the worked settings, but for the member of this place.
+// Appends the example settings, except for the member at this place.
 fn push_settings(text: &mut String, place: usize, value: &str) -> Result<(), AllocError> {
     push_members(text, TOP, place, value)?;
     text.push_str("other = 1\n[buyer]\n")?;
@@ -96,7 +96,7 @@ fn are_lines(lines: &[TextLine], wanted: &[&str]) -> bool {
     }
 }
 
-// Whether these are the worked settings, but for the extensions.
+// Whether these are the example settings, except for the extensions.
 fn are_worked(settings: &Settings) -> bool {
     let publisher = &settings.publisher;
     publisher.prefix.as_str() == "ocds-a1b2c3"
@@ -110,7 +110,7 @@ fn are_worked(settings: &Settings) -> bool {
         && publisher.buyer.name.as_str() == "City Office"
 }
 
-// Whether the worked settings with these extensions are read.
+// Whether the example settings with these extensions are read.
 fn is_read(alloc: Global, extensions: &str, wanted: &[&str]) -> bool {
     let mut text = String::new(alloc);
     if push_settings(&mut text, 5, extensions).is_err() {
@@ -134,7 +134,7 @@ fn reads_extensions_in_order(rt: HostRuntime) {
     assert!(rt; is_read(rt.alloc(), "[\"a\", \"b\"]", &["a", "b"]));
 }
 
-// What is wrong with these settings; None where nothing is.
+// The fault of these settings, or None.
 fn fault_of(alloc: Global, text: &[u8]) -> Option<SettingsFault> {
     match read_settings(alloc, text) {
         Ok(_) => None,

@@ -1,4 +1,4 @@
-//! What commands change of an office: each is planned and done in an office in memory, and its changes are kept.
+//! The changes that commands make. Each command is planned and done in an office in memory, and its changes are kept.
 use office_base::puts::Put;
 use office_base::shelf::Shelf;
 use office_commands::command::Caller;
@@ -12,7 +12,7 @@ use std::alloc::{AllocError, Global};
 use tests_transcripts::blocks::{Block, read};
 use tests_transcripts::session::{Session, Wrong};
 
-// Who asks.
+// The caller of a request.
 fn caller_of<H: Shelf + Drop>(session: &mut Session<H>, request: &Request) -> Option<Caller> {
     let Ok(credentials) = credentials_of(request) else {
         return None;
@@ -20,7 +20,7 @@ fn caller_of<H: Shelf + Drop>(session: &mut Session<H>, request: &Request) -> Op
     session.desk.caller(credentials.name, credentials.key).ok()
 }
 
-// What the command in this block would do.
+// The plan of the command in this block.
 fn planned<H: Shelf + Drop>(session: &mut Session<H>, block: &Block) -> Option<Planned> {
     let mut reader = CountedReader::new(block.request.as_slice());
     let Ok(request) = read_request(session.alloc, &mut reader) else {
@@ -48,7 +48,7 @@ pub(crate) fn copied(alloc: Global, puts: &[Put]) -> Result<Vec<Put>, AllocError
     Ok(copies)
 }
 
-// Does what is planned. Whether it is answered so.
+// Carries out a plan. Returns whether the reply is that of the response.
 fn is_done<H: Shelf + Drop>(session: &mut Session<H>, planned: Planned, response: &[u8]) -> bool {
     match session.desk.commit(planned) {
         Ok(reply) => response.ends_with(&reply),
@@ -56,7 +56,7 @@ fn is_done<H: Shelf + Drop>(session: &mut Session<H>, planned: Planned, response
     }
 }
 
-// What the command in this block changes, once it is done. It is answered as its block says.
+// The changes of the command in this block, after it is done and answered as its block says.
 fn done_of<H: Shelf + Drop>(session: &mut Session<H>, block: &Block) -> Result<Vec<Put>, Wrong> {
     let Some(planned) = planned(session, block) else {
         return Err(Wrong::Unopened);
@@ -76,7 +76,7 @@ fn done<H: Shelf + Drop>(session: &mut Session<H>, block: &str) -> Result<Vec<Pu
     }
 }
 
-// Appends what each command of a transcript changes.
+// Appends the changes of each command of a transcript.
 fn append_done<H: Shelf + Drop>(
     session: &mut Session<H>,
     changes: &mut Vec<Vec<Put>>,
@@ -104,7 +104,7 @@ fn all_done<H: Shelf + Drop>(
     Ok(changes)
 }
 
-/// What each command of these transcripts changes, beginning with an empty office.
+/// The changes of each command of these transcripts, which begin with an empty office.
 pub(crate) fn changes_of(alloc: Global, transcripts: &[&str]) -> Result<Vec<Vec<Put>>, Wrong> {
     all_done(alloc, MemoryShelf::new(alloc), transcripts)
 }

@@ -1,5 +1,5 @@
-//! Days of an office that end by a stop: each command is made on a day of its own, and its files aren't closed. The next day goes on from what was left, and
-//! the last one has what days that were closed would have.
+//! Days of an office that end by a stop. Each command is done on a day of its own, and the files aren't closed. The next day continues from the files that were
+//! left. The last day has the same rows as if all days had been closed.
 use crate::changes::{changes_of, copied};
 use crate::life::LIFE;
 use crate::stores::{all_changed, made, opened, rows_in};
@@ -8,14 +8,14 @@ use std::alloc::Global;
 use tests_disks::disks::Disks;
 use tests_transcripts::session::Wrong;
 
-// What stops on a day.
+// The thing that stops on a day.
 #[derive(Clone, Copy)]
 enum Stopping {
     Process,
     Machine,
 }
 
-// The files behind a day with this command, which ends by a stop.
+// The files after a day with this command, which ends by a stop.
 fn stopped_day(
     alloc: Global,
     disks: Disks,
@@ -33,7 +33,7 @@ fn stopped_day(
     }
 }
 
-// All rows of an office behind such days.
+// All rows of an office after days of this kind.
 fn rows_of_stopped_days(
     alloc: Global,
     changes: &[Vec<Put>],
@@ -46,14 +46,14 @@ fn rows_of_stopped_days(
     rows_in(alloc, disks)
 }
 
-// Whether they are those of days that were closed.
+// Whether they are the rows after days that were closed.
 fn goes_on(alloc: Global, stopping: Stopping) -> Result<bool, Wrong> {
     let changes = changes_of(alloc, &[LIFE])?;
     let closed = rows_in(alloc, all_changed(alloc, made(alloc)?, &changes)?)?;
     Ok(rows_of_stopped_days(alloc, &changes, stopping)? == closed)
 }
 
-// At a second try where the first isn't right: one allocation of a test may be refused.
+// Tries twice, because a test may refuse one allocation.
 fn does_go_on(alloc: Global, stopping: Stopping) -> bool {
     goes_on(alloc, stopping).unwrap_or(false) || goes_on(alloc, stopping).unwrap_or(false)
 }

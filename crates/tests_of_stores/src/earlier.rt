@@ -1,4 +1,4 @@
-//! Files of version 1, with the table of late withdrawals or before it: opened, they are the same office in version 2, wherever a stop comes.
+//! Files of version 1, with or without the table of late withdrawals. When they are opened, they become the same office in version 2, even after any stop.
 use crate::earlier_file::{EARLIER_LEDGER, EARLIER_LOTS, EARLIER_ROWS, EARLIER_TABLES};
 use crate::first_files::{
     FIRST_TABLES, RUNNING_LEDGER, RUNNING_LOTS, RUNNING_ROWS, TEN_LEDGER, TEN_LOTS, TEN_ROWS,
@@ -10,13 +10,13 @@ use tests_disks::disks::Disks;
 use tests_disks::office::{OfficeOnDisks, Unopened};
 use tests_transcripts::session::Wrong;
 
-// Its clock and its notices, as version 2 has them: no performance securities are asked.
+// The clock and the notices of version 1 in the form of version 2: no performance securities are asked for.
 static FIRST: [&str; 2] = [
     "SELECT 2, moment, receipts, awards FROM office ORDER BY version",
     "SELECT notice, title, published, deadline, validity, standstill, weight, state, opened, amendments, releases, 0 FROM notices ORDER BY notice",
 ];
 
-// What an earlier program left: what makes its tables, its rows, the ledger that it showed, and whether it knew late withdrawals.
+// A file of an earlier program: the statements that make its tables and its rows, the ledger that it showed, and whether it knew late withdrawals.
 #[derive(Clone, Copy)]
 struct Former {
     tables: &'static str,
@@ -56,12 +56,12 @@ fn ten_notices() -> Former {
     }
 }
 
-// The tables that came later of which an earlier program's file has one: none, or that of late withdrawals.
+// The later tables that the earlier program's file has: none, or that of late withdrawals.
 fn later(is_late: bool) -> &'static [&'static str] {
     if is_late { &LATER[..1] } else { &LATER[..0] }
 }
 
-// The files that it left, with what these statements add.
+// The files of the earlier program, with the additions of these statements.
 fn left(alloc: Global, file: Former, statements: &str) -> Result<Disks, Wrong> {
     let mut database = Database::open(alloc, Disks::blank(alloc)).ok_or(Wrong::Unopened)?;
     if database.changes(file.tables)
@@ -75,7 +75,7 @@ fn left(alloc: Global, file: Former, statements: &str) -> Result<Disks, Wrong> {
     }
 }
 
-// All rows of the office that they are once they were opened: those that they have, and none in the other tables that came later.
+// All rows of the office after the files are opened: the rows that they have, and none in the other later tables.
 fn rows_wanted(alloc: Global, disks: &Disks, is_late: bool) -> Result<Vec<u8>, Wrong> {
     let later = later(is_late);
     let files = disks.left_by_the_process(alloc)?;
@@ -86,14 +86,14 @@ fn rows_wanted(alloc: Global, disks: &Disks, is_late: bool) -> Result<Vec<u8>, W
     Ok(rows)
 }
 
-// Whether an office of version 2 stands there, with these rows.
+// Whether the files have an office of version 2 with these rows.
 fn is_complete(alloc: Global, disks: &Disks, rows: &[u8]) -> Result<bool, Wrong> {
     let files = disks.left_by_the_process(alloc)?;
     let answers = answers_in(alloc, files, SECOND.as_slice(), LATER.as_slice())?;
     Ok(answers.as_slice() == rows)
 }
 
-// Whether the office is the same once it was opened, and again.
+// Whether the office is the same after it was opened once, and twice.
 fn is_migrated(alloc: Global, file: Former) -> Result<bool, Wrong> {
     let disks = left(alloc, file, "")?;
     let rows = rows_wanted(alloc, &disks, file.is_late)?;
@@ -103,7 +103,7 @@ fn is_migrated(alloc: Global, file: Former) -> Result<bool, Wrong> {
     Ok(is_once && is_complete(alloc, &twice, &rows)?)
 }
 
-// At a second try where the first isn't right: one allocation of a test may be refused.
+// Tries twice, because a test may refuse one allocation.
 #[test]
 fn a_file_of_version_one_becomes_one_of_version_two(rt: HostRuntime) {
     let alloc = rt.alloc();
@@ -115,7 +115,7 @@ fn a_file_of_version_one_becomes_one_of_version_two(rt: HostRuntime) {
     }
 }
 
-// Whether what it shows is what the earlier program showed of it.
+// Whether it shows the ledger that the earlier program showed.
 fn has_its_ledger(alloc: Global, file: Former) -> Result<bool, Wrong> {
     let text = ledger_in(alloc, left(alloc, file, "")?)?;
     Ok(text.as_slice() == file.ledger.as_bytes())
@@ -132,7 +132,7 @@ fn its_ledger_stays(rt: HostRuntime) {
     }
 }
 
-// Whether files of that program to which this was added can't be used, and stay as they were.
+// Whether files of the earlier program with this addition can't be used, and stay as they were.
 fn is_unusable(alloc: Global, statements: &str) -> Result<bool, Wrong> {
     let disks = left(alloc, before_late_rules(), statements)?;
     let rows = rows_wanted(alloc, &disks, false)?;
@@ -158,7 +158,7 @@ fn a_name_is_taken(rt: HostRuntime) {
     }
 }
 
-// A foreign key of others to the notices or the version, whatever it asks for at a deletion, and a view of them.
+// A foreign key of another table to the notices or the version, whatever it does at a deletion, and a view of the notices.
 #[test]
 fn others_lead_there(rt: HostRuntime) {
     let alloc = rt.alloc();
@@ -176,7 +176,7 @@ fn others_lead_there(rt: HostRuntime) {
     }
 }
 
-// Files, whether they were of version 1, and whether they are the whole office, in their version and in version 2 once they were opened again.
+// Files, whether they had version 1, and whether they are the whole office, in their version and then in version 2 after they were opened again.
 #[derive(Drop)]
 struct Looked {
     disks: Disks,
@@ -184,8 +184,8 @@ struct Looked {
     is_whole: bool,
 }
 
-// What was found of stops: how many left an office of version 1, with the table of late withdrawals or without, and how many one of version 2; and the files
-// that were looked at last, since most stops leave the bytes that the one before them left.
+// The counts of stops that left an office of version 1 and of those that left one of version 2, and the files that were looked at last. Version 1 may have the
+// table of late withdrawals. Most stops leave the same bytes as the previous one.
 #[derive(Drop)]
 struct Found {
     is_late: bool,
@@ -201,7 +201,7 @@ fn version(alloc: Global, disks: &Disks) -> Result<Option<i64>, Wrong> {
     Ok(database.number("SELECT version FROM office"))
 }
 
-// Whether such files are the whole office with these rows, in their version, and in version 2 once they were opened again.
+// Whether these files are the whole office with these rows, in their version, and in version 2 after they were opened again.
 fn look_over(alloc: Global, disks: Disks, is_late: bool, rows: &[u8]) -> Result<Looked, Wrong> {
     let is_first = matches!(version(alloc, &disks)?, Some(1));
     let is_there = if is_first {
@@ -235,7 +235,7 @@ impl Found {
         }
     }
 
-    // Looks at these files, where others were looked at last, and counts them. Whether they are whole.
+    // Looks at these files, unless they were looked at last, and counts them. Returns whether they are the whole office.
     fn count(&mut self, alloc: Global, disks: Disks, rows: &[u8]) -> Result<bool, Wrong> {
         if !self.is_last(&disks) {
             self.last = Some(look_over(alloc, disks, self.is_late, rows)?);
@@ -253,7 +253,7 @@ impl Found {
     }
 }
 
-// Opens such files on disks that may stop: whether nothing was stopped, and what was left.
+// Opens these files on disks that may stop. Returns whether nothing was stopped, and the files that are left.
 fn put_down(alloc: Global, disks: Disks) -> Result<(bool, Disks), Wrong> {
     match OfficeOnDisks::open(alloc, disks) {
         Ok(office) => Ok(office.put_down()),
@@ -262,7 +262,7 @@ fn put_down(alloc: Global, disks: Disks) -> Result<(bool, Disks), Wrong> {
     }
 }
 
-// The same, and a look at what a process and a machine leave then. Whether nothing was stopped.
+// Opens these files, and looks at those that a process and a machine leave then. Returns whether nothing was stopped.
 fn is_whole(
     alloc: Global,
     found: &mut Found,
@@ -280,7 +280,7 @@ fn is_whole(
     }
 }
 
-// Opens the files on disks of which one takes ever more calls, until none is stopped.
+// Opens the files again and again, on disks of which one accepts one more call each time, until nothing is stopped.
 fn stops(alloc: Global, disks: &Disks, is_late: bool, of_log: bool) -> Result<Found, Wrong> {
     let rows = rows_wanted(alloc, disks, is_late)?;
     let mut found = Found::new(is_late);
@@ -297,7 +297,7 @@ fn stops(alloc: Global, disks: &Disks, is_late: bool, of_log: bool) -> Result<Fo
     Err(Wrong::Stop(2000))
 }
 
-// Stops of the log's disk are to leave the office in version 1 and in version 2, those of the database file in version 2.
+// Stops of the log's disk must leave the office in version 1 and in version 2, and those of the database file in version 2.
 fn is_stopped(alloc: Global, file: Former) -> Result<bool, Wrong> {
     let disks = left(alloc, file, "")?;
     let log = stops(alloc, &disks, file.is_late, true)?;

@@ -1,7 +1,7 @@
-//! A file of the program as it was before tenders could be withdrawn late, as `sqlite3 .dump` printed it: one contract that runs, raised and paid in part, and a
+//! A file of the program before tenders could be withdrawn late, as `sqlite3 .dump` printed it. It has a running contract, raised and paid in part, and a
 //! sealed tender.
 
-/// What makes its tables and their indexes.
+/// The statements that make its tables and their indexes.
 pub const EARLIER_TABLES: &str =
     r##"CREATE TABLE lines (line TEXT NOT NULL PRIMARY KEY CHECK (length(line) BETWEEN 1 AND 32), title TEXT NOT NULL CHECK (length(title) BETWEEN 1 AND 200), appropriation INTEGER NOT NULL CHECK (appropriation BETWEEN 0 AND 1000000000000000), free INTEGER NOT NULL CHECK (free BETWEEN 0 AND 1000000000000000)) STRICT;
 CREATE TABLE batches (batch TEXT NOT NULL PRIMARY KEY CHECK (length(batch) BETWEEN 1 AND 32), moment INTEGER NOT NULL CHECK (moment BETWEEN 0 AND 4102444799), rows INTEGER NOT NULL CHECK (rows BETWEEN 0 AND 500)) STRICT;
@@ -23,7 +23,7 @@ CREATE INDEX securities_of_notice ON securities (notice);
 CREATE INDEX awards_of_notice ON awards (notice);
 CREATE INDEX contracts_of_notice ON contracts (notice);"##;
 
-/// Its rows.
+/// The statements that make its rows.
 pub const EARLIER_ROWS: &str = r##"INSERT INTO lines VALUES('1000','Roads',1000,250);
 INSERT INTO lines VALUES('2000','Bridges',500,400);
 INSERT INTO batches VALUES('B1',1795653511,2);
@@ -55,7 +55,7 @@ INSERT INTO compiled VALUES('N1','{"awards":[{"date":"2026-11-26T00:38:37Z","id"
 INSERT INTO compiled VALUES('N2','{"buyer":{"id":"B-city","name":"City Office"},"initiationType":"tender","language":"en","ocid":"ocds-a1b2c3-N2","parties":[{"id":"B-city","name":"City Office","roles":["buyer","procuringEntity"]}],"planning":{"budget":{"amount":{"amount":100,"currency":"EUR"}}},"tender":{"awardCriteria":"ratedCriteria","id":"N2","items":[{"description":"Steel","id":"L1/I1","quantity":2,"relatedLot":"L1"}],"lots":[{"id":"L1","status":"active","title":"South","value":{"amount":100,"currency":"EUR"}}],"procurementMethod":"open","procuringEntity":{"id":"B-city","name":"City Office"},"status":"active","submissionMethod":["electronicSubmission"],"tenderPeriod":{"endDate":"2090-01-01T00:00:00Z","startDate":"2026-11-26T00:38:31Z"},"title":"Bridge","value":{"amount":100,"currency":"EUR"}}}');
 INSERT INTO office VALUES(1,1795653517,3,1);"##;
 
-/// Its lots, whose items are lines of fields with tabs between.
+/// The statements that make its lots, whose items are lines of fields with tabs between.
 pub const EARLIER_LOTS: &str =
     "INSERT INTO lots VALUES('N1','L1','North','1000',600,50,'I1\t1\tPaving\n','contracted',0);\nINSERT INTO lots VALUES('N2','L1','South','2000',100,10,'I1\t2\tSteel\n','undecided',100);\n";
 

@@ -1,6 +1,6 @@
-//! Files of the program as it was before performance securities, as `sqlite3 .dump` printed them: tests/version_1 has them too, and tests/versions compares the two.
+//! Files of the program before performance securities, as `sqlite3 .dump` printed them. `tests/version_1` has them too, and `tests/versions` compares the two.
 
-/// What makes their tables and indexes.
+/// The statements that make their tables and indexes.
 pub const FIRST_TABLES: &str =
     r##"CREATE TABLE lines (line TEXT NOT NULL PRIMARY KEY CHECK (length(line) BETWEEN 1 AND 32), title TEXT NOT NULL CHECK (length(title) BETWEEN 1 AND 200), appropriation INTEGER NOT NULL CHECK (appropriation BETWEEN 0 AND 1000000000000000), free INTEGER NOT NULL CHECK (free BETWEEN 0 AND 1000000000000000)) STRICT;
 CREATE TABLE batches (batch TEXT NOT NULL PRIMARY KEY CHECK (length(batch) BETWEEN 1 AND 32), moment INTEGER NOT NULL CHECK (moment BETWEEN 0 AND 4102444799), rows INTEGER NOT NULL CHECK (rows BETWEEN 0 AND 500)) STRICT;
@@ -23,7 +23,7 @@ CREATE INDEX securities_of_notice ON securities (notice);
 CREATE INDEX awards_of_notice ON awards (notice);
 CREATE INDEX contracts_of_notice ON contracts (notice);"##;
 
-/// The rows of the one: one contract that runs, raised and paid in part.
+/// The statements that make the rows of the first file: a running contract, raised and paid in part.
 pub const RUNNING_ROWS: &str = r##"INSERT INTO lines VALUES('1000','Roads',1000,250);
 INSERT INTO batches VALUES('B1',1795702363,1);
 INSERT INTO tenderers VALUES('T1','Firm T1','T1 Street',X'd5324a048c82fdd8a83b77e052b07f78c987fb7ab92cc80cc61ed573abe3d174');
@@ -48,7 +48,7 @@ INSERT INTO releases VALUES('N1',6,1795702367,'{"buyer":{"id":"B-city","name":"C
 INSERT INTO compiled VALUES('N1','{"awards":[{"date":"2026-11-26T14:12:47Z","id":"1","relatedLots":["L1"],"status":"active","suppliers":[{"id":"T-T1","name":"Firm T1"}],"value":{"amount":700,"currency":"EUR"}}],"buyer":{"id":"B-city","name":"City Office"},"contracts":[{"amendments":[{"date":"2026-11-26T14:12:47Z","description":"Raised by 50","id":"E1","rationale":"More paving"}],"awardID":"1","dateSigned":"2026-11-26T14:12:47Z","id":"1","implementation":{"transactions":[{"date":"2026-11-26T14:12:47Z","id":"P1","payee":{"id":"T-T1","name":"Firm T1"},"payer":{"id":"B-city","name":"City Office"},"value":{"amount":300,"currency":"EUR"}}]},"status":"active","value":{"amount":750,"currency":"EUR"}}],"initiationType":"tender","language":"en","ocid":"ocds-a1b2c3-N1","parties":[{"id":"B-city","name":"City Office","roles":["buyer","procuringEntity"]},{"address":{"streetAddress":"T1 Street"},"id":"T-T1","name":"Firm T1","roles":["tenderer","supplier"]},{"address":{"streetAddress":"T2 Street"},"id":"T-T2","name":"Firm T2","roles":["tenderer"]}],"planning":{"budget":{"amount":{"amount":700,"currency":"EUR"}}},"tender":{"awardCriteria":"priceOnly","id":"N1","items":[{"description":"Paving","id":"L1/I1","quantity":1,"relatedLot":"L1"}],"lots":[{"id":"L1","status":"complete","title":"Lot L1","value":{"amount":700,"currency":"EUR"}}],"numberOfTenderers":2,"procurementMethod":"open","procuringEntity":{"id":"B-city","name":"City Office"},"status":"complete","submissionMethod":["electronicSubmission"],"tenderPeriod":{"endDate":"2026-11-26T14:12:46Z","startDate":"2026-11-26T14:12:43Z"},"tenderers":[{"id":"T-T1","name":"Firm T1"},{"id":"T-T2","name":"Firm T2"}],"title":"Notice N1 <b>Straße</b>","value":{"amount":700,"currency":"EUR"}}}');
 INSERT INTO office VALUES(1,1795702367,2,1);"##;
 
-/// Its lots, whose items are lines of fields with tabs between.
+/// The statements that make its lots, whose items are lines of fields with tabs between.
 pub const RUNNING_LOTS: &str =
     "INSERT INTO lots VALUES('N1','L1','Lot L1','1000',700,50,'I1\t1\tPaving\n','contracted',0);";
 
@@ -56,7 +56,7 @@ pub const RUNNING_LOTS: &str =
 pub const RUNNING_LEDGER: &str =
     "LEDGER\nline\tappropriation\tfree\treserved\tcontracted\tpaid\n1000\t1000\t250\t0\t450\t300\n";
 
-/// The rows of the one: ten notices, each in another state, and tenders that were withdrawn late.
+/// The statements that make the rows of the second file: ten notices, each in another state, and tenders that were withdrawn late.
 pub const TEN_ROWS: &str = r##"INSERT INTO lines VALUES('1000','Roads',100000,96471);
 INSERT INTO lines VALUES('2000','Schools',100000,99100);
 INSERT INTO batches VALUES('B1',1795702368,2);
@@ -215,7 +215,7 @@ INSERT INTO late_rules VALUES('N4');
 INSERT INTO late_rules VALUES('N5');
 INSERT INTO late_rules VALUES('N7');"##;
 
-/// Its lots, whose items are lines of fields with tabs between.
+/// The statements that make its lots, whose items are lines of fields with tabs between.
 pub const TEN_LOTS: &str =
     "INSERT INTO lots VALUES('N1','L1','Lot L1','1000',600,50,'I1\t3\tPart I1\nI2\t10\tPart I2\n','undecided',600);\nINSERT INTO lots VALUES('N2','L1','Lot L1','2000',600,0,'I1\t3\tPart I1\nI2\t10\tPart I2\n','undecided',600);\nINSERT INTO lots VALUES('N2','L2','Lot L2','2000',300,5,'I1\t3\tPart I1\nI2\t10\tPart I2\n','undecided',300);\nINSERT INTO lots VALUES('N3','L1','Lot L1','1000',1000,20,'I1\t3\tPart I1\nI2\t10\tPart I2\n','cancelled',0);\nINSERT INTO lots VALUES('N4','L1','Lot L1','1000',1000,20,'I1\t3\tPart I1\nI2\t10\tPart I2\n','undecided',1000);\nINSERT INTO lots VALUES('N5','L1','Lot L1','1000',1000,20,'I1\t3\tPart I1\nI2\t10\tPart I2\n','undecided',1000);\nINSERT INTO lots VALUES('N6','L1','Lot L1','1000',1000,20,'I1\t3\tPart I1\nI2\t10\tPart I2\n','awarded',13);\nINSERT INTO lots VALUES('N6','L2','Lot L2','2000',500,0,'I1\t3\tPart I1\nI2\t10\tPart I2\n','unsuccessful',0);\nINSERT INTO lots VALUES('N7','L1','Lot L1','1000',1000,20,'I1\t3\tPart I1\nI2\t10\tPart I2\n','awarded',366);\nINSERT INTO lots VALUES('N8','L1','Lot L1','1000',1000,20,'I1\t3\tPart I1\nI2\t10\tPart I2\n','contracted',0);\nINSERT INTO lots VALUES('N9','L1','Lot L1','1000',1000,20,'I1\t3\tPart I1\nI2\t10\tPart I2\n','contracted',0);\nINSERT INTO lots VALUES('N10','L1','Lot L1','1000',1000,20,'I1\t3\tPart I1\nI2\t10\tPart I2\n','contracted',0);";
 

@@ -1,11 +1,11 @@
-//! Files of an office whose tables another program changed: none of them is opened, and all of them stay as they are.
+//! Files of an office whose tables another program changed. None of them is opened, and all of them stay as they are.
 use crate::stores::made;
 use std::alloc::Global;
 use tests_disks::database::Database;
 use tests_disks::disks::Disks;
 use tests_disks::office::{OfficeOnDisks, Unopened};
 
-// All that stands in the list of a database's tables.
+// The whole list of a database's tables.
 fn listed(alloc: Global, disks: &Disks) -> Option<Vec<u8>> {
     let mut database = Database::open(alloc, disks.left_by_the_process(alloc).ok()?)?;
     let mut bytes = Vec::new(alloc);
@@ -13,7 +13,7 @@ fn listed(alloc: Global, disks: &Disks) -> Option<Vec<u8>> {
     Some(bytes)
 }
 
-// Whether an office's files behind these statements can't be used, and still have the same tables.
+// Whether an office's files can't be used after these statements, and still have the same tables.
 fn is_refused(alloc: Global, statements: &str) -> Option<bool> {
     let mut database = Database::open(alloc, made(alloc).ok()?)?;
     if !database.changes(statements) {
@@ -27,7 +27,7 @@ fn is_refused(alloc: Global, statements: &str) -> Option<bool> {
     }
 }
 
-// At a second try where the first isn't right: one allocation of a test may be refused.
+// Tries each twice, because a test may refuse one allocation.
 fn are_refused(alloc: Global, statements: &[&str]) -> bool {
     for it in statements {
         if is_refused(alloc, it) != Some(true) && is_refused(alloc, it) != Some(true) {
@@ -37,7 +37,7 @@ fn are_refused(alloc: Global, statements: &[&str]) -> bool {
     true
 }
 
-// One with an index for its key, one whose key is its rowid, and one of those that came later.
+// A table with an index for its key, one whose key is its rowid, and two that came later.
 #[test]
 fn a_table_is_missing(rt: HostRuntime) {
     let missing = [
@@ -49,7 +49,7 @@ fn a_table_is_missing(rt: HostRuntime) {
     assert!(rt; are_refused(rt.alloc(), missing.as_slice()));
 }
 
-// Without a condition, with a column more, with another type, and with another key.
+// A table without its condition, with one more column, with another type, and with another key.
 #[test]
 fn a_table_has_another_form(rt: HostRuntime) {
     let others = [
@@ -62,7 +62,7 @@ fn a_table_has_another_form(rt: HostRuntime) {
     assert!(rt; are_refused(rt.alloc(), others.as_slice()));
 }
 
-// An index that lets a put be refused, and one that stands in for none: only the first.
+// An index that can make the table refuse a put isn't accepted. An index that can't is accepted.
 #[test]
 fn an_index_of_others(rt: HostRuntime) {
     let alloc = rt.alloc();

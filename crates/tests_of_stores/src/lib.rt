@@ -1,4 +1,4 @@
-//! What an office in files does where a transcript can't say it: its disk stops at each of its writes, and files that are no office.
+//! Tests of an office in files that a transcript can't express: its disk stops at each of its writes, or its files aren't an office.
 #![tactic(auto)]
 
 #[cfg(test)]

@@ -1,7 +1,7 @@
-//! A procurement from its tenderer to the end of its contract, each command one time.
+//! A procurement from the registration of its tenderer to the end of its contract, each command once.
 
-/// A tenderer is registered, two lines are imported, a notice is published whose tenders may be withdrawn late, and which asks for a performance security, a
-/// tender is presented, opened, examined and awarded, a contract is signed with that security, paid and ended.
+/// A tenderer is registered and two lines are imported. A notice is published that allows late withdrawals and asks for a performance security. A tender is
+/// submitted, opened, examined and awarded. A contract is signed with that security, paid and ended.
 pub(crate) static LIFE: &str = r#"
 at 2026-01-05T09:00:00Z clerk POST /tenderers/T1
 > {"name":"Alpha","address":"High Street 1","key":"2cf24dba5fb0a30e26e83b2ac5b9e29e1b161e5c1fa7425e73043362938b9824"}
@@ -47,9 +47,9 @@ at 2026-05-01T09:00:00Z clerk POST /contracts/1/end
 = 200 {"contract":1,"moment":"2026-05-01T09:00:00Z","outstanding":0,"release":6}
 "#;
 
-/// The ledger behind the import of the two lines.
+/// The ledger after the import of the two lines.
 pub(crate) static TWO_LINES: &str =
     "LEDGER\nline\tappropriation\tfree\treserved\tcontracted\tpaid\n1000\t1000\t1000\t0\t0\t0\n2000\t500\t500\t0\t0\t0\n";
 
-/// The ledger before it.
+/// The ledger before the import.
 pub(crate) static NO_LINE: &str = "LEDGER\nline\tappropriation\tfree\treserved\tcontracted\tpaid\n";

@@ -1,5 +1,5 @@
-//! Rows that other hands took from an office's tables, and a sum that they changed: a command that needs them is refused as `Unavailable`, over memory and over
-//! SQL, and each row of each table stays as it was. Over whole tables the same command is accepted.
+//! Rows that another program removed from an office's tables, and a sum that it changed. A command that needs them is refused as `Unavailable`, in memory and
+//! in SQL, and each row of each table stays as it was. With whole tables the same command is accepted.
 use crate::changes::changes_of;
 use crate::life::LIFE;
 use crate::stores::{LATER, SECOND, answers_in, changed, made};
@@ -15,7 +15,7 @@ use std::alloc::{AllocError, Global};
 use tests_sql_office::office::in_sql;
 use tests_transcripts::session::{Wrong, played};
 
-// What other hands did: the notice, and so on, is gone, or a contract was signed for nothing, so that more is paid than signed.
+// The damage: rows of this kind are missing, or (`Price`) a contract was signed for nothing, so that more is paid than was signed.
 #[derive(Clone, Copy, PartialEq, Eq)]
 enum Lost {
     Nothing,
@@ -28,7 +28,7 @@ enum Lost {
     Price,
 }
 
-// Whether a change is of a row that is gone.
+// Whether a change is of a row that is missing.
 fn is_lost(lost: Lost, put: &Put) -> bool {
     match put {
         Put::Notice(_) => lost == Lost::Notice,
@@ -41,7 +41,7 @@ fn is_lost(lost: Lost, put: &Put) -> bool {
     }
 }
 
-// A change, which is of a contract that was signed for nothing.
+// The change, but a contract is signed for nothing.
 fn repriced(put: Put) -> Put {
     match put {
         Put::Contract(row) => Put::Contract(ContractRow {
@@ -52,7 +52,7 @@ fn repriced(put: Put) -> Put {
     }
 }
 
-// Appends what is left of a command's changes.
+// Appends the remaining changes of a command.
 fn append_left(left: &mut Vec<Put>, puts: Vec<Put>, lost: Lost) -> Result<(), AllocError> {
     for put in puts {
         if lost == Lost::Price {
@@ -64,7 +64,7 @@ fn append_left(left: &mut Vec<Put>, puts: Vec<Put>, lost: Lost) -> Result<(), Al
     Ok(())
 }
 
-// What is left of all that so many commands of a life put.
+// The remaining changes of this many commands of a life.
 fn left_of(alloc: Global, count: usize, lost: Lost) -> Result<Vec<Put>, Wrong> {
     let mut changes = changes_of(alloc, &[LIFE])?;
     changes.truncate(count);
@@ -75,7 +75,7 @@ fn left_of(alloc: Global, count: usize, lost: Lost) -> Result<Vec<Put>, Wrong> {
     Ok(left)
 }
 
-// Appends a row that is there, or all rows of a list.
+// Appends a row that exists, or all rows of a list.
 macro_rules! append {
     ($puts:ident, $put:path, $row:expr) => {
         if let Some(row) = $row? {
@@ -92,7 +92,7 @@ macro_rules! append_all {
     };
 }
 
-// The rows that no notice has.
+// The rows that don't belong to a notice.
 fn append_budget<H: Lookups>(
     puts: &mut Vec<Put>,
     shelf: &mut H,
@@ -106,7 +106,7 @@ fn append_budget<H: Lookups>(
     Ok(())
 }
 
-// The rows of a notice, with what is published.
+// The rows of a notice, with its publications.
 fn append_notice<H: Lookups>(
     puts: &mut Vec<Put>,
     shelf: &mut H,
@@ -120,7 +120,7 @@ fn append_notice<H: Lookups>(
     Ok(())
 }
 
-// Those of its tenders.
+// The rows of its tenders.
 fn append_tenders<H: Lookups>(
     puts: &mut Vec<Put>,
     shelf: &mut H,
@@ -133,7 +133,7 @@ fn append_tenders<H: Lookups>(
     Ok(())
 }
 
-// Those of its awards and contracts.
+// The rows of its awards and contracts.
 fn append_contracts<H: Lookups>(
     puts: &mut Vec<Put>,
     shelf: &mut H,
@@ -147,7 +147,7 @@ fn append_contracts<H: Lookups>(
     Ok(())
 }
 
-// All rows of the office of a life, by the names and numbers that it gives.
+// All rows of the office of a life, by its names and numbers.
 fn rows_of<H: Lookups>(alloc: Global, shelf: &mut H) -> Result<Vec<Put>, Refusal> {
     let mut puts = Vec::new(alloc);
     let (Some(batch), Some(tenderer), Some(notice), Some(one)) = (
@@ -165,7 +165,7 @@ fn rows_of<H: Lookups>(alloc: Global, shelf: &mut H) -> Result<Vec<Put>, Refusal
     Ok(puts)
 }
 
-// The same as bytes: the rows of an office in files that has no others.
+// All rows of the office of a life as bytes: the rows of an office in files that has no others.
 fn bytes_of<H: Lookups>(alloc: Global, shelf: &mut H) -> Result<Vec<u8>, Wrong> {
     let Ok(puts) = rows_of(alloc, shelf) else {
         return Err(Wrong::Unopened);
@@ -174,7 +174,7 @@ fn bytes_of<H: Lookups>(alloc: Global, shelf: &mut H) -> Result<Vec<u8>, Wrong> 
     answers_in(alloc, disks, SECOND.as_slice(), LATER.as_slice())
 }
 
-// Whether an office with these rows keeps them all, once it has answered as this block says.
+// Whether an office with these rows keeps all of them after it has answered as this block says.
 fn keeps_all<H: Shelf + Drop>(
     alloc: Global,
     shelf: H,
@@ -190,7 +190,7 @@ fn keeps_all<H: Shelf + Drop>(
     Ok(bytes_of(alloc, &mut shelf)? == before)
 }
 
-// A command behind so many others of the life, and its answer where it is accepted.
+// A command after this many others of the life, and its answer if it is accepted.
 struct Command {
     count: usize,
     request: &'static str,
@@ -249,7 +249,7 @@ fn block_of(alloc: Global, command: &Command, answer: &str) -> Result<String, Al
     Ok(block)
 }
 
-// Whether, where this is lost, all rows are kept once the command is answered so; none where an office in memory and one in SQL differ.
+// Whether, after this damage, all rows are kept when the command gets this answer. None if an office in memory and one in SQL differ.
 fn kept(alloc: Global, command: &Command, lost: Lost, answer: &str) -> Result<Option<bool>, Wrong> {
     let block = block_of(alloc, command, answer)?;
     let rows = left_of(alloc, command.count, lost)?;
@@ -280,13 +280,13 @@ fn are_changed(found: Result<Option<bool>, Wrong>) -> bool {
     }
 }
 
-// Whether the command is refused there, and accepted where nothing is lost.
+// Whether the command is refused after the damage, and accepted without it.
 fn is_right(alloc: Global, command: &Command, lost: Lost) -> bool {
     are_kept(kept(alloc, command, lost, UNAVAILABLE))
         && are_changed(kept(alloc, command, Lost::Nothing, command.accepted))
 }
 
-// At a second try where the first isn't right: one allocation of a test may be refused.
+// Tries twice, because a test may refuse one allocation.
 fn needs(alloc: Global, command: &Command, lost: Lost) -> bool {
     is_right(alloc, command, lost) || is_right(alloc, command, lost)
 }

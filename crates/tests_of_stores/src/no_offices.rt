@@ -1,4 +1,4 @@
-//! Files in which no office is opened, and those in which one is made beside what stands there.
+//! Files in which no office is opened, and files in which one is made beside other content.
 use crate::changes::changes_of;
 use crate::stores::{all_changed, made};
 use std::alloc::Global;
@@ -7,7 +7,7 @@ use tests_disks::disks::Disks;
 use tests_disks::office::{OfficeOnDisks, Unopened};
 use tests_transcripts::setup::MONEY;
 
-// The files behind these statements; None where one can't be run.
+// The files after these statements. None if one can't be run.
 fn changed(alloc: Global, disks: Disks, statements: &str) -> Option<Disks> {
     let mut database = Database::open(alloc, disks)?;
     match database.changes(statements) {
@@ -16,12 +16,12 @@ fn changed(alloc: Global, disks: Disks, statements: &str) -> Option<Disks> {
     }
 }
 
-// The number that a question of these files has for its answer.
+// The number that answers a question about these files.
 fn number(alloc: Global, disks: Disks, question: &str) -> Option<i64> {
     Database::open(alloc, disks)?.number(question)
 }
 
-// The files, where they are refused as no office.
+// The files, if they are refused as no office.
 fn refused(alloc: Global, disks: Disks) -> Option<Disks> {
     match OfficeOnDisks::open(alloc, disks) {
         Err(Unopened::NotAnOffice(disks)) => Some(disks),
@@ -29,19 +29,19 @@ fn refused(alloc: Global, disks: Disks) -> Option<Disks> {
     }
 }
 
-// What a question shows of the files behind these statements, once they were refused as no office.
+// The answer to a question about the files after these statements, after they were refused as no office.
 fn shown(alloc: Global, statements: &str, question: &str) -> Option<i64> {
     let disks = changed(alloc, Disks::blank(alloc), statements)?;
     number(alloc, refused(alloc, disks)?, question)
 }
 
-// What a question shows of an office's files behind these statements, once they were refused as no office.
+// The answer to a question about an office's files after these statements, after they were refused as no office.
 fn shown_of_office(alloc: Global, statements: &str, question: &str) -> Option<i64> {
     let disks = changed(alloc, made(alloc).ok()?, statements)?;
     number(alloc, refused(alloc, disks)?, question)
 }
 
-// At a second try where the first isn't right: one allocation of a test may be refused.
+// Tries twice, because a test may refuse one allocation.
 fn shows_number(alloc: Global, statements: &str, question: &str, wanted: i64) -> bool {
     shown(alloc, statements, question) == Some(wanted)
         || shown(alloc, statements, question) == Some(wanted)
@@ -65,7 +65,7 @@ fn names_are_taken(rt: HostRuntime) {
     assert!(rt; shows_number(alloc, performance, "SELECT x FROM performance", 3));
 }
 
-// A version after this program's, and both of them at once.
+// A version after this program's, and two versions at once.
 #[test]
 fn versions_come_later(rt: HostRuntime) {
     let alloc = rt.alloc();
@@ -96,7 +96,7 @@ fn versions_are_others(rt: HostRuntime) {
     assert!(rt; office_shows_number(alloc, "DROP TABLE office", "SELECT count(*) FROM lots", 0));
 }
 
-// Whether an office's files are refused behind these statements, and not for want of an office.
+// Whether an office's files are refused after these statements, but not as no office.
 fn is_wrong(alloc: Global, statements: &str) -> Option<bool> {
     let disks = changed(alloc, made(alloc).ok()?, statements)?;
     Some(matches!(
@@ -105,7 +105,7 @@ fn is_wrong(alloc: Global, statements: &str) -> Option<bool> {
     ))
 }
 
-// What a question shows of files behind these statements in which no office could then be made.
+// The answer to a question about files after these statements, if no office could be made in them.
 fn unmade(alloc: Global, statements: &str, question: &str) -> Option<i64> {
     let disks = changed(alloc, Disks::blank(alloc), statements)?;
     match OfficeOnDisks::open(alloc, disks) {
@@ -133,7 +133,7 @@ fn the_key_is_no_rowid(rt: HostRuntime) {
     assert!(rt; is_wrong(alloc, other) == Some(true) || is_wrong(alloc, other) == Some(true));
 }
 
-// What is shown by a question of files in which another table stood, and an office was made then, and changed.
+// The answer to a question about files that had another table, after an office was made in them and changed.
 fn beside(alloc: Global, question: &str) -> Option<i64> {
     let statements = "CREATE TABLE other (a INTEGER); INSERT INTO other VALUES (8)";
     let disks = changed(alloc, Disks::blank(alloc), statements)?;

@@ -1,4 +1,4 @@
-//! A store that is shut for good: the log's disk stops within a command, and the office tells that it answers nothing more.
+//! A store that is closed for good: the log's disk stops within a command, and the office reports that it answers nothing more.
 use crate::changes::{changes_of, copied};
 use crate::stores::{all_changed, opened};
 use office_base::puts::Put;
@@ -8,7 +8,7 @@ use tests_disks::office::OfficeOnDisks;
 use tests_transcripts::session::Wrong;
 use tests_transcripts::setup::{MONEY, TENDERERS};
 
-// How a command ended whose disk stops, and what the office told of its store behind it.
+// The end of a command whose disk stops, and the office's report about its store afterwards.
 #[derive(Clone, Copy)]
 enum Ending {
     Unopened,
@@ -17,13 +17,13 @@ enum Ending {
     Shut,
 }
 
-// Whether an office that was shut stays so, and refuses what it did not do.
+// Whether an office whose store was closed for good stays so, and refuses the command that it didn't do.
 fn stays_shut(alloc: Global, office: &mut OfficeOnDisks, puts: &[Put]) -> Result<bool, Wrong> {
     let is_done = office.apply(copied(alloc, puts)?);
     Ok(!is_done && office.is_shut() == Some(true))
 }
 
-// Makes the changes, and asks whether the store was shut.
+// Makes the changes, and asks whether the store was closed for good.
 fn end_of(alloc: Global, disks: Disks, puts: &[Put]) -> Result<Ending, Wrong> {
     let Ok(mut office) = opened(alloc, disks) else {
         return Ok(Ending::Unopened);
@@ -43,7 +43,8 @@ fn end_of(alloc: Global, disks: Disks, puts: &[Put]) -> Result<Ending, Wrong> {
     }
 }
 
-// Makes the changes with a log's disk that takes ever more calls, until none is stopped. How often the store was shut before.
+// Makes the changes again and again, with a log's disk that accepts one more call each time, until nothing is stopped. Returns how often the store was closed
+// for good before that.
 fn times_shut(alloc: Global, disks: &Disks, puts: &[Put]) -> Result<u64, Wrong> {
     let mut times = 0u64;
     for calls in 0..2000 {
@@ -56,7 +57,7 @@ fn times_shut(alloc: Global, disks: &Disks, puts: &[Put]) -> Result<u64, Wrong> 
     Err(Wrong::Stop(2000))
 }
 
-// The same in an import behind the registration of the tenderers.
+// How often the store was closed for good in an import after the registration of the tenderers.
 fn times_in_an_import(alloc: Global) -> Result<u64, Wrong> {
     let changes = changes_of(alloc, &[TENDERERS, MONEY])?;
     let Some((last, others)) = changes.split_last() else {
@@ -68,7 +69,7 @@ fn times_in_an_import(alloc: Global) -> Result<u64, Wrong> {
 
 #[test]
 fn a_disk_that_stops_shuts_the_store(rt: HostRuntime) {
-    // One allocation of a test may be refused, and then the second try has all.
+    // A test may refuse one allocation; then the second try has all of them.
     let first = times_in_an_import(rt.alloc());
     let second = times_in_an_import(rt.alloc());
     assert!(rt; matches!((first, second), (Ok(1..), _) | (_, Ok(1..))));

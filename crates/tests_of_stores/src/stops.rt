@@ -1,5 +1,5 @@
-//! Stops: a disk takes so many calls, and fails at every one behind them. Whatever that number is, the office that is then opened again has the rows that it
-//! had before the command, or all that the command changes; and nothing less where the changes were made.
+//! Stops: a disk accepts some number of calls, and fails at every later one. Whatever that number is, the office that is opened again has the rows from before
+//! the command, or all changes of the command. If the changes were reported as made, it has all of them.
 use crate::changes::{changes_of, copied};
 use crate::life::{LIFE, NO_LINE, TWO_LINES};
 use crate::stores::{all_changed, ledger_in, made, opened, rows_in};
@@ -9,7 +9,7 @@ use tests_disks::disks::Disks;
 use tests_disks::office::{OfficeOnDisks, Unopened};
 use tests_transcripts::session::Wrong;
 
-// A command's changes, and all rows of the office before it and behind it.
+// A command's changes, and all rows of the office before and after it.
 #[derive(Drop)]
 struct Change<'a> {
     puts: &'a [Put],
@@ -17,7 +17,7 @@ struct Change<'a> {
     behind: Vec<u8>,
 }
 
-// How a command ended whose disks take so many calls.
+// How a command ended whose disks accept some number of calls.
 #[derive(Drop)]
 struct Ending {
     is_done: bool,
@@ -25,7 +25,7 @@ struct Ending {
     disks: Disks,
 }
 
-// Opens an office, and makes a command's changes. Where it can't even be opened, its files are as that left them.
+// Opens an office, and makes a command's changes. If the office can't even be opened, its files are as the opening left them.
 fn ended(alloc: Global, disks: Disks, puts: &[Put]) -> Result<Ending, Wrong> {
     let mut office = match OfficeOnDisks::open(alloc, disks) {
         Ok(office) => office,
@@ -52,7 +52,7 @@ fn rows_left(alloc: Global, disks: &Disks) -> Result<Vec<u8>, Wrong> {
     rows_in(alloc, disks.left_by_the_process(alloc)?)
 }
 
-// All rows of the office in these files behind these changes.
+// All rows of the office in these files after these changes.
 fn rows_behind(alloc: Global, disks: &Disks, puts: &[Put]) -> Result<Vec<u8>, Wrong> {
     let whole = ended(alloc, disks.left_by_the_process(alloc)?, puts)?;
     if !whole.is_closed {
@@ -61,7 +61,7 @@ fn rows_behind(alloc: Global, disks: &Disks, puts: &[Put]) -> Result<Vec<u8>, Wr
     rows_left(alloc, &whole.disks)
 }
 
-// What these changes make of the office in these files.
+// These changes, with the rows of the office in these files before and after them.
 fn change_of<'a>(alloc: Global, disks: &Disks, puts: &'a [Put]) -> Result<Change<'a>, Wrong> {
     let behind = rows_behind(alloc, disks, puts)?;
     let before = rows_left(alloc, disks)?;
@@ -79,8 +79,8 @@ struct Looked {
     rows: Vec<u8>,
 }
 
-// What was found of stops: how many left the office as it was before, and how many as it is behind the command; and the files that were looked at last.
-// Most stops leave the bytes that the one before them left, since a disk's calls are reads for the most part: those aren't looked at once more.
+// The counts of stops that left the office before and after the command, and the files that were looked at last. Most stops leave the same bytes as the
+// previous one, because most calls of a disk are reads. Such files aren't looked at again.
 #[derive(Drop)]
 struct Found {
     before: u64,
@@ -104,7 +104,7 @@ impl Found {
         }
     }
 
-    // Looks at these files, where others were looked at last.
+    // Looks at these files, unless they were looked at last.
     fn look(&mut self, alloc: Global, disks: Disks) -> Result<(), Wrong> {
         if !self.is_last(&disks) {
             let rows = rows_left(alloc, &disks)?;
@@ -113,7 +113,7 @@ impl Found {
         Ok(())
     }
 
-    // Counts the files that were looked at last. Whether they are right.
+    // Counts the files that were looked at last. Returns whether they are right.
     fn count(&mut self, change: &Change<'_>, is_done: bool) -> bool {
         let Some(looked) = &self.last else {
             return false;
@@ -130,7 +130,7 @@ impl Found {
     }
 }
 
-// Looks at what such an ending leaves, of a process and of a machine. Whether it is right.
+// Looks at the files that a process and a machine leave at this end. Returns whether they are right.
 fn look_at(
     alloc: Global,
     found: &mut Found,
@@ -143,14 +143,14 @@ fn look_at(
     Ok(found.count(change, ending.is_done) && is_right)
 }
 
-// Which disk stops.
+// The disk that stops.
 #[derive(Clone, Copy)]
 enum Stopping {
     Log,
     Database,
 }
 
-// The command with a disk that takes so many calls. Whether nothing was stopped.
+// Does the command with a disk that accepts this many calls. Returns whether nothing was stopped.
 fn is_whole(
     alloc: Global,
     found: &mut Found,
@@ -167,7 +167,7 @@ fn is_whole(
     }
 }
 
-// Makes the changes with a disk that takes ever more calls, until none is stopped.
+// Makes the changes again and again, with a disk that accepts one more call each time, until nothing is stopped.
 fn stops(
     alloc: Global,
     disks: &Disks,
@@ -187,8 +187,8 @@ fn stops(
     Err(Wrong::Stop(2000))
 }
 
-// Stops of the log's disk, and of that of the database file, in a command. Those of the log are to leave what is before it and what is
-// behind it, those of the database file what is behind it.
+// Stops of the log's disk and of the database file's disk, in a command. Those of the log must leave the office before the command and the office after it.
+// Those of the database file must leave the office after it.
 fn stopped(alloc: Global, disks: &Disks, puts: &[Put]) -> Result<(), Wrong> {
     let change = change_of(alloc, disks, puts)?;
     let log = stops(alloc, disks, &change, Stopping::Log)?;
@@ -199,7 +199,7 @@ fn stopped(alloc: Global, disks: &Disks, puts: &[Put]) -> Result<(), Wrong> {
     Ok(())
 }
 
-// The same in the last of the first so many commands of a life.
+// Stops in the last of the first commands of a life, of which there are this many.
 fn stopped_in_life(alloc: Global, count: usize) -> Result<(), Wrong> {
     let mut changes = changes_of(alloc, &[LIFE])?;
     if changes.len() != 10 {
@@ -213,7 +213,7 @@ fn stopped_in_life(alloc: Global, count: usize) -> Result<(), Wrong> {
     stopped(alloc, &disks, &last)
 }
 
-// Whether stops in this command of a life leave what is before it or what is behind it.
+// Whether stops in this command of a life leave the office before it or after it.
 fn leaves_all_or_none(alloc: Global, command: usize) -> bool {
     stopped_in_life(alloc, command).is_ok()
 }
@@ -278,7 +278,7 @@ fn an_end_is_stopped(rt: HostRuntime) {
     assert!(rt; leaves_all_or_none(alloc, 10) || leaves_all_or_none(alloc, 10));
 }
 
-// The text of the ledger behind the first so many commands of a life.
+// The text of the ledger after this many commands of a life.
 fn ledger_of_life(alloc: Global, count: usize) -> Result<Vec<u8>, Wrong> {
     let mut changes = changes_of(alloc, &[LIFE])?;
     changes.truncate(count);

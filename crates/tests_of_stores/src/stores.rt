@@ -1,4 +1,4 @@
-//! Offices on disks in memory, and what stands in their files.
+//! Offices on disks in memory, and the content of their files.
 use crate::changes::copied;
 use office_base::puts::Put;
 use std::alloc::Global;
@@ -17,7 +17,7 @@ pub(crate) fn opened(alloc: Global, disks: Disks) -> Result<OfficeOnDisks, Wrong
     }
 }
 
-/// The files of the office in these, or of a new one, once it was opened and closed.
+/// The files of the office in these files, or of a new one, after it was opened and closed.
 pub(crate) fn reopened(alloc: Global, disks: Disks) -> Result<Disks, Wrong> {
     opened(alloc, disks)?.close().ok_or(Wrong::Unopened)
 }
@@ -27,7 +27,7 @@ pub(crate) fn made(alloc: Global) -> Result<Disks, Wrong> {
     reopened(alloc, Disks::blank(alloc))
 }
 
-/// The files of this office behind a command's changes.
+/// The files of this office after a command's changes.
 pub(crate) fn changed(alloc: Global, disks: Disks, puts: &[Put]) -> Result<Disks, Wrong> {
     let mut office = opened(alloc, disks)?;
     if !office.apply(copied(alloc, puts)?) {
@@ -36,7 +36,7 @@ pub(crate) fn changed(alloc: Global, disks: Disks, puts: &[Put]) -> Result<Disks
     office.close().ok_or(Wrong::Unopened)
 }
 
-/// The files of an office behind the changes of these commands. It is closed and opened between them.
+/// The files of an office after the changes of these commands. It is closed and opened between them.
 pub(crate) fn all_changed(
     alloc: Global,
     mut disks: Disks,
@@ -48,13 +48,13 @@ pub(crate) fn all_changed(
     Ok(disks)
 }
 
-/// Its version and clock, and its notices, as version 2 has them.
+/// Its version and clock, and its notices, in the form of version 2.
 pub(crate) static SECOND: [&str; 2] = [
     "SELECT * FROM office ORDER BY version",
     "SELECT * FROM notices_2 ORDER BY notice",
 ];
 
-// The tables that every version has alike, each in the order of its keys.
+// The tables that are the same in every version, each in the order of its keys.
 static OTHERS: [&str; 12] = [
     "SELECT * FROM lines ORDER BY line",
     "SELECT * FROM batches ORDER BY batch",
@@ -70,7 +70,7 @@ static OTHERS: [&str; 12] = [
     "SELECT * FROM compiled ORDER BY notice",
 ];
 
-/// The tables that version 1 may lack, and the one that version 2 keeps empty.
+/// The tables that version 1 may not have, and the one that version 2 keeps empty.
 pub(crate) static LATER: [&str; 3] = [
     "SELECT * FROM late_rules ORDER BY notice",
     "SELECT * FROM performance ORDER BY contract",
@@ -83,7 +83,7 @@ fn ledger_of(alloc: Global, office: &mut OfficeOnDisks) -> Result<Vec<u8>, Wrong
     Ok(ledger_text(alloc, &rows)?.into_vec())
 }
 
-// Appends all rows that these questions have for their answers, those of each behind a semicolon.
+// Appends all rows that answer these questions, with a semicolon before those of each.
 fn append_answers(
     bytes: &mut Vec<u8>,
     database: &mut Database,
@@ -96,7 +96,7 @@ fn append_answers(
     Ok(())
 }
 
-// Appends all rows of these files: by the first questions, of the tables that every version has alike, and by the last questions.
+// Appends all rows of these files: those of the first questions, those of the tables that are the same in every version, and those of the last questions.
 fn append_rows(
     alloc: Global,
     bytes: &mut Vec<u8>,
@@ -110,8 +110,8 @@ fn append_rows(
     append_answers(bytes, &mut database, last)
 }
 
-/// All rows of these files, whether or not they are an office's: by the first questions, of the tables that every version has alike, and by the
-/// last questions.
+/// All rows of these files, whether or not they are an office's. The first and the last questions ask for rows that differ by version. The rows between them
+/// are of the tables that are the same in every version.
 pub(crate) fn answers_in(
     alloc: Global,
     disks: Disks,
@@ -129,7 +129,7 @@ pub(crate) fn ledger_in(alloc: Global, disks: Disks) -> Result<Vec<u8>, Wrong> {
     ledger_of(alloc, &mut office)
 }
 
-/// The same, and behind it all rows of the office.
+/// The text of the ledger, followed by all rows of the office.
 pub(crate) fn rows_in(alloc: Global, disks: Disks) -> Result<Vec<u8>, Wrong> {
     let mut office = opened(alloc, disks)?;
     let mut bytes = ledger_of(alloc, &mut office)?;

@@ -1,4 +1,4 @@
-//! Rows that no office writes, put into an office's tables by other hands: a row that its table takes is the store's fault once it is asked for.
+//! Rows that no office writes, put into an office's tables by another program. A row that its table accepts is a fault of the store when it is looked up.
 use crate::stores::opened;
 use office_base::shelf::ShelfFault;
 use std::alloc::Global;
@@ -6,12 +6,12 @@ use tests_disks::asking::Question;
 use tests_disks::database::Database;
 use tests_disks::disks::Disks;
 
-// What came of a row that was put into a new office's tables.
+// The outcome for a row that was put into a new office's tables.
 #[derive(Drop)]
 enum Outcome {
     // Its table refuses it.
     Untaken,
-    // Its table takes it, and this is what the office says once it is asked.
+    // Its table accepts it, and this is the office's answer when it is asked.
     Said(Result<bool, ShelfFault>),
 }
 
@@ -25,7 +25,7 @@ fn told(alloc: Global, question: Question, row: &str) -> Option<Outcome> {
     Some(Outcome::Said(office.asks(question)?))
 }
 
-// At a second try where the first isn't right: one allocation of a test may be refused.
+// Tries twice, because a test may refuse one allocation.
 fn is_read(alloc: Global, question: Question, row: &str) -> bool {
     let is_right = |told| matches!(told, Some(Outcome::Said(Ok(true))));
     is_right(told(alloc, question, row)) || is_right(told(alloc, question, row))
@@ -41,7 +41,7 @@ fn is_untaken(alloc: Global, row: &str) -> bool {
     is_right(told(alloc, Question::Line, row)) || is_right(told(alloc, Question::Line, row))
 }
 
-// Whether the first of the rows is read, each of the next is a fault of the store, and the others are refused by their table.
+// Whether the first of the rows is read, each of the next ones is a fault of the store, and their table refuses the others.
 fn are_refused(
     alloc: Global,
     question: Question,
@@ -65,7 +65,7 @@ fn are_refused(
 #[test]
 fn budgets_are_read(rt: HostRuntime) {
     let alloc = rt.alloc();
-    // A name that is none; less than nothing, more than a line may have, a text, and no title.
+    // A title with a line feed; then a negative number, a number above the bound, a text as a number, and an empty title.
     assert!(rt;
         are_refused(
             alloc,
@@ -80,7 +80,7 @@ fn budgets_are_read(rt: HostRuntime) {
             ]
         )
     );
-    // A moment past the last, and too many rows.
+    // A moment after the last one, and too many rows.
     assert!(rt;
         are_refused(
             alloc,
@@ -93,7 +93,7 @@ fn budgets_are_read(rt: HostRuntime) {
             ]
         )
     );
-    // No moment, and one receipt more than can be given.
+    // No moment, and one receipt more than the highest.
     assert!(rt;
         are_refused(
             alloc,
@@ -111,7 +111,7 @@ fn budgets_are_read(rt: HostRuntime) {
 #[test]
 fn tenderers_and_notices_are_read(rt: HostRuntime) {
     let alloc = rt.alloc();
-    // A line feed in a name; a key of 31 bytes, and one that is a text.
+    // A line feed in a name; then a key of 31 bytes, and one that is a text.
     assert!(rt;
         are_refused(
             alloc,
@@ -126,7 +126,8 @@ fn tenderers_and_notices_are_read(rt: HostRuntime) {
             ]
         )
     );
-    // A line feed in a title; a word that is no state, one in other letters, none, a text for a moment, and a performance security past the greatest.
+    // A line feed in a title; then a word that isn't a state, one with a capital letter, and an empty state. Then a text as a moment, and a performance
+    // security above the bound.
     assert!(rt;
         are_refused(
             alloc,
@@ -149,7 +150,8 @@ fn tenderers_and_notices_are_read(rt: HostRuntime) {
 #[test]
 fn lots_are_read(rt: HostRuntime) {
     let alloc = rt.alloc();
-    // A name that is none, and texts that are no items: a line feed is missing, a quantity begins with 0, two have one name; a word that is no state, and no estimate.
+    // A wrong identifier, and wrong items: without a line feed, with a quantity that begins with 0, with two of one name. Then a word that isn't a state, and
+    // an estimate of 0.
     assert!(rt;
         are_refused(
             alloc,
@@ -167,7 +169,7 @@ fn lots_are_read(rt: HostRuntime) {
             ]
         )
     );
-    // A text for what is reserved.
+    // A text as the reserved money.
     assert!(rt;
         are_refused(
             alloc,
@@ -184,7 +186,8 @@ fn lots_are_read(rt: HostRuntime) {
 #[test]
 fn tenders_are_read(rt: HostRuntime) {
     let alloc = rt.alloc();
-    // A price behind another word, a word without its price, a price without a word; a word that is no state, a flag that is 2, one that is a text, and one that is neither yes nor no.
+    // A price with another word, a word without its price, and a price without a word. Then a word that isn't a state, a flag that is 2, one that is a text,
+    // and one that is neither yes nor no.
     assert!(rt;
         are_refused(
             alloc,
@@ -221,7 +224,7 @@ fn seals_and_securities_are_read(rt: HostRuntime) {
             ]
         )
     );
-    // A name that is none; a word that is no state, and nothing.
+    // A wrong identifier; then a word that isn't a state, and an amount of 0.
     assert!(rt;
         are_refused(
             alloc,
@@ -239,7 +242,7 @@ fn seals_and_securities_are_read(rt: HostRuntime) {
 #[test]
 fn awards_and_contracts_are_read(rt: HostRuntime) {
     let alloc = rt.alloc();
-    // A name that is none; a word that is no state, and no receipt.
+    // A wrong identifier; then a word that isn't a state, and a receipt of 0.
     assert!(rt;
         are_refused(
             alloc,
@@ -252,7 +255,7 @@ fn awards_and_contracts_are_read(rt: HostRuntime) {
             ]
         )
     );
-    // A name that is none; a word that is no way to end, a number for it, and a blob for a name.
+    // A wrong identifier; then a word that isn't a way to end, a number in its place, and a blob as a name.
     assert!(rt;
         are_refused(
             alloc,
@@ -271,7 +274,7 @@ fn awards_and_contracts_are_read(rt: HostRuntime) {
 #[test]
 fn performances_and_entries_are_read(rt: HostRuntime) {
     let alloc = rt.alloc();
-    // A name that is none; a word that is no state, and nothing.
+    // A wrong identifier; then a word that isn't a state, and an amount of 0.
     assert!(rt;
         are_refused(
             alloc,
@@ -284,7 +287,7 @@ fn performances_and_entries_are_read(rt: HostRuntime) {
             ]
         )
     );
-    // A word that is no kind, nothing paid, and an empty rationale.
+    // A word that isn't a kind, an amount of 0, and an empty rationale.
     assert!(rt;
         are_refused(
             alloc,
@@ -303,7 +306,7 @@ fn performances_and_entries_are_read(rt: HostRuntime) {
 #[test]
 fn releases_and_merges_are_read(rt: HostRuntime) {
     let alloc = rt.alloc();
-    // A blob for a text, and no moment.
+    // A blob as the text, and no moment.
     assert!(rt;
         are_refused(
             alloc,
@@ -316,7 +319,7 @@ fn releases_and_merges_are_read(rt: HostRuntime) {
             ]
         )
     );
-    // Nothing for a text.
+    // No text.
     assert!(rt;
         are_refused(
             alloc,

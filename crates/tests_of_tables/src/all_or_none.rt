@@ -1,4 +1,4 @@
-//! Changes are made all or none, and in their order.
+//! A list of changes is made as a whole or not at all, and in its order.
 use crate::changes::{Change, Step, holds};
 use crate::looks::{Key, List, Look, Told};
 
@@ -17,7 +17,7 @@ const EMPTY: &[Told] = &[
     (CLOCK, &[(&[], &[0, 0, 0])]),
 ];
 
-// Two lines, the second key first, a batch and the clock.
+// Two lines, the one with the second key first, then a batch and the clock.
 const FIRST: &[Change] = &[
     Change::Line("2000", "Parks", (50, 40)),
     Change::Line("1000", "Roads", (1000, 250)),
@@ -63,7 +63,7 @@ const AFTER_SECOND: &[Told] = &[
     (CLOCK, &[(&[], &[7, 4, 2])]),
 ];
 
-// Nothing is changed, then each list of changes is made, and the second again.
+// First no change is made, then each list of changes, then the second list again.
 static STEPS: [Step; 4] = [
     Step {
         before: EMPTY,

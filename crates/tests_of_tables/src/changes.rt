@@ -1,4 +1,4 @@
-//! Changes made in an office in memory.
+//! Changes that are made in an office in memory.
 use crate::looks::{Told, tells_all};
 use crate::rows;
 use office_base::puts::Put;
@@ -9,7 +9,7 @@ use office_memory::memory::MemoryShelf;
 use office_values::given::GivenNumber;
 use std::alloc::Global;
 
-/// A change of one record, of the parts that its function in `rows` takes.
+/// A change of one record. It has the parts that the function of its name in `rows` takes.
 #[derive(Clone, Copy)]
 pub enum Change {
     Line(&'static str, &'static str, (u64, u64)),
@@ -18,18 +18,18 @@ pub enum Change {
     Tenderer(&'static str, u8),
     Notice(&'static str, u64),
     Lot(&'static str, &'static str, &'static str, u64),
-    /// A tender that is sealed.
+    /// A sealed tender.
     Sealed(u64, &'static str),
-    /// One that is sealed, for a lot and from a tenderer.
+    /// A sealed tender for a lot, from a tenderer.
     Tender(u64, (&'static str, &'static str), &'static str),
-    /// One that was opened, with its price as stated and as corrected.
+    /// An opened tender, with its stated and its corrected price.
     Priced(u64, &'static str, (u64, u64)),
-    /// One that was opened and couldn't be read.
+    /// An opened tender that couldn't be read.
     Unreadable(u64, &'static str),
     Seal(u64, u8),
     DropSeal(u64),
     Security(u64, &'static str, u64),
-    /// One for a lot.
+    /// A security for a lot.
     SecurityOfLot(u64, (&'static str, &'static str), u64),
     Award(u64, &'static str, u64, u64),
     Contract(u64, &'static str, &'static str, u64),
@@ -40,7 +40,7 @@ pub enum Change {
     Performance(u64, u64),
 }
 
-/// Changes that are made at once, and what the office tells before them and after.
+/// Changes that are made at once, and the content of the office before and after them.
 #[derive(Clone, Copy)]
 pub struct Step {
     pub before: &'static [Told],
@@ -48,7 +48,7 @@ pub struct Step {
     pub after: &'static [Told],
 }
 
-// The change; None where memory is wanting.
+// The change as a put. None if memory is too small.
 fn put_of(alloc: Global, change: Change) -> Option<Put> {
     match change {
         Change::Line(line, title, sums) => Some(Put::Line(rows::line(alloc, line, title, sums)?)),
@@ -78,7 +78,7 @@ fn put_of(alloc: Global, change: Change) -> Option<Put> {
     }
 }
 
-// The same of a change that takes no memory, and is none of those above.
+// The put of a change that takes no memory. `put_of` makes the others.
 fn put_of_numbers(change: Change) -> Option<Put> {
     match change {
         Change::Sealed(receipt, notice) => {
@@ -122,7 +122,7 @@ fn add_all(alloc: Global, puts: &mut Vec<Put>, changes: &[Change]) -> Option<()>
     Some(())
 }
 
-// The changes are made; None where memory is wanting. Where the shelf finds none, that alone is counted as a fault.
+// Whether the changes are made. None if memory is too small; then the store has counted this fault and no other.
 fn are_made(alloc: Global, shelf: &mut MemoryShelf, changes: &[Change]) -> Option<bool> {
     let mut puts = Vec::new(alloc);
     add_all(alloc, &mut puts, changes)?;
@@ -139,7 +139,7 @@ fn are_applied(shelf: &mut MemoryShelf, puts: Vec<Put>) -> Option<bool> {
     }
 }
 
-// The changes of a step are made, and then all of them are told; where the first try finds no memory, none is.
+// Whether the changes of a step are made and the office then has the content of the step. If memory is too small at the first try, nothing has changed.
 fn is_taken(alloc: Global, shelf: &mut MemoryShelf, step: &Step) -> bool {
     let made = match are_made(alloc, shelf, step.changes) {
         Some(made) => made,
@@ -159,7 +159,7 @@ fn are_taken(alloc: Global, shelf: &mut MemoryShelf, steps: &[Step]) -> bool {
     true
 }
 
-/// A new office tells this, and takes these steps. The tests share one owner of an office, since each owner is dear to prove.
+/// Whether a new office has this content and then takes these steps. All tests share this one owner of an office, because each owner takes the prover long.
 pub fn holds(alloc: Global, at_first: &[Told], steps: &[Step]) -> bool {
     let mut shelf = MemoryShelf::new(alloc);
     tells_all(&mut shelf, at_first) && are_taken(alloc, &mut shelf, steps)

@@ -1,4 +1,4 @@
-//! Each record is put, found by its key, replaced by one of the same key, and not found under another key. Seals are dropped.
+//! Each record is put, found by its key, replaced by one with the same key, and not found under another key. Seals are dropped.
 use crate::changes::{Change, Step, holds};
 use crate::looks::{Key, Look, Told};
 use office_base::records::EntryKind;
@@ -68,7 +68,7 @@ fn each_record_is_found_by_its_key(rt: HostRuntime) {
     assert!(rt; holds(rt.alloc(), &[], &EACH_FOUND));
 }
 
-// Keys that begin as those of records or end so, that records of other kinds have, or that are next to theirs.
+// Keys that have the beginning or the end of a record's key, that records of other kinds have, or that are next to a record's key.
 const OTHERS: &[Told] = &[
     (Look::At(Key::Line("100")), &[]),
     (Look::At(Key::Line("10000")), &[]),
@@ -117,7 +117,7 @@ const SEALS: &[Told] = &[
     (Look::At(Key::Seal(4)), &[]),
 ];
 
-// One is dropped, one dropped and put again, one put and dropped.
+// One seal is dropped, one is dropped and put again, and one is put and dropped.
 static DROPPED: [Step; 2] = [
     Step {
         before: &[],

@@ -1,4 +1,4 @@
-//! Worked rows of the tables in memory: changes, look-ups by key, lists, and sums.
+//! Tests of the tables in memory: changes, look-ups by key, lists and sums.
 #![tactic(auto)]
 
 #[cfg(test)]

@@ -32,7 +32,7 @@ fn lines_are_listed(rt: HostRuntime) {
     assert!(rt; holds(rt.alloc(), &[(Look::All(List::Lines), &[])], &LINES));
 }
 
-// Lots, tenders and what comes of them, in no order: many of the first notice, one of the second.
+// Lots, tenders, awards and contracts in no order: many of the first notice, one of the second.
 const MANY: &[Change] = &[
     Change::Lot("N2", "L1", "1000", 5),
     Change::Lot("N1", "L2", "2000", 7),
@@ -137,7 +137,7 @@ fn records_are_listed_by_what_they_belong_to(rt: HostRuntime) {
     assert!(rt; holds(rt.alloc(), &[], &MANY_LISTED));
 }
 
-// A lot comes to another line, one has nothing reserved any more, and an award comes to another notice.
+// A lot moves to another line, one has no reserved money any more, and an award moves to another notice.
 const MOVES: &[Change] = &[
     Change::Lot("N1", "L1", "2000", 600),
     Change::Lot("N2", "L1", "1000", 0),
@@ -193,7 +193,7 @@ fn records_are_listed_where_they_moved_to(rt: HostRuntime) {
     assert!(rt; holds(rt.alloc(), &[], &MANY_MOVED));
 }
 
-// Tenders of two notices, two lots and two tenderers, in no order. Then one of them is opened, and one comes to the other tenderer.
+// Tenders of two notices, two lots and two tenderers, in no order. Then one of them is opened, and one moves to the other tenderer.
 static TENDERS: [Step; 2] = [
     Step {
         before: &[],

@@ -1,4 +1,4 @@
-//! What an office in memory is asked, and what it tells.
+//! Questions to an office in memory, and its answers.
 use crate::rows::id;
 use crate::shown::{Shown, Shows, all_show};
 use crate::unsummed::fails_to_add_up;
@@ -9,13 +9,13 @@ use office_memory::memory::MemoryShelf;
 use office_values::given::AskedNumber;
 use office_values::id::Id;
 
-/// What can be asked.
+/// A question.
 #[derive(Clone, Copy)]
 pub enum Look {
     At(Key),
     All(List),
     Sum(Sum),
-    /// The sums of the line 1000 and of the ledger, which are out of their range.
+    /// The sums of the line 1000 and of the ledger, which are out of range.
     Unsummed,
 }
 
@@ -40,11 +40,11 @@ pub enum Key {
     Clock,
 }
 
-/// All records of one kind: of the office, of a notice, of a line, of a contract, of a lot, or of a lot and a tenderer; or a page of them.
+/// All records of one kind, of an office, a notice, a line, a contract, a lot, or a lot and a tenderer; or a page of them.
 #[derive(Clone, Copy)]
 pub enum List {
     Lines,
-    /// The first so many behind this one, or of all.
+    /// At most this many after this one, or from the first one on.
     NoticesAfter(Option<&'static str>, u32),
     TenderersAfter(Option<&'static str>, u32),
     Lots(&'static str),
@@ -60,7 +60,7 @@ pub enum List {
     Releases(&'static str),
 }
 
-/// What records add up to.
+/// A sum of records.
 #[derive(Clone, Copy)]
 pub enum Sum {
     Reservations(&'static str),
@@ -69,10 +69,10 @@ pub enum Sum {
     Ledger,
 }
 
-/// What is asked, and what each record of the answer shows.
+/// A question, and the contents of each record of the answer.
 pub type Told = (Look, &'static [Shown]);
 
-// A record is found that shows this, or none where none is wanted; None where memory is wanting.
+// Whether a record with this content is found, or none if none is expected. None if memory is too small.
 fn is_found<R: Shows + Drop>(
     found: Result<Option<R>, ShelfFault>,
     wanted: &[Shown],
@@ -84,7 +84,7 @@ fn is_found<R: Shows + Drop>(
     }
 }
 
-// Records are listed that show this; None where memory is wanting.
+// Whether records with these contents are listed. None if memory is too small.
 fn are_listed<R: Shows + Drop>(rows: Result<Vec<R>, ShelfFault>, wanted: &[Shown]) -> Option<bool> {
     match &rows {
         Ok(rows) => Some(all_show(rows.as_slice(), wanted)),
@@ -92,7 +92,7 @@ fn are_listed<R: Shows + Drop>(rows: Result<Vec<R>, ShelfFault>, wanted: &[Shown
     }
 }
 
-// A tender is found that shows this, and what its opening read in it; or none is. None where memory is wanting.
+// Whether a tender with this content and this reading is found, or none if none is expected. None if memory is too small.
 fn is_tender(shelf: &mut MemoryShelf, number: u64, wanted: &[Shown]) -> Option<bool> {
     let Some(row) = shelf.get_envelope(AskedNumber::read(number)?).ok()? else {
         return Some(wanted.is_empty());
@@ -161,7 +161,7 @@ fn is_list(shelf: &mut MemoryShelf, list: List, wanted: &[Shown]) -> Option<bool
     }
 }
 
-// The identifier behind which a page begins, or that there is none; None where it can't be read.
+// The identifier after which a page begins, or none for the first page. None if it can't be read.
 fn id_after(after: Option<&str>) -> Option<Option<Id>> {
     match after {
         Some(after) => Some(Some(id(after)?)),
@@ -169,7 +169,7 @@ fn id_after(after: Option<&str>) -> Option<Option<Id>> {
     }
 }
 
-// The same of a page, and of the records of a lot.
+// Whether a page of records, or the records of a lot, have these contents. None if memory is too small.
 fn is_page_or_lot(shelf: &mut MemoryShelf, list: List, wanted: &[Shown]) -> Option<bool> {
     match list {
         List::NoticesAfter(after, most) => {
@@ -205,7 +205,7 @@ fn is_sum(shelf: &mut MemoryShelf, sum: Sum, wanted: &[Shown]) -> Option<bool> {
     }
 }
 
-// An answer is no fault, and want of memory is one more; None where memory is wanting.
+// Whether the answer is right. An answer counts no fault, and too little memory counts one. None if memory is too small.
 fn is_answered(shelf: &mut MemoryShelf, told: &Told) -> Option<bool> {
     let before = shelf.faults();
     let (right, risen) = match is_told(shelf, told) {
@@ -228,7 +228,7 @@ fn is_told(shelf: &mut MemoryShelf, told: &Told) -> Option<bool> {
     }
 }
 
-// The office tells this, at the second try where the first finds no memory.
+// Whether the office gives this answer. It is asked twice if memory is too small at the first try.
 fn tells(shelf: &mut MemoryShelf, told: &Told) -> bool {
     if matches!(told.0, Look::Unsummed) {
         return fails_to_add_up(shelf);
@@ -239,7 +239,7 @@ fn tells(shelf: &mut MemoryShelf, told: &Told) -> bool {
     }
 }
 
-/// The office tells all of this.
+/// Whether the office gives all these answers.
 pub fn tells_all(shelf: &mut MemoryShelf, all: &[Told]) -> bool {
     for told in all {
         if !tells(shelf, told) {

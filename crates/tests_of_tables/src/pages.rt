@@ -1,4 +1,4 @@
-//! Pages of notices and of tenderers, and what is there of a lot.
+//! Pages of notices and of tenderers, and the records of a lot.
 use crate::changes::{Change, Step, holds};
 use crate::looks::{List, Look, Told};
 
@@ -11,7 +11,7 @@ const AT_FIRST: &[Told] = &[
     (Look::All(List::SecuritiesOfLot("N1", "L1")), &[]),
 ];
 
-// Pages of none, one, two and a hundred: of all, behind one that is there, and behind one that isn't.
+// Pages of none, one, two and a hundred notices: from the first one on, after one that exists, and after one that doesn't.
 const NOTICES: &[Told] = &[
     (Look::All(List::NoticesAfter(None, 0)), &[]),
     (
@@ -116,7 +116,7 @@ fn notices_and_tenderers_are_told_by_pages(rt: HostRuntime) {
     assert!(rt; holds(rt.alloc(), AT_FIRST, &PAGED));
 }
 
-// Tenders and securities of two notices and two lots, in no order. Then one of each comes to the other lot.
+// Tenders and securities of two notices and two lots, in no order. Then one of each moves to the other lot.
 static OF_LOTS: [Step; 2] = [
     Step {
         before: &[],

@@ -1,4 +1,4 @@
-//! Rows of each table. None is answered where memory is wanting.
+//! Rows of each table. Each function returns None if memory is too small.
 use office_base::counts::{
     AmendmentCount, CorrectionCount, ReleaseCount, RowCount, Sequence, TenderLength,
 };
@@ -29,7 +29,7 @@ fn text(alloc: Global, text: &str) -> Option<TextLine> {
     TextLine::read(alloc, text.as_bytes()).ok()?
 }
 
-/// A line, with its appropriation and what of it is free.
+/// A line, with its appropriation and its free money.
 pub fn line(alloc: Global, line: &str, title: &str, sums: (u64, u64)) -> Option<LineRow> {
     Some(LineRow {
         line: id(line)?,
@@ -39,7 +39,7 @@ pub fn line(alloc: Global, line: &str, title: &str, sums: (u64, u64)) -> Option<
     })
 }
 
-/// A batch that was taken in at this second.
+/// A budget file that was imported at this second.
 pub fn batch(batch: &str, second: u64, rows: u64) -> Option<BatchRow> {
     Some(BatchRow {
         batch: id(batch)?,
@@ -57,7 +57,7 @@ pub fn clock(second: u64, receipts: u64, awards: u64) -> Option<ClockRow> {
     })
 }
 
-/// A tenderer, with a key of this byte alone.
+/// A tenderer whose key consists of this byte.
 pub fn tenderer(alloc: Global, tenderer: &str, key: u8) -> Option<TendererRow> {
     let tenderer = id(tenderer)?;
     let name = text(alloc, "Paving Ltd")?;
@@ -70,7 +70,7 @@ pub fn tenderer(alloc: Global, tenderer: &str, key: u8) -> Option<TendererRow> {
     })
 }
 
-/// A notice that has had so many releases.
+/// A notice that has had this many releases.
 pub fn notice(alloc: Global, notice: &str, releases: u64) -> Option<NoticeRow> {
     Some(NoticeRow {
         notice: id(notice)?,
@@ -99,7 +99,7 @@ fn items(alloc: Global) -> Option<Items> {
     Items::read(items)
 }
 
-/// A lot of this notice and name, on this line: undecided while something is reserved for it, else contracted.
+/// A lot of this notice and name, on this line. It is undecided if money is reserved for it, and otherwise contracted.
 pub fn lot(alloc: Global, key: (&str, &str), line: &str, reserved: u64) -> Option<LotRow> {
     let state = if reserved == 0 {
         LotState::Contracted
@@ -119,7 +119,7 @@ pub fn lot(alloc: Global, key: (&str, &str), line: &str, reserved: u64) -> Optio
     })
 }
 
-/// A price that was read in a tender, as it was stated and as corrected.
+/// The price of a tender, as stated and as corrected.
 pub fn price(stated: u64, corrected: u64) -> Option<Reading> {
     Some(Reading::Priced {
         stated: Total::read(stated)?,
@@ -128,7 +128,7 @@ pub fn price(stated: u64, corrected: u64) -> Option<Reading> {
     })
 }
 
-/// A tender of this receipt: opened where something was read in it, else sealed.
+/// A tender with this receipt. It is opened if it has a reading, and otherwise sealed.
 pub fn envelope(receipt: u64, notice: &str, reading: Option<Reading>) -> Option<EnvelopeRow> {
     let state = if reading.is_some() {
         EnvelopeState::Opened
@@ -152,7 +152,7 @@ pub fn envelope(receipt: u64, notice: &str, reading: Option<Reading>) -> Option<
     })
 }
 
-/// A sealed tender of this receipt: for the lot of this notice and name, from this tenderer.
+/// A sealed tender with this receipt, for the lot of this notice and name, from this tenderer.
 pub fn tender(receipt: u64, lot: (&str, &str), tenderer: &str) -> Option<EnvelopeRow> {
     Some(EnvelopeRow {
         lot: id(lot.1)?,
@@ -169,7 +169,7 @@ pub fn seal(alloc: Global, receipt: u64, byte: u8) -> Option<SealRow> {
     })
 }
 
-/// A security of this number and amount.
+/// A security with this number and amount.
 pub fn security(security: u64, notice: &str, amount: u64) -> Option<SecurityRow> {
     Some(SecurityRow {
         security: GivenNumber::read(security)?,
@@ -182,7 +182,7 @@ pub fn security(security: u64, notice: &str, amount: u64) -> Option<SecurityRow>
     })
 }
 
-/// A security of this number and amount, for the lot of this notice and name.
+/// A security with this number and amount, for the lot of this notice and name.
 pub fn security_of_lot(number: u64, lot: (&str, &str), amount: u64) -> Option<SecurityRow> {
     Some(SecurityRow {
         lot: id(lot.1)?,
@@ -190,7 +190,7 @@ pub fn security_of_lot(number: u64, lot: (&str, &str), amount: u64) -> Option<Se
     })
 }
 
-/// An award of this number and price, to the tender of this receipt.
+/// An award with this number and price, to the tender with this receipt.
 pub fn award(award: u64, notice: &str, receipt: u64, price: u64) -> Option<AwardRow> {
     Some(AwardRow {
         award: GivenNumber::read(award)?,
@@ -203,7 +203,7 @@ pub fn award(award: u64, notice: &str, receipt: u64, price: u64) -> Option<Award
     })
 }
 
-/// A running contract of this number on the lot of this notice and name.
+/// A running contract with this number, on the lot of this notice and name.
 pub fn contract(contract: u64, lot: (&str, &str), signed: u64) -> Option<ContractRow> {
     Some(ContractRow {
         contract: GivenNumber::read(contract)?,
@@ -246,7 +246,7 @@ pub fn release(alloc: Global, notice: &str, seq: u64, text: &str) -> Option<Rele
     })
 }
 
-/// The performance security of this contract, which comes to so much and is held.
+/// The performance security of this contract, with this amount; it is held.
 pub fn performance(contract: u64, amount: u64) -> Option<PerformanceRow> {
     Some(PerformanceRow {
         contract: GivenNumber::read(contract)?,
@@ -256,7 +256,7 @@ pub fn performance(contract: u64, amount: u64) -> Option<PerformanceRow> {
     })
 }
 
-/// That tenders for this notice may be withdrawn late.
+/// The row that allows late withdrawals for this notice.
 pub fn late(notice: &str) -> Option<LateRow> {
     Some(LateRow {
         notice: id(notice)?,

@@ -1,4 +1,4 @@
-//! What records show, as words and numbers.
+//! The contents of records, as words and numbers.
 use office_base::ledger::{ContractSums, LedgerRow, Pots};
 use office_base::reading::Reading;
 use office_base::records::{
@@ -8,12 +8,12 @@ use office_base::records::{
 };
 use office_values::money::Amount;
 
-/// The words that a record shows, and the numbers: one for true, none for false.
+/// The words and the numbers of a record: 1 for true, 0 for false.
 pub type Shown = (&'static [&'static str], &'static [u64]);
 
-/// What shows words and numbers.
+/// A record whose content is words and numbers.
 pub trait Shows {
-    /// It shows these.
+    /// Whether these are its words and numbers.
     fn shows(&self, wanted: &Shown) -> bool;
 }
 
@@ -21,7 +21,7 @@ fn are(words: &[&str], numbers: &[u64], wanted: &Shown) -> bool {
     words == wanted.0 && numbers == wanted.1
 }
 
-/// The rows show these, one each.
+/// Whether the rows have these contents, one each.
 pub fn all_show<R: Shows>(rows: &[R], wanted: &[Shown]) -> bool {
     if rows.len() != wanted.len() {
         return false;
@@ -202,7 +202,7 @@ impl Shows for Amount {
     }
 }
 
-// Gained, lost, and of that paid.
+// Gained, lost, and of that the paid money.
 impl Shows for ContractSums {
     fn shows(&self, wanted: &Shown) -> bool {
         match wanted.1 {

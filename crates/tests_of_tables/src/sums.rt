@@ -1,10 +1,9 @@
-//! The pots and the ledger over lots, contracts and entries.
+//! The balances and the ledger, over lots, contracts and entries.
 use crate::changes::{Change, Step, holds};
 use crate::looks::{Look, Sum, Told};
 use office_base::records::EntryKind;
 
-// Two lines; on the first, a lot with a contract of 100 and two payments of 10, one with a contract of 50, and one that has 30
-// reserved.
+// Two lines. The first has a lot with a contract of 100 and two payments of 10, one with a contract of 50, and one with 30 reserved.
 const FIRST: &[Change] = &[
     Change::Line("2000", "Parks", (0, 0)),
     Change::Line("1000", "Roads", (1000, 820)),
@@ -22,7 +21,7 @@ const NOTHING: &[Told] = &[
     (Look::Sum(Sum::Ledger), &[]),
 ];
 
-// Appropriation, free, reserved, contracted, paid; and what each contract gained, lost, and of that paid.
+// Appropriation, free, reserved, contracted and paid money of the lines; gained, lost and paid money of each contract.
 const SUMS: &[Told] = &[
     (
         Look::Sum(Sum::Reservations("1000")),
@@ -60,7 +59,7 @@ fn pots_and_the_ledger_are_added_up(rt: HostRuntime) {
     assert!(rt; holds(rt.alloc(), NOTHING, &ADDED_UP));
 }
 
-// One more is cut from a contract than was put in.
+// A contract of 50 is cut by 51.
 static TOO_MUCH: [Step; 2] = [
     Step {
         before: &[],

@@ -1,4 +1,4 @@
-//! A table takes rows of each type.
+//! A table accepts rows of each type.
 use crate::rows;
 use keyed_table::known::Known;
 use keyed_table::table::Table;
@@ -8,7 +8,7 @@ use office_base::row::{Row, copy_of};
 use office_base::standing::Standing;
 use std::alloc::{AllocError, Global};
 
-// A row is put and taken back; how many rows there are before, between and after.
+// Puts a row and takes it back; the numbers of rows before, between and after.
 fn put_and_take_back<R: Row + Drop>(
     alloc: Global,
     table: &mut Table<R>,
@@ -24,7 +24,7 @@ where
     Ok([before, between?.len(), table.copy_all(alloc)?.len()])
 }
 
-// A row is put, replaced by its copy, and removed; whether it is found before and after that.
+// Puts a row, replaces it by its copy, and removes it; whether it is found before and after the removal.
 fn replace_and_remove<R: Row + Drop>(
     table: &mut Table<R>,
     row: R,
@@ -43,7 +43,7 @@ where
     Ok([found, table.get(&key).is_some()])
 }
 
-// Whether a new table takes this row.
+// Whether a new table accepts this row.
 fn is_taken<R: Row + Drop>(alloc: Global, row: &R) -> Result<bool, AllocError>
 where
     R::Key: Known,
@@ -54,7 +54,7 @@ where
     Ok(counts == [0, 1, 0] && found == [true, false])
 }
 
-// Whether the row is there, and a new table takes it.
+// Whether the row exists, and a new table accepts it.
 fn takes<R: Row + Drop>(alloc: Global, row: Option<R>) -> bool
 where
     R::Key: Known,
@@ -98,7 +98,7 @@ fn takes_rows_of_tenders(alloc: Global) -> bool {
         && takes(alloc, rows::entry(1, "E1", EntryKind::Raise, 10))
 }
 
-// At a second try where the first isn't right, each: one allocation of a test may be refused.
+// Each test is tried twice, because a test may refuse one allocation.
 
 #[test]
 fn tables_take_rows_of_the_budget(rt: HostRuntime) {

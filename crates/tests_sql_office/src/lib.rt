@@ -1,4 +1,5 @@
-//! An office in SQL in memory, that transcripts are played over. It stands apart from them, so that what only needs an office in memory doesn't wait for the store.
+//! An office in SQL in memory, to which transcripts are played. It is a crate of its own, so that tests that need only an office in memory don't wait for the
+//! store.
 #![tactic(auto)]
 
 pub mod office;

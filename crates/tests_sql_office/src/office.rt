@@ -1,5 +1,4 @@
-//! An office in SQL in memory: the shelf over its tables. It is a type of its own, without parameters, so that what stands over any shelf is
-//! proved to stand over this one.
+//! An office in SQL in memory. It is a type of its own without parameters, so that code over any store is proved to work over this one.
 ghost use Rattle.sqlite.specs.Steps.{over_memory};
 ghost use Rattle.office_store.specs.SqlMeaning.{sql_meaning, inside};
 
@@ -19,11 +18,11 @@ use std::alloc::Global;
 
 /// An office in SQL in memory.
 pub struct SqlOffice {
-    /// The shelf over its tables.
+    /// The store over its tables.
     pub shelf: SqlShelf<MemStore>,
 }
 
-/// An empty one; None where memory is wanting.
+/// An empty office. None if memory is too small.
 pub fn in_sql(alloc: Global) -> Option<SqlOffice> {
     match SqlShelf::create(alloc) {
         Ok(shelf) => Some(SqlOffice { shelf }),

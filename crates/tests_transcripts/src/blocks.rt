@@ -1,28 +1,28 @@
-//! Blocks of a transcript, read into the bytes of a request and of its response.
+//! Blocks of a transcript, which are read into the bytes of a request and of its response.
 //!
-//! A block's first line says when, who, and what is asked; lines of the request's body may follow. Then comes the response's status,
-//! and its body on that line and on the lines behind it.
+//! The first line of a block has the moment, the caller, and the method and the path of the request. Lines of its body may follow. Then
+//! comes the status of the response, and its body on that line and on the lines after it.
 //!
 //!     at 2026-01-05T09:00:00Z clerk POST /budget/B1
 //!     | line,kind,amount,title
 //!     | 1000,add,1000,Roads
 //!     = 200 {"batch":"B1","moment":"2026-01-05T09:00:00Z","rows":1}
 //!
-//! - Who is `public`, `clerk`, or a tenderer. The clerk's key is `abc`, a tenderer's `hello`; `T1:abc` gives another key, `T1:` none, and
-//!   `:abc` a key without a name. In place of who and what, `bytes` says that the lines behind are all that is sent.
-//! - A line of a body is `> TEXT`, the text alone, or `| TEXT`, a line of it, which a line feed ends; there `\t`, `\r` and `\u{feff}`
-//!   are a tab, a carriage return and a byte order mark. `500 | TEXT` is that line 500 times, `32768 > a` that text.
-//! - Behind a status, `text` says that the response is a plain text and no JSON, `POST` or `GET` which method it allows. `= any` in its
-//!   place says that any response will do.
+//! - The caller is `public`, `clerk`, or a tenderer. The clerk's key is `abc`, and a tenderer's is `hello`. `T1:abc` gives another key,
+//!   `T1:` no key, and `:abc` a key without a name. `bytes` in place of caller, method and path means that only the lines after it are sent.
+//! - A line of a body is `> TEXT`, which is the text alone, or `| TEXT`, which is the text with a line feed. After `|`, `\t`, `\r` and
+//!   `\u{feff}` are a tab, a carriage return and a byte order mark. `500 | TEXT` is that line 500 times, and `32768 > a` that text.
+//! - After a status, `text` means that the response is a plain text and not JSON, and `POST` or `GET` is the method that it allows.
+//!   `= any` in place of the status means that any response is right.
 use office_values::moment::Moment;
 use std::alloc::{AllocError, Global};
 
-/// Why a block gives no request.
+/// The reason why a block gives no request.
 #[derive(Clone, Copy, Debug, PartialEq, Eq, Drop)]
 pub enum Fault {
     /// It isn't written as a block.
     Unread,
-    /// Memory is wanting.
+    /// Memory is too small.
     NoMemory,
 }
 
@@ -32,18 +32,18 @@ impl From<AllocError> for Fault {
     }
 }
 
-/// What is sent at a moment, and what is wanted back: nothing where any response will do.
+/// A request at a moment, and the expected response, which is empty if any response is right.
 #[derive(Drop)]
 pub struct Block {
-    /// When it is sent.
+    /// The moment at which it is sent.
     pub moment: Moment,
     /// The bytes of the request.
     pub request: Vec<u8>,
-    /// Those of the response that is wanted, none where any will do.
+    /// The bytes of the expected response, or none if any response is right.
     pub response: Vec<u8>,
 }
 
-// Appends what stands for this mark, a letter and a text behind a backslash, and the text.
+// Appends the character that this mark means, and the rest of the text. The mark is the letter after a backslash.
 fn append_marked(bytes: &mut Vec<u8>, text: &str) -> Result<(), AllocError> {
     if let Some(rest) = text.strip_prefix("t") {
         bytes.extend_from_slice(b"\t")?;
@@ -75,7 +75,7 @@ fn append_line(bytes: &mut Vec<u8>, line: &str) -> Result<(), AllocError> {
     bytes.extend_from_slice(b"\n")
 }
 
-// Appends what a line of a body without a count stands for.
+// Appends the bytes of a line of a body that has no count.
 fn append_piece(bytes: &mut Vec<u8>, piece: &str) -> Result<(), Fault> {
     if let Some(text) = piece.strip_prefix("> ") {
         return Ok(bytes.extend_from_slice(text.as_bytes())?);
@@ -89,7 +89,7 @@ fn append_piece(bytes: &mut Vec<u8>, piece: &str) -> Result<(), Fault> {
     Err(Fault::Unread)
 }
 
-// How often the piece is to be appended, and the piece.
+// The number of times that the piece is appended, and the piece.
 fn counted(line: &str) -> Option<(u32, &str)> {
     let (count, piece) = line.split_once(" ")?;
     match count.parse::<u32>() {
@@ -98,7 +98,7 @@ fn counted(line: &str) -> Option<(u32, &str)> {
     }
 }
 
-// The bytes that these lines stand for, behind what stands in front of them.
+// The bytes of these lines, after the bytes before them.
 fn body(alloc: Global, front: &str, lines: &str) -> Result<Vec<u8>, Fault> {
     let mut bytes = front.as_bytes().to_vec(alloc)?;
     for line in lines.lines() {
@@ -110,7 +110,7 @@ fn body(alloc: Global, front: &str, lines: &str) -> Result<Vec<u8>, Fault> {
     Ok(bytes)
 }
 
-// A caller's name and key, each perhaps empty.
+// A caller's name and key, each of which may be empty.
 fn credentials(who: &str) -> (&str, &str) {
     if let Some(both) = who.split_once(":") {
         return both;
@@ -133,7 +133,7 @@ fn append_field(bytes: &mut Vec<u8>, name: &str, value: &str) -> Result<(), Allo
     bytes.extend_from_slice(b"\r\n")
 }
 
-// The request of this caller, for a method and a path, with this body. It says the body's length where there is one.
+// The request of this caller, for a method and a path, with this body. It has the body's length if there is a body.
 fn request(alloc: Global, who: &str, line: &str, body: &[u8]) -> Result<Vec<u8>, AllocError> {
     let (name, key) = credentials(who);
     let mut bytes = line.as_bytes().to_vec(alloc)?;
@@ -149,7 +149,7 @@ fn request(alloc: Global, who: &str, line: &str, body: &[u8]) -> Result<Vec<u8>,
     Ok(bytes)
 }
 
-// What is sent: the bytes themselves, or the request that they are the body of.
+// The bytes that are sent: these bytes, or the request that has them as its body.
 fn sent(alloc: Global, asked: &str, bytes: Vec<u8>) -> Result<Vec<u8>, Fault> {
     if asked == "bytes" {
         return Ok(bytes);
@@ -158,7 +158,7 @@ fn sent(alloc: Global, asked: &str, bytes: Vec<u8>) -> Result<Vec<u8>, Fault> {
     Ok(request(alloc, who, line, &bytes)?)
 }
 
-// The words behind a status; None behind one that the office never answers.
+// The phrase of a status, or None if the office never answers with it.
 fn phrase(status: &str) -> Option<&'static str> {
     match status {
         "200" => Some("OK"),
@@ -175,7 +175,7 @@ fn phrase(status: &str) -> Option<&'static str> {
     }
 }
 
-// How the head of a response goes on behind its status: what kind of body it has, and a field of its own, or none.
+// The rest of a response's head after its status: the kind of its body, and perhaps a field.
 #[derive(Clone, Copy)]
 struct Kind {
     media: &'static str,
@@ -184,7 +184,7 @@ struct Kind {
 
 const JSON: &str = "application/json";
 
-// The kind that a word behind the status names, where it names one, and what stands behind it.
+// The kind that a word after the status names, if one does, and the text after it.
 fn kind_of<'a>(status: &str, told: &'a str) -> (Kind, &'a str) {
     if told == "text" {
         let media = "text/plain; charset=utf-8";
@@ -205,7 +205,7 @@ fn kind_of<'a>(status: &str, told: &'a str) -> (Kind, &'a str) {
     (Kind { media: JSON, field }, told)
 }
 
-// The response of this status, kind and body.
+// The response with this status, kind and body.
 fn response(alloc: Global, status: &str, kind: Kind, body: &[u8]) -> Result<Vec<u8>, Fault> {
     let phrase = phrase(status).ok_or(Fault::Unread)?;
     let head = format!(in alloc;
@@ -219,7 +219,7 @@ fn response(alloc: Global, status: &str, kind: Kind, body: &[u8]) -> Result<Vec<
     Ok(bytes)
 }
 
-// The response that these lines tell of, or nothing where they leave it open.
+// The response that these lines describe, or nothing if any response is right.
 fn wanted(alloc: Global, told: &str) -> Result<Vec<u8>, Fault> {
     if told == "any" {
         return Ok(Vec::new(alloc));
@@ -231,7 +231,8 @@ fn wanted(alloc: Global, told: &str) -> Result<Vec<u8>, Fault> {
     response(alloc, status, kind, &body)
 }
 
-/// What the block stands for. `Unread` where it has no line that begins with `= `, or anything in it isn't written as above.
+/// The request and the response of this block. `Unread` if it has no line that begins with `= `, or if a part of it isn't written as the head of this file
+/// says.
 pub fn read(alloc: Global, block: &str) -> Result<Block, Fault> {
     let (asked, told) = block.split_once("\n= ").ok_or(Fault::Unread)?;
     let (first, lines) = asked.split_once("\n").unwrap_or((asked, ""));

@@ -1,4 +1,5 @@
-//! Transcripts: blocks of a request and its answer, the office that they are played to, what it is told and answers, and what most of them begin with.
+//! Transcripts. There are blocks of a request and its answer, the office to which they are played, the session that plays them, and the blocks with which most
+//! of them begin.
 #![tactic(auto)]
 
 pub mod blocks;

@@ -1,4 +1,4 @@
-//! The settings of the office that transcripts speak of.
+//! The settings of the office in transcripts.
 use office_values::id::Id;
 use office_values::settings::{Buyer, Currency, Extensions, Language, Prefix, Publisher, Settings};
 use office_values::text::TextLine;
@@ -10,7 +10,7 @@ const CLERK_KEY: [u8; 32] = [
     0xb0, 0x03, 0x61, 0xa3, 0x96, 0x17, 0x7a, 0x9c, 0xb4, 0x10, 0xff, 0x61, 0xf2, 0x00, 0x15, 0xad,
 ];
 
-// A line of text; None where memory is wanting.
+// A line of text. None if memory is too small.
 fn text(alloc: Global, text: &str) -> Option<TextLine> {
     match TextLine::read(alloc, text.as_bytes()) {
         Ok(line) => line,
@@ -25,7 +25,7 @@ fn buyer(alloc: Global) -> Option<Buyer> {
     })
 }
 
-/// Its settings, with the clerk's key `abc`; None where memory is wanting.
+/// The settings, with the clerk's key `abc`. None if memory is too small.
 pub fn settings(alloc: Global) -> Option<Settings> {
     let publisher = Publisher {
         prefix: Prefix::read(b"ocds-a1b2c3")?,

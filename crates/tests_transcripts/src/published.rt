@@ -1,7 +1,7 @@
-//! What is published of a notice, and of one that was amended.
+//! The publications of a notice, and of an amended one.
 
-/// A notice's first release tells of its planning and its tender, in a package that is published at its date. Its record is what its
-/// releases compile to, which one alone is already but for its head, and the releases. Anybody may look. Behind NOTICE.
+/// To be played after NOTICE. The first release of a notice has its planning and its tender, in a package that is published at its date. The record has the
+/// releases and their compiled release, which is the first release itself except for its head. Anyone may ask for them.
 pub static PUBLISHED: &str = r#"
 at 2026-02-01T09:00:00Z public GET /notices/N1/releases
 = 200 {"publishedDate":"2026-02-01T09:00:00Z","publisher":{"name":"City Office"},"releases":[
@@ -35,8 +35,8 @@ at 2026-02-01T09:00:00Z T1 GET /notices/N1/record
 > "value":{"amount":600,"currency":"EUR"}}}]}],"uri":"http://127.0.0.1:8080/notices/N1/record","version":"1.1"}
 "#;
 
-/// The deadline is moved: a second release, which tells the new deadline and why, and a record whose tender has the amendment and the new
-/// end of its period beside all else. Behind NOTICE.
+/// To be played after NOTICE. The deadline is moved. The second release has the new deadline and the rationale. The tender of the record has the amendment, the
+/// new end of its period, and everything else as before.
 pub static AMENDED: &str = r#"
 at 2026-02-10T09:00:00Z clerk POST /notices/N1/amend
 > {"deadline":"2026-03-02T12:00:00Z","rationale":"More time"}

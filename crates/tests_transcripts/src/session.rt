@@ -1,4 +1,4 @@
-//! Transcripts played to an office: each block's request is sent, and its answer compared byte for byte.
+//! Transcripts that are played to an office: each block's request is sent, and its answer compared byte for byte.
 use crate::blocks::{Block, Fault, read};
 use crate::office::settings;
 use office_base::shelf::Shelf;
@@ -9,20 +9,20 @@ use office_wire::answer::Answer;
 use std::alloc::{AllocError, Global};
 use std::fmt::{self, Display, Formatter, Write};
 
-/// Why an office doesn't do what transcripts say.
+/// The reason why an office doesn't answer as transcripts say.
 #[derive(Drop)]
 pub enum Wrong {
-    /// The request of this number, from 1, isn't written as one, or memory is wanting for it.
+    /// The request with this number, from 1, isn't written as a block, or memory is too small for it.
     Block(u64, Fault),
-    /// The request of this number, from 1, is answered otherwise: by this.
+    /// The request with this number, from 1, gets this answer instead.
     Answer(u64, String),
-    /// Memory is wanting.
+    /// Memory is too small.
     NoMemory,
-    /// Its store can't be opened or closed.
+    /// The store can't be opened or closed.
     Unopened,
-    /// What stands in its store is no office.
+    /// The content of the store isn't an office.
     NotAnOffice,
-    /// A disk that takes so many calls leaves neither what was there before a command nor what is there behind it.
+    /// A disk that accepts this many calls leaves neither the content before a command nor the content after it.
     Stop(u64),
 }
 
@@ -46,7 +46,7 @@ impl Display for Wrong {
     }
 }
 
-/// A desk over this shelf, with the settings of all transcripts.
+/// A desk over this store, with the settings of all transcripts.
 pub fn desk_over<H: Shelf + Drop>(alloc: Global, shelf: H) -> Result<Desk<H>, AllocError> {
     match settings(alloc) {
         Some(settings) => Ok(Desk::new(alloc, settings, shelf)),
@@ -54,25 +54,25 @@ pub fn desk_over<H: Shelf + Drop>(alloc: Global, shelf: H) -> Result<Desk<H>, Al
     }
 }
 
-/// An office that transcripts are played to. It is held by functions over any shelf alone, where dropping it is one step of their proofs.
+/// An office to which transcripts are played. Only functions over any store hold one, because there its drop is one step of their proofs.
 #[derive(Drop)]
 pub struct Session<H: Shelf + Drop> {
-    /// Where memory comes from.
+    /// The source of memory.
     pub alloc: Global,
     /// The routes of its requests.
     pub routes: Routes,
     /// The office.
     pub desk: Desk<H>,
-    // How many requests may be answered `Unavailable`, and are then sent again.
+    // The number of requests that may be answered with `Unavailable` and are then sent again.
     patience: u64,
-    /// How many requests were played. Who goes on with an office sets it.
+    /// The number of requests that were played. A caller that continues with an office sets it.
     pub sent: u64,
-    /// All that the office has answered since this was last cleared.
+    /// All answers of the office since this was last cleared.
     pub told: Vec<u8>,
 }
 
 impl<H: Shelf + Drop> Session<H> {
-    /// An office with this shelf, of which so many answers may be `Unavailable`.
+    /// An office with this store. This many answers may be `Unavailable`.
     pub fn new(alloc: Global, shelf: H, patience: u64) -> Result<Session<H>, Wrong> {
         let routes = Routes::new(alloc)?;
         let desk = desk_over(alloc, shelf)?;
@@ -86,7 +86,7 @@ impl<H: Shelf + Drop> Session<H> {
         })
     }
 
-    // Whether a block may be sent again that was answered so.
+    // Whether a block with this answer may be sent again.
     fn tries_again(&mut self, told: &[u8]) -> bool {
         if self.patience == 0 || !told.starts_with(b"HTTP/1.1 503 ") {
             return false;
@@ -95,7 +95,7 @@ impl<H: Shelf + Drop> Session<H> {
         true
     }
 
-    /// What it answers to a block's request.
+    /// The office's answer to a block's request.
     pub fn answer_to(&mut self, block: &Block) -> Answer {
         answer(
             self.alloc,
@@ -106,7 +106,7 @@ impl<H: Shelf + Drop> Session<H> {
         )
     }
 
-    // Sends a block's request, and compares the answer with what is wanted.
+    // Sends a block's request, and compares the answer with the expected one.
     fn send(&mut self, block: &Block) -> Result<(), Wrong> {
         let mut told = self.answer_to(block);
         if self.tries_again(told.bytes()) {
@@ -121,7 +121,7 @@ impl<H: Shelf + Drop> Session<H> {
         Err(Wrong::Answer(self.sent, told))
     }
 
-    /// Plays the blocks of a transcript, which empty lines part, up to the first that is answered otherwise than it says.
+    /// Plays the blocks of a transcript, which empty lines separate, up to the first wrong answer.
     pub fn play(&mut self, transcript: &str) -> Result<(), Wrong> {
         for block in transcript.trim_matches("\n").split("\n\n") {
             self.sent = self.sent.saturating_add(1);
@@ -141,14 +141,13 @@ impl<H: Shelf + Drop> Session<H> {
         Ok(())
     }
 
-    /// The shelf of the office.
+    /// The store of the office.
     pub fn into_shelf(self) -> H {
         self.desk.into_shelf()
     }
 }
 
-/// Plays the transcripts to the office of this shelf, of which so many answers may be `Unavailable`, up to the first block that is
-/// answered otherwise than it says, and gives the shelf back.
+/// Plays the transcripts to the office of this store, up to the first wrong answer, and returns the store. This many answers may be `Unavailable`.
 pub fn played<H: Shelf + Drop>(
     alloc: Global,
     shelf: H,

@@ -1,6 +1,6 @@
-//! What most transcripts begin with.
+//! The beginnings of most transcripts.
 
-/// Line 1000 with 1000.
+/// The line 1000, with an appropriation of 1000.
 pub static MONEY: &str = r#"
 at 2026-01-05T09:00:00Z clerk POST /budget/B1
 | line,kind,amount,title
@@ -23,7 +23,7 @@ at 2026-01-05T09:00:00Z clerk POST /tenderers/T3
 = 200 {"moment":"2026-01-05T09:00:00Z","tenderer":"T3"}
 "#;
 
-/// A notice with one lot, of three pieces of one item.
+/// A notice with one lot, which asks for three pieces of one item.
 pub static NOTICE: &str = r#"
 at 2026-02-01T09:00:00Z clerk POST /notices/N1
 > {"title":"Road repair","deadline":"2026-03-01T12:00:00Z","validity_days":90,"standstill_days":10,"criteria":"price","lots":[

@@ -1,4 +1,4 @@
--- A contract is raised or cut.
+-- The rule of a contract's amendment: its value is raised or cut.
 use Rattle.std.specs.Prelude.{ℕ, ◌+◌, ◌-◌, Bool, true, false, not, ◌&&◌, ◌||◌, List, [], ◌∷◌, Some, is_some, nat_lt, nat_le, length}
 use Rattle.std.specs.List.{list_any}
 use Rattle.office_values.specs.Ids.{same_id}
@@ -23,20 +23,23 @@ use Rattle.office_base.specs.Tables.{Tables, contract_at, entries_of_contract}
 use Rattle.office_base.specs.Parents.{notice_of_contract, lot_of_contract, line_of_lot}
 use Rattle.award_core.specs.declared.amend_contract.AmendContractRows.{AmendContractRows}
 
+-- whether a contract hasn't ended
 abbrev pub is_running : ContractRow → Bool
 is_running c = not (is_some c.ended)
 
+-- whether a contract has ended
 abbrev pub has_ended : ContractRow → Bool
 has_ended c = is_some c.ended
 
--- the contract runs, and less is outstanding
+-- whether a contract hasn't ended, and less than this amount is outstanding
 abbrev pub is_beyond : List EntryRow → ℕ → ContractRow → Bool
 is_beyond entries amount c = is_running c && nat_lt (outstanding entries c) amount
 
--- one of the entries has this identifier
+-- whether an entry has this identifier
 abbrev pub is_taken : List ℕ → EntryRow → Bool
 is_taken entry e = same_id e.entry entry
 
+-- whether a contract has as many entries as it can have
 abbrev pub has_all_entries : List EntryRow → Bool
 has_all_entries entries = nat_le entry_limit (length entries)
 
@@ -48,16 +51,17 @@ abbrev pub entry_kind : ChangeKind → EntryKind
 entry_kind change_kinds.Raise = entry_kinds.Raise
 entry_kind change_kinds.Cut = entry_kinds.Cut
 
--- the line of a raise, and of a cut
+-- the budget line of a contract: a raise takes free money of it, and a cut adds free money to it
 abbrev pub line_after : ChangeKind → ℕ → LineRow → LineRow
 line_after change_kinds.Raise amount r = record r { free = r.free - amount }
 line_after change_kinds.Cut amount r = record r { free = r.free + amount }
 
+-- the entry of the change
 abbrev pub change_row : ℕ → ContractRow → List ℕ → ChangeKind → ℕ → List ℕ → EntryRow
 change_row t c entry kind amount rationale =
     record { contract = c.contract; entry = entry; kind = entry_kind kind; amount = amount; moment = t; rationale = Some rationale }
 
--- the rows that the amendment of a contract looks at
+-- the rows that the amendment of a contract reads
 abbrev pub amend_contract_rows : Tables → ℕ → AmendContractRows
 amend_contract_rows s contract = record {
   contract = contract_at contract s;
@@ -67,12 +71,12 @@ amend_contract_rows s contract = record {
   clock = s.clock;
 }
 
--- what is lacking where the contract is there: its notice, its lot's line, or what came to it
+-- whether the contract exists, but its notice or its budget line is missing, or more was taken from it than was added
 abbrev pub amend_contract_lacks : AmendContractRows → Bool
 amend_contract_lacks rows =
     holds_of (λ (c : ContractRow). not (is_some rows.notice) || not (is_some rows.line) || is_overdrawn rows.entries c) rows.contract
 
--- when it is refused, by these rows
+-- the conditions of its refusals, in order
 abbrev pub amend_contract_tests : AmendContractRows → List ℕ → ChangeKind → ℕ → List (Bool × Refusal)
 amend_contract_tests rows entry kind amount =
     (not (is_some rows.contract), NoSuch things.Contract)
@@ -83,7 +87,7 @@ amend_contract_tests rows entry kind amount =
     ∷ (has_all_entries rows.entries || has_all_releases rows.notice, LimitReached)
     ∷ []
 
--- what it puts: the change, the line, the notice and the clock
+-- its changes: the entry, the budget line, the notice and the clock
 abbrev pub amend_contract_puts : AmendContractRows → ℕ → List ℕ → ChangeKind → ℕ → List ℕ → List Put
 amend_contract_puts rows t entry kind amount rationale =
     puts_if (λ (c : ContractRow). puts_if (λ (n : NoticeRow). puts_if (λ (r : LineRow).

@@ -1,4 +1,4 @@
--- The award of a lot to the best tender in effect (Model Law, articles 43 and 22).
+-- The rule of an award: a lot goes to its best admissible tender (Model Law, articles 43 and 22).
 use Rattle.std.specs.Prelude.{ℕ, ◌+◌, ◌-◌, ◌*◌, ◌/◌, Bool, false, not, cond, ◌&&◌, ◌||◌, List, [], ◌∷◌, Option, Some, None, is_some, unwrap_or, nat_lt, nat_eq}
 use Rattle.std.specs.List.{list_any}
 use Rattle.office_base.specs.Readings.{is_priced, price_in}
@@ -24,14 +24,16 @@ use Rattle.office_base.specs.Tables.{Tables, notice_at, lot_at, envelopes_of_lot
 use Rattle.office_base.specs.Parents.{line_of_lot}
 use Rattle.award_core.specs.declared.award.AwardRows.{AwardRows}
 
+-- whether an examination found a tender responsive; false if there was none
 abbrev pub is_responsive : Option Bool → Bool
 is_responsive None = false
 is_responsive (Some b) = b
 
+-- the corrected price of a tender; 0 if it has none
 abbrev pub price_of : EnvelopeRow → ℕ
 price_of e = price_in e.reading
 
--- opened, priced, examined as responsive, and not out of the running: its tenderer neither failed to sign nor took it back late
+-- whether a tender can win: it was opened, has a price, was found responsive, and its tenderer neither failed to sign nor withdrew it late
 abbrev pub is_admissible : EnvelopeRow → Bool
 is_admissible e = is_read e.state && is_priced e.reading && is_responsive e.responsive && not e.failed
 
@@ -40,70 +42,75 @@ abbrev pub lesser : ℕ → Option ℕ → ℕ
 lesser n None = n
 lesser n (Some m) = cond (nat_lt m n) m n
 
--- the lowest price of the admissible ones
+-- the lowest price of an admissible tender
 abbrev pub lowest_price : List EnvelopeRow → Option ℕ
 lowest_price [] = None
 lowest_price (e ∷ es) = cond (is_admissible e) (Some (lesser (price_of e) (lowest_price es))) (lowest_price es)
 
--- thousandths of points: for the price its share of the lowest, rounded down, and for quality
+-- the points for a price in thousandths: its share of the weight, by the lowest price and rounded down, and the whole weight for the price 0
 abbrev pub price_points : ℕ → ℕ → ℕ → ℕ
 price_points weight lowest price = cond (nat_eq price 0) (weight * 1000) (weight * 1000 * lowest / price)
 
+-- the points of a tender in thousandths: those for its price, and those for its quality
 abbrev pub points : ℕ → ℕ → EnvelopeRow → ℕ
 points weight lowest e = price_points weight lowest (price_of e) + 1000 * unwrap_or e.quality 0
 
--- the lower price is better, then the lower receipt
+-- whether the first tender is cheaper, or as cheap and received before the second
 abbrev pub is_cheaper : EnvelopeRow → EnvelopeRow → Bool
 is_cheaper x y = nat_lt (price_of x) (price_of y) || (nat_eq (price_of x) (price_of y) && nat_lt x.receipt y.receipt)
 
--- where points decide, more of them are better first
+-- whether the first tender is better: it has more points, or as many and is cheaper or earlier. If the weight is 0, the price alone decides.
 abbrev pub is_better : ℕ → ℕ → EnvelopeRow → EnvelopeRow → Bool
 is_better weight lowest x y =
     cond (nat_eq weight 0) (is_cheaper x y)
     (nat_lt (points weight lowest y) (points weight lowest x) || (nat_eq (points weight lowest x) (points weight lowest y) && is_cheaper x y))
 
--- the better of two, one of which may be absent
+-- the better of two tenders, of which one may be absent
 abbrev pub better : ℕ → ℕ → EnvelopeRow → Option EnvelopeRow → EnvelopeRow
 better weight lowest e None = e
 better weight lowest e (Some f) = cond (is_better weight lowest f e) f e
 
--- the best of those that pass, by one pass
+-- the best of the admissible tenders, if price points are measured by this lowest price
 abbrev pub best_with : ℕ → ℕ → List EnvelopeRow → Option EnvelopeRow
 best_with weight lowest [] = None
 best_with weight lowest (e ∷ es) =
     cond (is_admissible e) (Some (better weight lowest e (best_with weight lowest es))) (best_with weight lowest es)
 
--- the best tender of a lot, with what the price weighs (0: it alone decides)
+-- the best of the tenders of a lot; the weight is the points that the price can give, and 0 if the price alone decides
 abbrev pub best_of : ℕ → List EnvelopeRow → Option EnvelopeRow
 best_of weight rows = best_with weight (unwrap_or (lowest_price rows) 0) rows
 
+-- the points that the price can give; 0 if the notice doesn't exist
 abbrev pub weight_in : Option NoticeRow → ℕ
 weight_in None = 0
 weight_in (Some n) = n.weight
 
--- the best of a lot's envelopes by the notice's criteria
+-- the best tender of a lot by the criteria of the notice
 abbrev pub winner : Option NoticeRow → List EnvelopeRow → Option EnvelopeRow
 winner notice envelopes = best_of (weight_in notice) envelopes
 
--- a priced tender that isn't out of the running waits for its examination
+-- whether a tender that has a price and can still win waits for its examination
 abbrev pub isnt_examined : EnvelopeRow → Bool
 isnt_examined e = is_priced e.reading && not (is_some e.responsive) && not e.failed
 
+-- the amount that a lot has reserved; 0 if the lot doesn't exist
 abbrev pub reserved_in : Option LotRow → ℕ
 reserved_in None = 0
 reserved_in (Some l) = l.reserved
 
--- the price is above what the lot has reserved and its line has free
+-- whether the price of a tender is above the funds: the money that its lot has reserved, and that is free on its budget line
 abbrev pub is_above : ℕ → EnvelopeRow → Bool
 is_above funds e = nat_lt funds (price_of e)
 
--- the lot without a winner, and with one
+-- the lot without a winner, which reserves nothing
 abbrev pub unsuccessful : LotRow → LotRow
 unsuccessful l = record l { state = lot_states.Unsuccessful; reserved = 0 }
 
+-- the lot with a winner, which reserves the winner's price
 abbrev pub awarded : EnvelopeRow → LotRow → LotRow
 awarded e l = record l { state = lot_states.Awarded; reserved = price_of e }
 
+-- the award of a lot to a tender
 abbrev pub award_row : ClockRow → ℕ → LotRow → EnvelopeRow → AwardRow
 award_row clock t l e = record {
   award = clock.awards + 1;
@@ -115,7 +122,8 @@ award_row clock t l e = record {
   state = award_states.Active;
 }
 
--- with no admissible tender the lot is unsuccessful; else the best one has it at its corrected price, and as much is reserved
+-- The changes of the decision. Without an admissible tender the lot is unsuccessful and the securities are returned. Otherwise the best tender has the award,
+-- and the lot reserves its corrected price.
 abbrev pub decision_puts : ClockRow → ℕ → NoticeRow → LotRow → LineRow → Option EnvelopeRow → List SecurityRow → List Put
 decision_puts clock t n l r None securities =
     puts.Lot (unsuccessful l)
@@ -131,7 +139,7 @@ decision_puts clock t n l r (Some e) securities =
     ∷ award_clock clock t
     ∷ []
 
--- the rows that an award looks at
+-- the rows that an award reads
 abbrev pub award_rows : Tables → List ℕ → List ℕ → AwardRows
 award_rows s notice lot = record {
   notice = notice_at notice s;
@@ -142,11 +150,11 @@ award_rows s notice lot = record {
   clock = s.clock;
 }
 
--- what is lacking where the lot is there: its line
+-- whether the lot exists, but its budget line is missing
 abbrev pub award_lacks : AwardRows → Bool
 award_lacks rows = is_some rows.lot && not (is_some rows.line)
 
--- when it is refused, by these rows
+-- the conditions of its refusals, in order
 abbrev pub award_tests : AwardRows → ℕ → List (Bool × Refusal)
 award_tests rows t =
     (not (is_some rows.notice), NoSuch things.Notice)
@@ -159,7 +167,7 @@ award_tests rows t =
     ∷ (has_all_releases rows.notice, LimitReached)
     ∷ []
 
--- what it puts
+-- its changes: those of the decision, if the notice, the lot and its budget line exist
 abbrev pub award_puts : AwardRows → ℕ → List Put
 award_puts rows t =
     puts_if (λ (n : NoticeRow). puts_if (λ (l : LotRow). puts_if (λ (r : LineRow).

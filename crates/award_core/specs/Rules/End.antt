@@ -1,4 +1,4 @@
--- The end of a contract: what is outstanding is free again.
+-- The rule of a contract's end: its outstanding amount is free again.
 use Rattle.std.specs.Prelude.{ℕ, ◌+◌, Bool, not, ◌&&◌, ◌||◌, List, [], ◌∷◌, ◌++◌, Option, Some, is_some, nat_lt}
 use Rattle.office_commands.specs.declared.contract.How.{How}
 use Rattle.office_commands.specs.declared.contract.How.TheVariants as hows
@@ -23,15 +23,16 @@ use Rattle.office_base.specs.Tables.{Tables, contract_at, performance_at, entrie
 use Rattle.office_base.specs.Parents.{notice_of_contract, lot_of_contract, line_of_lot}
 use Rattle.award_core.specs.declared.end.EndRows.{EndRows}
 
+-- the contract, ended at this moment in this way, with its outstanding amount released
 abbrev pub ended_contract : ℕ → How → List EntryRow → ContractRow → ContractRow
 ended_contract t how entries c = record c { ended = Some t; how = Some how; released = outstanding entries c }
 
--- what becomes of the performance security
+-- the final state of the performance security: returned if the contract ends as agreed, and forfeited by default
 abbrev pub ended_state : How → SecurityState
 ended_state hows.Regular = Returned
 ended_state hows.ForDefault = Forfeited
 
--- with its entries, and its lot's line
+-- the changes of the contract, its budget line, its notice and the clock
 abbrev pub end_parts : ClockRow → ℕ → How → ContractRow → List EntryRow → NoticeRow → LineRow → List Put
 end_parts clock t how c entries n r =
     puts.Contract (ended_contract t how entries c)
@@ -40,7 +41,7 @@ end_parts clock t how c entries n r =
     ∷ clock_put clock t
     ∷ []
 
--- the rows that the end of a contract looks at
+-- the rows that the end of a contract reads
 abbrev pub end_rows : Tables → ℕ → EndRows
 end_rows s contract = record {
   contract = contract_at contract s;
@@ -51,12 +52,11 @@ end_rows s contract = record {
   clock = s.clock;
 }
 
--- the notice asks for a performance security, and it isn't there
+-- whether the notice requires a performance security, but its row is missing
 abbrev pub lacks_performance : NoticeRow → Option PerformanceRow → Bool
 lacks_performance n performance = nat_lt 0 n.performance && not (is_some performance)
 
--- what is lacking where the contract is there: its notice, its lot's line, the performance security that its notice asks for, or what came
--- to it
+-- whether the contract exists, but its notice, its budget line or the required performance security is missing, or more was taken from it than was added
 abbrev pub end_lacks : EndRows → Bool
 end_lacks rows =
     holds_of (λ (c : ContractRow).
@@ -64,7 +64,7 @@ end_lacks rows =
     || is_overdrawn rows.entries c
     ) rows.contract
 
--- when it is refused, by these rows
+-- the conditions of its refusals, in order
 abbrev pub end_tests : EndRows → List (Bool × Refusal)
 end_tests rows =
     (not (is_some rows.contract), NoSuch things.Contract)
@@ -72,7 +72,7 @@ end_tests rows =
     ∷ (has_all_releases rows.notice, LimitReached)
     ∷ []
 
--- what it puts, with its performance security
+-- its changes: the contract, its budget line, the notice, the clock, and the performance security if there is one
 abbrev pub end_puts : EndRows → ℕ → How → List Put
 end_puts rows t how =
     puts_if (λ (c : ContractRow). puts_if (λ (n : NoticeRow). puts_if (λ (r : LineRow).

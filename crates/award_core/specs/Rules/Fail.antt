@@ -1,4 +1,4 @@
--- A winner who doesn't sign is passed over (Model Law, article 22): the award fails, and the security is forfeited.
+-- The rule by which a winner who doesn't sign is passed over: the award fails, and the tender security is forfeited (Model Law, article 22).
 use Rattle.std.specs.Prelude.{ℕ, ◌+◌, Bool, not, ◌&&◌, ◌||◌, List, [], ◌∷◌, ◌++◌, Option, is_some, nat_lt}
 use Rattle.office_base.specs.Limits.{days}
 use Rattle.office_values.specs.declared.refusal.Thing.TheVariants as things
@@ -23,14 +23,15 @@ use Rattle.award_core.specs.declared.fail.FailRows.{FailRows}
 abbrev pub isnt_active : AwardRow → Bool
 isnt_active a = not (is_active a.state)
 
--- the standstill after the award isn't over
+-- whether the standstill after an award hasn't ended yet
 abbrev pub stands_still : ℕ → NoticeRow → AwardRow → Bool
 stands_still t n a = nat_lt t (a.moment + days n.standstill)
 
+-- whether the notice exists, and the standstill after an award hasn't ended yet
 abbrev pub is_standing_still : ℕ → Option NoticeRow → AwardRow → Bool
 is_standing_still t notice a = holds_of (λ (n : NoticeRow). stands_still t n a) notice
 
--- an award that stands, in effect, after its standstill
+-- the refusals that this rule and that of signing share: the award is decided, the validity has ended, the standstill hasn't, or no release is left
 abbrev pub standing_tests : ℕ → Option AwardRow → Option NoticeRow → List (Bool × Refusal)
 standing_tests t award notice =
     (holds_of isnt_active award, AlreadyDecided)
@@ -39,14 +40,15 @@ standing_tests t award notice =
     ∷ (has_all_releases notice, LimitReached)
     ∷ []
 
+-- the award, failed
 abbrev pub failed_award : AwardRow → AwardRow
 failed_award a = record a { state = award_states.Failed }
 
--- what was reserved stays so
+-- the lot, undecided again; the amount that it has reserved stays reserved
 abbrev pub undecided_again : LotRow → LotRow
 undecided_again l = record l { state = lot_states.Undecided }
 
--- the rows that the failing of an award looks at
+-- the rows that the failing of an award reads
 abbrev pub fail_rows : Tables → ℕ → FailRows
 fail_rows s award = record {
   award = award_at award s;
@@ -57,18 +59,18 @@ fail_rows s award = record {
   clock = s.clock;
 }
 
--- what is lacking where the award is there: its notice, its lot, its tender, or the security that this names
+-- whether the award exists, but its notice, its lot, its tender or the security that the tender names is missing
 abbrev pub fail_lacks : FailRows → Bool
 fail_lacks rows =
     is_some rows.award
     && (not (is_some rows.notice) || not (is_some rows.lot) || not (is_some rows.envelope)
     || holds_of (λ (e : EnvelopeRow). lacks_security e rows.security) rows.envelope)
 
--- when it is refused, by these rows
+-- the conditions of its refusals, in order
 abbrev pub fail_tests : FailRows → ℕ → List (Bool × Refusal)
 fail_tests rows t = (not (is_some rows.award), NoSuch things.Award) ∷ standing_tests t rows.award rows.notice
 
--- what it puts: the award, its lot, its notice and the clock, its tender, and that tender's security
+-- its changes: the award, its lot, its notice, the clock, its tender, and the security of the tender
 abbrev pub fail_puts : FailRows → ℕ → List Put
 fail_puts rows t =
     puts_if (λ (a : AwardRow). puts_if (λ (n : NoticeRow). puts_if (λ (l : LotRow).

@@ -1,4 +1,4 @@
--- A payment under a contract.
+-- The rule of a payment under a contract.
 use Rattle.std.specs.Prelude.{ℕ, Bool, not, ◌&&◌, ◌||◌, List, [], ◌∷◌, None, is_some}
 use Rattle.std.specs.List.{list_any}
 use Rattle.office_base.specs.declared.records.EntryKind.TheVariants as entry_kinds
@@ -17,11 +17,12 @@ use Rattle.office_base.specs.Tables.{Tables, contract_at, entries_of_contract}
 use Rattle.office_base.specs.Parents.{notice_of_contract}
 use Rattle.award_core.specs.declared.pay.PayRows.{PayRows}
 
+-- the entry of the payment
 abbrev pub payment_row : ℕ → ContractRow → List ℕ → ℕ → EntryRow
 payment_row t c entry amount =
     record { contract = c.contract; entry = entry; kind = entry_kinds.Payment; amount = amount; moment = t; rationale = None }
 
--- the rows that a payment looks at
+-- the rows that a payment reads
 abbrev pub pay_rows : Tables → ℕ → PayRows
 pay_rows s contract = record {
   contract = contract_at contract s;
@@ -30,11 +31,11 @@ pay_rows s contract = record {
   clock = s.clock;
 }
 
--- what is lacking where the contract is there: its notice
+-- whether the contract exists, but its notice is missing
 abbrev pub pay_lacks : PayRows → Bool
 pay_lacks rows = is_some rows.contract && not (is_some rows.notice)
 
--- when it is refused, by these rows
+-- the conditions of its refusals, in order
 abbrev pub pay_tests : PayRows → List ℕ → ℕ → List (Bool × Refusal)
 pay_tests rows entry amount =
     (not (is_some rows.contract), NoSuch things.Contract)
@@ -44,7 +45,7 @@ pay_tests rows entry amount =
     ∷ (has_all_entries rows.entries || has_all_releases rows.notice, LimitReached)
     ∷ []
 
--- what it puts: the payment, the notice and the clock
+-- its changes: the payment, the notice and the clock
 abbrev pub pay_puts : PayRows → ℕ → List ℕ → ℕ → List Put
 pay_puts rows t entry amount =
     puts_if (λ (c : ContractRow). puts_if (λ (n : NoticeRow).

@@ -1,4 +1,4 @@
--- The signing of a contract (Model Law, article 22).
+-- The rule of a signing: an award becomes a contract (Model Law, article 22).
 use Rattle.std.specs.Prelude.{ℕ, Bool, not, ◌&&◌, ◌||◌, List, [], ◌∷◌, ◌++◌, Option, Some, None, is_some, nat_lt, nat_eq}
 use Rattle.office_commands.specs.declared.tender.NamedSecurity.{NamedSecurity}
 use Rattle.office_values.specs.declared.refusal.Thing.TheVariants as things
@@ -24,28 +24,31 @@ use Rattle.office_base.specs.Tables.{Tables, award_at}
 use Rattle.office_base.specs.Parents.{notice_of_award, lot_of_award, envelope_of_award, securities_of_award}
 use Rattle.award_core.specs.declared.sign.SignRows.{SignRows}
 
--- the notice asks for a performance security and none is named; the one that is named is less than it asks; it asks for none and one is named
+-- whether the notice requires a performance security, and none is named
 abbrev pub is_missing : Option NamedSecurity → NoticeRow → Bool
 is_missing named n = nat_lt 0 n.performance && not (is_some named)
 
+-- whether the named performance security is less than the notice requires
 abbrev pub performance_is_too_small : Option NamedSecurity → NoticeRow → Bool
 performance_is_too_small named n = holds_of (λ (s : NamedSecurity). nat_lt s.amount n.performance) named
 
+-- whether a performance security is named, and the notice requires none
 abbrev pub isnt_asked : Option NamedSecurity → NoticeRow → Bool
 isnt_asked named n = nat_eq n.performance 0 && is_some named
 
 abbrev pub signed_award : AwardRow → AwardRow
 signed_award a = record a { state = award_states.Signed }
 
+-- the lot, contracted, with nothing reserved
 abbrev pub contracted_lot : LotRow → LotRow
 contracted_lot l = record l { state = lot_states.Contracted; reserved = 0 }
 
--- the tenderer of an envelope; nobody's name where it isn't there
+-- the tenderer of a tender; empty if the tender doesn't exist
 abbrev pub tenderer_in : Option EnvelopeRow → List ℕ
 tenderer_in None = []
 tenderer_in (Some e) = e.tenderer
 
--- a contract has its award's number
+-- the contract of an award, which has the number and the price of the award
 abbrev pub contract_row : ℕ → AwardRow → List ℕ → ContractRow
 contract_row t a tenderer = record {
   contract = a.award;
@@ -59,14 +62,14 @@ contract_row t a tenderer = record {
   released = 0;
 }
 
--- the contract's performance security, held
+-- the performance security of the contract, held
 abbrev pub performance_row : AwardRow → NamedSecurity → PerformanceRow
 performance_row a named = record { contract = a.award; reference = named.reference; amount = named.amount; state = Held }
 
 abbrev pub performance_put : AwardRow → NamedSecurity → Put
 performance_put a named = puts.Performance (performance_row a named)
 
--- the award, its notice, its lot, its tender, and the lot's securities
+-- the changes of the award, its lot, the contract, the notice and the clock, and those that return the tender securities of the lot
 abbrev pub sign_parts : ClockRow → ℕ → AwardRow → NoticeRow → LotRow → Option EnvelopeRow → List SecurityRow → List Put
 sign_parts clock t a n l envelope securities =
     puts.Award (signed_award a)
@@ -76,7 +79,7 @@ sign_parts clock t a n l envelope securities =
     ∷ clock_put clock t
     ∷ securities_returned securities
 
--- the rows that the signing of a contract looks at
+-- the rows that a signing reads
 abbrev pub sign_rows : Tables → ℕ → SignRows
 sign_rows s award = record {
   award = award_at award s;
@@ -87,11 +90,12 @@ sign_rows s award = record {
   clock = s.clock;
 }
 
--- what is lacking where the award is there: its notice, its lot or its tender
+-- whether the award exists, but its notice, its lot or its tender is missing
 abbrev pub sign_lacks : SignRows → Bool
 sign_lacks rows = is_some rows.award && (not (is_some rows.notice) || not (is_some rows.lot) || not (is_some rows.envelope))
 
--- when it is refused, by these rows and the performance security that is named: else as a failing is
+-- the conditions of its refusals, in order: the award doesn't exist, then those of the performance security, then those that it shares with the failing of an
+-- award
 abbrev pub sign_tests : SignRows → ℕ → Option NamedSecurity → List (Bool × Refusal)
 sign_tests rows t named =
     (not (is_some rows.award), NoSuch things.Award)
@@ -100,7 +104,7 @@ sign_tests rows t named =
     ∷ (holds_of (isnt_asked named) rows.notice, SecurityNotAsked)
     ∷ standing_tests t rows.award rows.notice
 
--- what it puts
+-- its changes: the award, its lot, the contract, the notice, the clock, the tender securities of the lot, and the named performance security
 abbrev pub sign_puts : SignRows → ℕ → Option NamedSecurity → List Put
 sign_puts rows t named =
     puts_if (λ (a : AwardRow). puts_if (λ (n : NoticeRow). puts_if (λ (l : LotRow).

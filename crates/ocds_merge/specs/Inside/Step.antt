@@ -1,4 +1,4 @@
--- What the code does with one more value. No public clause rests on this file: private ones do, and the proofs tie them to the merge of a column.
+-- One more value is merged into a merge, as the code does it. No public clause uses this file; proofs connect it to the merge of a column.
 use Rattle.std.specs.Prelude.{◌≡◌, ℕ, List, [], ◌∷◌, false, if◌then◌else◌, Option, Some, None, unwrap_or, bytes_eq}
 use Rattle.serde_json.specs.Data.{Data, null, boolean, number, string, array, object, Items, no_items, item, Members, no_members, member}
 use Rattle.serde_json.specs.Find.{get_member}
@@ -11,7 +11,7 @@ abbrev pub items_list : Items → List Data
 items_list no_items = []
 items_list (item d ds) = d ∷ items_list ds
 
--- the members that an object is merged into
+-- the members into which an object is merged: none if the old value is no object
 abbrev pub object_of : Option Data → Members
 object_of None = no_members
 object_of (Some null) = no_members
@@ -21,7 +21,7 @@ object_of (Some (string s)) = no_members
 object_of (Some (array ds)) = no_members
 object_of (Some (object ms)) = ms
 
--- the items that an id list is merged into
+-- the items into which an id list is merged: none if the old value is no id list
 abbrev pub id_list_of : Option Data → List Data
 id_list_of None = []
 id_list_of (Some null) = []
@@ -31,16 +31,17 @@ id_list_of (Some (string s)) = []
 id_list_of (Some (array ds)) = if is_id_list ds then items_list ds else []
 id_list_of (Some (object ms)) = []
 
+-- the first item with this id, if there is one
 abbrev pub find_item : List ℕ → List Data → Option Data
 find_item i [] = None
 find_item i (d ∷ ds) = if bytes_eq (id_of d) i then Some d else find_item i ds
 
--- in the place of the first item with this id, or at the end
+-- replaces the first item with this id, or adds the item at the end
 abbrev pub set_item : List ℕ → Data → List Data → List Data
 set_item i x [] = x ∷ []
 set_item i x (d ∷ ds) = if bytes_eq (id_of d) i then x ∷ ds else d ∷ set_item i x ds
 
--- a merge after one more value
+-- the merge after one more value
 abbrev mutual
   pub step : Option Data → Data → Option Data
   step t null = None
@@ -63,7 +64,7 @@ abbrev pub Lacks : List ℕ → List Data → Type 0
 Lacks i [] = Unit {0}
 Lacks i (d ∷ ds) = (bytes_eq (id_of d) i ≡ false) × Lacks i ds
 
--- `null` stands for absent
+-- `null` means absent
 abbrev pub not_null : Data → Option Data
 not_null null = None
 not_null (boolean b) = Some (boolean b)

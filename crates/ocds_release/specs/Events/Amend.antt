@@ -1,4 +1,4 @@
--- An amendment of a notice.
+-- The release when the deadline of a notice is moved.
 use Rattle.std.specs.Prelude.{ℕ, List, [], ◌∷◌, codes}
 use Rattle.serde_json.specs.Data.{Data}
 use Rattle.office_values.specs.Moments.{moment_text}

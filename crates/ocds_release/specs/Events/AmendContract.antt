@@ -1,4 +1,4 @@
--- An amendment of a contract.
+-- The release when a contract is raised or cut.
 use Rattle.std.specs.Prelude.{ℕ, List, [], ◌∷◌, codes}
 use Rattle.serde_json.specs.Data.{Data}
 use Rattle.office_values.specs.declared.settings.Publisher.{Publisher}
@@ -10,7 +10,7 @@ use Rattle.ocds_release.specs.Amendments.{amendment}
 use Rattle.ocds_release.specs.Releases.{tags}
 use Rattle.ocds_release.specs.declared.event.ContractAmended.{ContractAmended}
 
--- what the amendment did
+-- the description of the change
 abbrev pub change_text : ChangeKind → ℕ → List ℕ
 change_text Raise amount = raised_text amount
 change_text Cut amount = cut_text amount

@@ -1,4 +1,4 @@
--- An award.
+-- The release when a lot is awarded.
 use Rattle.std.specs.Prelude.{ℕ, List, [], ◌∷◌, codes}
 use Rattle.serde_json.specs.Data.{Data}
 use Rattle.office_values.specs.Moments.{moment_text}
@@ -8,14 +8,14 @@ use Rattle.ocds_release.specs.Texts.{tenderer_id}
 use Rattle.ocds_release.specs.Releases.{tags}
 use Rattle.ocds_release.specs.declared.event.Awarded.{Awarded}
 
--- the winner, who is a supplier now (OCDS 1.1, Organization, codelist partyRole)
+-- the winner as a party, now also a supplier (OCDS 1.1, Organization, codelist partyRole)
 abbrev pub winner_party : Awarded → Data
 winner_party e = object_of (
     (codes "id", text (tenderer_id e.winner.id))
     ∷ (codes "roles", texts (codes "tenderer" ∷ codes "supplier" ∷ []))
     ∷ [])
 
--- the award of its lot to the winner, at its price (OCDS 1.1, Award)
+-- the award of the lot to the winner, at the winner's price (OCDS 1.1, Award)
 abbrev pub award_data : List ℕ → ℕ → Awarded → Data
 award_data currency t e = object_of (
     (codes "id", decimal_id e.award)

@@ -1,4 +1,4 @@
--- A cancellation.
+-- The release when the remaining lots of a notice are cancelled.
 use Rattle.std.specs.Prelude.{ℕ, List, [], ◌∷◌, codes, map}
 use Rattle.serde_json.specs.Data.{Data, object}
 use Rattle.ocds_release.specs.Objects.{Entry, text, texts, four_digit_id, array_of, put_unless_empty}
@@ -17,7 +17,7 @@ cancelled_tender seq t e = object (put_unless_empty (codes "amendments")
     (array_of (amendment (four_digit_id seq) t e.rationale (text (codes "Cancelled")) ∷ []))
     (tender_members e.notice e.status (array_of (map cancelled_lot_data e.lots))))
 
--- tag `tenderCancellation`, and `awardCancellation` too where an award ends
+-- tag `tenderCancellation`, and also `awardCancellation` if an award ends
 abbrev pub cancel_tag : List ℕ → Data
 cancel_tag [] = texts (codes "tenderCancellation" ∷ [])
 cancel_tag (award ∷ awards) = texts (codes "tenderCancellation" ∷ codes "awardCancellation" ∷ [])

@@ -1,11 +1,11 @@
--- The end of a contract.
+-- The release when a contract ends.
 use Rattle.std.specs.Prelude.{ℕ, List, [], ◌∷◌, codes}
 use Rattle.serde_json.specs.Data.{Data}
 use Rattle.ocds_release.specs.Objects.{Entry, text, decimal_id, array_of, object_of}
 use Rattle.ocds_release.specs.Releases.{tags}
 use Rattle.ocds_release.specs.declared.event.ContractEnded.{ContractEnded}
 
--- the contract, which is over (OCDS 1.1, codelist contractStatus)
+-- the contract with the status `terminated` (OCDS 1.1, codelist contractStatus)
 abbrev pub ended_contract_data : ℕ → Data
 ended_contract_data contract = object_of (
     (codes "id", decimal_id contract)

@@ -1,4 +1,4 @@
--- The opening of tenders.
+-- The release when the tenders of a notice are opened.
 use Rattle.std.specs.Prelude.{List, [], ◌∷◌, codes, map, length}
 use Rattle.serde_json.specs.Data.{Data, number, unsigned}
 use Rattle.ocds_release.specs.Objects.{Entry, text, texts, array_of, object_of, tenderer_reference}
@@ -20,7 +20,7 @@ opened_party p = object_of (
 abbrev pub tenderer_reference_of : Tenderer → Data
 tenderer_reference_of p = tenderer_reference p.id p.name
 
--- the tender with its tenderers, and how many they are (OCDS 1.1, Tender)
+-- the tender with its tenderers and their number (OCDS 1.1, Tender)
 abbrev pub opened_tender : Opened → Data
 opened_tender e = object_of (
     (codes "id", text e.notice)

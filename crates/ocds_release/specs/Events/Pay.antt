@@ -1,4 +1,4 @@
--- A payment.
+-- The release when something is paid under a contract.
 use Rattle.std.specs.Prelude.{ℕ, List, [], ◌∷◌, codes}
 use Rattle.serde_json.specs.Data.{Data}
 use Rattle.office_values.specs.Moments.{moment_text}
@@ -7,7 +7,7 @@ use Rattle.ocds_release.specs.Objects.{Entry, text, decimal_id, array_of, object
 use Rattle.ocds_release.specs.Releases.{tags, buyer_of}
 use Rattle.ocds_release.specs.declared.event.Paid.{Paid}
 
--- what was paid, from the buyer to the tenderer (OCDS 1.1, Transaction)
+-- the payment, from the buyer to the tenderer (OCDS 1.1, Transaction)
 abbrev pub transaction : Publisher → ℕ → Paid → Data
 transaction publisher t e = object_of (
     (codes "id", text e.entry)

@@ -1,4 +1,4 @@
--- A publication.
+-- The release when a notice is published.
 use Rattle.std.specs.Prelude.{ℕ, List, [], ◌∷◌, ◌++◌, codes, map}
 use Rattle.serde_json.specs.Data.{Data, Members, object, no_members, number, unsigned}
 use Rattle.office_values.specs.Moments.{moment_text}
@@ -14,7 +14,7 @@ use Rattle.ocds_release.specs.Texts.{buyer_id, item_id_text}
 use Rattle.ocds_release.specs.Releases.{tags, buyer_of}
 use Rattle.ocds_release.specs.declared.event.Published.{Published}
 
--- what decides between tenders (OCDS 1.1, codelist awardCriteria)
+-- the criteria by which tenders are compared (OCDS 1.1, codelist awardCriteria)
 abbrev pub criteria_code : Criteria → List ℕ
 criteria_code Price = codes "priceOnly"
 criteria_code (Points weight) = codes "ratedCriteria"
@@ -37,7 +37,7 @@ published_item lot item = object_of (
     ∷ (codes "relatedLot", text lot)
     ∷ [])
 
--- the items of lots, each lot's as they were given
+-- the items of these lots, lot by lot, in the order in which each lot has them
 abbrev pub items_of_lot : NewLot → List Data
 items_of_lot lot = map (published_item lot.id) lot.items
 
@@ -60,11 +60,11 @@ buyer_party publisher = object_of (
 abbrev pub planning : List ℕ → ℕ → Data
 planning currency amount = object_of ((codes "budget", object_of ((codes "amount", money amount currency) ∷ [])) ∷ [])
 
--- when tenders are received (OCDS 1.1, Period)
+-- the period in which tenders are received (OCDS 1.1, Period)
 abbrev pub period : ℕ → ℕ → Data
 period from to = object_of ((codes "endDate", text (moment_text to)) ∷ (codes "startDate", text (moment_text from)) ∷ [])
 
--- what the tender is, beside its value, its lots and its period (OCDS 1.1, Tender)
+-- the members of the tender, except for its value, items, lots and period (OCDS 1.1, Tender)
 abbrev pub tender_terms : Publisher → Published → Members
 tender_terms publisher e = with_entries (
     (codes "awardCriteria", text (criteria_code e.criteria))
@@ -76,7 +76,7 @@ tender_terms publisher e = with_entries (
     ∷ (codes "title", text e.title)
     ∷ []) no_members
 
--- the tender: the sum of the estimates as its value, its lots in the order of their identifiers, their items, from now to the deadline
+-- the tender: its value is the sum of the estimates, its lots are in the order of their identifiers, and its period goes from now to the deadline
 abbrev pub published_tender : Publisher → ℕ → Published → Data
 published_tender publisher t e = object (with_entries (
     (codes "value", money (sum_over estimate_of e.lots) publisher.currency)

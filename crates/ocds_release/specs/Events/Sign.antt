@@ -1,4 +1,4 @@
--- The signing of a contract.
+-- The release when a contract is signed.
 use Rattle.std.specs.Prelude.{ℕ, List, [], ◌∷◌, codes}
 use Rattle.serde_json.specs.Data.{Data}
 use Rattle.office_values.specs.Moments.{moment_text}
@@ -8,7 +8,7 @@ use Rattle.ocds_release.specs.Tenders.{tender_with_lot}
 use Rattle.ocds_release.specs.Releases.{tags}
 use Rattle.ocds_release.specs.declared.event.Signed.{Signed}
 
--- the contract at the price of its award, whose number it has (OCDS 1.1, Contract)
+-- the contract at the price of its award, with the number of the award (OCDS 1.1, Contract)
 abbrev pub signed_contract : List ℕ → ℕ → Signed → Data
 signed_contract currency t e = object_of (
     (codes "id", decimal_id e.contract)
@@ -18,7 +18,7 @@ signed_contract currency t e = object_of (
     ∷ (codes "value", money e.price currency)
     ∷ [])
 
--- tag `contract`, the contract, and the tender with its status and the lot, which is complete
+-- tag `contract`, the contract, and the tender with its status and the completed lot
 abbrev pub sign_body : Publisher → ℕ → Signed → List Entry
 sign_body publisher t e =
     tags (codes "contract" ∷ [])

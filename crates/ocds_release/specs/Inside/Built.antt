@@ -9,6 +9,6 @@ use Rattle.ocds_release.specs.declared.object.Object.{Object}
 abbrev pub members_in : Object → Members
 members_in o = members_view o.members.entries
 
--- the value is this release, in which these entries are said too
+-- the value is this release with these entries added
 abbrev pub Says : Object → List Entry → Value → Type 0
 Says release entries v = view v ≡ object (with_entries entries (members_in release))

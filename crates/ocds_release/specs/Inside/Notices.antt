@@ -3,7 +3,7 @@ use Rattle.std.specs.Prelude.{ℕ, List}
 use Rattle.ocds_release.specs.declared.event.Event.{Event}
 use Rattle.ocds_release.specs.declared.event.Event.TheVariants as events
 
--- the notice to which an event happened
+-- the notice to which the event belongs
 abbrev pub notice_of_event : Event → List ℕ
 notice_of_event (events.Publish e) = e.notice
 notice_of_event (events.Amend e) = e.notice

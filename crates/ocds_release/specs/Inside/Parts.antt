@@ -8,6 +8,7 @@ use Rattle.ocds_release.specs.Objects.{Entry, text, texts, money, decimal_id, fo
 use Rattle.ocds_release.specs.declared.part.Part.{Part}
 use Rattle.ocds_release.specs.declared.part.Part.TheVariants as parts
 
+-- the JSON value of a part
 abbrev pub data_of : Part → Data
 data_of (parts.Text t) = text t.now
 data_of (parts.Id id) = text id

@@ -7,7 +7,7 @@ use Rattle.office_values.specs.declared.settings.Publisher.{Publisher}
 use Rattle.ocds_release.specs.Objects.{text, texts, object_of}
 use Rattle.ocds_release.specs.Texts.{ocid_text, address}
 
--- a member, whose value has this text
+-- a member whose value has this text
 abbrev pub member_text : Bool → List ℕ → List ℕ → List ℕ
 member_text later name value = comma_if later ++ (quoted name ++ 58 ∷ value)
 
@@ -25,15 +25,17 @@ first_members publisher published ms = with_extensions publisher.extensions (mem
 abbrev pub head_members : Publisher → List ℕ → Members → Members
 head_members publisher published ms = first_members publisher published (member (codes "publisher") (publisher_object publisher) ms)
 
--- the members behind the list
+-- the members after the list
 abbrev pub tail_members : Publisher → List ℕ → List ℕ → Members
 tail_members publisher notice route =
     member (codes "uri") (text (address publisher.base notice route)) (member (codes "version") (text (codes "1.1")) no_members)
 
+-- a package with its members in the order of their names
 abbrev pub ordered_package : Publisher → List ℕ → List ℕ → List ℕ → List ℕ → Data → Data
 ordered_package publisher notice published route name list =
     object (head_members publisher published (member name list (tail_members publisher notice route)))
 
+-- a record with its members in the order of their names
 abbrev pub ordered_record : Publisher → List ℕ → Data → Data → Data
 ordered_record publisher notice compiled releases = object (
     member (codes "compiledRelease") compiled (

@@ -1,4 +1,4 @@
-//! An amendment of a notice.
+//! The release when the deadline of a notice is moved.
 ghost use Rattle.std.specs.Prelude.{◌≡◌, IfOk};
 ghost use Rattle.serde_json.specs.View.{view};
 ghost use Rattle.ocds_release.specs.Inside.Built.{Says};
@@ -33,7 +33,7 @@ fn tender_of<'a>(
     Ok(tender.into_value())
 }
 
-/// The release of an amendment of a notice.
+/// The release when the deadline of a notice is moved.
 pub(crate) fn amend<'a>(
     alloc: Global,
     release: Object,

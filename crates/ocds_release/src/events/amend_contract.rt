@@ -1,4 +1,4 @@
-//! An amendment of a contract.
+//! The release when a contract is raised or cut.
 ghost use Rattle.std.specs.Prelude.{◌≡◌, IfOk};
 ghost use Rattle.serde_json.specs.View.{view};
 ghost use Rattle.ocds_release.specs.Objects.{text};
@@ -24,7 +24,7 @@ fn description_of<'a>(alloc: Global, event: &'a ContractAmended<'a>) -> Result<V
     }
 }
 
-// The contract at its new value, and the amendment.
+// The contract at its new value, with the amendment.
 fn contract_of<'a>(
     alloc: Global,
     currency: Currency,
@@ -50,7 +50,7 @@ fn contract_of<'a>(
     Ok(contract.into_value())
 }
 
-/// The release of an amendment of a contract.
+/// The release when a contract is raised or cut.
 pub(crate) fn amend_contract<'a>(
     alloc: Global,
     release: Object,

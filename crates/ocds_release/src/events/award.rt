@@ -1,4 +1,4 @@
-//! An award.
+//! The release when a lot is awarded.
 ghost use Rattle.std.specs.Prelude.{◌≡◌, IfOk};
 ghost use Rattle.serde_json.specs.View.{view};
 ghost use Rattle.ocds_release.specs.Inside.Built.{Says};
@@ -25,7 +25,7 @@ fn winner_of(alloc: Global, event: &Awarded) -> Result<Value, AllocError>
     )
 }
 
-// The award itself.
+// The award of the lot to the winner.
 fn award_of<'a>(
     alloc: Global,
     currency: Currency,
@@ -53,7 +53,7 @@ fn award_of<'a>(
     Ok(award.into_value())
 }
 
-/// The release of an award.
+/// The release when a lot is awarded.
 pub(crate) fn award<'a>(
     alloc: Global,
     release: Object,

@@ -1,4 +1,4 @@
-//! A cancellation.
+//! The release when the remaining lots of a notice are cancelled.
 ghost use Rattle.std.specs.Prelude.{◌≡◌, IfOk, map};
 ghost use Rattle.serde_json.specs.View.{view};
 ghost use Rattle.ocds_release.specs.Awards.{ended_award};
@@ -57,7 +57,7 @@ fn tender_of<'a>(
     Ok(tender.into_value())
 }
 
-// The tags; an award that ends has one of its own.
+// The tags of a cancellation; there is one more tag if an award ends.
 fn tag_of(alloc: Global, awards: &[GivenNumber]) -> Result<Value, AllocError>
     ensures { IfOk result (λ v. view v ≡ cancel_tag awards.now) }
 {
@@ -68,7 +68,7 @@ fn tag_of(alloc: Global, awards: &[GivenNumber]) -> Result<Value, AllocError>
     }
 }
 
-/// The release of a cancellation.
+/// The release when the remaining lots of a notice are cancelled.
 pub(crate) fn cancel<'a>(
     alloc: Global,
     release: Object,

@@ -1,4 +1,4 @@
-//! The end of a contract.
+//! The release when a contract ends.
 ghost use Rattle.std.specs.Prelude.{◌≡◌, IfOk};
 ghost use Rattle.serde_json.specs.View.{view};
 ghost use Rattle.ocds_release.specs.Inside.Built.{Says};
@@ -25,7 +25,7 @@ fn contract_of(alloc: Global, contract: GivenNumber) -> Result<Value, AllocError
     )
 }
 
-/// The release of the end of a contract.
+/// The release when a contract ends.
 pub(crate) fn end(
     alloc: Global,
     release: Object,

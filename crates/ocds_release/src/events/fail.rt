@@ -1,4 +1,4 @@
-//! A winner that failed to sign.
+//! The release when a winner fails to sign.
 ghost use Rattle.std.specs.Prelude.{◌≡◌, IfOk};
 ghost use Rattle.serde_json.specs.View.{view};
 ghost use Rattle.ocds_release.specs.Inside.Built.{Says};
@@ -12,7 +12,7 @@ use office_values::given::GivenNumber;
 use serde_json::Value;
 use std::alloc::{AllocError, Global};
 
-/// An award that has ended without a contract.
+/// An award that ended without a contract.
 pub(crate) fn ended_award_of(alloc: Global, award: GivenNumber) -> Result<Value, AllocError>
     ensures { IfOk result (λ v. view v ≡ ended_award award) }
 {
@@ -25,7 +25,7 @@ pub(crate) fn ended_award_of(alloc: Global, award: GivenNumber) -> Result<Value,
     )
 }
 
-/// The release of a winner's failure to sign.
+/// The release when a winner fails to sign.
 pub(crate) fn fail(alloc: Global, release: Object, event: &AwardFailed) -> Result<Value, AllocError>
     ensures { IfOk result (Says release (fail_body event.now)) }
 {

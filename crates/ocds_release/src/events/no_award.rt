@@ -1,4 +1,4 @@
-//! A lot that found no admissible tender.
+//! The release when a lot has no admissible tender.
 ghost use Rattle.std.specs.Prelude.{IfOk};
 ghost use Rattle.ocds_release.specs.Inside.Built.{Says};
 ghost use Rattle.ocds_release.specs.Events.NoAward.{no_award_body};
@@ -10,7 +10,7 @@ use crate::tender::tender_with_lot;
 use serde_json::Value;
 use std::alloc::{AllocError, Global};
 
-/// The release of a lot that found no admissible tender.
+/// The release when a lot has no admissible tender.
 pub(crate) fn no_award(
     alloc: Global,
     release: Object,

@@ -1,4 +1,4 @@
-//! The opening of tenders.
+//! The release when the tenders of a notice are opened.
 ghost use Rattle.std.specs.Prelude.{◌≡◌, IfOk, map};
 ghost use Rattle.serde_json.specs.View.{view};
 ghost use Rattle.ocds_release.specs.Objects.{array_of};
@@ -81,7 +81,7 @@ fn party_list<'a>(alloc: Global, event: &'a Opened<'a>) -> Result<Value, AllocEr
     Ok(Value::Array(parties))
 }
 
-/// The release of an opening of tenders.
+/// The release when the tenders of a notice are opened.
 pub(crate) fn open<'a>(
     alloc: Global,
     release: Object,

@@ -1,4 +1,4 @@
-//! A payment.
+//! The release when something is paid under a contract.
 ghost use Rattle.std.specs.Prelude.{◌≡◌, IfOk};
 ghost use Rattle.serde_json.specs.View.{view};
 ghost use Rattle.ocds_release.specs.Inside.Built.{Says};
@@ -64,7 +64,7 @@ fn contract_of<'a>(
     Ok(contract.into_value())
 }
 
-/// The release of a payment.
+/// The release when something is paid under a contract.
 pub(crate) fn pay<'a>(
     alloc: Global,
     release: Object,

@@ -1,4 +1,4 @@
-//! A publication.
+//! The release when a notice is published.
 ghost use Rattle.std.specs.Prelude.{◌≡◌, ◌≤◌, ◌++◌, IfOk, OnOk, map, length};
 ghost use Rattle.serde_json.specs.View.{view};
 ghost use Rattle.office_base.specs.Sums.{sum_over};
@@ -76,7 +76,7 @@ fn items_of(alloc: Global, lots: &[&NewLot]) -> Result<Vec<Value>, AllocError>
     Ok(list)
 }
 
-// What the lots are estimated to cost together.
+// The sum of the lots' estimates.
 fn estimates(lots: &[NewLot]) -> u64
     requires { length lots.now ≤ 20 }
     ensures { result ≡ sum_over estimate_of lots.now }
@@ -132,7 +132,7 @@ fn period_of(alloc: Global, from: Moment, to: Moment) -> Result<Value, AllocErro
     )
 }
 
-// The terms of the tender, beside its lots and its period.
+// The members of the tender, except for its value, items, lots and period.
 fn terms_of<'a>(
     alloc: Global,
     publisher: &'a Publisher,
@@ -159,7 +159,7 @@ fn terms_of<'a>(
     Ok(tender)
 }
 
-// The tender.
+// The tender of the published notice.
 fn tender_of<'a>(
     alloc: Global,
     publisher: &'a Publisher,
@@ -185,7 +185,7 @@ fn tender_of<'a>(
     Ok(tender.into_value())
 }
 
-/// The release of a publication.
+/// The release when a notice is published.
 pub(crate) fn publish<'a>(
     alloc: Global,
     release: Object,

@@ -1,4 +1,4 @@
-//! The signing of a contract.
+//! The release when a contract is signed.
 ghost use Rattle.std.specs.Prelude.{◌≡◌, IfOk};
 ghost use Rattle.serde_json.specs.View.{view};
 ghost use Rattle.ocds_release.specs.Inside.Built.{Says};
@@ -13,7 +13,7 @@ use office_values::settings::{Currency, Publisher};
 use serde_json::Value;
 use std::alloc::{AllocError, Global};
 
-// The contract as it was signed.
+// The contract at its signing.
 fn contract_of(
     alloc: Global,
     currency: Currency,
@@ -35,7 +35,7 @@ fn contract_of(
     )
 }
 
-/// The release of the signing of a contract.
+/// The release when a contract is signed.
 pub(crate) fn sign(
     alloc: Global,
     release: Object,

@@ -1,4 +1,4 @@
--- A row that is dropped: the keys stay in order, and it is found no more.
+-- Laws of dropped rows: the keys stay in order, and a look-up no longer finds the row.
 use Rattle.std.specs.Prelude.{◌≡◌, Bool, true, false, cond, List, [], ◌∷◌, Option, Some, None}
 use Rattle.std.proofs.Common.{refl, sym, ap, ◌∙◌}
 use Rattle.std.specs.Cmp.{IsTotalOrder}
@@ -17,7 +17,7 @@ module _ {K X : Type 0} {R : K → K → Ordering} (o : IsTotalOrder R) (key : X
   start_step j x xs k e order Equal = above o key j (key x) xs e order.0
   start_step j x xs k e order Greater = e
 
-  -- rows above a key stay above it
+  -- a drop leaves rows that start above a key above it
   pub start-drop : (j : K) (xs : List X) (k : K) → StartsAbove R key j xs → IsInOrder R key xs → StartsAbove R key j (row_drop R key xs k)
   unfolding row_drop
   start-drop j [] k s order = tt
@@ -30,14 +30,14 @@ module _ {K X : Type 0} {R : K → K → Ordering} (o : IsTotalOrder R) (key : X
   order_step x xs k order ih s Equal = order.1
   order_step x xs k order ih s Greater = (s, ih)
 
-  -- a drop keeps the order
+  -- a drop keeps the keys in order
   pub in_order-drop : (xs : List X) (k : K) → IsInOrder R key xs → IsInOrder R key (row_drop R key xs k)
   unfolding row_drop
   in_order-drop [] k order = tt
   in_order-drop (x ∷ xs) k order = order_step x xs k order (in_order-drop xs k order.1) (start-drop (key x) xs k order.0 order.1) (R k (key x))
 
 module _ {K X : Type 0} {R : K → K → Ordering} {key : X → K} (t : IsKeyed R key) where
-  -- a look-up after a drop needs the order
+  -- after a drop, a look-up finds nothing at the dropped key, and the same as before at others
   pub row_at-row_drop : (xs : List X) (k q : K) → IsInOrder R key xs → row_at R key (row_drop R key xs k) q ≡ cond (eq_by_cmp R q k) None (row_at R key xs q)
   unfolding row_at row_drop
   row_at-row_drop [] k q o = elim (eq_by_cmp R q k) as (λ b. ◌≡◌ {A = Option X} None (cond b None None)) [ true ↦ refl | false ↦ refl ]

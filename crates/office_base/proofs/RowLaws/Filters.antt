@@ -1,4 +1,4 @@
--- Rows that pass a test: they are in order, and a look-up finds those that pass.
+-- Laws of rows that pass a test: they are in order, and a look-up finds those that pass.
 use Rattle.std.specs.Prelude.{◌≡◌, Bool, true, false, cond, ◌&&◌, List, [], ◌∷◌, filter, Option, Some, None}
 use Rattle.std.proofs.Common.{refl, sym, ap, ◌∙◌}
 use Rattle.std.specs.List.{AllByRecursion}
@@ -9,12 +9,12 @@ use Rattle.office_base.specs.Rows.{by_order, row_at, StartsAbove, IsInOrder}
 use Rattle.office_base.proofs.RowLaws.Keyed.{IsKeyed}
 use Rattle.office_base.proofs.RowLaws.Starts.{above, tied, all_above, none_below, start_of}
 
--- the row, if it passes
+-- the row, if it exists and passes a test
 abbrev pub if_passes : {X : Type 0} → (X → Bool) → Option X → Option X
 if_passes p None = None
 if_passes p (Some x) = cond (p x) (Some x) None
 
--- what holds of all holds of those that pass
+-- if all rows have a property, so have those that pass a test
 pub all_filter : {X : Type 0} (P : X → Type 0) (p : X → Bool) (xs : List X) → AllByRecursion P xs → AllByRecursion P (filter p xs)
 all_filter P p [] h = tt
 all_filter P p (x ∷ xs) h = elim (p x) as (λ b. AllByRecursion P (cond b (x ∷ filter p xs) (filter p xs))) [ true ↦ (h.0, all_filter P p xs h.1) | false ↦ all_filter P p xs h.1 ]
@@ -23,18 +23,18 @@ filter_step : {X : Type 0} (p : X → Bool) (x : X) (once twice : List X) → fi
 filter_step p x once twice ih true = ap (λ ys. cond (p x) (x ∷ ys) ys) ih
 filter_step p x once twice ih false = ih
 
--- what passes one test after another passes both
+-- filtering by one test and then by another is filtering by both
 pub filter_filter : {X : Type 0} (p q : X → Bool) (xs : List X) → filter p (filter q xs) ≡ filter (λ x. q x && p x) xs
 filter_filter p q [] = refl
 filter_filter p q (x ∷ xs) = filter_step p x (filter q xs) (filter (λ x. q x && p x) xs) (filter_filter p q xs) (q x)
 
--- rows that start above a key do so where only some of them are left
+-- rows that start above a key still do if some are left out
 pub start-filter : {K X : Type 0} {R : K → K → Ordering} (o : IsTotalOrder R) (key : X → K) (k : K) (p : X → Bool) (xs : List X)
     → StartsAbove R key k xs → IsInOrder R key xs → StartsAbove R key k (filter p xs)
 start-filter {R = R} o key k p xs s order = start_of R key k (filter p xs) (all_filter (λ x. R k (key x) ≡ Less) p xs (all_above o key k xs s order))
 
 module _ {K X : Type 0} {R : K → K → Ordering} (o : IsTotalOrder R) (key : X → K) where
-  -- what passes is in order
+  -- the rows that pass a test are in order
   pub in_order-filter : (p : X → Bool) (xs : List X) → IsInOrder R key xs → IsInOrder R key (filter p xs)
   in_order-filter p [] order = tt
   in_order-filter p (x ∷ xs) order =
@@ -44,7 +44,7 @@ module _ {K X : Type 0} {R : K → K → Ordering} (o : IsTotalOrder R) (key : X
       ]
 
 module _ {K X : Type 0} {R : K → K → Ordering} {key : X → K} (t : IsKeyed R key) where
-  -- of the rows that pass, one is found where one is found that passes
+  -- a look-up among the rows that pass a test finds the row that a look-up among all rows finds, if that one passes
   pub row_at-filter : (p : X → Bool) (xs : List X) (q : K) → IsInOrder R key xs → row_at R key (filter p xs) q ≡ if_passes p (row_at R key xs q)
   unfolding row_at
   row_at-filter p [] q order = refl

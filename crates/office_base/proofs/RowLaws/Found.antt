@@ -1,4 +1,4 @@
--- What is found in a table: it has the key asked for, and each row is found at its own.
+-- Laws of look-ups: a found row has the key that was asked for, and each row is found at its own key.
 use Rattle.std.specs.Prelude.{◌≡◌, List, [], ◌∷◌, Option, Some, None}
 use Rattle.std.proofs.Common.{refl, sym, ap, subst, ◌∙◌}
 use Rattle.std.specs.List.{AllByRecursion}
@@ -12,7 +12,7 @@ use Rattle.office_base.proofs.RowLaws.Keyed.{IsKeyed}
 use Rattle.office_base.proofs.RowLaws.Starts.{all_above}
 
 module _ {K X : Type 0} {R : K → K → Ordering} (o : IsTotalOrder R) (key : X → K) where
-  -- what holds of all rows holds of one that is found
+  -- if a property is true of all rows and of finding nothing, it is true of the result of a look-up
   pub all-found : (P : Option X → Type 0) (xs : List X) (q : K) → P None → AllByRecursion (λ x. P (Some x)) xs → P (row_at R key xs q)
   unfolding row_at
   all-found P [] q none h = none
@@ -25,15 +25,15 @@ module _ {K X : Type 0} {R : K → K → Ordering} (o : IsTotalOrder R) (key : X
   found_key_step k v x xs ih Equal h found = let one : Some x ≡ Some v = sym (rw h refl) ∙ found in let same : x ≡ v = cc in ap (λ w. R k (key w)) (sym same) ∙ h
   found_key_step k v x xs ih Greater h found = ih (sym (rw h refl) ∙ found)
 
-  -- the key of a row that was found ties with the one asked for
+  -- the key of a found row compares as equal with the one asked for
   pub found_compares : (k : K) (v : X) (xs : List X) → row_at R key xs k ≡ Some v → R k (key v) ≡ Equal
   unfolding row_at
   found_compares k v [] found = cc
   found_compares k v (x ∷ xs) found = found_key_step k v x xs (found_compares k v xs) (R k (key x)) refl found
 
--- whatever the order
+-- these lemmas need no total order
 module _ {K X : Type 0} (R : K → K → Ordering) (key : X → K) where
-  -- what holds of all rows holds of this one, which is found
+  -- if all rows have a property, so has a row that is found
   pub of_found : (P : X → Type 0) (xs : List X) (k : K) (v : X) → AllByRecursion P xs → row_at R key xs k ≡ Some v → P v
   unfolding row_at
   of_found P [] k v all e = absurd (let i : ◌≡◌ {A = Option X} None (Some v) = e in cc)
@@ -50,7 +50,7 @@ module _ {K X : Type 0} {R : K → K → Ordering} {key : X → K} (t : IsKeyed 
   later x xs [] a b = tt
   later x xs (y ∷ ys) a b = (ap (λ c. by_order c None (Some x) (row_at R key xs (key y))) (t.total.antisymm (key y) (key x) ∙ ap ordering_reverse a.0) ∙ b.0, later x xs ys a.1 b.1)
 
-  -- each row is found at its key
+  -- each row of a table in order is found at its own key
   pub each_found : (xs : List X) → IsInOrder R key xs → AllByRecursion (λ x. row_at R key xs (key x) ≡ Some x) xs
   unfolding row_at
   each_found [] order = tt

@@ -1,4 +1,4 @@
--- Keys of tables: an order that is total, and ties only equal keys.
+-- Keys of tables: their order is total, and only equal keys compare as equal.
 use Rattle.std.specs.Prelude.{◌≡◌, true, List, [], ◌∷◌, Option, Some, None}
 use Rattle.std.proofs.Common.{refl, sym, ap, ◌∙◌}
 use Rattle.std.specs.Cmp.{IsTotalOrder}
@@ -9,17 +9,17 @@ use Rattle.std.specs.declared.cmp.Ordering.TheVariants.{Less, Equal, Greater}
 use Rattle.office_base.specs.Rows.{by_order, row_at}
 use Rattle.office_base.proofs.Orders.{same_key}
 
--- a table's key and its order
+-- the order of a table's keys is total, and only equal keys compare as equal
 pub record IsKeyed {K X : Type 0} (R : K → K → Ordering) (key : X → K) : Type 0 where
   pub total : IsTotalOrder R
   pub exact : IsAntisymmetric R
 
--- a key is the same as itself
+-- a key compares as equal with itself
 pub own_key : {K : Type 0} {R : K → K → Ordering} (o : IsTotalOrder R) (a : K) → eq_by_cmp R a a ≡ true
 own_key o a = ap is_eq (same_key o a)
 
 module _ {K X : Type 0} {R : K → K → Ordering} {key : X → K} (t : IsKeyed R key) where
-  -- a row that is found has the key that was asked for
+  -- a found row has the key that was asked for
   pub found_key : (xs : List X) (k : K) (y : X) → row_at R key xs k ≡ Some y → key y ≡ k
   unfolding row_at
   found_key [] k y e = cc

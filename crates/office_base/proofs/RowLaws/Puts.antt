@@ -1,4 +1,4 @@
--- What is found after a row is put, what holds of all rows then, and that the keys stay in order.
+-- Laws of a put: the rows that look-ups find after it, the properties of all rows, and the order of the keys.
 use Rattle.std.specs.Prelude.{◌≡◌, Bool, true, false, cond, List, [], ◌∷◌, Option, Some, None, is_some, IsSome}
 use Rattle.std.proofs.Common.{refl, ap, ◌∙◌}
 use Rattle.std.specs.List.{AllByRecursion}
@@ -27,7 +27,7 @@ at_greater Less c r x rest h = refl
 at_greater Equal c r x rest h = rw (h refl) refl
 at_greater Greater c r x rest h = refl
 
--- a row below all is put first
+-- a row whose key is below all others becomes the first
 pub put_first : {K X : Type 0} (R : K → K → Ordering) (key : X → K) (r : X) (xs : List X) → StartsAbove R key (key r) xs → row_put R key xs r ≡ r ∷ xs
 unfolding row_put
 put_first R key r [] s = refl
@@ -47,7 +47,7 @@ module _ {K X : Type 0} {R : K → K → Ordering} (o : IsTotalOrder R) (key : X
       ap (by_order (R q (key x)) None (Some x)) ih
       ∙ at_greater (R q (key r)) (R q (key x)) r x (row_at R key xs q) (λ a. o.congr q (key r) (key x) a ∙ e)
 
-  -- a row that was put is found at its key, and elsewhere what was there
+  -- after a put, a look-up of the row's key finds the row; a look-up of another key finds the same as before
   pub row_at-row_put : (xs : List X) (r : X) (q : K) → row_at R key (row_put R key xs r) q ≡ cond (eq_by_cmp R q (key r)) (Some r) (row_at R key xs q)
   unfolding row_at row_put
   row_at-row_put [] r q = elim (R q (key r)) as (λ a. by_order a None (Some r) None ≡ cond (is_eq a) (Some r) None) [ Less ↦ refl | Equal ↦ refl | Greater ↦ refl ]
@@ -57,7 +57,7 @@ module _ {K X : Type 0} {R : K → K → Ordering} (o : IsTotalOrder R) (key : X
   there_by true r found h = refl
   there_by false r found h = h
 
-  -- what was found is found after a put
+  -- a key at which a row was found still has one after a put
   pub still_there : (xs : List X) (r : X) (q : K) → IsSome (row_at R key xs q) → IsSome (row_at R key (row_put R key xs r) q)
   still_there xs r q h = ap is_some (row_at-row_put xs r q) ∙ there_by (eq_by_cmp R q (key r)) r (row_at R key xs q) h
 
@@ -67,7 +67,7 @@ module _ {K X : Type 0} {R : K → K → Ordering} (o : IsTotalOrder R) (key : X
   above_step k r x xs below first Equal e = below
   above_step k r x xs below first Greater e = first
 
-  -- a row above a key keeps the first above it
+  -- a put of a row above a key leaves rows that start above that key above it
   starts_above-put : (k : K) (r : X) (xs : List X) → R k (key r) ≡ Less → StartsAbove R key k xs → StartsAbove R key k (row_put R key xs r)
   unfolding row_put
   starts_above-put k r [] below h = below
@@ -82,13 +82,13 @@ module _ {K X : Type 0} {R : K → K → Ordering} (o : IsTotalOrder R) (key : X
   order_step r x xs h ih Equal e = (tied o key (key r) (key x) xs e h.0, h.1)
   order_step r x xs h ih Greater e = (starts_above-put (key x) r xs (below_after (key r) (key x) e) h.0, ih)
 
-  -- the keys stay in order
+  -- a put keeps the keys in order
   pub in_order-put : (xs : List X) (r : X) → IsInOrder R key xs → IsInOrder R key (row_put R key xs r)
   unfolding row_put
   in_order-put [] r h = (tt, tt)
   in_order-put (x ∷ xs) r h = order_step r x xs h (in_order-put xs r h.1) (R (key r) (key x)) refl
 
-  -- what holds of all rows and of one more holds of all after it is put
+  -- if all rows and a new one have a property, so have all rows after the new one was put; this is the step for the first row
   all_step : (P : X → Type 0) (r x : X) (xs : List X) → P r → AllByRecursion P (x ∷ xs) → AllByRecursion P (row_put R key xs r)
       → (c : Ordering) → AllByRecursion P (by_order c (r ∷ x ∷ xs) (r ∷ xs) (x ∷ row_put R key xs r))
   all_step P r x xs one h ih Less = (one, h)
@@ -107,7 +107,7 @@ module _ {K X : Type 0} {R : K → K → Ordering} (o : IsTotalOrder R) (key : X
   put_step r x xs ih Equal h = rw (h, same_key o (key r)) refl
   put_step r x xs ih Greater h = rw (h, h) ih
 
-  -- a row that was put is found
+  -- a row that was put is found at its key
   pub put_is_found : (r : X) (xs : List X) → row_at R key (row_put R key xs r) (key r) ≡ Some r
   unfolding row_at row_put
   put_is_found r [] = rw (same_key o (key r)) refl

@@ -1,4 +1,4 @@
-//! A contract with its entries, and what they come to.
+//! A contract with its entries and its sums.
 ghost use Rattle.std.specs.Prelude.{◌≡◌, ◌<◌, true, false, IfOk, IfErr, OnOk, option_map};
 ghost use Rattle.office_commands.specs.Rights.{may_look};
 ghost use Rattle.office_commands.specs.declared.command.QueryKind.TheVariants as kinds;
@@ -28,7 +28,7 @@ use office_values::refusal::{Refusal, Thing};
 use office_values::text::TextLine;
 use std::alloc::{AllocError, Global};
 
-// A text that may be absent, borrowed.
+// A borrowed text that may be absent.
 fn remark_of(line: &Option<TextLine>) -> Option<&str>
     ensures { option_map (λ text. text.now) result ≡ line.now }
 {
@@ -38,7 +38,7 @@ fn remark_of(line: &Option<TextLine>) -> Option<&str>
     }
 }
 
-// An entry of a contract.
+// Shows an entry of a contract.
 struct ListedEntry;
 
 impl RowObject for ListedEntry {
@@ -64,7 +64,8 @@ impl RowObject for ListedEntry {
     }
 }
 
-// What is outstanding of a contract. `Unavailable` where more has gone than came, or it is above every sum of money, as in no office that commands lead to.
+// The outstanding amount of a contract. `Unavailable` if more went out than came in, or if the amount is above every sum of money. Neither can happen in a
+// reached office.
 fn left_of(entries: &[EntryRow], row: &ContractRow) -> Result<Total, Refusal>
     ensures sum { IfOk result (λ sum. sum ≡ outstanding entries.now row.now) }
     ensures covered { IfOk result (λ _. is_overdrawn entries.now row.now ≡ false) }
@@ -76,7 +77,7 @@ fn left_of(entries: &[EntryRow], row: &ContractRow) -> Result<Total, Refusal>
     Total::of_sum(outstanding(entries, row)).ok_or(Refusal::Unavailable)
 }
 
-// What was paid under it. `Unavailable` where that is above every sum of money.
+// The sum of the payments under a contract. `Unavailable` if it is above every sum of money.
 fn paid_of(entries: &[EntryRow], row: &ContractRow) -> Result<Total, Refusal>
     ensures sum { IfOk result (λ sum. sum ≡ paid_under entries.now row.now) }
     ensures fault { IfErr result (λ e. (e ≡ Unavailable) × (total_limit < paid_under entries.now row.now)) }
@@ -119,7 +120,7 @@ fn contract_text(
     )
 }
 
-/// A contract with its entries. It is shown to its tenderer and to the clerk.
+/// Shows a contract with its entries to its tenderer or to the clerk.
 #[tactic(auto, using(crate::proofs::Rising::has_risen))]
 pub(crate) fn look<H: Lookups>(
     alloc: Global,

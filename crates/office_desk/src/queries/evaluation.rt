@@ -1,4 +1,4 @@
-//! How the awards of a notice came about: what was found of each tender, and what was decided.
+//! The evaluation of a notice: the office's findings about each tender, and its decisions.
 ghost use Rattle.std.specs.Prelude.{◌≡◌, ◌||◌, ◌++◌, true, None, IfOk, IfErr, map};
 ghost use Rattle.std.specs.List.{flat_map, list_any};
 ghost use Rattle.office_commands.specs.Rights.{is_clerk, may_look};
@@ -23,7 +23,7 @@ use office_values::refusal::{Refusal, Thing};
 use std::alloc::{AllocError, Global};
 use tender_papers::evaluation::{EvaluationText, Finding};
 
-// The thousandths of points of a tender that may win, measured by this lowest price; none where the price alone decides.
+// The thousandths of points of an admissible tender, measured against this lowest price. None if the price alone decides.
 fn points_told(weight: Weight, lowest: Amount, row: &EnvelopeRow) -> Option<u64>
     ensures { result ≡ points_told weight lowest row.now }
 {
@@ -34,7 +34,7 @@ fn points_told(weight: Weight, lowest: Amount, row: &EnvelopeRow) -> Option<u64>
     }
 }
 
-// What was found of a tender that was opened. In an office that commands lead to it was read.
+// The findings about an opened tender. `Unavailable` if it wasn't read, which can't happen in a reached office.
 fn finding_of(weight: Weight, lowest: Amount, row: &EnvelopeRow) -> Result<Finding, Refusal>
     ensures found { IfOk result (λ finding. finding ≡ finding_of (evaluated_tender weight lowest row.now)) }
     ensures fault { IfErr result (λ e. (e ≡ Unavailable) × (row.now.reading ≡ None)) }
@@ -54,7 +54,7 @@ fn finding_of(weight: Weight, lowest: Amount, row: &EnvelopeRow) -> Result<Findi
     })
 }
 
-// A line for each of a lot's tenders that was opened, behind what is there.
+// Adds a line for each opened tender of a lot.
 fn put_tenders(
     text: &mut EvaluationText,
     weight: Weight,
@@ -72,7 +72,7 @@ fn put_tenders(
     Ok(())
 }
 
-// A line for each of these awards that is of the lot, behind what is there.
+// Adds a line for each of these awards that is of this lot.
 fn put_awards(text: &mut EvaluationText, lot: Id, awards: &[AwardRow]) -> Result<(), AllocError>
     ensures { IfOk result (λ _. text.new ≡ text.old ++ flat_map award_line (awards_of_lot lot awards.now)) }
 {
@@ -91,21 +91,21 @@ fn has_award(awards: &[AwardRow], lot: &Id) -> bool
     awards.iter().any(|award| award.lot == *lot)
 }
 
-// Whether the lot has had an outcome.
+// Whether the lot has an outcome.
 fn has_outcome(awards: &[AwardRow], lot: &LotRow) -> bool
     ensures { result ≡ has_outcome awards.now lot.now }
 {
     lot.state != LotState::Undecided || has_award(awards, &lot.lot)
 }
 
-// Whether the caller is shown the lot's tenders and awards.
+// Whether the caller sees the lot's tenders and awards.
 fn is_shown(caller: &Caller, awards: &[AwardRow], lot: &LotRow) -> bool
     ensures { result ≡ (is_clerk caller.now || has_outcome awards.now lot.now) }
 {
     matches!(caller, Caller::Clerk) || has_outcome(awards, lot)
 }
 
-// The lines of a lot, behind what is there: its own, and, where they are shown, those of its tenders and of its awards, which are among these.
+// Adds the lines of a lot: its own line, and if the caller sees them, those of its tenders and of its awards.
 fn put_lot<H: Lookups>(
     shelf: &mut H,
     text: &mut EvaluationText,
@@ -150,7 +150,7 @@ fn lots_text<H: Lookups>(
     Ok(text)
 }
 
-/// How the awards of a notice that was opened came about: to the clerk all of it, to others of each lot that has had an outcome.
+/// Shows the evaluation of a notice that was opened. The clerk sees all of it. Anyone else sees the tenders and awards of a lot only after it has an outcome.
 #[tactic(auto, using(crate::proofs::Rising::has_risen))]
 pub(crate) fn look<H: Lookups>(
     alloc: Global,

@@ -12,7 +12,7 @@ use office_values::refusal::Refusal;
 use std::alloc::Global;
 use tender_papers::ledger::ledger_text;
 
-/// The ledger. A sum that is out of its range is a fault of the store.
+/// Shows the ledger. A sum out of range counts as a fault of the store.
 #[tactic(auto, using(crate::proofs::Rising::has_risen))]
 pub(crate) fn look<H: Lookups>(
     alloc: Global,

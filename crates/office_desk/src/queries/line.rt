@@ -1,4 +1,4 @@
-//! A look at a budget line.
+//! The query for a budget line.
 ghost use Rattle.std.specs.Prelude.{◌≡◌, true, IfOk};
 ghost use Rattle.office_commands.specs.Rights.{may_look};
 ghost use Rattle.office_commands.specs.declared.command.QueryKind.TheVariants as kinds;
@@ -19,7 +19,7 @@ use office_values::id::Id;
 use office_values::refusal::{Refusal, Thing};
 use std::alloc::{AllocError, Global};
 
-// What is seen of a line, in JSON.
+// The text of a budget line, in JSON.
 fn line_text(alloc: Global, row: &LineRow, pots: &Pots) -> Result<Vec<u8>, AllocError>
     ensures { IfOk result (λ text. text.items ≡ reply_text (LineSeen row.now.line row.now.title pots.now)) }
 {
@@ -38,7 +38,7 @@ fn line_text(alloc: Global, row: &LineRow, pots: &Pots) -> Result<Vec<u8>, Alloc
     )
 }
 
-/// A look at a budget line: where its money is. A sum that is out of its range is answered like a fault of the store.
+/// Shows a budget line with its balances. A sum out of range is answered like a fault of the store.
 #[tactic(auto, using(crate::proofs::Rising::has_risen))]
 pub(crate) fn look<H: Lookups>(
     alloc: Global,

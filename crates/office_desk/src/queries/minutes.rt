@@ -19,15 +19,15 @@ use office_values::refusal::{Refusal, Thing};
 use std::alloc::Global;
 use tender_papers::minutes::{OpenedTender, minutes_text};
 
-// The tenders that were opened, which alone are in minutes. Takes no memory.
+// Keeps the tenders that were opened; the minutes have no others. Takes no memory.
 fn keep_opened(envelopes: &mut Vec<EnvelopeRow>)
     ensures { envelopes.new.items ≡ filter is_read_envelope envelopes.old.items }
 {
     envelopes.retain(|row| row.state == EnvelopeState::Opened);
 }
 
-// What minutes say of a tender that was opened: its tenderer is looked up. In an office that commands lead to, the tenderer is there,
-// and the tender was read.
+// An opened tender as the minutes show it, with its tenderer, who is looked up. `Unavailable` if the tenderer is missing or the tender wasn't read, which can't
+// happen in a reached office.
 fn load_tender<H: Lookups>(shelf: &mut H, row: &EnvelopeRow) -> Result<OpenedTender, Refusal>
     ensures looks { Looks H.meaning shelf.old shelf.new (λ s. IfOk result (λ tender. tender ≡ minuted_tender (minuted s.tenderers row.now))) }
     ensures fault { IfErr result (λ e. e ≡ Unavailable) }
@@ -46,7 +46,7 @@ fn load_tender<H: Lookups>(shelf: &mut H, row: &EnvelopeRow) -> Result<OpenedTen
     })
 }
 
-// What minutes say of these tenders.
+// These tenders as the minutes show them.
 fn load_tenders<H: Lookups>(
     alloc: Global,
     shelf: &mut H,
@@ -80,7 +80,7 @@ fn opened_text(
     Ok(minutes_text(alloc, notice, opened, lots, tenders)?.into_vec())
 }
 
-/// The minutes of an opening.
+/// Shows the minutes of an opening.
 #[tactic(auto, using(crate::proofs::Rising::has_risen))]
 pub(crate) fn look<H: Lookups>(
     alloc: Global,

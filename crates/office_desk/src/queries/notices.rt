@@ -1,4 +1,4 @@
-//! A page of the notices.
+//! A page of the list of notices.
 ghost use Rattle.std.specs.Prelude.{◌≡◌, true, IfOk};
 ghost use Rattle.office_commands.specs.Rights.{may_look};
 ghost use Rattle.office_commands.specs.declared.command.QueryKind.TheVariants as kinds;
@@ -20,7 +20,7 @@ use office_values::refusal::Refusal;
 use std::alloc::{AllocError, Global};
 use tender_papers::listing::notice_word;
 
-// A notice in the list of them.
+// Shows a notice in the list.
 struct ListedNotice;
 
 impl RowObject for ListedNotice {
@@ -50,7 +50,7 @@ impl RowObject for ListedNotice {
     }
 }
 
-// The text of a page of the notices, from one row more than it has.
+// The text of a page of notices. These rows are the page, and one more if more rows follow.
 fn notices_text(alloc: Global, rows: &[NoticeRow]) -> Result<Vec<u8>, AllocError>
     ensures { IfOk result (λ text. text.items ≡ reply_text (notices_told rows.now)) }
 {
@@ -66,7 +66,7 @@ fn notices_text(alloc: Global, rows: &[NoticeRow]) -> Result<Vec<u8>, AllocError
     )
 }
 
-/// A page of the notices: the first hundred behind this one, or of all.
+/// Shows a page of the notices: the first hundred after this one, or the first hundred of all.
 #[tactic(auto, using(crate::proofs::Rising::has_risen))]
 pub(crate) fn look<H: Lookups>(
     alloc: Global,

@@ -24,7 +24,7 @@ use office_values::id::Id;
 use office_values::refusal::{Refusal, Thing};
 use std::alloc::{AllocError, Global};
 
-// A tender in its tenderer's list.
+// Shows a tender in its tenderer's list.
 struct ListedTender;
 
 impl RowObject for ListedTender {
@@ -53,7 +53,7 @@ impl RowObject for ListedTender {
     }
 }
 
-// The tenders that this tenderer presented for these lots, lot by lot. No other's tender is looked up.
+// The tenders that this tenderer submitted for these lots, lot by lot. No other tender is looked up.
 fn load_tenders<H: Lookups>(
     alloc: Global,
     shelf: &mut H,
@@ -79,7 +79,7 @@ fn tenders_text(alloc: Global, rows: &[EnvelopeRow]) -> Result<Vec<u8>, AllocErr
     rows_text(alloc, &[], "tenders", &ListedTender, rows, &[])
 }
 
-/// The tenders of a notice that the caller presented, in whatever state.
+/// Shows the tenders of a notice that the caller submitted, in any state.
 #[tactic(auto, using(crate::proofs::Rising::has_risen))]
 pub(crate) fn look<H: Lookups>(
     alloc: Global,

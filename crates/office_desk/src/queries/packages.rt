@@ -17,7 +17,7 @@ use office_values::refusal::{Refusal, Thing};
 use office_values::settings::Publisher;
 use std::alloc::Global;
 
-/// The package of a notice's releases.
+/// Shows the package of a notice's releases.
 #[tactic(auto, using(crate::proofs::Rising::has_risen))]
 pub(crate) fn look_at_releases<H: Lookups>(
     alloc: Global,
@@ -38,7 +38,7 @@ pub(crate) fn look_at_releases<H: Lookups>(
     texts::releases_text(alloc, shelf, publisher, &notice, row.releases)
 }
 
-/// The package of a notice's record.
+/// Shows the package of a notice's record.
 #[tactic(auto, using(crate::proofs::Rising::has_risen))]
 pub(crate) fn look_at_record<H: Lookups>(
     alloc: Global,

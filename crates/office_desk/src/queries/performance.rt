@@ -1,4 +1,4 @@
-//! A look at a performance security.
+//! The query for a performance security.
 ghost use Rattle.std.specs.Prelude.{◌≡◌, true, IfOk};
 ghost use Rattle.office_commands.specs.Rights.{may_look};
 ghost use Rattle.office_commands.specs.declared.command.QueryKind.TheVariants as kinds;
@@ -18,7 +18,7 @@ use office_values::given::AskedNumber;
 use office_values::refusal::{Refusal, Thing};
 use std::alloc::{AllocError, Global};
 
-// What is seen of the performance security of a contract, in JSON.
+// The text of a contract's performance security, in JSON.
 fn performance_text(
     alloc: Global,
     contract: &ContractRow,
@@ -42,7 +42,7 @@ fn performance_text(
     )
 }
 
-/// A look at the performance security of a contract. It is shown to the contract's tenderer and to the clerk; the contract is looked for first.
+/// Shows the performance security of a contract to the contract's tenderer or to the clerk. The contract is looked up first.
 #[tactic(auto, using(crate::proofs::Rising::has_risen))]
 pub(crate) fn look<H: Lookups>(
     alloc: Global,

@@ -26,7 +26,7 @@ fn registry_text(alloc: Global, notice: Id, rows: &[EnvelopeRow]) -> Result<Vec<
     Ok(register_text(alloc, notice, rows)?.into_vec())
 }
 
-/// The register of a notice's tenders. The clerk alone asks for it.
+/// Shows the register of a notice's tenders to the clerk.
 #[tactic(auto, using(crate::proofs::Rising::has_risen))]
 pub(crate) fn look<H: Lookups>(
     alloc: Global,

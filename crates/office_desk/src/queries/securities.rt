@@ -20,13 +20,13 @@ use office_values::id::Id;
 use office_values::refusal::{Refusal, Thing};
 use std::alloc::{AllocError, Global};
 
-// A security in the list of its notice.
+// Shows a security in the list of its notice.
 #[derive(Drop)]
 struct ListedSecurity<'a> {
     notice: &'a NoticeRow,
 }
 
-// Who named the security; nobody while tenders are received.
+// The tenderer who named the security, or none while tenders are received.
 fn named(notice: &NoticeRow, row: &SecurityRow) -> Option<Id>
     ensures { let listed = listed_security notice.now row.now in result ≡ listed.tenderer }
 {
@@ -74,7 +74,7 @@ fn securities_text(
     rows_text(alloc, &[], "securities", &list, rows, &[])
 }
 
-/// The tender securities of a notice, in whatever state. The clerk alone asks for them, and isn't told who named them while tenders are received.
+/// Shows the tender securities of a notice, in any state, to the clerk. While tenders are received, it doesn't show who named them.
 #[tactic(auto, using(crate::proofs::Rising::has_risen))]
 pub(crate) fn look<H: Lookups>(
     alloc: Global,

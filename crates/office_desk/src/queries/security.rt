@@ -1,4 +1,4 @@
-//! A look at a security.
+//! The query for a tender security.
 ghost use Rattle.std.specs.Prelude.{◌≡◌, ◌||◌, true, IfOk};
 ghost use Rattle.office_commands.specs.Callers.{is_by};
 ghost use Rattle.office_commands.specs.Rights.{is_clerk, may_look};
@@ -20,14 +20,14 @@ use office_values::refusal::{Refusal, Thing};
 use std::alloc::{AllocError, Global};
 use tender_core::tenders::is_by;
 
-/// Whether the clerk calls or this tenderer.
+/// Whether the caller is the clerk or this tenderer.
 pub(crate) fn is_by_clerk_or(caller: &Caller, tenderer: &Id) -> bool
     ensures { result ≡ (is_clerk caller.now || is_by caller.now tenderer.now) }
 {
     matches!(caller, Caller::Clerk) || is_by(caller, tenderer)
 }
 
-// What is seen of a security, in JSON.
+// The text of a security, in JSON.
 fn security_text(alloc: Global, row: &SecurityRow) -> Result<Vec<u8>, AllocError>
     ensures { IfOk result (λ text. text.items
         ≡ reply_text (SecuritySeen row.now.amount row.now.reference row.now.security row.now.state row.now.tenderer)) }
@@ -47,7 +47,7 @@ fn security_text(alloc: Global, row: &SecurityRow) -> Result<Vec<u8>, AllocError
     )
 }
 
-/// A look at a security. It is shown to whoever named it and to the clerk.
+/// Shows a security to the tenderer who named it or to the clerk.
 #[tactic(auto, using(crate::proofs::Rising::has_risen))]
 pub(crate) fn look<H: Lookups>(
     alloc: Global,

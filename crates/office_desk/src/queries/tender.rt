@@ -1,4 +1,4 @@
-//! A look at a tender.
+//! The query for a tender.
 ghost use Rattle.std.specs.Prelude.{◌≡◌, true, IfOk};
 ghost use Rattle.office_commands.specs.Rights.{may_look};
 ghost use Rattle.office_commands.specs.declared.command.QueryKind.TheVariants as kinds;
@@ -18,7 +18,7 @@ use office_values::refusal::{Refusal, Thing};
 use std::alloc::{AllocError, Global};
 use tender_core::tenders::is_by;
 
-// What is seen of a tender, in JSON.
+// The text of a tender, in JSON.
 fn tender_text(alloc: Global, row: &EnvelopeRow) -> Result<Vec<u8>, AllocError>
     ensures { IfOk result (λ text. text.items
         ≡ reply_text (TenderSeen row.now.digest row.now.length row.now.notice row.now.lot row.now.moment row.now.receipt row.now.security row.now.state)) }
@@ -42,7 +42,7 @@ fn tender_text(alloc: Global, row: &EnvelopeRow) -> Result<Vec<u8>, AllocError>
     )
 }
 
-/// A look at a tender. It is shown to whoever presented it.
+/// Shows a tender to the tenderer who submitted it.
 #[tactic(auto, using(crate::proofs::Rising::has_risen))]
 pub(crate) fn look<H: Lookups>(
     alloc: Global,

@@ -1,4 +1,4 @@
-//! A page of the tenderers, without their keys.
+//! A page of the list of tenderers, without their keys.
 ghost use Rattle.std.specs.Prelude.{◌≡◌, true, IfOk};
 ghost use Rattle.office_commands.specs.Rights.{may_look};
 ghost use Rattle.office_commands.specs.declared.command.QueryKind.TheVariants as kinds;
@@ -19,7 +19,7 @@ use office_values::id::Id;
 use office_values::refusal::Refusal;
 use std::alloc::{AllocError, Global};
 
-// A tenderer in the list of them: no key, and no digest of one.
+// Shows a tenderer in the list, with no key and no digest of one.
 struct ListedTenderer;
 
 impl RowObject for ListedTenderer {
@@ -42,7 +42,7 @@ impl RowObject for ListedTenderer {
     }
 }
 
-// The text of a page of the tenderers, from one row more than it has.
+// The text of a page of tenderers. These rows are the page, and one more if more rows follow.
 fn tenderers_text(alloc: Global, rows: &[TendererRow]) -> Result<Vec<u8>, AllocError>
     ensures { IfOk result (λ text. text.items ≡ reply_text (tenderers_told rows.now)) }
 {
@@ -58,7 +58,7 @@ fn tenderers_text(alloc: Global, rows: &[TendererRow]) -> Result<Vec<u8>, AllocE
     )
 }
 
-/// A page of the tenderers: the first hundred behind this one, or of all. The clerk alone asks for it.
+/// Shows a page of the tenderers to the clerk: the first hundred after this one, or the first hundred of all.
 #[tactic(auto, using(crate::proofs::Rising::has_risen))]
 pub(crate) fn look<H: Lookups>(
     alloc: Global,

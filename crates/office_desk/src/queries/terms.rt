@@ -22,7 +22,7 @@ use std::alloc::{AllocError, Global};
 use tender_papers::evaluation::lot_word;
 use tender_papers::listing::notice_word;
 
-// An item of a lot.
+// Shows an item of a lot.
 struct ListedItem;
 
 impl RowObject for ListedItem {
@@ -45,7 +45,7 @@ impl RowObject for ListedItem {
     }
 }
 
-// A lot with its items.
+// Shows a lot with its items.
 struct ListedLot;
 
 impl RowObject for ListedLot {
@@ -79,14 +79,14 @@ impl RowObject for ListedLot {
     }
 }
 
-// What decides between tenders: the price alone, where it weighs nothing in a hundred points.
+// The word for the criteria: `price` if the weight is 0, so that the price alone decides, and otherwise `points`.
 fn criteria_word(weight: Weight) -> &'static str
     ensures { result.now ≡ criteria_word weight }
 {
     if weight.get() == 0 { "price" } else { "points" }
 }
 
-// What the price weighs, where points decide.
+// The weight of the price, or none if the price alone decides.
 fn weight_told(weight: Weight) -> Option<u64>
     ensures { result ≡ weight_told weight }
 {
@@ -97,7 +97,7 @@ fn weight_told(weight: Weight) -> Option<u64>
     }
 }
 
-// What becomes of a tender that is taken back after the deadline.
+// The word for a tender that is withdrawn after the deadline: `forfeits` or `refused`.
 fn late_word(late: bool) -> &'static str
     ensures { result.now ≡ late_word late }
 {
@@ -145,7 +145,7 @@ fn terms_text(
     )
 }
 
-/// The terms of a notice: what binds who presents a tender, with its lots (UNCITRAL Model Law 2011, article 39).
+/// Shows the terms of a notice, which bind anyone who submits a tender, with its lots (UNCITRAL Model Law 2011, article 39).
 #[tactic(auto, using(crate::proofs::Rising::has_risen))]
 pub(crate) fn look<H: Lookups>(
     alloc: Global,

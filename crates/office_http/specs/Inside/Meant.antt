@@ -1,4 +1,4 @@
--- One answer to what is meant, where it can be given.
+-- One answer to the meaning of a request, if this can be given to the specification.
 use Rattle.std.specs.Prelude.{◌≡◌, ℕ, ◌⊎◌, Bool, true, List, Option, Some}
 use Rattle.office_values.specs.declared.refusal.Refusal.{Refusal}
 use Rattle.office_values.specs.declared.settings.Settings.{Settings}
@@ -15,28 +15,29 @@ use Rattle.office_http.specs.Answering.{StopsAfter, answer_bytes, tables_left}
 use Rattle.office_http.specs.Response.{response_of}
 use Rattle.office_http.specs.declared.reply.Reply.TheVariants.{Refused}
 
--- a command that is given is one that can be, and a tenderer who gives it is registered
+-- If a command is given, it has an allowed form, and a tenderer who gives it is registered.
 abbrev pub CanBeMeant : Tables → Meant → Type 0
 CanBeMeant s (Refuses why method) = Unit {0}
 CanBeMeant s (Gives caller command) = IsCommand command × IsRegistered caller s.tenderers
 CanBeMeant s (Sees caller query) = Unit {0}
 
--- a shelf holds this office, which stands as its commands left it
+-- The store holds this office, which is a reached one.
 abbrev pub HoldsStanding : {S : Type 0} → Meaning S → Settings → S → Tables → Type 0
 HoldsStanding M settings new s = M.holds new s × IsReached settings.publisher s
 
--- what was meant was answered with this text, perhaps with Unavailable, the shelf holds the office after it, and a stop leaves what it then may
+-- The meaning of a request is answered with this text, perhaps with `Unavailable`. The store holds the office after it, and a stop leaves only the states of
+-- `StopsAfter`.
 abbrev pub Answered : {S : Type 0} → Meaning S → Settings → S → S → Tables → ℕ → Meant → List ℕ → Type 0
 Answered M settings old new s moment m text =
     (busy : Bool) × (text ≡ answer_bytes settings busy s moment m) × HoldsStanding M settings new (tables_left settings busy s moment m)
     × StopsAfter M settings old new busy s moment m
 
--- so is whatever can be meant
+-- A reached office answers every meaning that can be given in this way.
 abbrev pub AnswersMeant : {S : Type 0} → Meaning S → Settings → S → S → ℕ → (Tables → Meant) → List ℕ → Type 0
 AnswersMeant M settings old new moment m text =
     M.honest new → (s : Tables) → M.holds old s → IsReached settings.publisher s → CanBeMeant s (m s) → Answered M settings old new s moment (m s) text
 
--- where the refusal of what is meant is found without memory, it is told, or the store's count of faults rose
+-- If the decision needs no memory, a refused request gets its refusal, or the store has counted another fault.
 abbrev pub IsCertain : {S : Type 0} → Meaning S → S → S → ℕ → (Tables → Meant) → List ℕ → Type 0
 IsCertain M old new moment m text =
     M.honest new → (s : Tables) → M.holds old s → takes_none (m s) ≡ true → (why : Refusal × Option Allow) → refusal_meant s moment (m s) ≡ Some why

@@ -1,4 +1,4 @@
--- Each accepted command keeps the accounts, and so does every list of them.
+-- Every accepted command keeps the accounts, so they are right in every reached office.
 use Rattle.std.proofs.Common.{◌≡◌, ℕ, List, [], ◌∷◌, Some, None, refl}
 use Rattle.std.specs.Prelude.{max}
 use Rattle.office_commands.specs.declared.command.Caller.{Caller}
@@ -34,7 +34,7 @@ start = record {
   no_contract = λ number none. record { came_in = refl; went_out = refl; raised = refl; lessened = refl; paid_out = refl };
 }
 
--- the same with other merges of releases beside it
+-- merges of releases beside the office don't change the accounts
 kept_beside : (merges : List CompiledRow) (xs : List Given) (s : Tables) → AccountsStand xs s → AccountsStand xs (with_merges merges s)
 kept_beside merges xs s k = record {
   pots = λ q. let p = k.pots q in record { appropriation_is = p.appropriation_is; free_is = p.free_is; reserved_is = p.reserved_is; gains_are = p.gains_are; losses_are = p.losses_are; paid_is = p.paid_is; none_spent = p.none_spent };
@@ -45,7 +45,7 @@ kept_beside merges xs s k = record {
   no_contract = λ number none. let n = k.no_contract number none in record { came_in = n.came_in; went_out = n.went_out; raised = n.raised; lessened = n.lessened; paid_out = n.paid_out };
 }
 
--- each accepted command
+-- every accepted command keeps the accounts
 keeps : (readings : Readings) (xs : List Given) (s : Tables) (moment : ℕ) (caller : Caller) (command : Command) → AccountsStand xs s → IsSorted s → HaveParents s s → IsCommand command
     → first_of (tests_for s (max moment s.clock.moment) caller command) ≡ None
     → AccountsStand (given s moment caller command ∷ xs) (after_puts (puts_for readings s (max moment s.clock.moment) caller command) s)

@@ -1,4 +1,4 @@
--- No sum leaves its range.
+-- No sum exceeds its range.
 use Rattle.std.proofs.Common.{◌≡◌, ℕ, ◌+◌, ◌-◌, ◌≤◌, Bool, true, false, cond, ◌&&◌, List, [], ◌∷◌, ◌++◌, Option, Some, None, nat_le, refl, sym, ◌∙◌, ap, subst, arith}
 use Rattle.std.specs.Ordering.{nat_cmp}
 use Rattle.office_base.specs.Rows.{row_at}
@@ -32,7 +32,7 @@ use Rattle.office_machine.proofs.Passed.{witness, allowed_by}
 use Rattle.office_machine.proofs.Rows.SortedTables.{sorted}
 use Rattle.office_base.proofs.SumsOver.{sum_over-append_map, sum_over-zero}
 
--- a command but an import moves nothing from outside or to it
+-- these further moves move nothing from outside to the line or back
 record IsInside (ms : List Move) (more : List Move) (q : List ℕ) : Type 0 where
   came_is : inflow (more ++ ms) q Outside ≡ inflow ms q Outside
   went_is : outflow (more ++ ms) q Outside ≡ outflow ms q Outside
@@ -52,7 +52,7 @@ of_change : (kind : ChangeKind) (line : List ℕ) (amount : ℕ) (ms : List Move
 of_change change_kinds.Raise line amount ms q = record { came_is = omega arith; went_is = omega arith }
 of_change change_kinds.Cut line amount ms q = record { came_is = omega arith; went_is = omega arith }
 
--- the appropriation stays as it was where nothing comes from outside
+-- if no move is from or to the outside, the appropriation remains as it was
 same_appropriation : (xs : List Given) (x : Given) (s t : Tables) (q : List ℕ) → AccountsStand xs s → AccountsStand (x ∷ xs) t → IsInside (moves xs) (moves_by x xs) q → appropriation q t ≡ appropriation q s
 same_appropriation xs x s t q kept after inside =
     omega (arith, (kept.pots q).appropriation_is, (after.pots q).appropriation_is, inside.came_is, inside.went_is)
@@ -89,7 +89,7 @@ module _ (means : Means) (xs : List Given) (s : Tables) (moment : ℕ) (caller :
   fits (End contract how) = inside (End contract how) (λ q. record { came_is = omega arith; went_is = omega arith })
   fits command = inside command (nothing_more (moves xs))
 
--- a publication changes no line
+-- the release of a command changes no line
 published_line : (means : Means) (x : Given) (q : List ℕ) → appropriation q (next means x) ≡ appropriation q (after_puts (effect means.readings x) x.before)
 published_line means x q =
     ap (appropriation q) (after-append (effect means.readings x) (publication_puts (publication means x)) x.before)
@@ -104,7 +104,7 @@ all_fit means (x ∷ xs) t reached =
     let fit = all_fit means xs x.before reached.reached in
     fits means xs x.before x.moment x.caller kept order fit x.command (allowed_by x reached.allowed) t (all_kept means (x ∷ xs) t reached) (λ q. ap (appropriation q) reached.is ∙ published_line means x q)
 
--- what one contract has is at most what its line has
+-- a contract's amount is at most the sum over the contracts of its line
 one_of : (f : ContractRow → ℕ) (lots : List LotRow) (cs : List ContractRow) (n : ℕ) (c : ContractRow) (l : LotRow) → Rattle.office_base.specs.Tables.find_contract cs n ≡ Some c → find_lot lots (c.notice, c.lot) ≡ Some l → f c ≤ over_contracts f lots cs l.line
 one_of f lots cs n c l is lot =
     let own : is_on_line lots l.line c ≡ true = ap (λ o. is_of o l.line) lot ∙ same_itself l.line in

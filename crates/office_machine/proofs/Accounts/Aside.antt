@@ -1,4 +1,4 @@
--- Commands that move nothing, and puts that touch no line, lot, award, contract or entry.
+-- Commands that move nothing, and puts that touch none of the books: lines, lots, awards, contracts and entries.
 use Rattle.std.proofs.Common.{◌≡◌, ℕ, ◌-◌, ◌≤◌, List, [], ◌∷◌, ◌++◌, map, filter, Option, Some, None, refl, sym, ◌∙◌, ap, subst, arith}
 use Rattle.std.specs.Prelude.{IsSome}
 use Rattle.std.specs.List.{AllByRecursion}
@@ -14,7 +14,7 @@ use Rattle.office_machine.proofs.Accounts.Kept.{AccountsStand, PotsAre}
 use Rattle.office_machine.proofs.Rows.Keyed as keyed
 use Rattle.office_machine.proofs.Rows.Keyed.{still_there}
 
--- the put is of another record; the clock keeps at least n numbers of awards
+-- the put is of no book, and a clock has at least n numbers of awards
 abbrev pub IsAside : ℕ → Put → Type 0
 IsAside n (puts.Line r) = ⊥
 IsAside n (puts.Lot r) = ⊥
@@ -27,7 +27,7 @@ IsAside n _ = Unit {0}
 abbrev pub AreAside : ℕ → List Put → Type 0
 AreAside n ps = AllByRecursion (IsAside n) ps
 
--- the books of s' are those of s
+-- the books of the two offices are equal: lines, lots, awards, contracts and entries; every notice remains
 pub record SameBooks (n : ℕ) (s s' : Tables) : Type 0 where
   pub lines : s.lines ≡ s'.lines
   pub lots : s.lots ≡ s'.lots
@@ -47,7 +47,7 @@ one_aside n (puts.Entry r) s a = absurd a
 one_aside n (puts.Clock r) s a = record { lines = refl; lots = refl; awards = refl; contracts = refl; entries = refl; notices = λ k h. h; numbers = λ h. a }
 one_aside n _ s a = record { lines = refl; lots = refl; awards = refl; contracts = refl; entries = refl; notices = λ k h. h; numbers = λ h. h }
 
--- such puts leave the books
+-- puts aside leave the books as they are
 pub all_aside : (n : ℕ) (ps : List Put) (s : Tables) → AreAside n ps → SameBooks n s (after_puts ps s)
 all_aside n [] s a = record { lines = refl; lots = refl; awards = refl; contracts = refl; entries = refl; notices = λ k h. h; numbers = λ h. h }
 all_aside n (p ∷ ps) s a =
@@ -63,7 +63,7 @@ all_aside n (p ∷ ps) s a =
       numbers = λ h. more.numbers (one.numbers h);
     }
 
--- what is kept of the books stays so
+-- the accounts of an office are those of an office with the same books
 pub kept_alike : (xs : List Given) (s s' : Tables) → SameBooks s.clock.awards s s' → AccountsStand xs s → AccountsStand xs s'
 kept_alike xs s s' same kept = subst (AccountsStand xs) path mixed
   where
@@ -80,7 +80,7 @@ kept_alike xs s s' same kept = subst (AccountsStand xs) path mixed
     path : record s' { lines = s.lines; lots = s.lots; awards = s.awards; contracts = s.contracts; entries = s.entries } ≡ s'
     path = λ i. record s' { lines = same.lines i; lots = same.lots i; awards = same.awards i; contracts = same.contracts i; entries = same.entries i }
 
--- after puts that are aside
+-- puts aside keep the accounts
 pub kept_aside : (xs : List Given) (ps : List Put) (s : Tables) → AreAside s.clock.awards ps → AccountsStand xs s → AccountsStand xs (after_puts ps s)
 kept_aside xs ps s a kept = kept_alike xs s (after_puts ps s) (all_aside s.clock.awards ps s a) kept
 
@@ -103,7 +103,7 @@ pub after-append : (ps qs : List Put) (s : Tables) → after_puts (ps ++ qs) s �
 after-append [] qs s = refl
 after-append (p ∷ ps) qs s = after-append ps qs (after_put p s)
 
--- a publication is aside
+-- the put of a release is aside
 pub published_aside : (n : ℕ) (p : Option ReleaseRow) → AreAside n (publication_puts p)
 published_aside n None = tt
 published_aside n (Some p) = (tt, tt)
@@ -113,7 +113,7 @@ kept_published means x xs kept =
     subst (AccountsStand (x ∷ xs)) (sym (after-append (effect means.readings x) (publication_puts (publication means x)) x.before))
     (kept_aside (x ∷ xs) (publication_puts (publication means x)) (after_puts (effect means.readings x) x.before) (published_aside _ (publication means x)) kept)
 
--- the command moves nothing, and no more is held or owed after it
+-- the command moves no money, and changes no amount that is held or owed
 pub record IsIdle (x : Given) (xs : List Given) : Type 0 where
   pub moves_none : moves_by x xs ≡ []
   pub held : (lot : List ℕ × List ℕ) → reserved_for (x ∷ xs) lot ≡ reserved_for xs lot

@@ -1,4 +1,4 @@
--- Nothing is lost between the pots of a line.
+-- No money is lost between the balances of a line.
 use Rattle.std.proofs.Common.{◌≡◌, ℕ, ◌+◌, ◌-◌, ◌≤◌, Bool, true, false, cond, ◌&&◌, List, [], ◌∷◌, refl, arith}
 use Rattle.office_values.specs.Ids.{same_id}
 use Rattle.office_base.specs.Sums.{sum_over}
@@ -13,7 +13,7 @@ use Rattle.office_machine.proofs.Accounts.Joins.{reserved_is_over, contracted_is
 use Rattle.office_machine.proofs.Rows.Keyed.{sum-found_le, sum-found_agree}
 use Rattle.office_machine.proofs.Rows.Keyed as by
 
--- an amount is in one pot
+-- an amount is in exactly one place
 in_one : (p : Pot) (b : Bool) (n : ℕ)
     → cond (same_pot p Outside && b) n 0 + cond (same_pot p Free && b) n 0 + cond (same_pot p Reserved && b) n 0 + cond (same_pot p Contracted && b) n 0 + cond (same_pot p Paid && b) n 0
     ≡ cond b n 0
@@ -23,7 +23,7 @@ in_one Reserved b n = omega arith
 in_one Contracted b n = omega arith
 in_one Paid b n = omega arith
 
--- what came into any pot went out of one
+-- all that came into the places left another place
 pub conserved : (ms : List Move) (q : List ℕ)
     → inflow ms q Outside + inflow ms q Free + inflow ms q Reserved + inflow ms q Contracted + inflow ms q Paid
     ≡ outflow ms q Outside + outflow ms q Free + outflow ms q Reserved + outflow ms q Contracted + outflow ms q Paid
@@ -34,7 +34,7 @@ at_most : (b : Bool) (m n : ℕ) → m ≤ n → cond b m 0 ≤ cond b n 0
 at_most true m n h = h
 at_most false m n h = omega arith
 
--- no more was taken from the contracts of a line than was brought
+-- no more was taken from the contracts of a line than was brought into them
 pub covered : (xs : List Given) (s : Tables) → AccountsStand xs s → IsSorted s → (q : List ℕ) → over_contracts (minus s.entries) s.lots s.contracts q ≤ over_contracts (plus s.entries) s.lots s.contracts q
 covered xs s kept order q =
     sum-found_le by.contracts _ _ s.contracts order.contracts (λ r h. at_most (is_on_line s.lots q r) (minus s.entries r) (plus s.entries r) (kept.contracts r.contract r h).within)
@@ -47,7 +47,7 @@ sum-both : {X : Type 0} (f g : X → ℕ) (xs : List X) → sum_over (λ x. f x 
 sum-both f g [] = refl
 sum-both f g (x ∷ xs) = omega (arith, sum-both f g xs)
 
--- what is outstanding of them is the difference
+-- the outstanding amount of the line's contracts is this difference
 pub net : (xs : List Given) (s : Tables) → AccountsStand xs s → IsSorted s → (q : List ℕ)
     → over_contracts (outstanding s.entries) s.lots s.contracts q + over_contracts (minus s.entries) s.lots s.contracts q ≡ over_contracts (plus s.entries) s.lots s.contracts q
 net xs s kept order q =
@@ -67,7 +67,7 @@ add_up xs s kept order q =
     let p = kept.pots q in
     omega (arith, conserved (moves xs) q, net xs s kept order q, p.free_is, p.reserved_is, p.gains_are, p.losses_are, p.paid_is, p.none_spent, p.appropriation_is)
 
--- each pot is the balance of the moves
+-- each balance of a line follows from the moves
 pub balanced : (xs : List Given) (s : Tables) → AccountsStand xs s → IsSorted s → (q : List ℕ) → IsBalanced q xs s
 balanced xs s kept order q =
     let p = kept.pots q in

@@ -22,7 +22,7 @@ use Rattle.office_base.proofs.RowLaws.Keyed.{found_key, own_key}
 use Rattle.office_machine.proofs.Rows.Keyed as keyed
 use Rattle.office_machine.proofs.Passed.{neither, both}
 
--- the entry is of the contract
+-- the entry belongs to this contract
 abbrev is_of_contract : ℕ → EntryRow → Bool
 is_of_contract c e = same_number e.contract c
 
@@ -83,7 +83,7 @@ module _ (x : Given) (xs : List Given) (s : Tables) (kept : AccountsStand xs s) 
   paid_out : (n : ℕ) → entry_sum is_payment entered n ≡ entry_sum is_payment s.entries n + cond (same_number c n) out 0
   paid_out n = omega (arith, entry_sum-new is_payment s.entries row n new, here (is_payment row.kind) n row.amount)
 
-  -- the sums over contracts
+  -- the sums over contracts gain the amount of the entry
   pub gains : (q : List ℕ) → over_contracts (plus entered) s.lots s.contracts q ≡ over_contracts (plus s.entries) s.lots s.contracts q + cond (same_id l.line q) up 0
   gains q = over_contracts-gains (plus s.entries) (plus entered) up s.lots s.contracts c r l q order.contracts is lot (λ y. omega (arith, raised y.contract))
 
@@ -93,7 +93,7 @@ module _ (x : Given) (xs : List Given) (s : Tables) (kept : AccountsStand xs s) 
   pub payments : (q : List ℕ) → over_contracts (paid_under entered) s.lots s.contracts q ≡ over_contracts (paid_under s.entries) s.lots s.contracts q + cond (same_id l.line q) out 0
   payments q = over_contracts-gains (paid_under s.entries) (paid_under entered) out s.lots s.contracts c r l q order.contracts is lot (λ y. paid_out y.contract)
 
-  -- for tables that have these entries, and else the contracts, lots and awards as they were
+  -- tables with these entries, and with the contracts, lots and awards from before
   abbrev after : Tables → Tables
   after s' = record s' { lots = s.lots; awards = s.awards; contracts = s.contracts; entries = entered }
 

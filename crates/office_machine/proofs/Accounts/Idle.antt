@@ -12,7 +12,7 @@ use Rattle.office_machine.proofs.Parents.ParentsPut.{grows-puts}
 use Rattle.office_machine.proofs.Passed.{neither}
 use Rattle.office_machine.proofs.Commands.Tail.{HasTail, is_touched}
 
--- one of these tables is a book
+-- one of these tables is a book: lines, lots, awards, contracts or entries
 abbrev pub touches_books : List TableName → Bool
 touches_books names = is_in names Lines || (is_in names Lots || (is_in names Awards || (is_in names Contracts || is_in names Entries)))
 

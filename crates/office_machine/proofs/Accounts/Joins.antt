@@ -1,4 +1,4 @@
--- How the sums over joined rows change.
+-- How the sums over joined rows change with a row.
 use Rattle.std.proofs.Common.{◌≡◌, ℕ, ◌+◌, Bool, true, false, cond, ◌&&◌, List, [], ◌∷◌, filter, Option, Some, None, refl, sym, ◌∙◌, ap, subst, arith}
 use Rattle.std.specs.Ordering.{nat_cmp, eq_by_cmp}
 use Rattle.office_values.specs.Ids.{same_id}
@@ -18,11 +18,11 @@ use Rattle.office_machine.proofs.Rows.Keyed.{sum-replaced, sum-gains, found_put,
 use Rattle.office_base.proofs.SumsOver.{sum_over-put_new}
 use Rattle.office_machine.proofs.Rows.Keyed as by
 
--- the lot is of the line
+-- the lot exists and is on the line
 abbrev pub is_of : Option LotRow → List ℕ → Bool
 is_of o q = holds_of (of_line q) o
 
--- a lot that keeps its line
+-- a lot that is put again on its line leaves the lots of each line as they are
 pub line_kept : (lots : List LotRow) (l l' : LotRow) → find_lot lots (lot_key l') ≡ Some l → l'.line ≡ l.line → (j : List ℕ × List ℕ) (q : List ℕ) → is_of (find_lot (put_lot lots l') j) q ≡ is_of (find_lot lots j) q
 line_kept lots l l' is same j q = ap (λ o. is_of o q) (row_at-row_put by.lots.total lot_key lots l' j) ∙ of (eq_by_cmp lot_cmp j (lot_key l')) refl
   where
@@ -40,7 +40,7 @@ pub over_contracts-replaced : (w : ContractRow → ℕ) (lots : List LotRow) (cs
 over_contracts-replaced w lots cs r r' l q is here here' =
     omega (arith, sum-replaced nat_cmp contract_key (λ (c : ContractRow). cond (is_on_line lots q c) (w c) 0) cs r' r is, ap (λ o. cond (is_of o q) (w r) 0) here, ap (λ o. cond (is_of o q) (w r') 0) here')
 
--- what one contract gains
+-- a sum over contracts gains the amount that one contract gains
 pub over_contracts-gains : (w w' : ContractRow → ℕ) (d : ℕ) (lots : List LotRow) (cs : List ContractRow) (c : ℕ) (r : ContractRow) (l : LotRow) (q : List ℕ) → IsInOrder nat_cmp contract_key cs → find_contract cs c ≡ Some r → find_lot lots (r.notice, r.lot) ≡ Some l → ((x : ContractRow) → w' x ≡ w x + cond (same_number c x.contract) d 0) → over_contracts w' lots cs q ≡ over_contracts w lots cs q + cond (same_id l.line q) d 0
 over_contracts-gains w w' d lots cs c r l q order is here h =
     omega (arith, sum-gains by.contracts (λ (x : ContractRow). cond (is_on_line lots q x) (w x) 0) (λ (x : ContractRow). cond (is_on_line lots q x) (w' x) 0) (λ (x : ContractRow). cond (is_on_line lots q x) d 0) cs c r order is (λ x. of (is_on_line lots q x) (same_number c x.contract) (w x) (w' x) (h x)), ap (λ o. cond (is_of o q) d 0) here)
@@ -60,7 +60,7 @@ pub reserved-replaced : (lots : List LotRow) (l l' : LotRow) (q : List ℕ) → 
 reserved-replaced lots l l' q is same =
     omega (arith, sum-replaced lot_cmp lot_key (reserved_by q) lots l' l is, ap (λ n. cond (same_id n q) l'.reserved 0) same)
 
--- a line whose free column alone changes
+-- only the free amount of lines changes: this much is taken from a line, and this much is given to it
 pub record FreeChanged (m m' : List LineRow) (q : List ℕ) (taken given : ℕ) : Type 0 where
   pub free_is : free_in (find_line m' q) + taken ≡ free_in (find_line m q) + given
   pub appropriation_is : appropriation_in (find_line m' q) ≡ appropriation_in (find_line m q)
@@ -78,7 +78,7 @@ free-replaced m r n q is = of (same_id r.line q) refl
         let j = elsewhere by.lines m (record r { free = n }) q (sym (same_id_is r.line q) ∙ e) in
         record { free_is = omega (arith, ap free_in j); appropriation_is = ap appropriation_in j }
 
--- the joined sums, as sums over tables
+-- the reserved amount of a line, as a sum over all lots
 pub reserved_is_over : (q : List ℕ) (t : Tables) → reserved q t ≡ reserved_over q t.lots
 reserved_is_over q t = sum_over-filter (λ (lot : LotRow). lot.reserved) (of_line q) t.lots
 
@@ -88,7 +88,7 @@ contracted_is_over q t = sum_over-filter (outstanding t.entries) (is_on_line t.l
 pub paid_is_over : (q : List ℕ) (t : Tables) → paid q t ≡ over_contracts (paid_under t.entries) t.lots t.contracts q
 paid_is_over q t = sum_over-filter (paid_under t.entries) (is_on_line t.lots q) t.contracts
 
--- the entries of a contract alone
+-- the sum of a contract's own entries is its sum over all entries
 pub entry_sum-own : (kind : EntryKind → Bool) (es : List EntryRow) (n : ℕ) → entry_sum kind (filter (λ (e : EntryRow). same_number e.contract n) es) n ≡ entry_sum kind es n
 entry_sum-own kind [] n = refl
 entry_sum-own kind (e ∷ es) n =

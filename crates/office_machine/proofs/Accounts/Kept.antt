@@ -1,4 +1,4 @@
--- What holds of an office that accepted commands reach.
+-- The facts about the accounts that are true of every reached office.
 use Rattle.std.specs.Prelude.{◌≡◌, ℕ, ◌+◌, ◌≤◌, Bool, true, false, cond, List, Some, None, IsSome, is_some}
 use Rattle.office_values.specs.Ids.{same_id}
 use Rattle.office_base.specs.Sums.{sum_over}
@@ -22,19 +22,19 @@ is_awarded lot_states.Contracted = false
 is_awarded lot_states.Unsuccessful = false
 is_awarded lot_states.Cancelled = false
 
--- what the lot has reserved of the line
+-- the amount that the lot has reserved on the line
 abbrev pub reserved_by : List ℕ → LotRow → ℕ
 reserved_by q lot = cond (same_id lot.line q) lot.reserved 0
 
--- and all lots
+-- the amount that all lots have reserved on the line
 abbrev pub reserved_over : List ℕ → List LotRow → ℕ
 reserved_over q lots = sum_over (reserved_by q) lots
 
--- a sum over the contracts that are joined with lots of the line
+-- a sum over the contracts whose lots are on the line
 abbrev pub over_contracts : (ContractRow → ℕ) → List LotRow → List ContractRow → List ℕ → ℕ
 over_contracts f lots contracts q = sum_over (λ (c : ContractRow). cond (is_on_line lots q c) (f c) 0) contracts
 
--- each pot of the line is what came into it less what went out
+-- each balance of the line is the money that came into it, less the money that left it
 pub record PotsAre (ms : List Move) (s : Tables) (q : List ℕ) : Type 0 where
   pub appropriation_is : appropriation q s + inflow ms q Outside ≡ outflow ms q Outside
   pub free_is : free q s + outflow ms q Free ≡ inflow ms q Free
@@ -44,18 +44,18 @@ pub record PotsAre (ms : List Move) (s : Tables) (q : List ℕ) : Type 0 where
   pub paid_is : over_contracts (paid_under s.entries) s.lots s.contracts q ≡ inflow ms q Paid
   pub none_spent : outflow ms q Paid ≡ 0
 
--- a lot's notice and line are there; while it is open it has reserved what is to be held for it
+-- a lot's notice and line exist; while the lot is open, it has reserved the amount that is to be held for it
 pub record LotIs (xs : List Given) (s : Tables) (key : List ℕ × List ℕ) (lot : LotRow) : Type 0 where
   pub of_notice : IsSome (find_notice s.notices key.0)
   pub on_line : IsSome (find_line s.lines lot.line)
   pub held : is_open lot.state ≡ true → reserved_for xs key ≡ lot.reserved
 
--- an award's lot is there; while it is active the lot is awarded, and has its price reserved
+-- an award's lot exists; while the award is active, the lot is awarded and has reserved the award's price
 pub record AwardIs (s : Tables) (number : ℕ) (award : AwardRow) : Type 0 where
   pub drawn : number ≤ s.clock.awards
   pub of_lot : (l : LotRow) × (find_lot s.lots (award.notice, award.lot) ≡ Some l) × (is_active award.state ≡ true → (is_awarded l.state ≡ true) × (l.reserved ≡ award.price))
 
--- a contract's lot and award are there; while it runs nothing is released; what is outstanding is what is owed
+-- a contract's lot and award exist; nothing is released while it runs; its sums are the amounts that commands brought and took
 pub record ContractIs (xs : List Given) (s : Tables) (number : ℕ) (c : ContractRow) : Type 0 where
   pub of_lot : IsSome (find_lot s.lots (c.notice, c.lot))
   pub of_award : (w : AwardRow) × (find_award s.awards number ≡ Some w) × (is_active w.state ≡ false)
@@ -64,7 +64,7 @@ pub record ContractIs (xs : List Given) (s : Tables) (number : ℕ) (c : Contrac
   pub came_in : plus s.entries c ≡ brought xs number
   pub went_out : minus s.entries c ≡ taken xs number
 
--- of a contract that isn't there, nothing is
+-- nothing was brought, taken or entered for a contract that doesn't exist
 pub record NoContractIs (xs : List Given) (s : Tables) (number : ℕ) : Type 0 where
   pub came_in : brought xs number ≡ 0
   pub went_out : taken xs number ≡ 0

@@ -1,4 +1,4 @@
--- A lot gets another state, and another amount reserved.
+-- A lot gets another state and another reserved amount.
 use Rattle.std.proofs.Common.{◌≡◌, ℕ, ◌+◌, ◌≤◌, Bool, true, false, cond, List, ◌∷◌, Some, refl, sym, ◌∙◌, ap, subst, ◌⊎◌, inl, inr, arith}
 use Rattle.std.specs.Prelude.{IsSome}
 use Rattle.std.specs.FinMap.{nat_cmp-IsAntisymmetric}
@@ -40,7 +40,7 @@ module _ (xs : List Given) (s : Tables) (kept : AccountsStand xs s) (l : LotRow)
   pub reserved_after : (q : List ℕ) → reserved_over q lots_after + cond (same_id l.line q) l.reserved 0 ≡ reserved_over q s.lots + cond (same_id l.line q) amount 0
   reserved_after q = reserved-replaced s.lots l lot_after q here refl
 
-  -- every lot is as it should be, if this one is
+  -- if the facts are true of the changed lot, they are true of every lot
   pub lots_are : (x : Given) (s' : Tables) → s'.lots ≡ lots_after → ((q : List ℕ) → IsSome (find_line s.lines q) → IsSome (find_line s'.lines q)) → ((q : List ℕ) → IsSome (find_notice s.notices q) → IsSome (find_notice s'.notices q))
       → (is_open state ≡ true → reserved_for (x ∷ xs) (l.notice, l.lot) ≡ amount)
       → ((j : List ℕ × List ℕ) → eq_by_cmp lot_cmp j (l.notice, l.lot) ≡ false → reserved_for (x ∷ xs) j ≡ reserved_for xs j)
@@ -58,7 +58,7 @@ module _ (xs : List Given) (s : Tables) (kept : AccountsStand xs s) (l : LotRow)
           let old = kept.lots j y p.1 in
           record { of_notice = notices j.0 old.of_notice; on_line = lines y.line old.on_line; held = λ e. others j p.0 ∙ old.held e }
 
-  -- an award that was there keeps its lot, if it is not an active one of this lot
+  -- the facts remain true of an award, unless it is an active one of this lot
   pub award_is : (s' : Tables) → s'.lots ≡ lots_after → s.clock.awards ≤ s'.clock.awards → (a : ℕ) (v : AwardRow) → find_award s.awards a ≡ Some v
       → (is_active v.state ≡ true → v.notice ≡ l.notice → v.lot ≡ l.lot → ⊥) → AwardIs s' a v
   award_is s' is later a v h none = record { drawn = omega (arith, old.drawn, later); of_lot = of (eq_by_cmp lot_cmp (v.notice, v.lot) (l.notice, l.lot)) refl }
@@ -72,7 +72,7 @@ module _ (xs : List Given) (s : Tables) (kept : AccountsStand xs s) (l : LotRow)
           (lot_after, ap (λ m. find_lot m (v.notice, v.lot)) is ∙ (ap (find_lot lots_after) j ∙ there_after), λ f. absurd (none f (ap (λ k. k.0) j) (ap (λ k. k.1) j)))
       of false e = (old.of_lot.0, ap (λ m. find_lot m (v.notice, v.lot)) is ∙ (elsewhere keyed.lots s.lots lot_after (v.notice, v.lot) e ∙ old.of_lot.1), old.of_lot.2)
 
-  -- so much goes from what the lot has reserved to what its line has free, or the other way
+  -- the difference moves between the lot's reserved amount and the free amount of its line
   module _ (w : LineRow) (line_is : w.line ≡ l.line) (line_here : find_line s.lines w.line ≡ Some w) (q : List ℕ) (n free : ℕ) where
     abbrev pub after_line : Tables
     after_line = record s { lots = lots_after; lines = put_line s.lines (record w { free = free }) }
@@ -108,7 +108,7 @@ module _ (xs : List Given) (s : Tables) (kept : AccountsStand xs s) (l : LotRow)
           none_spent = omega (arith, old.none_spent);
         }
 
-  -- its active award is settled: it isn't active any more
+  -- the lot's active award gets a state that isn't active
   module _ (w : AwardRow) (settled : AwardState) (inactive : is_active settled ≡ false) (is : find_award s.awards w.award ≡ Some w) (active : is_active w.state ≡ true) (at : ◌≡◌ {A = List ℕ × List ℕ} (l.notice, l.lot) (w.notice, w.lot)) where
     abbrev pub award_after : AwardRow
     award_after = record w { state = settled }
@@ -150,7 +150,7 @@ module _ (xs : List Given) (s : Tables) (kept : AccountsStand xs s) (l : LotRow)
     pub one_active : (b d : ℕ) (v u : AwardRow) → find_award awards_after b ≡ Some v → find_award awards_after d ≡ Some u → is_active v.state ≡ true → is_active u.state ≡ true → v.notice ≡ u.notice → v.lot ≡ u.lot → b ≡ d
     one_active b d v u h i e f = kept.one_active b d v u (was_active b v (was_there b v h) e) (was_active d u (was_there d u i) f) e f
 
-    -- a contract that was there has another award
+    -- an existing contract has another award
     pub other_award : (c : ℕ) (y : ContractRow) → find_contract s.contracts c ≡ Some y → eq_by_cmp nat_cmp c w.award ≡ false
     other_award c y h = other_keys nat_cmp-IsAntisymmetric c w.award (λ e.
         let i = (kept.contracts c y h).of_award in

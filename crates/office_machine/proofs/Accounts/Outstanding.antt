@@ -1,4 +1,4 @@
--- What is outstanding of a contract after a command on it.
+-- The outstanding amount of a contract after a command on it.
 use Rattle.std.proofs.Common.{◌≡◌, ℕ, ◌+◌, ◌≤◌, Bool, true, false, cond, ◌&&◌, List, Option, Some, None, is_some, refl, sym, ◌∙◌, ap, subst, arith, []}
 use Rattle.std.specs.Cmp.{nat_cmp_total}
 use Rattle.std.specs.List.{AllByRecursion, list_any}
@@ -37,7 +37,7 @@ use Rattle.office_machine.proofs.Accounts.Kept.{AccountsStand}
 use Rattle.office_machine.proofs.Accounts.AccountsKept.{all_kept}
 use Rattle.office_machine.proofs.Passed.{none_holds, allowed_by, not_false, not_both, at_least, witness, test_of}
 
--- what is outstanding of a contract in an office
+-- the outstanding amount of a contract in an office
 abbrev left_at : ℕ → Tables → ℕ
 left_at c t = left_of (contract_at c t) t.entries
 
@@ -46,13 +46,13 @@ module _ (s : Tables) (c : ℕ) where
   abbrev own : List EntryRow
   own = entries_of_contract c s
 
-  -- they have all that counts for it
+  -- every entry that counts for the contract is one of its own
   same_sum : (r : ContractRow) → contract_at c s ≡ Some r → (kind : EntryKind → Bool)
       → entry_sum kind own r.contract ≡ entry_sum kind s.entries r.contract
   same_sum r is kind =
       subst (λ n. entry_sum kind own n ≡ entry_sum kind s.entries n) (sym (found_key keyed.contracts s.contracts c r is)) (entry_sum-own kind s.entries c)
 
-  -- nothing is put
+  -- if nothing is put, the outstanding amount is that of the contract's own entries
   untouched : (o : Option ContractRow) → contract_at c s ≡ o → left_at c s ≡ left_of o own
   untouched None is = ap (λ o. left_of o s.entries) is
   untouched (Some r) is = ap (λ o. left_of o s.entries) is ∙ sym (outstanding-own s.entries c r (found_key keyed.contracts s.contracts c r is))
@@ -129,7 +129,7 @@ given s moment caller command = record { before = s; moment = moment; caller = c
 abbrev Passes : Given → Type 0
 Passes x = AllByRecursion (λ (test : Bool × Refusal). test.0 ≡ false) (command_tests x)
 
--- by the command
+-- the outstanding amount after each command follows from the rows
 known : (readings : Readings) (s : Tables) (moment : ℕ) (caller : Caller) (command : Command) → Passes (given s moment caller command)
     → IsLeft readings (given s moment caller command) s command
 known readings s moment caller (AmendContract c entry kind amount rationale) passes =
@@ -146,7 +146,7 @@ known readings s moment caller _ passes = tt
 pub left_is_known : LeftIsKnown
 left_is_known readings x allowed = known readings x.before x.moment x.caller x.command (none_holds (command_tests x) (allowed_by x allowed))
 
--- in an office that commands reach, what a command on a contract looks at is there
+-- in a reached office, every row exists that a command on a contract looks at
 module _ (means : Means) (xs : List Given) (s : Tables) (reached : Reaches means xs s) (c : ℕ) (there : is_some (contract_at c s) ≡ true) where
   kept : AccountsStand xs s
   kept = all_kept means xs s reached
@@ -178,7 +178,7 @@ module _ (means : Means) (xs : List Given) (s : Tables) (reached : Reaches means
   before : left_before s c ≡ outstanding (own s c) r
   before = ap (λ o. left_of o (own s c)) is
 
-  -- no more went than came
+  -- no more went from the contract than came
   within : minus (own s c) r ≤ plus (own s c) r
   within = omega (arith, (kept.contracts c r is).within, same_sum s c r is is_raise, same_sum s c r is is_less)
 

@@ -49,8 +49,7 @@ use Rattle.office_machine.proofs.Parents.SpokenOf.{of_contract}
 use Rattle.office_machine.proofs.Parents.Whole.{IsWhole, line_there, not_overdrawn}
 use Rattle.office_machine.proofs.Rows.Keyed as keyed
 
--- the accounts
--- what an entry of the kind raises, and cuts
+-- the amount that an entry of this kind raises
 is_raised : (kind : ChangeKind) (amount : ℕ) → raised_by kind amount ≡ cond (is_raise (entry_kind kind)) amount 0
 is_raised change_kinds.Raise amount = refl
 is_raised change_kinds.Cut amount = refl
@@ -67,7 +66,7 @@ zero_at : (b : Bool) (n : ℕ) → n ≡ 0 → cond b n 0 ≡ 0
 zero_at true n e = e
 zero_at false n e = refl
 
--- there is enough for the change
+-- the free money suffices for a raise, and the outstanding amount for a cut
 abbrev IsEnough : ChangeKind → ℕ → ℕ → ℕ → Type 0
 IsEnough change_kinds.Raise amount free left = amount ≤ free
 IsEnough change_kinds.Cut amount free left = amount ≤ left
@@ -96,7 +95,7 @@ module _ (readings : Readings) (xs : List Given) (s : Tables) (moment : ℕ) (ca
     line_here : find_line s.lines w.line ≡ Some w
     line_here = ap (find_line s.lines) line_is ∙ line
 
-    -- the line of the move
+    -- the line of the move is that of the contract's lot
     of_lot : line_in (lot_of_contract (contract_at c s) s) ≡ l.line
     of_lot = ap line_in (ap (λ o. lot_of_contract o s) is ∙ lot)
 
@@ -113,7 +112,7 @@ module _ (readings : Readings) (xs : List Given) (s : Tables) (moment : ℕ) (ca
     goes : (n : ℕ) → cond (same_number c n) (cut_by kind amount) 0 ≡ cond (same_number c n) (cond (is_less (entry_kind kind)) amount 0) 0
     goes n = ap (λ m. cond (same_number c n) m 0) (is_cut_by kind amount)
 
-    -- the pots, by the kind of the change
+    -- the balances after a change of this kind
     pots_by : (k : ChangeKind) → IsEnough k amount w.free (outstanding s.entries r) → (q : List ℕ)
         → over_contracts (plus s'.entries) s.lots s.contracts q ≡ over_contracts (plus s.entries) s.lots s.contracts q + cond (same_id l.line q) (cond (is_raise (entry_kind k)) amount 0) 0
         → over_contracts (minus s'.entries) s.lots s.contracts q ≡ over_contracts (minus s.entries) s.lots s.contracts q + cond (same_id l.line q) (cond (is_less (entry_kind k)) amount 0) 0
@@ -207,7 +206,7 @@ module _ (readings : Readings) (xs : List Given) (s : Tables) (moment : ℕ) (ca
         let runs : is_some r.ended ≡ false = test_of has_ended (contract_at c s) r is false passes.1.1.1.1.0 in
         keeps r lot.0 notice.0 line.0 is lot.1 notice.1 line.1 (not_taken s.entries c entry passes.1.0) (enough_by kind r lot.0 line.0 is lot.1 line.1 runs passes.1.1.0 passes.1.1.1.0)
 
--- what is put touches no tender and no security
+-- the puts touch no tender and no security
 quiet_puts : (V : View) (clock : ClockRow) (t : ℕ) (c : Option ContractRow) (n : Option NoticeRow) (r : Option LineRow) (entry : List ℕ) (kind : ChangeKind) (amount : ℕ) (rationale : List ℕ) → Stands V n
     → AllByRecursion (IsQuiet V clock.receipts) (amend_contract_puts (record { contract = c; entries = []; notice = n; line = r; clock = clock }) t entry kind amount rationale)
 quiet_puts V clock t (Some c) (Some n) (Some r) entry kind amount rationale h = (tt, (tt, (h n refl, (refl, tt))))
@@ -215,7 +214,7 @@ quiet_puts V clock t None _ _ entry kind amount rationale h = tt
 quiet_puts V clock t (Some c) None _ entry kind amount rationale h = tt
 quiet_puts V clock t (Some c) (Some n) None entry kind amount rationale h = tt
 
--- no tender and no security is decided, and none comes in
+-- the command takes no tender in, and decides no tender and no security
 fates_kept : (readings : Readings) (contract : ℕ) (entry : List ℕ) (kind : ChangeKind) (amount : ℕ) (rationale : List ℕ)
     → Keeps readings (AmendContract contract entry kind amount rationale)
 fates_kept readings contract entry kind amount rationale xs t m caller kept own allowed =
@@ -225,7 +224,7 @@ fates_kept readings contract entry kind amount rationale xs t m caller kept own 
     (one_more readings xs (given t m caller (AmendContract contract entry kind amount rationale)) t kept refl (λ r. refl) (λ s. refl))
 
 module _ (s u : Tables) (have : HaveParents s s) (g : Grows s u) where
-  -- what its rows speak of is there
+  -- the rows that its rows refer to exist
   parents_of : (clock : ClockRow) (t contract : ℕ) (c : Option ContractRow) (n : Option NoticeRow) (w : Option LineRow) (entry : List ℕ) (kind : ChangeKind) (amount : ℕ) (rationale : List ℕ) → contract_at contract s ≡ c
       → AllParents u (amend_contract_puts (record { contract = c; entries = []; notice = n; line = w; clock = clock }) t entry kind amount rationale)
   parents_of clock t contract (Some c) (Some n) (Some w) entry kind amount rationale is = (record { contract = entry_has s u have g contract c is }, (tt, (tt, (tt, tt))))
@@ -233,14 +232,14 @@ module _ (s u : Tables) (have : HaveParents s s) (g : Grows s u) where
   parents_of clock t contract (Some c) None w entry kind amount rationale is = tt
   parents_of clock t contract (Some c) (Some n) None entry kind amount rationale is = tt
 
--- it puts the same in both worlds
+-- in both worlds the puts are the same
 plain : (clock : ClockRow) (t : ℕ) (c : Option ContractRow) (n : Option NoticeRow) (w : Option LineRow) (entry : List ℕ) (kind : ChangeKind) (amount : ℕ) (rationale : List ℕ) → AllByRecursion IsPlain (amend_contract_puts (record { contract = c; entries = []; notice = n; line = w; clock = clock }) t entry kind amount rationale)
 plain clock t (Some c) (Some n) (Some w) entry kind amount rationale = (tt, (tt, (tt, (tt, tt))))
 plain clock t None n w entry kind amount rationale = tt
 plain clock t (Some c) None w entry kind amount rationale = tt
 plain clock t (Some c) (Some n) None entry kind amount rationale = tt
 
--- its notice and its lot's line are there, and no more went from it than came
+-- the contract's notice and its lot's line exist, and no more went from the contract than came
 none_lacking : (xs : List Given) (s : Tables) → IsWhole xs s → (contract : ℕ) (o : Option ContractRow) → contract_at contract s ≡ o
     → amend_contract_lacks (record { contract = o; entries = entries_of_contract contract s; notice = notice_of_contract o s; line = line_of_lot (lot_of_contract o s) s; clock = s.clock }) ≡ false
 none_lacking xs s whole contract None is = refl

@@ -17,18 +17,18 @@ use Rattle.office_machine.proofs.FateLaws.QuietFates.{kept_after, one_more, noti
 use Rattle.office_machine.proofs.FateLaws.Seen.{seen, IsQuiet}
 use Rattle.office_machine.proofs.Commands.Tail.{moved, loud}
 
--- what its rows speak of is there
+-- the rows that its rows refer to exist
 parents_of : (u : Tables) (clock : ClockRow) (t : ℕ) (notice : Option NoticeRow) (deadline : ℕ) → AllParents u (amend_notice_puts (record { notice = notice; clock = clock }) t deadline)
 parents_of u clock t None deadline = tt
 parents_of u clock t (Some n) deadline = (tt, (tt, tt))
 
--- the notice stands as it did
+-- the state of the notice remains as it was
 quiet_puts : (s : Tables) (t : ℕ) (key : List ℕ) (deadline : ℕ) (notice : Option NoticeRow) → notice_at key s ≡ notice
     → AllByRecursion (IsQuiet (seen s) s.clock.receipts) (amend_notice_puts (record { notice = notice; clock = s.clock }) t deadline)
 quiet_puts s t key deadline None is = tt
 quiet_puts s t key deadline (Some n) is = (notice_stands s key n is, (refl, tt))
 
--- it puts the same in both worlds
+-- in both worlds the puts are the same
 plain : (clock : ClockRow) (t : ℕ) (notice : Option NoticeRow) (deadline : ℕ) → AllByRecursion IsPlain (amend_notice_puts (record { notice = notice; clock = clock }) t deadline)
 plain clock t None deadline = tt
 plain clock t (Some n) deadline = (tt, (tt, tt))

@@ -42,7 +42,7 @@ module _ (s : Tables) (now : ℕ) (notice lot : List ℕ) (n : NoticeRow) (l : L
   decided (Some e) = front (puts.Award _ ∷ puts.Lot _ ∷ puts.Line _ ∷ []) (refl, (refl, (refl, tt))) (loud notice n (with_next_release n) _ [] is full refl refl refl tt refl (omega arith))
 
 module _ (s u : Tables) (have : HaveParents s s) (g : Grows s u) (order : IsSorted s) where
-  -- the best tender is one of the office's
+  -- the winner's envelope exists in the office
   winner_there : (weight : ℕ) (notice lot : List ℕ) (e : EnvelopeRow) → best_of weight (envelopes_of_lot notice lot s) ≡ Some e → IsSome (envelope_at e.receipt s)
   winner_there weight notice lot e is =
       let best : IsBest weight (envelopes_of_lot notice lot s) e = subst (IsAnswer weight (envelopes_of_lot notice lot s)) is (best_is_found.found weight (envelopes_of_lot notice lot s)) in
@@ -61,7 +61,7 @@ module _ (s u : Tables) (have : HaveParents s s) (g : Grows s u) (order : IsSort
       let here : IsSome (lot_at (l.notice, l.lot) s) = ap is_some (ap (λ k. lot_at k s) at ∙ is) in
       (record { notice = h.notice; lot = g.lots (l.notice, l.lot) here; envelope = g.envelopes e.receipt (winner_there n.weight notice lot e won) }, (record { notice = h.notice; line = h.line }, (tt, (tt, (tt, tt)))))
 
-  -- what its rows speak of is there
+  -- the rows that its rows refer to exist
   parents_of : (clock : ClockRow) (t : ℕ) (notice lot : List ℕ) (n : Option NoticeRow) (o : Option LotRow) (w : Option LineRow) → lot_at (notice, lot) s ≡ o
       → AllParents u (award_puts (record { notice = n; lot = o; line = w; envelopes = envelopes_of_lot notice lot s; securities = securities_of_lot notice lot s; clock = clock }) t)
   parents_of clock t notice lot (Some n) (Some l) (Some w) is = decision_parents clock t notice lot n l w is (winner (Some n) (envelopes_of_lot notice lot s)) refl
@@ -69,19 +69,19 @@ module _ (s u : Tables) (have : HaveParents s s) (g : Grows s u) (order : IsSort
   parents_of clock t notice lot (Some n) None w is = tt
   parents_of clock t notice lot (Some n) (Some l) None is = tt
 
--- tenders that are alike are decided alike
+-- if the tenders of two worlds are alike, so are the awards
 module _ (th : ChosenTender) (W : ℕ → Bool) where
   decision_pairs : (clock : ClockRow) (t : ℕ) (n : NoticeRow) (l : LotRow) (w : LineRow) (o o' : Option EnvelopeRow) (securities : List SecurityRow) → AlikeOptions th W o o' → Pairs (PutPair th W) (decision_puts clock t n l w o securities) (decision_puts clock t n l w o' securities)
   decision_pairs clock t n l w o o' securities a =
       subst (λ ps. Pairs (PutPair th W) (decision_puts clock t n l w o securities) ps) (sym (blind-option th W (λ o. decision_puts clock t n l w o securities) (λ _ _. refl) o o' a))
       (plain_pairs th W (decision_puts clock t n l w o securities) (plain o))
     where
-      -- it puts the same in both worlds
+      -- in both worlds the puts are the same
       plain : (o : Option EnvelopeRow) → AllByRecursion IsPlain (decision_puts clock t n l w o securities)
       plain None = (tt, (tt, (tt, (tt, plain-map security_returned (filter is_held_security securities) (λ _. tt)))))
       plain (Some e) = (tt, (tt, (tt, (tt, (tt, tt)))))
 
-  -- what it puts is alike
+  -- in both worlds the puts are alike
   pairs : (clock : ClockRow) (t : ℕ) (n : Option NoticeRow) (l : Option LotRow) (w : Option LineRow) (es es' : List EnvelopeRow) (securities : List SecurityRow) → Pairs (Alike th W) es es'
       → Pairs (PutPair th W) (award_puts (record { notice = n; lot = l; line = w; envelopes = es; securities = securities; clock = clock }) t) (award_puts (record { notice = n; lot = l; line = w; envelopes = es'; securities = securities; clock = clock }) t)
   pairs clock t (Some n) (Some l) (Some w) es es' securities all = decision_pairs clock t n l w (winner (Some n) es) (winner (Some n) es') securities (pairs-winner th W (Some n) es es' all)
@@ -89,7 +89,7 @@ module _ (th : ChosenTender) (W : ℕ → Bool) where
   pairs clock t (Some n) None w es es' securities all = tt
   pairs clock t (Some n) (Some l) None es es' securities all = tt
 
--- its lot's line is there
+-- the line of the lot exists
 none_lacking : (s : Tables) → HaveParents s s → (notice lot : List ℕ) (o : Option LotRow) → lot_at (notice, lot) s ≡ o
     → award_lacks (record { notice = None; lot = o; line = line_of_lot o s; envelopes = []; securities = []; clock = s.clock }) ≡ false
 none_lacking s have notice lot None is = refl

@@ -31,7 +31,7 @@ use Rattle.office_machine.proofs.Passed.{none_holds, not_false, witness}
 use Rattle.office_machine.proofs.Commands.Cancel.Fates as cancel_fates
 use Rattle.office_machine.proofs.Rows.Keyed as keyed
 
--- six kinds of rows before its notice and the clock
+-- six kinds of rows are put before the notice and the clock
 tail_of : (s : Tables) (t : ℕ) (notice : List ℕ) (n : NoticeRow) → notice_at notice s ≡ Some n → has_all_releases (notice_at notice s) ≡ false
     → HasTail s t (Lines ∷ Lots ∷ Awards ∷ Envelopes ∷ Seals ∷ Securities ∷ []) (Some notice) None
     (cancel_puts (record { notice = Some n; lines = s.lines; lots = lots_of_notice notice s; awards = awards_of_notice notice s; envelopes = envelopes_of_notice notice s; securities = securities_of_notice notice s; clock = s.clock }) t)
@@ -50,7 +50,7 @@ tail_of s t notice n is full =
     (loud notice n (cancelled_notice n) _ [] is full refl refl refl tt refl (omega arith)))))))
 
 module _ (s u : Tables) (have : HaveParents s s) (g : Grows s u) (order : IsSorted s) where
-  -- of all rows of a table
+  -- if the rows that a row refers to exist, those of its put do, for every row of a table
   lots_have : (make : LotRow → Put) → ((l : LotRow) → LotHas u l → Parents u (make l)) → AllByRecursion (λ l. Parents u (make l)) s.lots
   lots_have make h = all-table keyed.lots (λ l. Parents u (make l)) s.lots order.lots (λ k l is. h l (lot_still s u g l (have.lots k l is)))
 
@@ -60,7 +60,7 @@ module _ (s u : Tables) (have : HaveParents s s) (g : Grows s u) (order : IsSort
   envelopes_have : (make : EnvelopeRow → Put) → ((e : EnvelopeRow) → EnvelopeHas u e → Parents u (make e)) → AllByRecursion (λ e. Parents u (make e)) s.envelopes
   envelopes_have make h = all-table keyed.envelopes (λ e. Parents u (make e)) s.envelopes order.envelopes (λ k e is. h e (envelope_still s u g e (have.envelopes k e is)))
 
-  -- what its rows speak of is there
+  -- the rows that its rows refer to exist
   parents_of : (clock : ClockRow) (t : ℕ) (notice : List ℕ) (row : Option NoticeRow) → AllParents u (cancel_puts (record { notice = row; lines = s.lines; lots = lots_of_notice notice s; awards = awards_of_notice notice s; envelopes = envelopes_of_notice notice s; securities = securities_of_notice notice s; clock = clock }) t)
   parents_of clock t notice None = tt
   parents_of clock t notice (Some n) =
@@ -78,7 +78,7 @@ module _ (s u : Tables) (have : HaveParents s s) (g : Grows s u) (order : IsSort
       (parents-all u security_returned (filter (is_ended_security lots) (securities_of_notice notice s)) (all-filter _ (is_ended_security lots) (securities_of_notice notice s) (all-filter _ _ s.securities (securities_have s u have g order security_returned (returned s u have g)))))
       (tt, (tt, tt)))))))
 
--- rows that are alike are ended alike
+-- if the rows of two worlds are alike, they end alike
 module _ (th : ChosenTender) (W : ℕ → Bool) where
   pairs : (clock : ClockRow) (t : ℕ) (lines : List LineRow) (n : Option NoticeRow) (lots : List LotRow) (awards : List AwardRow) (es es' : List EnvelopeRow) (securities : List SecurityRow) → Pairs (Alike th W) es es'
       → Pairs (PutPair th W) (cancel_puts (record { notice = n; lines = lines; lots = lots; awards = awards; envelopes = es; securities = securities; clock = clock }) t) (cancel_puts (record { notice = n; lines = lines; lots = lots; awards = awards; envelopes = es'; securities = securities; clock = clock }) t)
@@ -97,7 +97,7 @@ module _ (th : ChosenTender) (W : ℕ → Bool) where
       (plain_pairs th W (map security_returned (filter (is_ended_security lots) securities) ++ (puts.Notice (cancelled_notice n) ∷ clock_put clock t ∷ []))
       (plain-append (map security_returned (filter (is_ended_security lots) securities)) _ (plain-map security_returned (filter (is_ended_security lots) securities) (λ _. tt)) (tt, (tt, tt))))))))
 
--- the lines of its lots are there
+-- the lines of the notice's lots exist
 module _ (s : Tables) (have : HaveParents s s) (order : IsSorted s) where
   lines_there : (lots : List LotRow) → AllByRecursion (λ (l : LotRow). IsSome (line_at l.line s)) lots → list_any (lacks_line s.lines) lots ≡ false
   lines_there [] h = refl

@@ -51,7 +51,7 @@ use Rattle.office_machine.proofs.FateLaws.Seen.{seen, IsQuiet}
 use Rattle.office_machine.proofs.FateLaws.FatesHold.{Keeps, given}
 use Rattle.office_machine.proofs.Rows.Keyed as keyed
 
--- the accounts
+-- an end keeps the accounts
 module _ (readings : Readings) (xs : List Given) (s : Tables) (moment : ℕ) (caller : Caller) (c : ℕ) (how : How) (kept : AccountsStand xs s) (order : IsSorted s) where
   abbrev x : Given
   x = record { before = s; moment = moment; caller = caller; command = commands.End c how }
@@ -85,7 +85,7 @@ module _ (readings : Readings) (xs : List Given) (s : Tables) (moment : ℕ) (ca
     line_here : find_line s.lines w.line ≡ Some w
     line_here = ap (find_line s.lines) line_is ∙ line
 
-    -- the line of the move
+    -- the line of the move is that of the contract's lot
     of_lot : line_in (lot_of_contract (contract_at c s) s) ≡ l.line
     of_lot = ap line_in (ap (λ o. lot_of_contract o s) is ∙ lot)
 
@@ -181,7 +181,7 @@ module _ (readings : Readings) (xs : List Given) (s : Tables) (moment : ℕ) (ca
         let line = witness _ of_lot.on_line in
         keeps r lot.0 notice.0 line.0 is lot.1 notice.1 line.1 (test_of has_ended (contract_at c s) r is false passes.1.0)
 
--- what is put touches no tender and no security
+-- the puts touch no tender and no security
 quiet_puts : (V : View) (clock : ClockRow) (t : ℕ) (how : How) (c : Option ContractRow) (entries : List EntryRow) (n : Option NoticeRow) (r : Option LineRow) (p : Option PerformanceRow) → Stands V n
     → AllByRecursion (IsQuiet V clock.receipts) (end_puts (record { contract = c; entries = entries; notice = n; line = r; performance = p; clock = clock }) t how)
 quiet_puts V clock t how (Some c) entries (Some n) (Some r) None h = (tt, (tt, (h n refl, (refl, tt))))
@@ -190,7 +190,7 @@ quiet_puts V clock t how None entries _ _ p h = tt
 quiet_puts V clock t how (Some c) entries None _ p h = tt
 quiet_puts V clock t how (Some c) entries (Some n) None p h = tt
 
--- no tender and no security is decided, and none comes in
+-- the command takes no tender in, and decides no tender and no security
 fates_kept : (readings : Readings) (contract : ℕ) (how : How) → Keeps readings (End contract how)
 fates_kept readings contract how xs t m caller kept own allowed =
     kept_after readings (given t m caller (End contract how) ∷ xs) _ t
@@ -199,21 +199,21 @@ fates_kept readings contract how xs t m caller kept own allowed =
     (one_more readings xs (given t m caller (End contract how)) t kept refl (λ r. refl) (λ s. refl))
 
 module _ (s u : Tables) (have : HaveParents s s) (g : Grows s u) where
-  -- what its rows speak of is there
+  -- the rows that its rows refer to exist
   parents_of : (clock : ClockRow) (t : ℕ) (how : How) (contract : ℕ) (c : Option ContractRow) (entries : List EntryRow) (n : Option NoticeRow) (w : Option LineRow) (p : Option PerformanceRow) → contract_at contract s ≡ c → performance_at contract s ≡ p → AllParents u (end_puts (record { contract = c; entries = entries; notice = n; line = w; performance = p; clock = clock }) t how)
   parents_of clock t how contract (Some c) entries (Some n) (Some w) p is bond = let h = contract_still s u g c (have.contracts contract c is) in (record { notice = h.notice; lot = h.lot; tenderer = h.tenderer }, (tt, (tt, (tt, parents-if u (performance_settled (ended_state how)) p (λ v found. record { contract = g.contracts v.contract (have.performances contract v (bond ∙ found)).contract })))))
   parents_of clock t how contract None entries n w p is bond = tt
   parents_of clock t how contract (Some c) entries None w p is bond = tt
   parents_of clock t how contract (Some c) entries (Some n) None p is bond = tt
 
--- it puts the same in both worlds
+-- in both worlds the puts are the same
 plain : (clock : ClockRow) (t : ℕ) (how : How) (c : Option ContractRow) (es : List EntryRow) (n : Option NoticeRow) (w : Option LineRow) (p : Option PerformanceRow) → AllByRecursion IsPlain (end_puts (record { contract = c; entries = es; notice = n; line = w; performance = p; clock = clock }) t how)
 plain clock t how (Some c) es (Some n) (Some w) p = (tt, (tt, (tt, (tt, plain-if (performance_settled (ended_state how)) p (λ _. tt)))))
 plain clock t how None es n w p = tt
 plain clock t how (Some c) es None w p = tt
 plain clock t how (Some c) es (Some n) None p = tt
 
--- its notice, its lot's line and the performance security that its notice asks for are there, and no more went from it than came
+-- the contract's notice, its lot's line and any performance security that the notice asks for exist; no more went from the contract than came
 module _ (xs : List Given) (s : Tables) (whole : IsWhole xs s) (contract : ℕ) where
   performance_there : (c : ContractRow) → contract_at contract s ≡ Some c → (o : Option NoticeRow) → notice_at c.notice s ≡ o → holds_of (λ (n : NoticeRow). lacks_performance n (performance_at contract s)) o ≡ false
   performance_there c is None at = refl

@@ -87,12 +87,12 @@ module _ (readings : Readings) (receipt : ℕ) (responsive : Bool) (quality : Op
   examine_by None found = one_more readings xs x t kept refl (λ r. refl) (λ s. refl)
   examine_by (Some e) found = examined_kept e found
 
--- no tender and no security is decided, and none comes in
+-- the command takes no tender in, and decides no tender and no security
 fates_kept : (readings : Readings) (receipt : ℕ) (responsive : Bool) (quality : Option ℕ) → Keeps readings (Examine receipt responsive quality)
 fates_kept readings receipt responsive quality xs t m caller kept _ allowed =
     examine_by readings receipt responsive quality xs t m caller kept (envelope_at receipt t) refl
 
--- what its rows speak of is there
+-- the rows that its rows refer to exist
 parents_of : (s u : Tables) → HaveParents s s → Grows s u → (clock : ClockRow) (t receipt : ℕ) (responsive : Bool) (quality : Option ℕ) (o : Option EnvelopeRow)
     → envelope_at receipt s ≡ o → AllParents u (examine_puts (record { envelope = o; notice = None; lot = None; clock = clock }) t responsive quality)
 parents_of s u have g clock t receipt responsive quality None is = tt
@@ -100,7 +100,7 @@ parents_of s u have g clock t receipt responsive quality (Some e) is =
     let h = envelope_still s u g e (have.envelopes receipt e is) in
     (record { notice = h.notice; lot = h.lot; tenderer = h.tenderer; security = h.security }, (tt, tt))
 
--- tenders that are alike are examined alike
+-- if the tenders of two worlds are alike, they are examined alike
 module _ (th : ChosenTender) (W : ℕ → Bool) where
   pairs : (clock : ClockRow) (t : ℕ) (responsive : Bool) (quality : Option ℕ) (o o' : Option EnvelopeRow) → AlikeOptions th W o o' → Pairs (PutPair th W) (examine_puts (record { envelope = o; notice = None; lot = None; clock = clock }) t responsive quality) (examine_puts (record { envelope = o'; notice = None; lot = None; clock = clock }) t responsive quality)
   pairs clock t responsive quality None None a = tt
@@ -111,7 +111,7 @@ module _ (th : ChosenTender) (W : ℕ → Bool) where
     (Plain tt refl, tt),
   )
 
--- its notice and its lot are there
+-- the tender's notice and lot exist
 none_lacking : (s : Tables) → HaveParents s s → (receipt : ℕ) (o : Option EnvelopeRow) → envelope_at receipt s ≡ o → examine_lacks (record { envelope = o; notice = notice_of_envelope o s; lot = lot_of_envelope o s; clock = s.clock }) ≡ false
 none_lacking s have receipt None is = refl
 none_lacking s have receipt (Some e) is = let h = have.envelopes receipt e is in λ i. ap not h.notice i || ap not h.lot i

@@ -37,7 +37,7 @@ module _ (s u : Tables) (have : HaveParents s s) (g : Grows s u) where
   envelope_of None e is = cc
   envelope_of (Some a) e is = envelope_still s u g e (have.envelopes a.receipt e is)
 
-  -- what its rows speak of is there
+  -- the rows that its rows refer to exist
   parents_of : (clock : ClockRow) (t award : ℕ) (o : Option AwardRow) (n : Option NoticeRow) (l : Option LotRow) → award_at award s ≡ o → lot_of_award o s ≡ l
       → AllParents u (fail_puts (record { award = o; notice = n; lot = l; envelope = envelope_of_award o s; security = (security_of_envelope (envelope_of_award o s) s); clock = clock }) t)
   parents_of clock t award (Some a) (Some n) (Some l) is lot =
@@ -61,7 +61,7 @@ module _ (s u : Tables) (have : HaveParents s s) (g : Grows s u) where
   parents_of clock t award (Some a) None l is lot = tt
   parents_of clock t award (Some a) (Some n) None is lot = tt
 
--- tenders that are alike fail alike
+-- if the tenders of two worlds are alike, they fail alike
 module _ (th : ChosenTender) (W : ℕ → Bool) where
   pairs : (clock : ClockRow) (t : ℕ) (w : Option AwardRow) (n : Option NoticeRow) (l : Option LotRow) (o o' : Option EnvelopeRow) (r r' : Option SecurityRow) → AlikeOptions th W o o' → r' ≡ r → Pairs (PutPair th W) (fail_puts (record { award = w; notice = n; lot = l; envelope = o; security = r; clock = clock }) t) (fail_puts (record { award = w; notice = n; lot = l; envelope = o'; security = r'; clock = clock }) t)
   pairs clock t None n l o o' r r' a same = tt
@@ -88,7 +88,7 @@ module _ (th : ChosenTender) (W : ℕ → Bool) where
       by (Some e) None a = absurd a
       by (Some e) (Some e') a = (TwoEnvelopes (passed_over e) (passed_over e') refl refl (alike-set th W passed_over (λ _ _. refl) (λ _. refl) (λ _. refl) (λ _. refl) e e' a), tt)
 
--- its notice, its lot, its tender and the security that this names are there
+-- the award's notice, lot and tender exist, and so does the security that the tender carries
 module _ (s : Tables) (have : HaveParents s s) where
   tender_lacks_none : (receipt : ℕ) (o : Option EnvelopeRow) → envelope_at receipt s ≡ o → holds_of (λ (e : EnvelopeRow). lacks_security e (security_of_envelope o s)) o ≡ false
   tender_lacks_none receipt None is = refl

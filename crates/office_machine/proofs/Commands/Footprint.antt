@@ -1,4 +1,4 @@
--- The table that a put is of, and what puts of other tables leave.
+-- The table of a put. A put leaves the other tables as they are.
 use Rattle.std.proofs.Common.{◌≡◌, Bool, true, false, List, [], ◌∷◌, ◌++◌, map, Option, Some, None, refl, sym, ◌∙◌}
 use Rattle.std.specs.List.{AllByRecursion, list_any}
 use Rattle.office_base.specs.declared.puts.Put.{Put}
@@ -6,7 +6,7 @@ use Rattle.office_base.specs.declared.puts.Put.TheVariants as puts
 use Rattle.office_base.specs.Transitions.{put_if}
 use Rattle.office_base.specs.Tables.{Tables, after_put, after_puts}
 
--- an office's tables; the others are those of which the laws here ask nothing: batches and tenderers
+-- the tables of an office, with one name for those that no law here mentions: budget files and tenderers
 pub data TableName : Type 0 where
   Lines : TableName
   Notices : TableName
@@ -60,7 +60,7 @@ same_table Clock Clock = true
 same_table Others Others = true
 same_table _ _ = false
 
--- the table is one of those named
+-- the table is one of the named ones
 abbrev pub is_in : List TableName → TableName → Bool
 is_in names name = list_any (same_table name) names
 
@@ -87,7 +87,7 @@ pub on-if : {X : Type 0} (test : TableName → Bool) (make : X → Put) (o : Opt
 on-if test make None h = tt
 on-if test make (Some x) h = (h x, tt)
 
--- the other tables are as they were
+-- the tables that fail the test are unchanged
 pub record Leaves (test : TableName → Bool) (t u : Tables) : Type 0 where
   pub lines : test Lines ≡ false → u.lines ≡ t.lines
   pub notices : test Notices ≡ false → u.notices ≡ t.notices

@@ -1,4 +1,4 @@
--- The import of a budget keeps the laws of the office.
+-- The import of a budget file keeps the laws of the office.
 pub mod Accounts
 pub mod Columns
 use Rattle.std.proofs.Common.{[], ◌∷◌, refl, arith}
@@ -21,7 +21,7 @@ use Rattle.office_machine.proofs.Parents.ParentsPut.{parents-append, parents-map
 use Rattle.office_machine.proofs.Passed.{none_holds}
 use Rattle.office_machine.proofs.Commands.Tail.{front, front_map, quiet}
 
--- the lines of its rows, the batch and the clock touch no tender and no security
+-- the puts of lines, the budget file and the clock touch no tender and no security
 fates_kept : (readings : Readings) (batch : List ℕ) (rows : List BudgetRow) → Keeps readings (Import batch rows)
 fates_kept readings batch rows xs t m caller kept own allowed =
     kept_after readings (given t m caller (Import batch rows) ∷ xs) _ t

@@ -1,4 +1,4 @@
--- What the laws of the office need of one command.
+-- The facts about one command from which the laws of the office follow.
 use Rattle.std.specs.Prelude.{◌≡◌, ℕ, Bool, true, false, max, List, ◌∷◌, None}
 use Rattle.office_commands.specs.declared.command.Caller.{Caller}
 use Rattle.office_commands.specs.declared.commands.Command.{Command}
@@ -24,7 +24,7 @@ use Rattle.office_machine.proofs.Worlds.WorldsStep.{PutsAlike}
 abbrev pub given : Tables → ℕ → Caller → Command → Given
 given s moment caller command = record { before = s; moment = moment; caller = caller; command = command }
 
--- a command touches no book and moves nothing, or keeps the books as is shown
+-- the command touches no book and moves nothing, or it is shown to keep the books
 pub data KeepsBooks (command : Command) (touches : List TableName) : Type 0 where
   Idle : touches_books touches ≡ false → ((s : Tables) (moment : ℕ) (caller : Caller) (xs : List Given) → IsIdle (given s moment caller command) xs) → KeepsBooks command touches
   Moving : ((readings : Readings) (xs : List Given) (s : Tables) (moment : ℕ) (caller : Caller) → AccountsStand xs s → IsSorted s → IsCommand command
@@ -48,24 +48,24 @@ puts_awards (Sign award named) = true
 puts_awards _ = false
 
 pub record Lawful (command : Command) : Type 0 where
-  -- the tables of its own rows
+  -- the tables of the command's own rows
   pub touches : List TableName
-  -- a signing and an end alone put contracts, a publication alone says something of late withdrawals, and four commands put awards
+  -- only a signing and an end put contracts, only a publication puts rules on late withdrawals, and only four commands put awards
   pub alone : (is_in touches Contracts ≡ puts_contracts command) × (is_in touches LateRules ≡ puts_late_rules command) × (is_in touches Awards ≡ puts_awards command)
-  -- the books stay balanced
+  -- the command keeps the accounts
   pub accounts : KeepsBooks command touches
-  -- tenders and securities go on as told
+  -- the command keeps the fates of tenders and securities
   pub fates : (readings : Readings) → Keeps readings command
-  -- it puts rows of those tables, its notice with one release more where it publishes, and the clock at its moment
+  -- the command puts rows of those tables, the clock at its moment and, if it publishes, its notice with one release more
   pub tail : (readings : Readings) (s : Tables) (moment : ℕ) (caller : Caller) → HaveParents s s
       → first_of (tests_for s (max moment s.clock.moment) caller command) ≡ None
       → HasTail s (max moment s.clock.moment) touches (published_for s command) (bond_for s command) (puts_for readings s (max moment s.clock.moment) caller command)
-  -- the rows that its rows speak of are there in tables that grew from those before it and after it
+  -- the rows that its rows refer to exist in any tables that have all rows from before it and after it
   pub parents : (readings : Readings) (s : Tables) (moment : ℕ) (caller : Caller) → IsSorted s → HaveParents s s → IsRegistered caller s.tenderers → may_give caller command ≡ true
       → first_of (tests_for s (max moment s.clock.moment) caller command) ≡ None → (u : Tables) → Grows s u
       → Grows (after_puts (puts_for readings s (max moment s.clock.moment) caller command) s) u → AllParents u (puts_for readings s (max moment s.clock.moment) caller command)
-  -- in an office that commands reach nothing is lacking to it
+  -- in a reached office the command finds the rows that it needs
   pub lacks : (xs : List Given) (s : Tables) (moment : ℕ) (caller : Caller) → IsWhole xs s → first_of (tests_for s (max moment s.clock.moment) caller command) ≡ None
       → (rule_of command).lacks s ≡ false
-  -- two offices that differ in what a tenderer seals stay alike
+  -- two offices that differ only in the bytes that a tenderer seals remain alike
   pub alike : PutsAlike command

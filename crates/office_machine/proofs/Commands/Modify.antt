@@ -22,14 +22,14 @@ use Rattle.office_machine.proofs.Commands.Tail.{moved, front, quiet}
 use Rattle.office_machine.proofs.Commands.Modify.Fates as modify_fates
 
 module _ (s u : Tables) (have : HaveParents s s) (g : Grows s u) where
-  -- what its rows speak of is there
+  -- the rows that its rows refer to exist
   parents_of : (digest : List ℕ → List ℕ) (clock : ClockRow) (t receipt : ℕ) (bytes : List ℕ) (o : Option EnvelopeRow) → envelope_at receipt s ≡ o → AllParents u (modify_puts digest (record { envelope = o; notice = None; clock = clock }) t bytes)
   parents_of digest clock t receipt bytes None is = tt
   parents_of digest clock t receipt bytes (Some e) is =
       let h = envelope_still s u g e (have.envelopes receipt e is) in
       (record { notice = h.notice; lot = h.lot; tenderer = h.tenderer; security = h.security }, (tt, (record { notice = h.notice; lot = h.lot; tenderer = h.tenderer; security = h.security }, (tt, (tt, tt)))))
 
--- in two worlds, with the one's bytes and with the other's
+-- the command with these bytes in one world and other bytes in the other
 module _ (th : ChosenTender) (W : ℕ → Bool) (digest : List ℕ → List ℕ) (clock : ClockRow) (t : ℕ) (bytes bytes' : List ℕ) (len : length bytes ≡ length bytes') where
   pub modify_pairs : (o o' : Option EnvelopeRow) → AlikeOptions th W o o' → (holds_of (is_theirs th) o ≡ W (clock.receipts + 1)) → (holds_of (is_theirs th) o ≡ false → bytes ≡ bytes')
       → Pairs (PutPair th W) (modify_puts digest (record { envelope = o; notice = None; clock = clock }) t bytes) (modify_puts digest (record { envelope = o'; notice = None; clock = clock }) t bytes')
@@ -57,7 +57,7 @@ module _ (th : ChosenTender) (W : ℕ → Bool) (digest : List ℕ → List ℕ)
     ),
   )
 
--- its notice is there
+-- the tender's notice exists
 none_lacking : (s : Tables) → HaveParents s s → (receipt : ℕ) (o : Option EnvelopeRow) → envelope_at receipt s ≡ o → modify_lacks (record { envelope = o; notice = notice_of_envelope o s; clock = s.clock }) ≡ false
 none_lacking s have receipt None is = refl
 none_lacking s have receipt (Some e) is = ap not (have.envelopes receipt e is).notice

@@ -32,7 +32,7 @@ module _ (s u : Tables) (have : HaveParents s s) (g : Grows s u) (order : IsSort
   opened_all read [] h = tt
   opened_all read (e ∷ rows) h = (record { notice = h.0.notice; lot = h.0.lot; tenderer = h.0.tenderer; security = h.0.security }, opened_all read rows h.1)
 
-  -- what its rows speak of is there
+  -- the rows that its rows refer to exist
   parents_of : (read : List ℕ → List Item → Reading) (clock : ClockRow) (t : ℕ) (notice : List ℕ) (row : Option NoticeRow) → AllParents u (open_puts read (record { notice = row; clock = clock }) t (sealed_tenders notice s))
   parents_of read clock t notice None = tt
   parents_of read clock t notice (Some n) =
@@ -62,7 +62,7 @@ module _ (th : ChosenTender) (W : ℕ → Bool) (s : Tables) (es' : List Envelop
   opened_pairs read (e ∷ es) [] all same = absurd all
   opened_pairs read (e ∷ es) (e' ∷ es'') all same = (opened_pair read e e' all.0 same.0, opened_pairs read es es'' all.1 same.1)
 
-  -- what it puts is alike
+  -- in both worlds the puts are alike
   pairs : (read : List ℕ → List Item → Reading) (clock : ClockRow) (t : ℕ) (notice : List ℕ) (n : Option NoticeRow) → SealsAlike s ss' (filter is_sealed_envelope (envelopes_of_notice notice s)) → Pairs (PutPair th W) (open_puts read (record { notice = n; clock = clock }) t (sealed_tenders notice s)) (open_puts read (record { notice = n; clock = clock }) t (sealed_tenders notice other))
   pairs read clock t notice None same = tt
   pairs read clock t notice (Some n) same =

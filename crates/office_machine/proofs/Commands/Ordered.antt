@@ -1,4 +1,4 @@
--- The refusals of each command stand in order.
+-- The refusals of each command are in the order of their numbers.
 use Rattle.std.proofs.Common.{◌≡◌, ℕ, ◌≤◌, Bool, true, false, cond, ◌&&◌, List, [], ◌∷◌, Some, nat_le, refl, ap, arith}
 use Rattle.std.proofs.lemmas.Bool.Decides.{nat_tests}
 use Rattle.office_commands.specs.declared.command.Caller.{Caller}
@@ -12,7 +12,7 @@ use Rattle.office_values.specs.Refusals.{number_of_refusal}
 use Rattle.office_base.specs.Rules.{first_of}
 use Rattle.office_machine.specs.Machine.{tests, tests_for, command_tests}
 
--- no number of these refusals is lower than n, or than one before it
+-- no refusal has a lower number than n, or than the one before it
 abbrev rises : ℕ → List (Bool × Refusal) → Bool
 rises n [] = true
 rises n (test ∷ tests) = nat_le n (number_of_refusal test.1) && rises (number_of_refusal test.1) tests
@@ -35,7 +35,7 @@ in_order s t caller _ = refl
 pub never_fall : NumbersNeverFall
 never_fall x = (omega arith, risen 7 (command_tests x) (in_order x.before _ x.caller x.command))
 
--- numbers that never fall stay above the first
+-- numbers that never fall are at least the first one
 above : (m n : ℕ) (tests : List (Bool × Refusal)) → m ≤ n → NeverFall n tests → AllByRecursion (λ (test : Bool × Refusal). test.0 ≡ true → m ≤ number_of_refusal test.1) tests
 above m n [] le h = tt
 above m n (test ∷ tests) le h = (λ e. omega (arith, h.0), above m (number_of_refusal test.1) tests (omega (arith, h.0)) h.1)

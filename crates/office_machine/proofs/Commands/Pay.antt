@@ -43,7 +43,7 @@ use Rattle.office_machine.proofs.FateLaws.FatesHold.{Keeps, given}
 use Rattle.office_machine.proofs.Worlds.WorldsPut.{IsPlain, plain_pairs}
 use Rattle.office_machine.proofs.Rows.Keyed as keyed
 
--- the accounts
+-- a payment keeps the accounts
 module _ (readings : Readings) (xs : List Given) (s : Tables) (moment : ℕ) (caller : Caller) (c : ℕ) (entry : List ℕ) (amount : ℕ) (kept : AccountsStand xs s) (order : IsSorted s) where
   abbrev x : Given
   x = record { before = s; moment = moment; caller = caller; command = commands.Pay c entry amount }
@@ -62,7 +62,7 @@ module _ (readings : Readings) (xs : List Given) (s : Tables) (moment : ℕ) (ca
     contract_is : ContractIs xs s c r
     contract_is = kept.contracts c r is
 
-    -- the line of the move
+    -- the line of the move is that of the contract's lot
     line : line_in (lot_of_contract (contract_at c s) s) ≡ l.line
     line = ap line_in (ap (λ o. lot_of_contract o s) is ∙ lot)
 
@@ -129,14 +129,14 @@ module _ (readings : Readings) (xs : List Given) (s : Tables) (moment : ℕ) (ca
         let left = at_least _ _ beyond in
         keeps r lot.0 notice.0 is lot.1 notice.1 (not_taken s.entries c entry passes.1.0) (omega (arith, left, own))
 
--- what is put touches no tender and no security
+-- the puts touch no tender and no security
 quiet_puts : (V : View) (clock : ClockRow) (t : ℕ) (c : Option ContractRow) (n : Option NoticeRow) (entry : List ℕ) (amount : ℕ) → Stands V n
     → AllByRecursion (IsQuiet V clock.receipts) (pay_puts (record { contract = c; entries = []; notice = n; clock = clock }) t entry amount)
 quiet_puts V clock t (Some c) (Some n) entry amount h = (tt, (h n refl, (refl, tt)))
 quiet_puts V clock t None _ entry amount h = tt
 quiet_puts V clock t (Some c) None entry amount h = tt
 
--- no tender and no security is decided, and none comes in
+-- the command takes no tender in, and decides no tender and no security
 fates_kept : (readings : Readings) (contract : ℕ) (entry : List ℕ) (amount : ℕ) → Keeps readings (Pay contract entry amount)
 fates_kept readings contract entry amount xs t m caller kept own allowed =
     kept_after readings (given t m caller (Pay contract entry amount) ∷ xs) _ t
@@ -144,19 +144,19 @@ fates_kept readings contract entry amount xs t m caller kept own allowed =
     (one_more readings xs (given t m caller (Pay contract entry amount)) t kept refl (λ r. refl) (λ s. refl))
 
 module _ (s u : Tables) (have : HaveParents s s) (g : Grows s u) where
-  -- what its rows speak of is there
+  -- the rows that its rows refer to exist
   parents_of : (clock : ClockRow) (t contract : ℕ) (c : Option ContractRow) (n : Option NoticeRow) (entry : List ℕ) (amount : ℕ) → contract_at contract s ≡ c → AllParents u (pay_puts (record { contract = c; entries = []; notice = n; clock = clock }) t entry amount)
   parents_of clock t contract (Some c) (Some n) entry amount is = (record { contract = entry_has s u have g contract c is }, (tt, (tt, tt)))
   parents_of clock t contract None n entry amount is = tt
   parents_of clock t contract (Some c) None entry amount is = tt
 
--- it puts the same in both worlds
+-- in both worlds the puts are the same
 plain : (clock : ClockRow) (t : ℕ) (c : Option ContractRow) (n : Option NoticeRow) (entry : List ℕ) (amount : ℕ) → AllByRecursion IsPlain (pay_puts (record { contract = c; entries = []; notice = n; clock = clock }) t entry amount)
 plain clock t (Some c) (Some n) entry amount = (tt, (tt, (tt, tt)))
 plain clock t None n entry amount = tt
 plain clock t (Some c) None entry amount = tt
 
--- its contract's notice is there
+-- the contract's notice exists
 none_lacking : (s : Tables) → HaveParents s s → (contract : ℕ) (o : Option ContractRow) → contract_at contract s ≡ o → pay_lacks (record { contract = o; entries = []; notice = notice_of_contract o s; clock = s.clock }) ≡ false
 none_lacking s have contract None is = refl
 none_lacking s have contract (Some c) is = ap not (have.contracts contract c is).notice

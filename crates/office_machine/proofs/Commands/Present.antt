@@ -1,4 +1,4 @@
--- The presentation of a tender keeps the laws of the office.
+-- The submission of a tender keeps the laws of the office.
 pub mod Fates
 use Rattle.std.specs.Prelude.{max, ℕ, List, Option, IsSome}
 use Rattle.std.proofs.Common.{◌+◌, [], ◌∷◌, refl, is_some, ◌≡◌, Bool, true, false, Some, None, option_map, sym, ◌∙◌, ap, arith, subst, length}
@@ -26,7 +26,7 @@ use Rattle.office_machine.proofs.Rows.Keyed.{found_put}
 use Rattle.office_machine.proofs.Commands.Present.Fates as present_fates
 use Rattle.office_machine.proofs.Rows.Keyed as keyed
 
--- what it puts
+-- the puts of the command
 tail_of : (digest : List ℕ → List ℕ) (s : Tables) (t : ℕ) (caller : Caller) (notice lot : List ℕ) (security : Option NamedSecurity) (bytes : List ℕ) (in_time : Bool)
     → HasTail s t (Envelopes ∷ Seals ∷ Securities ∷ []) None None (received_puts digest s.clock t caller notice lot security bytes in_time)
 tail_of digest s t caller notice lot None bytes true = front (puts.Envelope _ ∷ []) (refl, tt) (quiet _ (puts.Seal _ ∷ []) (refl, tt) refl (omega arith))
@@ -43,7 +43,7 @@ module _ (s u : Tables) (g : Grows s u) where
   named_is None m n e = cc
   named_is (Some named) m n e = (refl, let f : Some m ≡ Some n = e in cc)
 
-  -- what its rows speak of is there
+  -- the rows that its rows refer to exist
   parents_of : (digest : List ℕ → List ℕ) (clock : ClockRow) (t : ℕ) (caller : Caller) (notice lot : List ℕ) (security : Option NamedSecurity) (bytes : List ℕ) (in_time : Bool)
       → IsSome (notice_at notice s) → IsSome (lot_at (notice, lot) s) → IsSome (tenderer_at (tenderer_of caller) s) → (is_some security ≡ true → IsSome (security_at (clock.receipts + 1) u))
       → AllParents u (received_puts digest clock t caller notice lot security bytes in_time)
@@ -61,20 +61,20 @@ module _ (s u : Tables) (g : Grows s u) where
     ),
   )
 
--- what a presentation puts has the security that its envelope names
+-- the puts of a submission have the security that their envelope carries
 security_put_there : (digest : List ℕ → List ℕ) (clock : ClockRow) (t : ℕ) (caller : Caller) (notice lot : List ℕ) (security : Option NamedSecurity) (bytes : List ℕ) (in_time : Bool) (s : Tables) → is_some security ≡ true
     → IsSome (security_at (clock.receipts + 1) (after_puts (received_puts digest clock t caller notice lot security bytes in_time) s))
 security_put_there digest clock t caller notice lot None bytes in_time s e = cc
 security_put_there digest clock t caller notice lot (Some named) bytes true s e = ap is_some (found_put keyed.securities s.securities (security_row clock caller notice lot true named))
 security_put_there digest clock t caller notice lot (Some named) bytes false s e = ap is_some (found_put keyed.securities s.securities (security_row clock caller notice lot false named))
 
--- a tenderer who may present is registered
+-- a tenderer who may submit a tender is registered
 presenter : (caller : Caller) (s : Tables) → is_tenderer caller ≡ true → IsRegistered caller s.tenderers → IsSome (tenderer_at (tenderer_of caller) s)
 presenter Public s may registered = cc
 presenter Clerk s may registered = cc
 presenter (Tenderer id) s may registered = registered
 
--- in two worlds, with the one's bytes and with the other's
+-- the command with these bytes in one world and other bytes in the other
 module _ (th : ChosenTender) (W : ℕ → Bool) (digest : List ℕ → List ℕ) (clock : ClockRow) (t : ℕ) (bytes bytes' : List ℕ) (len : length bytes ≡ length bytes') where
   seal_pairs : (in_time : Bool) → (W (clock.receipts + 1) ≡ false → bytes ≡ bytes') → Pairs (PutPair th W) (seal_puts clock bytes in_time) (seal_puts clock bytes' in_time)
   seal_pairs true same = (TwoSeals (record { receipt = clock.receipts + 1; bytes = bytes }) (record { receipt = clock.receipts + 1; bytes = bytes' }) refl refl refl (λ out. λ i. record { receipt = clock.receipts + 1; bytes = same out i }), tt)

@@ -30,7 +30,7 @@ use Rattle.office_machine.proofs.Rows.Keyed.{found_put}
 use Rattle.office_machine.proofs.Commands.Publish.Fates as publish_fates
 use Rattle.office_machine.proofs.Rows.Keyed as keyed
 
--- there is no such notice yet
+-- no such notice exists yet
 absent : (o : Option NoticeRow) → is_some o ≡ false → o ≡ None
 absent None e = refl
 absent (Some n) e = cc
@@ -39,7 +39,7 @@ late_own : (notice : List ℕ) (late : LateWithdrawal) → AreOn (is_own (Lines 
 late_own notice Refused = tt
 late_own notice Forfeits = (refl, tt)
 
--- what it puts
+-- the puts of the command
 tail_of : (s : Tables) (t : ℕ) (notice : List ℕ) (content : NewNotice) → is_some (notice_at notice s) ≡ false → HasTail s t (Lines ∷ Lots ∷ LateRules ∷ []) (Some notice) None (publish_puts (record { notice = None; lines = s.lines; clock = s.clock }) t notice content)
 tail_of s t notice content new =
     let own : TableName → Bool = is_own (Lines ∷ Lots ∷ LateRules ∷ []) in
@@ -54,7 +54,7 @@ module _ (s u : Tables) (g : Grows s u) where
   published_lots notice there [] on = tt
   published_lots notice there (l ∷ lots) on = (record { notice = there; line = g.lines l.line on.0 }, published_lots notice there lots on.1)
 
-  -- what its rows speak of is there
+  -- the rows that its rows refer to exist
   parents_of : (clock : ClockRow) (t : ℕ) (notice : List ℕ) (content : NewNotice) → OnLines s.lines content.lots → IsSome (notice_at notice u) → AllParents u (publish_puts (record { notice = None; lines = s.lines; clock = clock }) t notice content)
   parents_of clock t notice content on there =
       parents-append u (publish_parts clock t notice s.lines content) (late_puts notice content.late_withdrawal)
@@ -69,18 +69,18 @@ module _ (s u : Tables) (g : Grows s u) where
       late_parents Refused = tt
       late_parents Forfeits = (record { notice = there }, tt)
 
--- what a publication puts has the notice
+-- the puts of a publication have the notice
 notice_put_there : (front : List Put) (row : NoticeRow) (clock : ClockRow) (s : Tables) → IsSome (notice_at row.notice (after_puts (front ++ (puts.Notice row ∷ puts.Clock clock ∷ [])) s))
 notice_put_there front row clock s =
     ap (λ u. is_some (notice_at row.notice u)) (after-append front (puts.Notice row ∷ puts.Clock clock ∷ []) s)
     ∙ ap is_some (found_put keyed.notices (after_puts front s).notices row)
 
--- what is said of late withdrawals leaves the notices
+-- the rule on late withdrawals leaves the notices as they are
 late_leaves : (late : LateWithdrawal) (notice k : List ℕ) (u : Tables) → IsSome (notice_at k u) → IsSome (notice_at k (after_puts (late_puts notice late) u))
 late_leaves Refused notice k u there = there
 late_leaves Forfeits notice k u there = there
 
--- it puts the same in both worlds
+-- in both worlds the puts are the same
 plain : (s : Tables) (t : ℕ) (notice : List ℕ) (content : NewNotice) → AllByRecursion IsPlain (publish_puts (record { notice = None; lines = s.lines; clock = s.clock }) t notice content)
 plain s t notice content =
     plain-append (publish_parts s.clock t notice s.lines content) (late_puts notice content.late_withdrawal)

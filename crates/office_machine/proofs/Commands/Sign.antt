@@ -34,7 +34,7 @@ use Rattle.office_machine.proofs.Rows.Keyed.{found_put}
 use Rattle.office_machine.proofs.Commands.Sign.Fates as sign_fates
 use Rattle.office_machine.proofs.Rows.Keyed as keyed
 
--- the contract is there once it is signed
+-- the contract exists after its signing
 contract_made : (s : Tables) (clock : ClockRow) (t : ℕ) (a : AwardRow) (n : NoticeRow) (l : LotRow) (o : Option EnvelopeRow) (rows : List SecurityRow) (rest : List Put) → IsSome (contract_at a.award (after_puts (sign_parts clock t a n l o rows ++ rest) s))
 contract_made s clock t a n l o rows rest =
     (grows-puts (puts.Notice (with_next_release n) ∷ clock_put clock t ∷ securities_returned rows ++ rest) (after_puts (puts.Award (signed_award a) ∷ puts.Lot (contracted_lot l) ∷ puts.Contract (contract_row t a (tenderer_in o)) ∷ []) s)).contracts a.award
@@ -45,7 +45,7 @@ module _ (s u : Tables) (have : HaveParents s s) (g : Grows s u) (order : IsSort
   signer a None is there = absurd (let no : false ≡ true = there in cc)
   signer a (Some e) is there = (envelope_still s u g e (have.envelopes a.receipt e is)).tenderer
 
-  -- what its rows speak of is there
+  -- the rows that its rows refer to exist
   parents_of : (clock : ClockRow) (t award : ℕ) (named : Option NamedSecurity) (o : Option AwardRow) (n : Option NoticeRow) (l : Option LotRow) → award_at award s ≡ o → lot_of_award o s ≡ l
       → Grows (after_puts (sign_puts (record { award = o; notice = n; lot = l; envelope = envelope_of_award o s; securities = securities_of_award o s; clock = clock }) t named) s) u
       → AllParents u (sign_puts (record { award = o; notice = n; lot = l; envelope = envelope_of_award o s; securities = securities_of_award o s; clock = clock }) t named)
@@ -63,14 +63,14 @@ module _ (s u : Tables) (have : HaveParents s s) (g : Grows s u) (order : IsSort
   parents_of clock t award named (Some a) None l is lot later = tt
   parents_of clock t award named (Some a) (Some n) None is lot later = tt
 
--- it puts the same in both worlds
+-- in both worlds the puts are the same
 plain : (clock : ClockRow) (t : ℕ) (w : Option AwardRow) (n : Option NoticeRow) (l : Option LotRow) (o : Option EnvelopeRow) (r : List SecurityRow) (named : Option NamedSecurity) → AllByRecursion IsPlain (sign_puts (record { award = w; notice = n; lot = l; envelope = o; securities = r; clock = clock }) t named)
 plain clock t (Some w) (Some n) (Some l) o r named = (tt, (tt, (tt, (tt, (tt, plain-append (map security_returned (filter is_held_security r)) (put_if (performance_put w) named) (plain-map security_returned (filter is_held_security r) (λ _. tt)) (plain-if (performance_put w) named (λ _. tt)))))))
 plain clock t None n l o r named = tt
 plain clock t (Some w) None l o r named = tt
 plain clock t (Some w) (Some n) None o r named = tt
 
--- a tender is looked at for its tenderer alone
+-- the signing reads only the tenderer of the tender
 same_signer : (clock : ClockRow) (t : ℕ) (w : Option AwardRow) (n : Option NoticeRow) (l : Option LotRow) (o o' : Option EnvelopeRow) (r : List SecurityRow) (named : Option NamedSecurity) → tenderer_in o' ≡ tenderer_in o → sign_puts (record { award = w; notice = n; lot = l; envelope = o'; securities = r; clock = clock }) t named ≡ sign_puts (record { award = w; notice = n; lot = l; envelope = o; securities = r; clock = clock }) t named
 same_signer clock t (Some w) (Some n) (Some l) o o' r named e =
     ap (λ x. puts.Award (signed_award w) ∷ puts.Lot (contracted_lot l) ∷ puts.Contract (contract_row t w x) ∷ puts.Notice (with_next_release n) ∷ clock_put clock t ∷ securities_returned r ++ put_if (performance_put w) named) e
@@ -88,7 +88,7 @@ module _ (th : ChosenTender) (W : ℕ → Bool) (s : Tables) (es' : List Envelop
       (sym (same_signer s.clock t a (notice_of_award a s) (lot_of_award a s) o o' (securities_of_award a s) named (blind-option th W tenderer_in (λ _ _. refl) o o' (awarded_pair th W s es' all a))))
       (plain_pairs th W (sign_puts (sign_rows s award) t named) (plain s.clock t a (notice_of_award a s) (lot_of_award a s) o (securities_of_award a s) named))
 
--- its notice, its lot and its tender are there
+-- the award's notice, lot and tender exist
 none_lacking : (s : Tables) → HaveParents s s → (award : ℕ) (o : Option AwardRow) → award_at award s ≡ o
     → sign_lacks (record { award = o; notice = notice_of_award o s; lot = lot_of_award o s; envelope = envelope_of_award o s; securities = []; clock = s.clock }) ≡ false
 none_lacking s have award None is = refl

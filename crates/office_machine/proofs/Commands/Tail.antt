@@ -1,4 +1,4 @@
--- Rows of a command's own, its notice with one release more where it publishes, and the clock; no release and no merge.
+-- A command puts its own rows, the clock and, if it publishes, its notice with one release more. It puts no release and no merge.
 use Rattle.std.proofs.Common.{[], ◌≡◌, ℕ, ◌+◌, ◌≤◌, ◌<◌, Bool, true, false, List, ◌∷◌, ◌++◌, map, filter, Option, Some, None, option_map, nat_le, refl, sym, ◌∙◌, ap, subst, arith}
 use Rattle.std.specs.Prelude.{option_and_then}
 use Rattle.std.proofs.lemmas.Bool.Decides.{nat_tests}
@@ -25,7 +25,7 @@ use Rattle.office_machine.proofs.Commands.Footprint.{TableName, Notices, Securit
 use Rattle.office_base.proofs.RowLaws.Keyed.{found_key}
 use Rattle.office_machine.proofs.Rows.Keyed as keyed
 
--- a command's own rows: of the tables that it names, and no notice, no release, no merge, no performance security, and not the clock
+-- the tables of a command's own rows: those that it names, except notices, releases, merges, performance securities and the clock
 abbrev pub is_own : List TableName → TableName → Bool
 is_own names Notices = false
 is_own names Releases = false
@@ -34,7 +34,7 @@ is_own names Clock = false
 is_own names Performances = false
 is_own names name = is_in names name
 
--- these, and what any command may put beside them
+-- the tables of a command's own rows, and those that any command may put besides
 abbrev pub is_touched : List TableName → TableName → Bool
 is_touched names Notices = true
 is_touched names Clock = true
@@ -60,19 +60,18 @@ abbrev pub with_performance : Option PerformanceRow → List PerformanceRow → 
 with_performance None rows = rows
 with_performance (Some w) rows = put_performance rows w
 
--- these puts change the notices, the clock and the performance securities so
+-- these puts lead to these notices, this clock and these performance securities
 pub record Writes (ps : List Put) (notice : Option NoticeRow) (clock : ClockRow) (bond : Option PerformanceRow) : Type 0 where
   pub notices : (u : Tables) → (after_puts ps u).notices ≡ with_notice notice u.notices
   pub clock_is : (u : Tables) → (after_puts ps u).clock ≡ clock
   pub performances : (u : Tables) → (after_puts ps u).performances ≡ with_performance bond u.performances
 
--- a notice that was there asks for the performance security that it asked for
+-- a notice that existed asks for the performance security that it asked for
 abbrev pub AsksAsBefore : Option NoticeRow → NoticeRow → Type 0
 AsksAsBefore None row = Unit {0}
 AsksAsBefore (Some n) row = row.performance ≡ n.performance
 
--- a command that publishes changes its notice, which then counts one release more, within the limit, and asks for no other performance security;
--- another changes none
+-- a command that publishes puts its notice with one release more, within the limit, and with the earlier performance security; any other command puts no notice
 abbrev pub CountsNext : Tables → Option (List ℕ) → Option NoticeRow → Type 0
 CountsNext s None None = Unit {0}
 CountsNext s (Some key) (Some row) = (row.notice ≡ key) × (row.releases ≡ releases_in (notice_at key s) + 1) × (row.releases ≤ release_limit) × AsksAsBefore (notice_at key s) row
@@ -84,7 +83,7 @@ bond_for s (Sign award named) = option_and_then (λ (w : AwardRow). option_map (
 bond_for s (End contract how) = option_map (settled_performance (ended_state how)) (performance_at contract s)
 bond_for s command = None
 
--- rows of the tables that a command names, its notice counted where it publishes, a performance security, and the clock
+-- the puts are of the named tables, the counted notice if the command publishes, a performance security if there is one, and the clock
 pub record HasTail (s : Tables) (t : ℕ) (names : List TableName) (key : Option (List ℕ)) (bond : Option PerformanceRow) (ps : List Put) : Type 0 where
   pub notice : Option NoticeRow
   pub clock : ClockRow
@@ -100,7 +99,7 @@ moved {s = s} {t = t} {names = names} {key = key} {key' = key'} {bond = bond} {p
 pub bound : {s : Tables} {t : ℕ} {names : List TableName} {key : Option (List ℕ)} {bond bond' : Option PerformanceRow} {ps : List Put} → bond' ≡ bond → HasTail s t names key bond ps → HasTail s t names key bond' ps
 bound {s = s} {t = t} {names = names} {key = key} {ps = ps} b h = subst (λ b. HasTail s t names key b ps) (sym b) h
 
--- rows of its own before
+-- own rows may be put first
 pub front : {s : Tables} {t : ℕ} {names : List TableName} {key : Option (List ℕ)} {bond : Option PerformanceRow} {ps : List Put} (fs : List Put) → AreOn (is_own names) fs → HasTail s t names key bond ps → HasTail s t names key bond (fs ++ ps)
 front {names = names} {bond = bond} {ps = ps} fs own h = record {
   notice = h.notice;
@@ -120,7 +119,7 @@ pub front_map : {s : Tables} {t : ℕ} {names : List TableName} {key : Option (L
     → ((x : X) → IsOn (is_own names) (make x)) → HasTail s t names key bond ps → HasTail s t names key bond (map make xs ++ ps)
 front_map {names = names} make xs own h = front (map make xs) (on-map (is_own names) make xs own) h
 
--- rows of its own behind
+-- own rows may be put last
 pub back : {s : Tables} {t : ℕ} {names : List TableName} {key : Option (List ℕ)} {bond : Option PerformanceRow} {ps : List Put} (rest : List Put) → AreOn (is_own names) rest → HasTail s t names key bond ps → HasTail s t names key bond (ps ++ rest)
 back {names = names} {ps = ps} rest own h = record {
   notice = h.notice;
@@ -136,7 +135,7 @@ back {names = names} {ps = ps} rest own h = record {
   touched = on-append (is_touched names) ps rest h.touched (on_touched names rest own);
 }
 
--- a performance security behind
+-- a performance security may be put last
 abbrev pub is_bond : TableName → Bool
 is_bond Performances = true
 is_bond name = false
@@ -164,7 +163,7 @@ bonded {names = names} {ps = ps} {X = X} make o h =
     by None u = refl
     by (Some x) u = refl
 
--- the clock, and rows of its own
+-- the clock, followed by own rows
 pub ending : (names : List TableName) (clock : ClockRow) (rest : List Put) → AreOn (is_own names) rest → Writes (puts.Clock clock ∷ rest) None clock None
 ending names clock rest own = record {
   notices = λ u. (leaves (is_own names) rest (after_put (puts.Clock clock) u) own).notices refl;
@@ -175,7 +174,7 @@ ending names clock rest own = record {
 pub quiet : {s : Tables} {t : ℕ} {names : List TableName} (clock : ClockRow) (rest : List Put) → AreOn (is_own names) rest → clock.moment ≡ t → s.clock.awards ≤ clock.awards → HasTail s t names None None (puts.Clock clock ∷ rest)
 quiet {names = names} clock rest own moment drawn = record { notice = None; clock = clock; writes = ending names clock rest own; moment = moment; counts = tt; drawn = drawn; touched = (refl, on_touched names rest own) }
 
--- before them the notice, counted
+-- the counted notice, followed by the clock and own rows
 pub counted : {s : Tables} {t : ℕ} {names : List TableName} (key : List ℕ) (row : NoticeRow) (clock : ClockRow) (rest : List Put) → row.notice ≡ key
     → row.releases ≡ releases_in (notice_at key s) + 1 → row.releases ≤ release_limit → AsksAsBefore (notice_at key s) row → AreOn (is_own names) rest → clock.moment ≡ t → s.clock.awards ≤ clock.awards
     → HasTail s t names (Some key) None (puts.Notice row ∷ puts.Clock clock ∷ rest)
@@ -195,7 +194,7 @@ counted {names = names} key row clock rest at more few asked own moment drawn =
       touched = (refl, (refl, on_touched names rest own));
     }
 
--- a notice that was there
+-- a notice that existed is counted, followed by the clock and own rows
 pub loud : {s : Tables} {t : ℕ} {names : List TableName} (key : List ℕ) (n row : NoticeRow) (clock : ClockRow) (rest : List Put) → notice_at key s ≡ Some n
     → has_all_releases (notice_at key s) ≡ false → row.notice ≡ n.notice → row.releases ≡ n.releases + 1 → row.performance ≡ n.performance → AreOn (is_own names) rest → clock.moment ≡ t → s.clock.awards ≤ clock.awards
     → HasTail s t names (Some key) None (puts.Notice row ∷ puts.Clock clock ∷ rest)
@@ -208,7 +207,7 @@ loud {s = s} key n row clock rest is full same more asked own moment drawn =
 pub returned_own : (names : List TableName) → is_own names Securities ≡ true → (rows : List SecurityRow) → AreOn (is_own names) (securities_returned rows)
 returned_own names own rows = on-map (is_own names) security_returned (filter is_held_security rows) (λ _. own)
 
--- a command on a contract that is there
+-- a command on a contract that exists counts the contract's notice
 pub on_contract : {s : Tables} {t : ℕ} {names : List TableName} (contract : ℕ) (of : OfContract s contract) → has_all_releases (notice_of_contract (contract_at contract s) s) ≡ false
     → HasTail s t names (option_map (λ (c : ContractRow). c.notice) (contract_at contract s)) None (puts.Notice (with_next_release of.n) ∷ puts.Clock (record s.clock { moment = t }) ∷ [])
 on_contract {s = s} contract of full =

@@ -29,7 +29,7 @@ use Rattle.office_machine.proofs.Passed.{none_holds, not_false, witness}
 use Rattle.office_machine.proofs.Commands.Tail.{HasTail, is_own, moved, front, quiet}
 use Rattle.office_machine.proofs.Commands.Withdraw.Fates as withdraw_fates
 
--- what it puts
+-- the puts of the command
 tail_of : (s : Tables) (t : ℕ) (e : EnvelopeRow) (security : Option SecurityRow) (late : Bool) → HasTail s t (Envelopes ∷ Seals ∷ Securities ∷ []) None None (taken_back_puts s.clock t e security late)
 tail_of s t e security false = front (puts.Envelope _ ∷ puts.DropSeal _ ∷ []) (refl, (refl, tt)) (quiet _ _ (on-if (is_own (Envelopes ∷ Seals ∷ Securities ∷ [])) (security_settled Returned) security (λ _. refl)) refl (omega arith))
 tail_of s t e security true = front (puts.Envelope _ ∷ []) (refl, tt) (quiet _ _ (on-if (is_own (Envelopes ∷ Seals ∷ Securities ∷ [])) (security_settled Forfeited) security (λ _. refl)) refl (omega arith))
@@ -46,12 +46,12 @@ module _ (s u : Tables) (have : HaveParents s s) (g : Grows s u) where
       let h = envelope_still s u g e (have.envelopes receipt e is) in
       (record { notice = h.notice; lot = h.lot; tenderer = h.tenderer; security = h.security }, (tt, parents-if u (security_settled Forfeited) (security_of_envelope (Some e) s) (λ r found. settled_has Forfeited r (security_found s u have g (Some e) r found))))
 
-  -- what its rows speak of is there
+  -- the rows that its rows refer to exist
   parents_of : (clock : ClockRow) (t receipt : ℕ) (o : Option EnvelopeRow) (n : Option NoticeRow) (late : Option LateRow) → envelope_at receipt s ≡ o → AllParents u (withdraw_puts (record { envelope = o; notice = n; lot = None; late = late; security = security_of_envelope o s; clock = clock }) t)
   parents_of clock t receipt None n late is = tt
   parents_of clock t receipt (Some e) n late is = taken_back_parents clock t receipt e is (is_late late t n)
 
--- tenders that are alike are taken back alike
+-- if the tenders of two worlds are alike, they are withdrawn alike
 module _ (th : ChosenTender) (W : ℕ → Bool) where
   taken_back_pairs : (clock : ClockRow) (t : ℕ) (e e' : EnvelopeRow) (r r' : Option SecurityRow) (late : Bool) → Alike th W e e' → r' ≡ r → Pairs (PutPair th W) (taken_back_puts clock t e r late) (taken_back_puts clock t e' r' late)
   taken_back_pairs clock t e e' r r' false a same = (
@@ -73,7 +73,7 @@ module _ (th : ChosenTender) (W : ℕ → Bool) where
   withdraw_pairs clock t (Some e) (Some e') n late r r' a same = taken_back_pairs clock t e e' r r' (is_late late t n) a same
 
 module _ (th : ChosenTender) (W : ℕ → Bool) (s : Tables) (es' : List EnvelopeRow) (all : Pairs (Alike th W) s.envelopes es') where
-  -- what hangs on rows that are alike is the same
+  -- in both worlds the puts are alike
   alike : (t receipt : ℕ) → Pairs (PutPair th W) (withdraw_puts (withdraw_rows s receipt) t) (withdraw_puts (withdraw_rows (record s { envelopes = es' }) receipt) t)
   alike t receipt =
       let o : Option EnvelopeRow = envelope_at receipt s in
@@ -85,7 +85,7 @@ module _ (th : ChosenTender) (W : ℕ → Bool) (s : Tables) (es' : List Envelop
       (λ i. withdraw_puts (record { envelope = o'; notice = notice i; lot = None; late = late i; security = security_of_envelope o' s; clock = s.clock }) t)
       (withdraw_pairs th W s.clock t o o' (notice_of_envelope o s) (late_of_envelope o s) (security_of_envelope o s) (security_of_envelope o' s) pair (blind-option th W (λ o. security_of_envelope o s) (λ _ _. refl) o o' pair))
 
--- its notice, its lot and the security that it names are there
+-- the tender's notice and lot exist, and so does the security that it carries
 none_lacking : (s : Tables) → HaveParents s s → (receipt : ℕ) (o : Option EnvelopeRow) → envelope_at receipt s ≡ o
     → withdraw_lacks (record { envelope = o; notice = notice_of_envelope o s; lot = lot_of_envelope o s; late = None; security = security_of_envelope o s; clock = s.clock }) ≡ false
 none_lacking s have receipt None is = refl

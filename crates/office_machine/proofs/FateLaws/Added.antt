@@ -1,4 +1,4 @@
--- Rows that are added leave an office sound.
+-- An office remains sound when rows are added.
 use Rattle.std.specs.Prelude.{◌≡◌, ℕ, ◌⊎◌, Bool, true, false, cond, List, Option, Some, None, is_some}
 use Rattle.std.proofs.Common.{refl, sym, ap, ◌∙◌, subst, inl, inr}
 use Rattle.std.specs.Ordering.{nat_cmp, is_eq, eq_by_cmp}
@@ -17,7 +17,7 @@ use Rattle.office_base.specs.declared.records.NoticeState.{NoticeState}
 use Rattle.office_base.specs.declared.records.NoticeState.TheVariants as notice
 use Rattle.office_machine.proofs.FateLaws.Views.{View, EnvelopeFits, AwardFits, IsSound, live_lot}
 
--- look-ups with one more row
+-- a look-up that also finds one more row
 abbrev pub added : {X : Type 0} → ℕ → X → (ℕ → Option X) → ℕ → Option X
 added k x f q = cond (eq_by_cmp nat_cmp q k) (Some x) (f q)
 
@@ -34,7 +34,7 @@ added_by : {X : Type 0} (q k : ℕ) (x y : X) (f : ℕ → Option X) (b : Bool) 
 added_by q k x y f true e h = inl (equal_numbers q k e, let same : Some x ≡ Some y = h in cc)
 added_by q k x y f false e h = inr (e, h)
 
--- what is found is the new row, or one that was there
+-- the found row is the new one, or one from before
 pub added_is : {X : Type 0} (q k : ℕ) (x y : X) (f : ℕ → Option X) → added k x f q ≡ Some y
     → ((q ≡ k) × (x ≡ y)) ⊎ ((eq_by_cmp nat_cmp q k ≡ false) × (f q ≡ Some y))
 added_is q k x y f h = added_by q k x y f (eq_by_cmp nat_cmp q k) refl h
@@ -44,7 +44,7 @@ there_by : {X : Type 0} (q k : ℕ) (x y : X) (f : ℕ → Option X) → f k ≡
 there_by q k x y f none h true e = let same : f q ≡ None = ap f (equal_numbers q k e) ∙ none in cc
 there_by q k x y f none h false e = h
 
--- what was there is there, if the row is new
+-- if the row is new, earlier rows are still found
 pub there_still : {X : Type 0} (q k : ℕ) (x y : X) (f : ℕ → Option X) → f k ≡ None → f q ≡ Some y → added k x f q ≡ Some y
 there_still q k x y f none h = there_by q k x y f none h (eq_by_cmp nat_cmp q k) refl
 
@@ -166,7 +166,7 @@ module _ (k : ℕ) (x : AwardRow) (V : View) (sound : IsSound V) (fits : AwardFi
         ];
   }
 
--- a notice that is published, with its lots
+-- a notice is published with its lots
 module _ (n : List ℕ) (N : List ℕ → Option NoticeState) (L : List ℕ × List ℕ → Option LotState) (V : View) (sound : IsSound V)
     (new : V.notice_at n ≡ None) (here : N n ≡ Some notice.Receiving) (elsewhere : (q : List ℕ) → (q ≡ n) ⊎ (N q ≡ V.notice_at q))
     (lots_here : (k : List ℕ × List ℕ) (l : LotState) → k.0 ≡ n → L k ≡ Some l → l ≡ lot.Undecided)

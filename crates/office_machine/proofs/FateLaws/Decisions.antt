@@ -1,4 +1,4 @@
--- What commands that decide a lot change in place leaves an office sound.
+-- An office remains sound after commands that decide a lot.
 use Rattle.std.specs.Prelude.{◌≡◌, ℕ, Bool, true, false, cond, ◌&&◌, List, Option, Some, None, is_some}
 use Rattle.std.proofs.Common.{refl, sym, ap, ◌∙◌, subst}
 use Rattle.std.specs.Ordering.{nat_cmp, is_eq, eq_by_cmp}
@@ -38,7 +38,7 @@ pair_path a b c d p q = ap (λ x. pair x b) p ∙ ap (pair c) q
 at_same_lot : (k q : List ℕ × List ℕ) → k ≡ q → eq_by_cmp lot_cmp k q ≡ true
 at_same_lot k q e = subst (λ q. eq_by_cmp lot_cmp k q ≡ true) e (same_lot k)
 
--- a lot that is closed, its held securities going back
+-- a lot is closed, and its held securities are returned
 module _ (V : View) (sound : IsSound V) (k0 : List ℕ × List ℕ) (closed : LotState) (is_closed : is_live (Some closed) ≡ false)
     (award_to : ℕ → AwardRow → AwardRow) (test : SecurityRow → Bool)
     (test_all : (w : SecurityRow) → w.state ≡ security.Held → w.notice ≡ k0.0 → w.lot ≡ k0.1 → test w ≡ true)
@@ -94,7 +94,7 @@ module _ (V : View) (sound : IsSound V) (k0 : List ℕ × List ℕ) (closed : Lo
         (λ _. refl);
   }
 
--- a lot that is awarded
+-- a lot is awarded
 module _ (V : View) (sound : IsSound V) (k0 : List ℕ × List ℕ) (undecided : V.lot_at k0 ≡ Some lot.Undecided)
     (not_receiving : V.notice_at k0.0 ≡ Some notice.Receiving → ⊥) where
   abbrev pub awarding : Change
@@ -138,7 +138,7 @@ module _ (V : View) (sound : IsSound V) (k0 : List ℕ × List ℕ) (undecided :
         choose (λ x. x ≡ lot.Awarded) (eq_by_cmp lot_cmp (w.notice, w.lot) k0) lot.Awarded lot.Awarded (λ _. refl) (λ _. refl);
   }
 
--- an award that fails
+-- an award fails
 module _ (V : View) (sound : IsSound V) (a0 : ℕ) (w0 : AwardRow) (found : V.award_at a0 ≡ Some w0) (active : w0.state ≡ award.Active)
     (fits : AwardFits V w0) where
   abbrev k0 : List ℕ × List ℕ
@@ -156,7 +156,7 @@ module _ (V : View) (sound : IsSound V) (a0 : ℕ) (w0 : AwardRow) (found : V.aw
   abbrev forfeited : SecurityRow → SecurityRow
   forfeited w = settled security.Forfeited w
 
-  -- an award that is active afterwards is another, of another lot
+  -- an award that is active afterwards is another one
   other_award : (a : ℕ) (w : AwardRow) → V.award_at a ≡ Some w → (failing.award_to a w).state ≡ award.Active
       → (w.state ≡ award.Active) × (eq_by_cmp nat_cmp a a0 ≡ false)
   other_award a w at =
@@ -204,7 +204,7 @@ still_receiving notice.Receiving h = refl
 still_receiving notice.Opened h = cc
 still_receiving notice.Cancelled h = cc
 
--- the lots of a notice that end
+-- lots of a notice end
 module _ (V : View) (sound : IsSound V) (n : List ℕ) (ends : List ℕ → List ℕ → Bool)
     (ends_only : (m l : List ℕ) → ends m l ≡ true → m ≡ n)
     (ends_all : (m l : List ℕ) → m ≡ n → is_live (V.lot_at (m, l)) ≡ true → ends m l ≡ true) where
@@ -217,7 +217,7 @@ module _ (V : View) (sound : IsSound V) (n : List ℕ) (ends : List ℕ → List
     notice_to = λ m x. cond (eq_by_cmp id_cmp m n) (cond (is_receiving x) notice.Cancelled x) x;
   }
 
-  -- what stays sealed, held or active is of a lot that doesn't end
+  -- tenders that are still sealed are for lots that don't end
   sealed_apart : (e : EnvelopeRow) → (cancelling.envelope_to 0 e).state ≡ envelope.Sealed
       → (e.state ≡ envelope.Sealed) × (ends e.notice e.lot ≡ false)
   sealed_apart e =

@@ -1,4 +1,4 @@
--- A command that changes rows in place, and takes no tender in.
+-- A command that changes rows in place and takes no tender in.
 use Rattle.std.specs.Prelude.{◌≡◌, ℕ, true, false, cond, not, List, ◌∷◌, Option, Some, None, option_map, is_some}
 use Rattle.std.proofs.Common.{refl, sym, ap, ◌∙◌, subst, arith}
 use Rattle.std.proofs.lemmas.Bool.Decides.{nat_tests}
@@ -28,7 +28,7 @@ use Rattle.office_machine.proofs.FateLaws.Seen.{seen, AreInOrder, OnLines}
 use Rattle.office_machine.proofs.FateLaws.FatesHold.{FatesStand, tenders_changed, named_changed}
 use Rattle.office_machine.proofs.Rows.Keyed as keyed
 
--- what the command does to tenders, to seals and to securities is what it decides of them
+-- the command changes tenders, seals and securities as it decides about them
 pub record Decides (digest : List ℕ → List ℕ) (xs : List Given) (x : Given) (t u : Tables) (c : Change) : Type 0 where
   pub none : received_by x.command x (λ q. received_at xs q) ≡ None
   pub seen_is : seen u ≡ after_change c (seen t)
@@ -71,7 +71,7 @@ live_by : (V : View) → IsSound V → (e : EnvelopeRow) → EnvelopeFits V e �
 live_by V sound e fits sealed None at = let no : false ≡ true = sym (ap is_some at) ∙ fits.housed in cc
 live_by V sound e fits sealed (Some l) at = ap (λ x. is_live (Some x)) (sound.undecided (e.notice, e.lot) l (fits.receiving sealed) at)
 
--- a sealed tender's lot is live
+-- the lot of a sealed tender is live
 pub sealed_live : (V : View) → IsSound V → (e : EnvelopeRow) → EnvelopeFits V e → e.state ≡ envelope.Sealed
     → is_live (V.lot_at (e.notice, e.lot)) ≡ true
 sealed_live V sound e fits sealed = live_by V sound e fits sealed (V.lot_at (e.notice, e.lot)) refl
@@ -94,7 +94,7 @@ past : (t : ℕ) (o : Option NoticeRow) → holds_of (is_past_deadline t) o ≡ 
 past t None late = cc
 past t (Some n) late = grind (arith, nat_tests)
 
--- and one whose notice's deadline is past isn't
+-- if the deadline of its notice is over, the withdrawal of a tender is too late
 pub not_effective : (xs : List Given) (x : Given) (r : ℕ) (e : EnvelopeRow) (a : Reception) → received_at xs r ≡ Some a → e.notice ≡ a.notice
     → holds_of (is_past_deadline (Rattle.office_machine.specs.Machine.time_of x)) (notice_at e.notice x.before) ≡ true → is_effective x (received_at xs r) ≡ false
 not_effective xs x r e a came_is same late =
@@ -106,7 +106,7 @@ not_past : (t : ℕ) (o : Option NoticeRow) → is_some o ≡ true → holds_of 
 not_past t None there h = there
 not_past t (Some n) there h = grind (arith, nat_tests)
 
--- a tender whose notice's deadline isn't past is withdrawn in time
+-- if the deadline of its notice isn't over, the withdrawal of a tender is in time
 pub effective : (digest : List ℕ → List ℕ) (xs : List Given) (x : Given) (r : ℕ) (e : EnvelopeRow) (a : Reception) → EnvelopeFits (seen x.before) e
     → received_at xs r ≡ Some a → e.notice ≡ a.notice
     → holds_of (is_past_deadline (Rattle.office_machine.specs.Machine.time_of x)) (notice_at e.notice x.before) ≡ false → is_effective x (received_at xs r) ≡ true

@@ -1,4 +1,4 @@
--- What holds of an office that accepted commands reach, and how commands keep it.
+-- The facts about fates that are true of every reached office, and how commands keep them.
 use Rattle.std.specs.Prelude.{◌≡◌, ℕ, ◌+◌, Bool, true, false, cond, List, ◌∷◌, Option, Some, None, option_map, max}
 use Rattle.std.proofs.Common.{refl, sym, ap, ◌∙◌, subst}
 use Rattle.office_commands.specs.declared.tender.NamedSecurity.{NamedSecurity}
@@ -37,7 +37,7 @@ Keeps readings command = (xs : List Given) (t : Tables) (m : ℕ) (caller : Call
     → first_of (tests_for t (max m t.clock.moment) caller command) ≡ None
     → FatesStand readings (given t m caller command ∷ xs) (after_puts (puts_for readings t (max m t.clock.moment) caller command) t)
 
--- what is decided stays so, and what isn't is decided now
+-- a decided fate remains, and an undecided one is decided now
 fate_step : (st : EnvelopeState) (now : Option Reception) (d : EnvelopeState) → fate_after (Some st) now d ≡ Some (cond (is_sealed st) d st)
 fate_step envelope.Sealed now d = refl
 fate_step envelope.Withdrawn now d = refl
@@ -72,7 +72,7 @@ none_new : (b : Bool) → (let o : Option Reception = cond b None None in o) ≡
 none_new true = refl
 none_new false = refl
 
--- nothing came in
+-- if the command takes nothing in, the earlier tender remains
 pub came_none : (o new : Option Reception) (b : Bool) → new ≡ None → received_after o (cond b new None) ≡ o
 came_none None new b e = ap (λ (n : Option Reception). cond b n None) e ∙ none_new b
 came_none (Some c) new b e = refl
@@ -168,7 +168,7 @@ securities_keep = record {
   amount = λ s w. refl;
 }
 
--- a command that takes in and decides no tender leaves the envelopes as they are; likewise one that decides no security
+-- a command that takes in no tender and decides none leaves the envelopes as they are; if it decides no security, it leaves the securities
 module _ (digest : List ℕ → List ℕ) (xs : List Given) (x : Given) (none : received_by x.command x (λ q. received_at xs q) ≡ None) where
   pub tenders_same : (n : ℕ) (E E' : ℕ → Option EnvelopeRow) (K K' : ℕ → Option SealRow) → EnvelopesMatch digest (received_at xs) (fate_of_tender xs) K n E
       → ((r : ℕ) → tender_decided x.command x (received_at xs) r ≡ envelope.Sealed) → ((r : ℕ) → E' r ≡ E r) → ((r : ℕ) → K' r ≡ K r)

@@ -1,4 +1,4 @@
--- Each accepted command keeps the fates, and so does every list of them.
+-- Every accepted command keeps the fates, so they are right in every reached office.
 use Rattle.std.specs.Prelude.{◌≡◌, ℕ, ◌+◌, ◌≤◌, ◌<◌, ◌⊎◌, true, false, List, [], ◌∷◌, Option, Some, None, is_some}
 use Rattle.std.proofs.Common.{refl, sym, subst, inl, inr, arith}
 use Rattle.office_base.specs.Rows.{row_at}
@@ -47,7 +47,7 @@ start means = record {
   zero_or_more : (r : ℕ) → (0 < r) ⊎ (r ≡ 0)
   zero_or_more r = grind arith
 
--- the same with other merges of releases beside it
+-- merges of releases beside the office don't change the fates
 kept_beside : (means : Means) (merges : List CompiledRow) (xs : List Given) (t : Tables) → FatesStand means.readings xs t → FatesStand means.readings xs (with_merges merges t)
 kept_beside means merges xs t k = record { sound = k.sound; tenders = k.tenders; named = k.named; lines = k.lines; order = k.order }
 

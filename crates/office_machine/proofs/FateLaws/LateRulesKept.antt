@@ -1,4 +1,4 @@
--- The notices of which tenders may be withdrawn late are those whose accepted publication said so.
+-- Tenders of a notice may be withdrawn late exactly if its accepted publication said so.
 use Rattle.std.specs.Prelude.{◌≡◌, ℕ, Bool, true, false, cond, ◌&&◌, ◌||◌, List, ◌∷◌, ◌++◌, map, Option, Some, None}
 use Rattle.std.proofs.Common.{refl, sym, ap, ◌∙◌, subst}
 use Rattle.office_commands.specs.declared.command.Caller.{Caller}
@@ -31,12 +31,12 @@ use Rattle.office_machine.proofs.Rows.Keyed.{elsewhere, found_put}
 use Rattle.office_machine.proofs.Runs.{along}
 use Rattle.office_machine.proofs.Rows.Keyed as keyed
 
--- a command that is no publication says nothing of it
+-- a command that isn't a publication allows no late withdrawals
 none_let : (notice : List ℕ) (command : Command) → puts_late_rules command ≡ false → lets_late notice command ≡ false
 none_let notice (Publish name content) other = absurd (let no : true ≡ false = other in cc)
 none_let notice _ other = refl
 
--- what a publication says is put behind rows of other tables
+-- the rule on late withdrawals is put after rows of other tables
 abbrev isnt_late : TableName → Bool
 isnt_late LateRules = false
 isnt_late name = true
@@ -64,7 +64,7 @@ published s t notice content =
     ∙ late_after content.late_withdrawal notice (after_puts parts s)
     ∙ ap (with_late content.late_withdrawal notice) ((leaves isnt_late parts s (parts_on s.clock t notice s.lines content)).late_rules refl)
 
--- the row of a notice after it
+-- the row of a notice after the publication
 row_by : (late : LateWithdrawal) (notice : List ℕ) (rows : List LateRow) (q : List ℕ) (b : Bool) → same_id notice q ≡ b
     → find_late (with_late late notice rows) q ≡ cond (b && is_forfeiting late) (Some (late_row q)) (find_late rows q)
 row_by Refused notice rows q true e = refl
@@ -103,7 +103,7 @@ module _ (means : Means) (xs : List Given) (s : Tables) (moment : ℕ) (caller :
       ∙ either (same_id notice q && is_forfeiting content.late_withdrawal) (was_let_late xs q) (Some (late_row q))
   one_kept command allowed q = other command refl allowed q
 
--- a release says nothing of it
+-- the put of a release leaves the rules on late withdrawals
 published_kept : (xs : List Given) (t : Tables) (p : Option ReleaseRow) → AreKept xs t → AreKept xs (after_puts (publication_puts p) t)
 published_kept xs t None kept q = kept q
 published_kept xs t (Some p) kept q = kept q

@@ -1,4 +1,4 @@
--- A command that closes a lot, so that its held securities go back.
+-- A command that closes a lot, so that its held securities are returned.
 use Rattle.std.specs.Prelude.{◌≡◌, ℕ, Bool, true, false, cond, ◌&&◌, List, ◌∷◌, map, filter, Some, None, option_map}
 use Rattle.std.proofs.Common.{refl, sym, ap, ◌∙◌}
 use Rattle.std.specs.Cmp.{nat_cmp_total}
@@ -33,7 +33,7 @@ use Rattle.office_machine.proofs.FateLaws.FatesHold.{FatesStand, still_sealed, a
 use Rattle.office_machine.proofs.FateLaws.FatesChanged.{kept_by_change}
 use Rattle.office_machine.proofs.FateLaws.States.{map_same}
 
--- the securities of a lot that are held
+-- the security is held, and is of the lot
 abbrev pub is_held_of : List ℕ → List ℕ → SecurityRow → Bool
 is_held_of n l w = (same_id w.notice n && same_id w.lot l) && is_held_security w
 
@@ -57,7 +57,7 @@ returned_by w security.Returned false e = e
 returned_by w security.Forfeited true e = e
 returned_by w security.Forfeited false e = e
 
--- the held securities of the lot, put again as returned
+-- the held securities of the lot are put as returned
 pub securities_go_back : (t : Tables) (n l : List ℕ) (s : ℕ) → AreInOrder t
     → find_security (rows_put nat_cmp security_key t.securities (map returned (filter is_held_security (securities_of_lot n l t)))) s ≡ option_map (changed (is_held_of n l) returned) (security_at s t)
 securities_go_back t n l s order =

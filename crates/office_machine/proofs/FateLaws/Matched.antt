@@ -1,4 +1,4 @@
--- Rows that stand as the fates say, and go on so.
+-- Rows agree with the fates, and still do after a command.
 use Rattle.std.specs.Prelude.{◌≡◌, ℕ, ◌+◌, ◌≤◌, ◌<◌, ◌⊎◌, Bool, true, false, cond, List, Option, Some, None, option_map}
 use Rattle.std.proofs.Common.{refl, sym, ap, ◌∙◌, subst, inl, inr, arith}
 use Rattle.std.specs.Ordering.{nat_cmp, eq_by_cmp, is_eq}
@@ -46,7 +46,7 @@ module _ (digest_of : List ℕ → List ℕ) where
   is_none-map f None h = refl
   is_none-map f (Some x) h = let no : Some (f x) ≡ None = h in cc
 
-  -- an old row and its seal, after a command, by its fate
+  -- the state of an old row and its seal agree with its fate after a command
   pub record GoesOn (r : ℕ) (x : Reception) (fate fate' : Option EnvelopeState) (seal seal' : Option SealRow) (e d : EnvelopeRow) : Type 0 where
     pub fate_is : fate' ≡ Some d.state
     pub seal_is : seal' ≡ cond (is_kept d.state) (Some (record { receipt = r; bytes = x.bytes })) None
@@ -90,7 +90,7 @@ module _ (digest_of : List ℕ → List ℕ) where
         all = λ r h. m.all r (is_none-map (f r) (E r) h);
       }
 
-    -- a command that takes one in
+    -- a command that takes a tender in
     module _ (x : EnvelopeRow) (same : (r : ℕ) → eq_by_cmp nat_cmp r (n + 1) ≡ false → came' r ≡ came r)
         (on : (r : ℕ) (e : EnvelopeRow) → eq_by_cmp nat_cmp r (n + 1) ≡ false → E r ≡ Some e → (y : Reception) → came r ≡ Some y → EnvelopeIs digest_of r y (fate r) e (K r)
         → GoesOn r y (fate r) (fate' r) (K r) (K' r) e (f r e))
@@ -133,7 +133,7 @@ module _ (digest_of : List ℕ → List ℕ) where
         all = λ r h. let was = none_by r (eq_by_cmp nat_cmp r (n + 1)) refl h in above r was.0 (m.all r was.1);
       }
 
--- what was named with a receipt
+-- the security that was named with a receipt
 abbrev pub named_in : Option Reception → Option NamedSecurity
 named_in None = None
 named_in (Some c) = c.named
@@ -197,7 +197,7 @@ module _ (came came' : ℕ → Option Reception) (fate fate' : ℕ → Option Se
       none = λ s h. let was = none-map (g s) (S s) h in none s was (m.none s was);
     }
 
-  -- one is named
+  -- a security is named
   module _ (k : ℕ) (x : SecurityRow) (same : (s : ℕ) → eq_by_cmp nat_cmp s k ≡ false → came' s ≡ came s)
       (fate_same : (s : ℕ) (w : SecurityRow) → eq_by_cmp nat_cmp s k ≡ false → S s ≡ Some w → fate s ≡ Some w.state → fate' s ≡ Some w.state)
       (none_same : (s : ℕ) → eq_by_cmp nat_cmp s k ≡ false → S s ≡ None → NoSecurity (came s) (fate s) → NoSecurity (came' s) (fate' s))

@@ -1,4 +1,4 @@
--- The next receipt is new.
+-- The next receipt is unused.
 use Rattle.std.specs.Prelude.{◌≡◌, ℕ, ◌+◌, ◌≤◌, Bool, true, false, cond, List, ◌∷◌, Option, Some, None, option_map}
 use Rattle.std.proofs.Common.{refl, sym, ap, ◌∙◌, subst, arith}
 use Rattle.office_base.specs.Tables.{same_number, Tables, envelope_at, seal_at, security_at}
@@ -58,7 +58,7 @@ module _ (readings : Readings) (xs : List Given) (t : Tables) (kept : FatesStand
   pub no_security_yet : security_at next t ≡ None
   no_security_yet = no_security_by (security_at next t) refl
 
-  -- a command that takes in a tender with no security of its own leaves the securities as they are
+  -- a command that takes in a tender without a new security leaves the securities as they are
   module _ (x : Given) (unnamed : named_in (received_by x.command x (λ q. received_at xs q)) ≡ None)
       (held : (s : ℕ) → security_decided x.command x (received_at xs) s ≡ security.Held) where
     name_by : (o new : Option Reception) (b : Bool) → named_in o ≡ None → named_in new ≡ None → named_in (received_after o (cond b new None)) ≡ None

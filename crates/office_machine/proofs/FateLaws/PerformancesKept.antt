@@ -1,4 +1,4 @@
--- The performance securities are those named at accepted signings, each in the state of its fate.
+-- The performance securities are those that were named at accepted signings, each in the state of its fate.
 use Rattle.std.specs.Prelude.{◌≡◌, ℕ, ◌<◌, Bool, true, false, cond, not, List, [], ◌∷◌, ◌++◌, filter, Option, Some, None, is_some, IsSome, nat_lt, max, option_map, option_and_then}
 use Rattle.std.proofs.Common.{refl, sym, ap, ◌∙◌, subst, inl, inr, arith}
 use Rattle.std.proofs.lemmas.Bool.Decides.{nat_tests}
@@ -58,9 +58,9 @@ use Rattle.office_machine.proofs.Rows.RowsChanged.{row_at-changed_put}
 use Rattle.office_base.proofs.RowLaws.Keyed.{found_key}
 use Rattle.office_base.proofs.RowLaws.{row_at-row_put}
 
--- ---- what one row goes through, whatever the tables
+-- ---- one row, in any tables
 
--- after a command that names nothing for the contract, the row in the state that it decides
+-- after a command that names nothing for the contract, the row has the state that the command decides
 pub goes_on : (c : ℕ) (named : Option NamedSecurity) (fate : Option SecurityState) (decided : SecurityState) (row : Option PerformanceRow) → HasPerformance c named fate row
     → HasPerformance c (named_after named None) (performance_after fate (named_after named None) decided) (option_map (λ (w : PerformanceRow). record w { state = cond (is_held w.state) decided w.state }) row)
 goes_on c None fate decided None h = subst (λ f. performance_after f None decided ≡ None) (sym h) refl
@@ -79,7 +79,7 @@ goes_on c (Some named) fate decided (Some w) h =
     by security.Returned = refl
     by security.Forfeited = refl
 
--- what is named where there was nothing is held
+-- a security that is named for the first time is held
 pub begins : (c : ℕ) (named : Option NamedSecurity) (fate : Option SecurityState) (decided : SecurityState) (new : NamedSecurity) → HasPerformance c named fate None
     → HasPerformance c (named_after named (Some new)) (performance_after fate (named_after named (Some new)) decided) (Some (record { contract = c; reference = new.reference; amount = new.amount; state = security.Held }))
 begins c (Some named) fate decided new h = absurd h
@@ -90,7 +90,7 @@ begins c None fate decided new h = record {
   fate_is = ap (λ f. performance_after f (Some new) decided) h;
 }
 
--- a held one that is not decided stays
+-- a held security about which nothing is decided remains
 pub stays : (row : Option PerformanceRow) → option_map (λ (w : PerformanceRow). record w { state = cond (is_held w.state) security.Held w.state }) row ≡ row
 stays None = refl
 stays (Some w) = ap (λ s. Some (record w { state = s })) (by w.state)
@@ -100,7 +100,7 @@ stays (Some w) = ap (λ s. Some (record w { state = s })) (by w.state)
     by security.Returned = refl
     by security.Forfeited = refl
 
--- a command that names nothing and decides nothing of a contract leaves what is said of it
+-- a command that names nothing and decides nothing for a contract keeps the facts about its row
 pub one_idle : (c : ℕ) (x : Given) (xs : List Given) (row : Option PerformanceRow) → named_for x.command c ≡ None → performance_decided x.command c ≡ security.Held
     → HasPerformance c (performance_named xs c) (fate_of_performance xs c) row → HasPerformance c (performance_named (x ∷ xs) c) (fate_of_performance (x ∷ xs) c) row
 one_idle c x xs row none undecided h =
@@ -111,7 +111,7 @@ one_idle c x xs row none undecided h =
 
 -- ---- command by command
 
--- what is held of performance securities, and that each contract has the one that its notice asks for
+-- the performance securities have their fates, and each contract has the one that its notice asks for
 record AreKept (xs : List Given) (t : Tables) : Type 0 where
   pub fates : PerformancesHaveFates xs t
   pub asked : HavePerformances t
@@ -135,13 +135,13 @@ none_decided : (command : Command) → IsOther command → (c : ℕ) → perform
 none_decided (End contract how) other c = absurd other
 none_decided _ other c = refl
 
--- it signs no contract, and ends none
+-- such a command signs no contract and ends none
 none_signed : (command : Command) → IsOther command → puts_contracts command ≡ false
 none_signed (Sign award named) other = absurd other
 none_signed (End contract how) other = absurd other
 none_signed _ other = refl
 
--- the same performance securities, and the same contracts
+-- the performance securities are unchanged, and each contract still has the one that its notice asks for
 module _ (x : Given) (xs : List Given) (ps : List Put) (kept : AreKept xs x.before) (same : (after_puts ps x.before).performances ≡ x.before.performances) (asked : HavePerformances (after_puts ps x.before)) where
   left_as : (c : ℕ) → performance_at c (after_puts ps x.before) ≡ performance_at c x.before
   left_as c = ap (λ rows. find_performance rows c) same
@@ -153,12 +153,12 @@ module _ (x : Given) (xs : List Given) (ps : List Put) (kept : AreKept xs x.befo
     asked = asked;
   }
 
--- the row that a signing puts, or the one that is there
+-- the row that a signing puts; the existing one if it names nothing
 abbrev named_row : AwardRow → Option NamedSecurity → Option PerformanceRow → Option PerformanceRow
 named_row w None before = before
 named_row w (Some n) before = Some (performance_row w n)
 
--- the rule's end is the fate's
+-- the rule of an end gives the state of the fate
 same_end : (how : How) → ended_fate how ≡ ended_state how
 same_end hows.Regular = refl
 same_end hows.ForDefault = refl
@@ -167,7 +167,7 @@ same_either : {X : Type 0} (b : Bool) (o : Option X) → cond b o o ≡ o
 same_either true o = refl
 same_either false o = refl
 
--- the rows of another contract
+-- the row of another contract is unchanged
 module _ (x : Given) (xs : List Given) (c : ℕ) (before after : Option PerformanceRow) (same : after ≡ before) (h : HasPerformance c (performance_named xs c) (fate_of_performance xs c) before) where
   elsewhere_kept : named_for x.command c ≡ None → performance_decided x.command c ≡ security.Held → HasPerformance c (performance_named (x ∷ xs) c) (fate_of_performance (x ∷ xs) c) after
   elsewhere_kept none undecided = subst (HasPerformance c (performance_named (x ∷ xs) c) (fate_of_performance (x ∷ xs) c)) (sym same) (one_idle c x xs before none undecided h)
@@ -248,7 +248,7 @@ module _ (means : Means) (xs : List Given) (s : Tables) (moment : ℕ) (caller :
         (subst (λ m. HasPerformance c (named_after (performance_named xs c) m) (performance_after (fate_of_performance xs c) (named_after (performance_named xs c) m) security.Held) (Some (record { contract = c; reference = n.reference; amount = n.amount; state = security.Held }))) (sym it)
         (begins c (performance_named xs c) (fate_of_performance xs c) security.Held n (subst (HasPerformance c (performance_named xs c) (fate_of_performance xs c)) here (kept.fates c))))
 
-    -- what it puts behind its contract puts no contract
+    -- the puts after the contract's own put no contract
     abbrev signed_row : ContractRow
     signed_row = contract_row (time_of x) of.w (tenderer_in (envelope_of_award (award_at award s) s))
 
@@ -272,7 +272,7 @@ module _ (means : Means) (xs : List Given) (s : Tables) (moment : ℕ) (caller :
     row_named None there before = cc
     row_named (Some n) there before = refl
 
-    -- where the notice asks for one, one is named
+    -- if the notice asks for a performance security, one is named
     asked_named : 0 < of.n.performance → is_some named ≡ true
     asked_named more =
         let asks : nat_lt 0 of.n.performance ≡ true = grind (arith, nat_tests, more) in

@@ -33,7 +33,7 @@ all_fit : (V : View) (n : ℕ) (lines : List LineRow) (ps : List Put) → AllByR
 all_fit V n lines [] h = tt
 all_fit V n lines (p ∷ ps) h = (quiet_fits V n lines p h.0, all_fit V n lines ps h.1)
 
--- quiet changes keep what holds
+-- quiet changes keep the facts about fates
 pub kept_after : (readings : Readings) (xs : List Given) (ps : List Put) (t : Tables) → AllByRecursion (IsQuiet (seen t) t.clock.receipts) ps
     → FatesStand readings xs t → FatesStand readings xs (after_puts ps t)
 kept_after readings xs ps t still kept =
@@ -51,7 +51,7 @@ kept_after readings xs ps t still kept =
       order = order-puts ps t kept.order;
     }
 
--- one more command that takes in no tender and decides nothing
+-- a command that takes in no tender and decides nothing keeps the facts about fates
 pub one_more : (readings : Readings) (xs : List Given) (x : Given) (t : Tables) → FatesStand readings xs t → received_by x.command x (λ q. received_at xs q) ≡ None
     → ((r : ℕ) → tender_decided x.command x (received_at xs) r ≡ envelope.Sealed) → ((s : ℕ) → security_decided x.command x (received_at xs) s ≡ security.Held) → FatesStand readings (x ∷ xs) t
 one_more readings xs x t kept none undecided held = record {
@@ -72,7 +72,7 @@ pub all_of_map : {X Y : Type 0} (P : Y → Type 0) (f : X → Y) (xs : List X) �
 all_of_map P f [] h = tt
 all_of_map P f (x ∷ xs) h = (h x, all_of_map P f xs h)
 
--- a notice that is found stands so
+-- the state of a found notice is the one that the fates see
 pub notice_stands : (t : Tables) (k : List ℕ) (n : NoticeRow) → notice_at k t ≡ Some n → (seen t).notice_at n.notice ≡ Some n.state
 notice_stands t k n found =
     ap (λ k. option_map notice_state (notice_at k t)) (found_key keyed.notices t.notices k n found) ∙ ap (option_map notice_state) found
@@ -81,11 +81,11 @@ pub contract_notice : (t : Tables) (o : Option ContractRow) (n : NoticeRow) → 
 contract_notice t None n found = let no : None ≡ Some n = found in cc
 contract_notice t (Some c) n found = notice_stands t c.notice n found
 
--- what a notice's row is taken for
+-- the state of the notice, if there is one, is the one that the fates see
 abbrev pub Stands : View → Option NoticeRow → Type 0
 Stands V o = (n : NoticeRow) → o ≡ Some n → V.notice_at n.notice ≡ Some n.state
 
--- what a command publishes
+-- the put of a release keeps the facts about fates
 pub publication_keeps : (readings : Readings) (xs : List Given) (t : Tables) (p : Option ReleaseRow) → FatesStand readings xs t
     → FatesStand readings xs (after_puts (publication_puts p) t)
 publication_keeps readings xs t None kept = kept

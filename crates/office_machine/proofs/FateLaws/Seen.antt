@@ -1,4 +1,4 @@
--- What the fates see of the tables, and changes that they don't see.
+-- The part of the tables that the fates see, and changes that they don't see.
 use Rattle.std.specs.Prelude.{◌≡◌, ℕ, Bool, true, false, cond, ◌&&◌, ◌||◌, List, [], ◌∷◌, ◌++◌, map, filter, Option, Some, None, option_map, is_some}
 use Rattle.std.proofs.Common.{refl, sym, ap, ◌∙◌, subst}
 use Rattle.std.specs.List.{AllByRecursion}
@@ -49,7 +49,7 @@ pub alike : (V W : View) → ((r : ℕ) → V.envelope_at r ≡ W.envelope_at r)
 alike V W e s a l n =
     λ i. record { envelope_at = λ r. e r i; security_at = λ q. s q i; award_at = λ b. a b i; lot_at = λ k. l k i; notice_at = λ m. n m i }
 
--- the notices, after one is put in another form
+-- the states of the notices after the row of one is put in another form
 notice_step : (r : NoticeRow) (q : List ℕ) (found : Option NoticeRow) (b : Bool) → (b ≡ true → option_map notice_state found ≡ Some r.state)
     → option_map notice_state (cond b (Some r) found) ≡ option_map notice_state found
 notice_step r q found true h = sym (h refl)
@@ -61,7 +61,7 @@ notices-same rows r same q =
     ap (option_map notice_state) (row_at-row_put nat_list_cmp_total notice_key rows r q)
     ∙ notice_step r q (find_notice rows q) (eq_by_cmp id_cmp q r.notice) (λ e. ap (λ n. option_map notice_state (find_notice rows n)) (equal_keys ids_exact q r.notice e) ∙ same)
 
--- a change that the fates don't see
+-- the fates don't see this change
 abbrev pub IsQuiet : View → ℕ → Put → Type 0
 IsQuiet V n (puts.Notice r) = V.notice_at r.notice ≡ Some r.state
 IsQuiet V n (puts.Lot r) = ⊥
@@ -122,7 +122,7 @@ pub order-puts : (ps : List Put) (t : Tables) → AreInOrder t → AreInOrder (a
 order-puts [] t h = h
 order-puts (p ∷ ps) t h = order-puts ps (after_put p t) (order-put p t h)
 
--- each lot's line is there
+-- the line of the lot exists
 abbrev pub IsOnLine : List LineRow → LotRow → Type 0
 IsOnLine lines l = is_some (find_line lines l.line) ≡ true
 
@@ -155,7 +155,7 @@ pub lines-puts : (ps : List Put) (t : Tables) → OnLines t.lines t.lots → All
 lines-puts [] t h fits = h
 lines-puts (p ∷ ps) t h fits = let both = lines-put p ps t h fits.0 fits.1 in lines-puts ps (after_put p t) both.0 both.1
 
--- changes one after another
+-- puts one after another, in two parts
 pub after-append : (ps qs : List Put) (t : Tables) → after_puts (ps ++ qs) t ≡ after_puts qs (after_puts ps t)
 after-append [] qs t = refl
 after-append (p ∷ ps) qs t = after-append ps qs (after_put p t)
@@ -190,7 +190,7 @@ pub after_drops : {X : Type 0} (make : X → ℕ) (xs : List X) (t : Tables)
 after_drops make [] t = refl
 after_drops make (x ∷ xs) t = after_drops make xs (after_put (puts.DropSeal (make x)) t)
 
--- the seals of the envelopes that pass are dropped
+-- the receipts of the envelopes that pass
 abbrev receipt_of : EnvelopeRow → ℕ
 receipt_of e = e.receipt
 

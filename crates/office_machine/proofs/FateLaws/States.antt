@@ -1,4 +1,4 @@
--- States after rows are put in another form.
+-- The states of lots and notices after rows are put in another form.
 use Rattle.std.specs.Prelude.{◌≡◌, ℕ, Bool, true, false, cond, not, List, [], ◌∷◌, map, Option, Some, None, option_map}
 use Rattle.std.proofs.Common.{refl, ap, ◌∙◌}
 use Rattle.std.specs.Cmp.Lexicographic.{nat_list_cmp_total, texts_ties}
@@ -35,7 +35,7 @@ map_step f g h keeps b None = refl
 map_step f g h keeps true (Some x) = ap Some (keeps x)
 map_step f g h keeps false (Some x) = refl
 
--- how far lots have come, after the row of one is put in another form
+-- the states of lots after the row of one is put in another form
 pub lots_put : (rows : List LotRow) (k q : List ℕ × List ℕ) (l : LotRow) (g : LotRow → LotRow) (h : LotState → LotState)
     → ((l : LotRow) → (g l).state ≡ h l.state)
     → ((l : LotRow) → lot_key (g l) ≡ lot_key l) → find_lot rows k ≡ Some l

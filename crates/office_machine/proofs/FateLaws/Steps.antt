@@ -1,4 +1,4 @@
--- What commands change in place leaves an office sound.
+-- An office remains sound after commands that change rows in place.
 use Rattle.std.specs.Prelude.{◌≡◌, ℕ, Bool, true, false, cond, ◌&&◌, List, Option, Some, None}
 use Rattle.std.proofs.Common.{refl, sym, ap, ◌∙◌}
 use Rattle.std.specs.Ordering.{nat_cmp, eq_by_cmp}
@@ -34,7 +34,7 @@ pub has_number_it : (s : ℕ) (o : Option ℕ) → has_number s o ≡ true → o
 has_number_it s None e = cc
 has_number_it s (Some k) e = ap Some (sym (equal_numbers s k e))
 
--- a security that is held once it is settled was held
+-- a security that is held after it is settled was held before
 pub settled_held : (state was : SecurityState) → cond (is_held was) state was ≡ security.Held → was ≡ security.Held
 settled_held state security.Held h = refl
 settled_held state security.Returned h = h
@@ -50,13 +50,13 @@ settled_keep o state = record {
   amount = λ s w. cond_keeps (λ (w : SecurityRow). w.amount) (has_number s o) (settled state w) w refl;
 }
 
--- what is settled is what a command decides of those that are held
+-- a settled security has the state that a command decides for held ones
 pub settled_goes : (state : SecurityState) (w : SecurityRow) (b : Bool)
     → (let w' : SecurityRow = cond b (settled state w) w in w'.state) ≡ cond (is_held w.state) (cond b state security.Held) w.state
 settled_goes state w true = refl
 settled_goes state w false = still_held w.state
 
--- one tender that is changed, and a security, or none, that is settled
+-- one tender is changed, and a security, if there is one, is settled
 module _ (V : View) (r0 : ℕ) (change : EnvelopeRow → EnvelopeRow) (state : SecurityState) (o : Option ℕ) where
   abbrev pub taking_back : Change
   taking_back = record {
@@ -67,7 +67,7 @@ module _ (V : View) (r0 : ℕ) (change : EnvelopeRow → EnvelopeRow) (state : S
     notice_to = λ n x. x;
   }
 
-  -- it is neither sealed anew nor, where it was opened, taken away
+  -- the changes are fair if no tender becomes sealed and every opened tender remains opened
   pub fair_taking_back : ((e : EnvelopeRow) → (change e).notice ≡ e.notice) → ((e : EnvelopeRow) → (change e).lot ≡ e.lot)
       → ((e : EnvelopeRow) → (change e).security ≡ e.security)
       → ((e : EnvelopeRow) → (change e).state ≡ envelope.Sealed → e.state ≡ envelope.Sealed)
@@ -112,7 +112,7 @@ fair_withdrawal V r0 e0 found sealed state o =
     let it : e ≡ e0 = cc in
     let no : envelope.Opened ≡ envelope.Sealed = sym opened ∙ ap (λ (x : EnvelopeRow). x.state) it ∙ sealed in cc)
 
--- sealed tenders of a notice that are opened
+-- sealed tenders of a notice are opened
 module _ (V : View) (n : List ℕ) (test : EnvelopeRow → Bool) (open_row : ℕ → EnvelopeRow → EnvelopeRow)
     (notice_to : List ℕ → NoticeState → NoticeState)
     (sealed_test : (e : EnvelopeRow) → test e ≡ true → e.state ≡ envelope.Sealed)
@@ -161,7 +161,7 @@ module _ (V : View) (n : List ℕ) (test : EnvelopeRow → Bool) (open_row : ℕ
     active_lot = λ a w at active awarded. refl;
   }
 
--- a tender that is examined
+-- a tender is examined
 module _ (V : View) (r0 : ℕ) (examine : EnvelopeRow → EnvelopeRow) (row_state : (e : EnvelopeRow) → (examine e).state ≡ e.state)
     (row_notice : (e : EnvelopeRow) → (examine e).notice ≡ e.notice)
     (row_lot : (e : EnvelopeRow) → (examine e).lot ≡ e.lot) (row_security : (e : EnvelopeRow) → (examine e).security ≡ e.security) where

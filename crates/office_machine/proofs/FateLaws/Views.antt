@@ -1,4 +1,4 @@
--- What the fates look at: the rows by their keys, and how far lots and notices have come.
+-- The part of an office that the fates look at: rows by their keys, and the states of lots and notices.
 use Rattle.std.specs.Prelude.{◌≡◌, ℕ, true, List, Option, Some, None, is_some, option_map}
 use Rattle.std.proofs.Common.{refl, sym, ap, ◌∙◌, subst}
 use Rattle.office_machine.proofs.Rows.Counting.{is_live}
@@ -20,7 +20,7 @@ pub record View : Type 0 where
   pub lot_at : List ℕ × List ℕ → Option LotState
   pub notice_at : List ℕ → Option NoticeState
 
--- the security that a tender carries is there, and of its lot
+-- the security that a tender carries exists, and is for the tender's lot
 pub record IsSecured (V : View) (e : EnvelopeRow) (s : ℕ) : Type 0 where
   pub row : SecurityRow
   pub found : V.security_at s ≡ Some row
@@ -70,7 +70,7 @@ after_change c V = record {
   notice_at = λ n. option_map (c.notice_to n) (V.notice_at n);
 }
 
--- what a row changes to stays of its lot
+-- a changed row is still of its notice and lot
 pub record Keeps (c : Change) : Type 0 where
   pub e_notice : (r : ℕ) (e : EnvelopeRow) → (c.envelope_to r e).notice ≡ e.notice
   pub e_lot : (r : ℕ) (e : EnvelopeRow) → (c.envelope_to r e).lot ≡ e.lot
@@ -81,10 +81,10 @@ pub record Keeps (c : Change) : Type 0 where
   pub a_lot : (a : ℕ) (w : AwardRow) → (c.award_to a w).lot ≡ w.lot
   pub a_receipt : (a : ℕ) (w : AwardRow) → (c.award_to a w).receipt ≡ w.receipt
 
--- changes that leave an office sound, row by row
+-- changes of rows that keep an office sound
 pub record IsFair (c : Change) (V : View) : Type 0 where
   pub keeps : Keeps c
-  -- a tender that is sealed was sealed, and its notice goes on receiving
+  -- a tender that is still sealed was sealed, and its notice is still receiving
   pub sealed : (r : ℕ) (e : EnvelopeRow) → V.envelope_at r ≡ Some e → (c.envelope_to r e).state ≡ envelope.Sealed → e.state ≡ envelope.Sealed
   pub sealed_notice : (r : ℕ) (e : EnvelopeRow) → V.envelope_at r ≡ Some e → (c.envelope_to r e).state ≡ envelope.Sealed
       → c.notice_to e.notice notice.Receiving ≡ notice.Receiving
@@ -92,7 +92,7 @@ pub record IsFair (c : Change) (V : View) : Type 0 where
   pub undecided : (k : List ℕ × List ℕ) → V.lot_at k ≡ Some lot.Undecided → V.notice_at k.0 ≡ Some notice.Receiving
       → c.notice_to k.0 notice.Receiving ≡ notice.Receiving
       → c.lot_to k lot.Undecided ≡ lot.Undecided
-  -- what is held was held, and its lot is live still
+  -- a security that is still held was held, and its lot is still live
   pub held : (s : ℕ) (w : SecurityRow) → V.security_at s ≡ Some w → (c.security_to s w).state ≡ security.Held → w.state ≡ security.Held
   pub held_live : (s : ℕ) (w : SecurityRow) (l : LotState) → V.security_at s ≡ Some w → (c.security_to s w).state ≡ security.Held
       → V.lot_at (w.notice, w.lot) ≡ Some l
@@ -105,7 +105,7 @@ pub record IsFair (c : Change) (V : View) : Type 0 where
       → V.lot_at (w.notice, w.lot) ≡ Some lot.Awarded
       → c.lot_to (w.notice, w.lot) lot.Awarded ≡ lot.Awarded
 
--- what was there before it changed
+-- the row before its change
 pub record Before {X : Type 0} (f : X → X) (o : Option X) (y : X) : Type 0 where
   pub old : X
   pub was : o ≡ Some old

@@ -1,4 +1,4 @@
--- Puts keep the rows that rows speak of.
+-- After puts, the rows that other rows refer to still exist.
 use Rattle.std.proofs.Common.{◌≡◌, ℕ, Bool, true, false, List, [], ◌∷◌, ◌++◌, map, filter, Option, Some, None, refl, sym, subst, inl, inr, cond}
 use Rattle.std.specs.Prelude.{IsSome}
 use Rattle.std.specs.List.{AllByRecursion}
@@ -18,7 +18,7 @@ use Rattle.office_machine.proofs.Rows.Keyed.{found, still_there}
 use Rattle.office_base.proofs.RowLaws.Keyed.{IsKeyed}
 use Rattle.office_machine.proofs.Rows.Keyed as keyed
 
--- nothing goes
+-- every row of the one office still exists in the other
 pub record Grows (t u : Tables) : Type 0 where
   pub lines : (k : List ℕ) → IsSome (line_at k t) → IsSome (line_at k u)
   pub notices : (k : List ℕ) → IsSome (notice_at k t) → IsSome (notice_at k u)
@@ -56,7 +56,7 @@ pub grows-puts : (ps : List Put) (t : Tables) → Grows t (after_puts ps t)
 grows-puts [] t = grows_itself t
 grows-puts (p ∷ ps) t = grows_on t (after_put p t) (after_puts ps (after_put p t)) (grows-put p t) (grows-puts ps (after_put p t))
 
--- what the row of a put speaks of is there
+-- the rows that the row of a put refers to exist
 abbrev pub Parents : Tables → Put → Type 0
 Parents u (puts.Lot r) = LotHas u r
 Parents u (puts.Envelope r) = EnvelopeHas u r
@@ -73,7 +73,7 @@ Parents u _ = Unit {0}
 abbrev pub AllParents : Tables → List Put → Type 0
 AllParents u ps = AllByRecursion (Parents u) ps
 
--- of each row of a table after one was put
+-- a property of each row of a table and of a put row is one of each row after the put
 row_has : {K X : Type 0} {R : K → K → Ordering} {key : X → K} (t : IsKeyed R key) (P : X → Type 0) (xs : List X) (r : X) → P r → ((k : K) (x : X) → row_at R key xs k ≡ Some x → P x)
     → (k : K) (x : X) → row_at R key (row_put R key xs r) k ≡ Some x → P x
 row_has {R = R} {key = key} t P xs r own old k x h =
@@ -99,7 +99,7 @@ puts_have : (u : Tables) (ps : List Put) (t : Tables) → AllParents u ps → Ha
 puts_have u [] t own h = h
 puts_have u (p ∷ ps) t own h = puts_have u ps (after_put p t) own.1 (put_has u p t own.0 h)
 
--- what was there still is
+-- the notice and the line of a lot still exist
 pub lot_still : (t u : Tables) → Grows t u → (l : LotRow) → LotHas t l → LotHas u l
 lot_still t u g l h = record { notice = g.notices l.notice h.notice; line = g.lines l.line h.line }
 
@@ -129,7 +129,7 @@ have_still t u g h = record {
   late_rules = λ k r is. record { notice = g.notices r.notice (h.late_rules k r is).notice };
 }
 
--- after puts all of whose rows have theirs
+-- if the rows that the put rows refer to exist, every row's do after the puts
 pub parents_after : (ps : List Put) (t : Tables) → HaveParents t t → AllParents (after_puts ps t) ps → HaveParents (after_puts ps t) (after_puts ps t)
 parents_after ps t h own = puts_have (after_puts ps t) ps t own (have_still t (after_puts ps t) (grows-puts ps t) h)
 
@@ -145,7 +145,7 @@ pub parents-if : {X : Type 0} (u : Tables) (make : X → Put) (o : Option X) →
 parents-if u make None h = tt
 parents-if u make (Some x) h = (h x refl, tt)
 
--- of rows that pass, each of which is in the table
+-- puts that are made of rows, if the rows that each of these refers to exist
 pub parents-all : {X : Type 0} (u : Tables) (make : X → Put) (xs : List X) → AllByRecursion (λ x. Parents u (make x)) xs → AllParents u (map make xs)
 parents-all u make [] h = tt
 parents-all u make (x ∷ xs) h = (h.0, parents-all u make xs h.1)

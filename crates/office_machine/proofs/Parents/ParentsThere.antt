@@ -1,4 +1,4 @@
--- The rows that a row speaks of are there, wherever accepted commands lead.
+-- In every reached office, each row that another row refers to exists.
 use Rattle.std.proofs.Common.{◌≡◌, ℕ, true, List, Option, Some, None, is_some, refl, sym, ◌∙◌, ap, subst}
 use Rattle.std.specs.Prelude.{IsSome, option_and_then, option_map}
 use Rattle.office_base.specs.Rows.{row_at}
@@ -28,13 +28,13 @@ module _ (means : Means) (s : Tables) (moment : ℕ) (caller : Caller) (order : 
   abbrev after : Command → Tables
   after command = next means (given command)
 
-  -- what is there after the effect is there after the publication too
+  -- rows that exist after the effect still exist after the release
   later : (command : Command) → Grows (after_puts (effect means.readings (given command)) s) (after command)
   later command =
       subst (Grows (after_puts (effect means.readings (given command)) s)) (sym (after-append (effect means.readings (given command)) (publication_puts (publication means (given command))) s))
       (grows-puts (publication_puts (publication means (given command))) (after_puts (effect means.readings (given command)) s))
 
-  -- the notice that a command counts is there
+  -- the notice that a command counts exists
   counted_there : (key : Option (List ℕ)) (row : Option NoticeRow) (rows : List NoticeRow) → CountsNext s key row → (n : List ℕ) → key ≡ Some n → IsSome (find_notice (with_notice row rows) n)
   counted_there None row rows counts n e = cc
   counted_there (Some k) None rows counts n e = absurd counts
@@ -72,7 +72,7 @@ none_have = record {
   late_rules = λ k r found. absurd (let none : None ≡ Some r = found in cc);
 }
 
--- the same with other merges of releases of its notices beside it
+-- merges of releases of its notices beside the office don't change this
 have_beside : (trees : List CompiledRow) (t : Tables) → AreOfNotices trees t → HaveParents t t → HaveParents (with_merges trees t) (with_merges trees t)
 have_beside trees t of_notices have = record {
   lots = λ k l found. let h = have.lots k l found in record { notice = h.notice; line = h.line };

@@ -1,4 +1,4 @@
--- A contract that was there has the performance security that its notice asks for after a command too.
+-- After a command, an earlier contract still has the performance security that its notice asks for.
 use Rattle.std.specs.Prelude.{◌≡◌, ℕ, ◌<◌, List, Option, Some, None, IsSome}
 use Rattle.std.proofs.Common.{sym, ap, ◌∙◌, subst, inl, inr, arith}
 use Rattle.office_base.specs.declared.puts.Put.{Put}
@@ -16,7 +16,7 @@ use Rattle.office_machine.proofs.Rows.Keyed as keyed
 one_row : {X : Type 0} (o : Option X) (a b : X) → o ≡ Some a → o ≡ Some b → a ≡ b
 one_row o a b e f = let same : Some a ≡ Some b = sym e ∙ f in cc
 
--- a notice that was there asks for what it asked for
+-- a notice that existed still asks for the same performance security
 asked_by : (s : Tables) (key : Option (List ℕ)) (row : Option NoticeRow) → CountsNext s key row → (q : List ℕ) (n m : NoticeRow)
     → find_notice (with_notice row s.notices) q ≡ Some n → notice_at q s ≡ Some m → n.performance ≡ m.performance
 asked_by s key None counts q n m at was = ap (λ (n : NoticeRow). n.performance) (one_row (notice_at q s) n m at was)

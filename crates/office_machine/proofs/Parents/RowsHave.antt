@@ -1,4 +1,4 @@
--- Rows that an office has, and what they speak of, are there in tables that grew from it.
+-- For the rows of an office, the rows that they refer to exist in any tables that have all rows of the office.
 use Rattle.std.proofs.Common.{◌≡◌, ℕ, List, filter, Option, Some, None, is_some, ◌∙◌, ap}
 use Rattle.std.specs.Prelude.{IsSome, option_and_then}
 use Rattle.std.specs.List.{AllByRecursion}
@@ -39,7 +39,7 @@ module _ (s u : Tables) (have : HaveParents s s) (g : Grows s u) where
   pub returned : (r : SecurityRow) → SecurityHas u r → SecurityHas u (record r { state = Returned })
   returned r h = record { notice = h.notice; lot = h.lot; tenderer = h.tenderer }
 
-  -- all securities, and those of a lot that go back
+  -- the securities that a command returns, if tables are in order
   module _ (order : IsSorted s) where
     pub securities_have : (make : SecurityRow → Put) → ((r : SecurityRow) → SecurityHas u r → Parents u (make r)) → AllByRecursion (λ r. Parents u (make r)) s.securities
     securities_have make h = all-table keyed.securities (λ r. Parents u (make r)) s.securities order.securities (λ k r is. h r (security_still s u g r (have.securities k r is)))

@@ -1,4 +1,4 @@
--- An award and a contract that are there, with the rows that they speak of.
+-- An award and a contract, with the rows that they refer to.
 use Rattle.std.specs.Prelude.{◌≡◌, ℕ, true, Some, is_some}
 use Rattle.std.proofs.Common.{◌∙◌, ap}
 use Rattle.office_base.specs.declared.records.LineRow.{LineRow}
@@ -11,7 +11,7 @@ use Rattle.office_base.specs.Parents.{notice_of_award, lot_of_award, notice_of_c
 use Rattle.office_machine.specs.Parents.{HaveParents}
 use Rattle.office_machine.proofs.Passed.{witness}
 
--- an award and what it speaks of
+-- an award, and the rows that it refers to
 pub record OfAward (s : Tables) (award : ℕ) : Type 0 where
   pub w : AwardRow
   pub l : LotRow
@@ -21,7 +21,7 @@ pub record OfAward (s : Tables) (award : ℕ) : Type 0 where
   pub notice : notice_of_award (award_at award s) s ≡ Some n
   pub notice_is : notice_at w.notice s ≡ Some n
 
--- a contract and what it speaks of
+-- a contract, and the rows that it refers to
 pub record OfContract (s : Tables) (contract : ℕ) : Type 0 where
   pub c : ContractRow
   pub n : NoticeRow

@@ -1,4 +1,4 @@
--- An office that commands reach: what its rows speak of is there, and no more went than came.
+-- In a reached office, the rows that its rows refer to exist, and no more went from a contract than came.
 use Rattle.std.specs.Prelude.{◌≡◌, ℕ, ◌≤◌, ◌<◌, Bool, true, false, not, ◌&&◌, List, filter, Option, Some, None, IsSome, is_some, nat_lt, option_and_then}
 use Rattle.std.proofs.Common.{refl, ap, subst, arith}
 use Rattle.std.proofs.lemmas.Bool.Decides.{nat_tests}
@@ -30,7 +30,7 @@ not_less a b h = grind (arith, nat_tests, h)
 pub less : (a b : ℕ) → nat_lt a b ≡ true → a < b
 less a b h = grind (arith, nat_tests, h)
 
--- the security that a tender names
+-- the security that a tender carries exists
 module _ (s : Tables) (have : HaveParents s s) where
   pub security_there : (e : EnvelopeRow) → EnvelopeHas s e → lacks_security e (security_of_envelope (Some e) s) ≡ false
   security_there e h = by e.security h.security
@@ -43,7 +43,7 @@ module _ (s : Tables) (have : HaveParents s s) where
   line_there key None is there = absurd (let no : false ≡ true = there in cc)
   line_there key (Some l) is there = (have.lots key l is).line
 
--- no more went from a contract than came, as its own entries tell
+-- no more went from a contract than came, by its own entries
 own_within : (es : List EntryRow) (n : ℕ) (c : ContractRow) → c.contract ≡ n → minus es c ≤ plus es c → is_overdrawn (filter (λ (e : EntryRow). same_number e.contract n) es) c ≡ false
 own_within es n c is within =
     subst (λ n. is_overdrawn (filter (λ (e : EntryRow). same_number e.contract n) es) c ≡ false) is

@@ -1,4 +1,4 @@
--- The clock stands at the moment of the last accepted command.
+-- The clock has the moment of the last accepted command.
 use Rattle.std.proofs.Common.{◌≤◌, sym, ◌∙◌, ap, subst}
 use Rattle.std.proofs.Math.Nat.{le-max_right}
 use Rattle.office_base.specs.Tables.{Tables}

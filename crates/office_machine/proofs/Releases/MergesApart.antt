@@ -1,4 +1,4 @@
--- Nothing reads the merges that stand beside the office.
+-- Nothing depends on the merges that are stored beside the office.
 use Rattle.std.proofs.Common.{◌≡◌, ℕ, ◌+◌, cond, not, ◌&&◌, List, [], ◌∷◌, ◌++◌, Option, Some, None, refl, sym, ◌∙◌, ap, subst}
 use Rattle.std.specs.Prelude.{option_and_then, option_map}
 use Rattle.office_commands.specs.declared.command.Caller.{Caller}
@@ -27,7 +27,7 @@ use Rattle.office_machine.specs.Rule.{Rule}
 use Rattle.office_machine.specs.Commands.{rule_of}
 use Rattle.office_machine.specs.Sights.{Packages, package_told, shown}
 
--- A put leaves the rest of the office as it does without them.
+-- A put changes the rest of the office as it does without the merges.
 
 put_beside : (merges : List CompiledRow) (p : Put) (s : Tables) → after_put p (with_merges merges s) ≡ with_merges (after_put p (with_merges merges s)).compiled (after_put p s)
 put_beside merges (puts.Line r) s = refl
@@ -42,7 +42,7 @@ puts_beside (p ∷ ps) merges s =
 
 -- Commands.
 
--- a rule that is asked with these merges beside the office before it, and with those beside the office after it
+-- a rule, with these merges beside the office before it and those beside the office after it
 abbrev pub past_merges : List CompiledRow → List CompiledRow → Rule → Rule
 past_merges before after rule = record {
   tests = λ s. rule.tests (with_merges before s);

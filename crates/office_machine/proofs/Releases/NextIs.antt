@@ -13,12 +13,12 @@ use Rattle.office_machine.proofs.Commands.Footprint.{leaves}
 use Rattle.office_machine.proofs.Passed.{allowed_by}
 use Rattle.office_machine.proofs.Commands.Tail.{CountsNext, is_touched, with_notice}
 
--- with a release more
+-- the releases with one more, if there is one
 abbrev pub with_release : Option ReleaseRow → List ReleaseRow → List ReleaseRow
 with_release None rows = rows
 with_release (Some r) rows = put_release rows r
 
--- a publication puts its release alone
+-- the put of a release changes only the releases
 record Beside (p : Option ReleaseRow) (u v : Tables) : Type 0 where
   notices : v.notices ≡ u.notices
   clock : v.clock ≡ u.clock

@@ -1,4 +1,4 @@
--- Along the releases of a notice the moments never fall.
+-- The moments of a notice's releases never fall.
 use Rattle.std.specs.Prelude.{◌≡◌, ℕ, ◌≤◌, Bool, true, false, cond, List, [], ◌∷◌, ◌++◌, filter, Option, Some, None, option_to_list, option_map, option_and_then}
 use Rattle.std.proofs.Common.{refl, sym, subst, arith}
 use Rattle.std.specs.List.{AllByRecursion}
@@ -12,7 +12,7 @@ use Rattle.office_machine.specs.Releases.{published_by, MomentsNeverFall, Releas
 use Rattle.office_machine.proofs.Releases.ClockSet.{clock_set}
 use Rattle.office_machine.proofs.Releases.ReleasesMade.{releases_published}
 
--- none of these was published after this moment
+-- none of these releases was published after this moment
 abbrev AreBy : ℕ → List ReleaseRow → Type 0
 AreBy moment rows = AllByRecursion (λ (r : ReleaseRow). r.moment ≤ moment) rows
 
@@ -20,7 +20,7 @@ by_later : (m n : ℕ) → m ≤ n → (rows : List ReleaseRow) → AreBy m rows
 by_later m n le [] are = tt
 by_later m n le (r ∷ rows) are = (omega (arith, le, are.0), by_later m n le rows are.1)
 
--- one that is published later comes last
+-- a later release may be added at the end
 last_by : (rows : List ReleaseRow) (r : ReleaseRow) → AreBy r.moment rows → AreBy r.moment (rows ++ r ∷ [])
 last_by [] r are = (omega arith, tt)
 last_by (q ∷ rows) r are = (are.0, last_by rows r are.1)
@@ -30,7 +30,7 @@ last_falls [] r are never = tt
 last_falls (q ∷ []) r are never = (are.0, tt)
 last_falls (q ∷ later ∷ rows) r are never = (never.0, last_falls (later ∷ rows) r are.1 never.1)
 
--- they are in time, none of them after this moment
+-- the releases are in time, and none of them is after this moment
 record AreInTime (moment : ℕ) (rows : List ReleaseRow) : Type 0 where
   never : MomentsNeverFall rows
   are : AreBy moment rows
@@ -39,7 +39,7 @@ abbrev IsAt : ℕ → Option ReleaseRow → Type 0
 IsAt moment None = Unit {0}
 IsAt moment (Some r) = r.moment ≡ moment
 
--- what a command publishes has its moment
+-- the release of a command has the command's moment
 published_at : (means : Means) (x : Given) → IsAt (time_of x) (publication means x)
 published_at means x = by (published_for x.before x.command) (means.release x)
   where
@@ -52,7 +52,7 @@ ends : {X : Type 0} (xs : List X) → xs ++ [] ≡ xs
 ends [] = refl
 ends (x ∷ xs) = λ i. x ∷ ends xs i
 
--- with the release of one more command, given at this moment
+-- the releases with that of one more command, given at this moment
 module _ (p : ReleaseRow → Bool) (moment : ℕ) (rows : List ReleaseRow) (old : AreInTime moment rows) where
   same : AreInTime moment (rows ++ [])
   same = subst (AreInTime moment) (sym (ends rows)) old

@@ -1,4 +1,4 @@
--- The releases of a notice are those that accepted commands published of it, in their sequence.
+-- The stored releases of a notice are those that accepted commands published for it, in their sequence.
 use Rattle.std.specs.Prelude.{◌≡◌, ℕ, ◌+◌, ◌≤◌, ◌<◌, Bool, true, false, cond, List, [], ◌∷◌, ◌++◌, filter, Option, Some, None, option_to_list, option_map, option_and_then}
 use Rattle.std.proofs.Common.{refl, sym, ◌∙◌, ap, subst, arith}
 use Rattle.std.specs.List.{AllByRecursion}
@@ -26,7 +26,7 @@ use Rattle.office_machine.proofs.Releases.NextIs.{with_release, next_is}
 abbrev is_of : List ℕ → ReleaseRow → Bool
 is_of notice r = same_id r.notice notice
 
--- a release of this row's notice is earlier than it
+-- a release of this row's notice is before it
 abbrev IsEarlier : ReleaseRow → ReleaseRow → Type 0
 IsEarlier r y = same_id y.notice r.notice ≡ true → y.seq < r.seq
 
@@ -48,7 +48,7 @@ module _ (r : ReleaseRow) where
       let more : y.seq < r.seq = early own in
       omega (arith, seq, more)
 
-  -- behind it no other release of its notice stands
+  -- after it there is no other release of its notice
   starts : (x : ReleaseRow) (xs : List ReleaseRow) → release_cmp (release_key r) (release_key x) ≡ Less → StartsAbove release_cmp release_key (release_key x) xs
       → StartsAbove release_cmp release_key (release_key r) xs
   starts x [] below h = tt
@@ -66,7 +66,7 @@ module _ (r : ReleaseRow) where
           absurd (later x early.0 below same)
       by false e rest = rest
 
-  -- so it comes last among those of its notice
+  -- it comes last among the releases of its notice
   put_last : (notice : List ℕ) (xs : List ReleaseRow) → IsInOrder release_cmp release_key xs → AllByRecursion (IsEarlier r) xs
       → filter (is_of notice) (put_release xs r) ≡ filter (is_of notice) xs ++ filter (is_of notice) (r ∷ [])
   unfolding row_put
@@ -118,7 +118,7 @@ earlier count r is (y ∷ ys) h = (own, earlier count r is ys h.1)
     own : same_id y.notice r.notice ≡ true → y.seq < r.seq
     own same = let e = ap count (equal_ids y.notice r.notice same) in omega (arith, h.0, is, e)
 
--- what holds after a command, by the release that it publishes
+-- the facts after a command, by the release that it publishes
 pub record AreMade (means : Means) (xs : List Given) (t : Tables) : Type 0 where
   pub are : (notice : List ℕ) → releases_of_notice notice t ≡ published_by means xs notice
   pub within : AreWithin (count_in t) t.releases

@@ -1,4 +1,4 @@
--- Releases of a notice are numbered from 1 to its count.
+-- The releases of a notice are numbered from 1 to its count.
 use Rattle.std.proofs.Common.{◌≡◌, ℕ, ◌+◌, Bool, true, false, cond, ◌&&◌, List, [], ◌∷◌, Option, Some, None, is_some, option_map, refl, sym, ◌∙◌, ap, subst, arith}
 use Rattle.std.specs.Prelude.{nat_le, IsSome, option_and_then}
 use Rattle.std.proofs.lemmas.Bool.Decides.{nat_tests}
@@ -19,7 +19,7 @@ use Rattle.office_machine.proofs.Releases.ReleasesCounted.{Counts, published}
 use Rattle.office_machine.proofs.Parents.ParentsThere.{parents_there}
 use Rattle.office_machine.proofs.Releases.NextIs.{with_release, NextIs, next_is}
 
--- a release of this number is among so many
+-- the number is from 1 to this count
 abbrev among : ℕ → ℕ → Bool
 among k n = nat_le 1 k && nat_le k n
 

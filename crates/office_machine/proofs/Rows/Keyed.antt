@@ -1,4 +1,4 @@
--- Each table's key and its order; what is found after a put, and sums over the rows.
+-- Each table's key and its order, look-ups after a put, and sums over rows.
 use Rattle.std.proofs.Common.{◌≡◌, ℕ, ◌+◌, ◌≤◌, Bool, true, false, cond, List, [], ◌∷◌, Some, None, is_some, refl, sym, ◌∙◌, ap, ◌⊎◌, inl, inr, arith}
 use Rattle.std.specs.List.{AllByRecursion}
 use Rattle.std.specs.FinMap.{nat_cmp-IsAntisymmetric}
@@ -69,7 +69,7 @@ module _ {K X : Type 0} {R : K → K → Ordering} {key : X → K} (t : IsKeyed 
   pub elsewhere : (xs : List X) (r : X) (q : K) → eq_by_cmp R q (key r) ≡ false → row_at R key (row_put R key xs r) q ≡ row_at R key xs q
   elsewhere xs r q e = row_at-row_put t.total key xs r q ∙ ap (λ b. cond b (Some r) (row_at R key xs q)) e
 
-  -- what is found after a row is put: that row at its key, or what was there
+  -- a row that is found after a put is the new row at its key, or an earlier row
   pub found : (xs : List X) (r : X) (q : K) (w : X) → row_at R key (row_put R key xs r) q ≡ Some w → ((q ≡ key r) × (w ≡ r)) ⊎ ((eq_by_cmp R q (key r) ≡ false) × (row_at R key xs q ≡ Some w))
   found xs r q w h = by (eq_by_cmp R q (key r)) refl
     where
@@ -91,7 +91,7 @@ module _ {K X : Type 0} {R : K → K → Ordering} {key : X → K} (t : IsKeyed 
       by true e = let i = sym h ∙ (row_at-row_put t.total key xs r q ∙ ap (λ b. cond b (Some r) (row_at R key xs q)) e) in cc
       by false e = (e, sym (elsewhere xs r q e) ∙ h)
 
--- whatever the order
+-- for rows in any order
 module _ {K X : Type 0} (R : K → K → Ordering) (key : X → K) where
   pub sum-replaced : (f : X → ℕ) (xs : List X) (r w : X) → row_at R key xs (key r) ≡ Some w → sum_over f (row_put R key xs r) + f w ≡ sum_over f xs + f r
   sum-replaced f xs r w h = omega (arith, sum_over-put R key f xs r, ap (weight f) h)
@@ -107,9 +107,9 @@ module _ {K X : Type 0} (R : K → K → Ordering) (key : X → K) where
       each [] = tt
       each (y ∷ ys) = (omega arith, grown (sum_over f ys) (f y + sum_over f ys) ys (omega arith) (each ys))
 
--- in order
+-- for rows in the order of their keys
 module _ {K X : Type 0} {R : K → K → Ordering} {key : X → K} (t : IsKeyed R key) where
-  -- what holds of each row that a look-up finds holds of each row
+  -- a property of each row that a look-up finds is a property of each row
   pub all_found : (P : X → Type 0) (xs : List X) → IsInOrder R key xs → ((x : X) → row_at R key xs (key x) ≡ Some x → P x) → AllByRecursion P xs
   all_found P xs o h = by xs (each_found t xs o)
     where
@@ -132,7 +132,7 @@ module _ {K X : Type 0} {R : K → K → Ordering} {key : X → K} (t : IsKeyed 
   pub sum-found_le : (f g : X → ℕ) (xs : List X) → IsInOrder R key xs → ((x : X) → row_at R key xs (key x) ≡ Some x → f x ≤ g x) → sum_over f xs ≤ sum_over g xs
   sum-found_le f g xs o h = sum-le f g xs (all_found t (λ x. f x ≤ g x) xs o h)
 
-  -- a sum that gains d at one key alone
+  -- a sum that gains d, only at one key
   pub sum-gains : (f g d : X → ℕ) (xs : List X) (k : K) (v : X) → IsInOrder R key xs → row_at R key xs k ≡ Some v → ((w : X) → g w ≡ f w + cond (eq_by_cmp R k (key w)) (d w) 0) → sum_over g xs ≡ sum_over f xs + d v
   sum-gains f g d xs k v o is h =
       let one : X → ℕ = λ x. cond (eq_by_cmp R k (key x)) (d x) 0 in

@@ -12,12 +12,12 @@ use Rattle.office_base.proofs.RowLaws.Starts.{all_above}
 use Rattle.office_base.proofs.RowLaws.Filters.{all_filter}
 use Rattle.office_base.proofs.SumsOver.{sum_over-map}
 
--- the rows that pass, added up
+-- the sum over the rows that pass
 pub sum_over-passing : {X : Type 0} (p : X → Bool) (f : X → ℕ) (xs : List X) → sum_over f (filter p xs) ≡ sum_over (λ x. cond (p x) (f x) 0) xs
 sum_over-passing p f [] = refl
 sum_over-passing p f (x ∷ xs) = elim (p x) as (λ b. sum_over f (cond b (x ∷ filter p xs) (filter p xs)) ≡ cond b (f x) 0 + sum_over (λ x. cond (p x) (f x) 0) xs) [ true ↦ omega (arith, sum_over-passing p f xs) | false ↦ omega (arith, sum_over-passing p f xs) ]
 
--- rows are put, changed
+-- rows are changed and put one after another
 abbrev pub put_changed : {K X : Type 0} → (K → K → Ordering) → (X → K) → (X → X) → List X → List X → List X
 put_changed R key g xs [] = xs
 put_changed R key g xs (y ∷ ys) = put_changed R key g (row_put R key xs (g y)) ys
@@ -35,12 +35,12 @@ module _ {K X : Type 0} {R : K → K → Ordering} {key : X → K} (t : IsKeyed 
   unfolding row_put
   put_here x xs = ap (λ o. by_order o (g x ∷ x ∷ xs) (g x ∷ xs) (x ∷ row_put R key xs (g x))) (ap (λ k. R k (key x)) (keeps x) ∙ tied_itself t.total (key x))
 
-  -- rows above the first are put behind it
+  -- rows above the first one are put after it
   behind : (x : X) (xs ys : List X) → AllByRecursion (λ y. R (key x) (key y) ≡ Less) ys → put_changed R key g (x ∷ xs) ys ≡ x ∷ put_changed R key g xs ys
   behind x xs [] h = refl
   behind x xs (y ∷ ys) h = ap (λ zs. put_changed R key g zs ys) (put_behind x y xs h.0) ∙ behind x (row_put R key xs (g y)) ys h.1
 
-  -- to put the changed rows that pass is to change each row that passes
+  -- putting the changed rows that pass changes each row that passes
   pub put_changed_is : (xs : List X) → IsInOrder R key xs → put_changed R key g xs (filter p xs) ≡ map (changed p g) xs
   put_changed_is [] o = refl
   put_changed_is (x ∷ xs) o =
@@ -57,7 +57,7 @@ module _ {K X : Type 0} {R : K → K → Ordering} {key : X → K} (t : IsKeyed 
   pub sum-put_changed : (f : X → ℕ) (xs : List X) → IsInOrder R key xs → sum_over f (put_changed R key g xs (filter p xs)) ≡ sum_over (λ x. f (changed p g x)) xs
   sum-put_changed f xs o = ap (sum_over f) (put_changed_is xs o) ∙ sum_over-map f (changed p g) xs
 
-  -- what the rows that pass had goes out of the sum, and what they become comes in
+  -- the sum loses the amounts of the rows that pass, and gains the amounts of the changed rows
   pub sum-put_filtered : (f : X → ℕ) (xs : List X) → IsInOrder R key xs → sum_over f (put_changed R key g xs (filter p xs)) + sum_over f (filter p xs) ≡ sum_over f xs + sum_over (λ x. f (g x)) (filter p xs)
   sum-put_filtered f xs o = omega (arith, sum-put_changed f xs o, sum_over-passing p f xs, sum_over-passing p (λ x. f (g x)) xs, shared xs)
     where

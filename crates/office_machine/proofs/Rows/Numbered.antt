@@ -1,4 +1,4 @@
--- The keys of rows in order, from where each number is found.
+-- If each number is found, the keys of rows in order are these numbers.
 use Rattle.std.specs.Prelude.{◌≡◌, ℕ, zero, suc, ◌+◌, ◌≤◌, ◌<◌, ◌⊎◌, true, false, List, [], ◌∷◌, map, Some, None, is_some}
 use Rattle.std.proofs.Common.{refl, sym, ap, ◌∙◌, inl, inr, arith}
 use Rattle.std.specs.Cmp.{nat_cmp_total, nat_cmp_is}
@@ -10,7 +10,7 @@ use Rattle.office_base.proofs.Orders.{same_key}
 use Rattle.office_base.proofs.RowLaws.Starts.{none_below, above, tied}
 
 module _ {X : Type 0} (key : X → ℕ) where
-  -- each number from here on is found, as many as this, and no other
+  -- each of the `n` numbers from `from` on is found, and no other
   pub record FindsAll (from n : ℕ) (xs : List X) : Type 0 where
     pub here : (q : ℕ) → from ≤ q → q < from + n → is_some (row_at nat_cmp key xs q) ≡ true
     pub nowhere : (q : ℕ) (x : X) → row_at nat_cmp key xs q ≡ Some x → (from ≤ q) × (q < from + n)

@@ -17,7 +17,7 @@ abbrev pub rows_put : {K X : Type 0} → (K → K → Ordering) → (X → K) �
 rows_put R key xs [] = xs
 rows_put R key xs (r ∷ rs) = rows_put R key (row_put R key xs r) rs
 
--- the rows without those that have these keys
+-- the rows except those with these keys
 abbrev pub rows_drop : {K X : Type 0} → (K → K → Ordering) → (X → K) → List X → List K → List X
 rows_drop R key xs [] = xs
 rows_drop R key xs (k ∷ ks) = rows_drop R key (row_drop R key xs k) ks
@@ -35,7 +35,7 @@ module _ {K X : Type 0} {R : K → K → Ordering} (o : IsTotalOrder R) (exact :
     same None = refl
     same (Some y) = refl
 
-  -- a row that is put in place of one that is there
+  -- a row is put in place of an existing one
   pub row_at-changed_put : (g : X → X) (xs : List X) (k q : K) (x : X) → row_at R key xs k ≡ Some x → key (g x) ≡ k
       → row_at R key (row_put R key xs (g x)) q ≡ option_map (λ y. cond (eq_by_cmp R q k) (g y) y) (row_at R key xs q)
   row_at-changed_put g xs k q x found keeps =
@@ -43,7 +43,7 @@ module _ {K X : Type 0} {R : K → K → Ordering} (o : IsTotalOrder R) (exact :
       ∙ ap (λ j. cond (eq_by_cmp R q j) (Some (g x)) (row_at R key xs q)) keeps
       ∙ put_step g xs k q x found (eq_by_cmp R q k) refl
 
-  -- whether one that passes has the key
+  -- one of the rows that pass has the key
   abbrev pub some_passes : (X → Bool) → List X → K → Bool
   some_passes p xs q = list_any (λ x. p x && eq_by_cmp R q (key x)) xs
 
@@ -70,7 +70,7 @@ module _ {K X : Type 0} {R : K → K → Ordering} (o : IsTotalOrder R) (exact :
   passes_step p x xs q order ih Greater c true e = ih
   passes_step p x xs q order ih Greater c false e = ih
 
-  -- one that passes has the key where one that passes is found
+  -- one of the rows that pass has the key exactly if the row at the key passes
   pub some_passes_is : (p : X → Bool) (xs : List X) (q : K) → IsInOrder R key xs → some_passes p xs q ≡ holds_of p (row_at R key xs q)
   unfolding row_at
   some_passes_is p [] q order = refl
@@ -96,7 +96,7 @@ module _ {K X : Type 0} {R : K → K → Ordering} (o : IsTotalOrder R) (exact :
     map_cond true y ys = refl
     map_cond false y ys = refl
 
-    -- where none of the rows has the key, nothing changes
+    -- if none of the rows has the key, nothing changes there
     pub puts_elsewhere : (p : X → Bool) (ys zs : List X) (q : K) → some_passes p ys q ≡ false
         → row_at R key (rows_put R key zs (map g (filter p ys))) q ≡ row_at R key zs q
     puts_elsewhere p [] zs q none = refl
@@ -104,7 +104,7 @@ module _ {K X : Type 0} {R : K → K → Ordering} (o : IsTotalOrder R) (exact :
         ap (λ rs. row_at R key (rows_put R key zs rs) q) (map_cond (p y) y (filter p ys))
         ∙ elsewhere_step y (map g (filter p ys)) zs q (some_passes p ys q) (λ h zs. puts_elsewhere p ys zs q h) (p y) none
 
-    -- where one has it, that one stands changed
+    -- if one of the rows has the key, the changed row is found there
     puts_step : (p : X → Bool) (x : X) (xs zs : List X) (q : K) → IsInOrder R key (x ∷ xs)
         → holds_of p (by_order (R q (key x)) None (Some x) (row_at R key xs q)) ≡ true
         → ((zs : List X) → holds_of p (row_at R key xs q) ≡ true → row_at R key (rows_put R key zs (map g (filter p xs))) q ≡ option_map g (row_at R key xs q))
@@ -142,7 +142,7 @@ module _ {K X : Type 0} {R : K → K → Ordering} (o : IsTotalOrder R) (exact :
     changed_by p xs q order (Some x) at false e =
         puts_elsewhere p xs xs q (some_passes_is p xs q order ∙ ap (holds_of p) at ∙ e) ∙ at ∙ ap (λ b. Some (cond b (g x) x)) (sym e)
 
-    -- the rows that pass, put again changed
+    -- the rows that pass are changed and put
     pub row_at-changed : (p : X → Bool) (xs : List X) (q : K) → IsInOrder R key xs
         → row_at R key (rows_put R key xs (map g (filter p xs))) q ≡ option_map (changed p g) (row_at R key xs q)
     row_at-changed p xs q order = changed_by p xs q order (row_at R key xs q) refl (holds_of p (row_at R key xs q)) refl

@@ -26,7 +26,7 @@ abbrev pub AreNew : {K X : Type 0} → (K → K → Ordering) → (X → K) → 
 AreNew R key xs [] = Unit {0}
 AreNew R key xs (r ∷ rs) = (row_at R key xs (key r) ≡ None) × AreNew R key (row_put R key xs r) rs
 
--- whether one of the rows has the key
+-- one of the rows has the key
 abbrev pub some_has : {K X : Type 0} → (K → K → Ordering) → (X → K) → K → List X → Bool
 some_has R key q rs = list_any (λ r. eq_by_cmp R q (key r)) rs
 
@@ -36,7 +36,7 @@ module _ {K X : Type 0} {R : K → K → Ordering} (o : IsTotalOrder R) (key : X
   one_put P r found true more here there none = here refl
   one_put P r found false more here there none = there none
 
-  -- what holds of each row put at a key, and where there is none of what was there, holds of what is found
+  -- a property of each row that is put at a key, and of the earlier row if none is put there, is a property of the found row
   pub found_after : (P : Option X → Type 0) (q : K) (rs xs : List X) → AllByRecursion (λ r. eq_by_cmp R q (key r) ≡ true → P (Some r)) rs
       → (some_has R key q rs ≡ false → P (row_at R key xs q)) → P (row_at R key (rows_put R key xs rs) q)
   found_after P q [] xs here there = there refl
@@ -45,17 +45,17 @@ module _ {K X : Type 0} {R : K → K → Ordering} (o : IsTotalOrder R) (key : X
       (λ none. subst P (sym (row_at-row_put o key xs r q))
       (one_put P r (row_at R key xs q) (eq_by_cmp R q (key r)) (some_has R key q rs) here.0 there none))
 
-  -- what was found is found
+  -- earlier rows are still found
   pub there_after : (q : K) (rs xs : List X) → IsSome (row_at R key xs q) → IsSome (row_at R key (rows_put R key xs rs) q)
   there_after q [] xs h = h
   there_after q (r ∷ rs) xs h = there_after q rs (row_put R key xs r) (still_there o key xs r q h)
 
-  -- new rows add what they weigh
+  -- new rows add their amounts to a sum
   pub sum_over-rows_put : (f : X → ℕ) (rs xs : List X) → AreNew R key xs rs → sum_over f (rows_put R key xs rs) ≡ sum_over f xs + sum_over f rs
   sum_over-rows_put f [] xs new = omega arith
   sum_over-rows_put f (r ∷ rs) xs new = omega (arith, sum_over-rows_put f rs (row_put R key xs r) new.1, sum_over-put_new R key f xs r new.0)
 
--- the lines of the office, and its lots, after such rows are put
+-- the lines of the office after these are put
 abbrev pub lines_put : List LineRow → List LineRow → List LineRow
 lines_put = rows_put id_cmp line_key
 

@@ -1,4 +1,4 @@
--- Worked examples of looking, computed.
+-- Worked examples of queries, computed.
 use Rattle.std.proofs.Common.{refl}
 use Rattle.office_base.specs.Rows.{row_at, row_put, row_drop}
 use Rattle.office_machine.specs.Worked.Looking.{LookingWorked}

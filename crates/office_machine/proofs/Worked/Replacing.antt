@@ -1,4 +1,4 @@
--- Worked examples of modifying and withdrawing sealed tenders, computed.
+-- Worked examples of replacing and withdrawing sealed tenders, computed.
 use Rattle.std.proofs.Common.{refl}
 use Rattle.office_base.specs.Rows.{row_at, row_put, row_drop}
 use Rattle.office_machine.specs.Worked.Replacing.{ReplacingWorked}

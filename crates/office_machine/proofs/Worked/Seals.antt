@@ -1,4 +1,4 @@
--- Seals, computed.
+-- Worked examples of sealed tenders, computed.
 use Rattle.std.specs.Prelude.{codes}
 use Rattle.std.proofs.Common.{refl}
 use Rattle.office_base.specs.Rows.{row_at, row_put, row_drop}

@@ -1,4 +1,4 @@
--- In two worlds replies are alike.
+-- The replies of two worlds are alike.
 use Rattle.std.proofs.Common.{◌≡◌, ℕ, suc, ◌+◌, Bool, true, false, cond, ◌&&◌, List, [], ◌∷◌, length, filter, Option, Some, None, option_map, refl, sym, ◌∙◌, ap, subst}
 use Rattle.office_values.specs.Ids.{same_id}
 use Rattle.office_commands.specs.declared.command.Caller.{Caller}
@@ -44,11 +44,11 @@ but_digests th [] (e' ∷ es') all = absurd all
 but_digests th (e ∷ es) [] all = absurd all
 but_digests th (e ∷ es) (e' ∷ es') all = (all.0.but_digest, but_digests th es es' all.1)
 
--- a tenderer calls in their own name
+-- no caller both is and isn't the chosen tenderer
 own_call : (th : ChosenTender) (caller : Caller) {A : Type 0} → Tenderer th.who ≡ caller → is_by caller th.who ≡ false → A
 own_call th caller who out = absurd (let clash : true ≡ false = sym (same_itself th.who) ∙ (ap (λ c. is_by c th.who) who ∙ out) in cc)
 
--- who sees a tender has given it
+-- a tender that another caller may see isn't one of the chosen tenderer
 not_theirs : (th : ChosenTender) (caller : Caller) (e : EnvelopeRow) → is_by caller e.tenderer ≡ true → is_by caller th.who ≡ false → is_theirs th e ≡ false
 not_theirs th Public e mine out = cc
 not_theirs th Clerk e mine out = cc
@@ -146,7 +146,7 @@ module _ (th : ChosenTender) (W : ℕ → Bool) where
     told_if caller true r r' a = a refl
     told_if caller false r r' a = told_same th caller (Refused Forbidden) (Refused Forbidden) refl
 
-    -- a query
+    -- the replies to a query are alike
     pub query_told : (packages : Packages) → PackagesHideSeals packages → Pairs ButDigest s.envelopes es' → (caller : Caller) (query : Query) → ToldAlike th caller (told packages s caller query) (told packages other caller query)
     query_told packages blindly rows caller query =
         told_if caller (may_look caller (query_kind_of query)) (shown packages s caller query) (shown packages other caller query) (shown_alike packages blindly rows caller query)
@@ -158,7 +158,7 @@ module _ (th : ChosenTender) (W : ℕ → Bool) where
       left_same : (contract release : ℕ) → AlikeOffices th u u' → OfContract contract (left_of (contract_at contract u') u'.entries) release t ≡ OfContract contract (left_of (contract_at contract u) u.entries) release t
       left_same contract release a = ap (λ (v : Tables). OfContract contract (left_of (contract_at contract v) v.entries) release t) a.but_sealed
 
-      -- the same command
+      -- the replies to one command are equal
       same_reply : (command : Command) → LeavesAlike command → reply_for readings other u' t caller command ≡ reply_for readings s u t caller command
       same_reply (commands.Open notice) after =
           ap (λ n. OpenedAll notice n (release_of s.notices notice) t) (pairs-length (filter is_sealed_envelope (envelopes_of_notice notice s)) (filter is_sealed_envelope (envelopes_of_notice notice other))
@@ -178,7 +178,7 @@ module _ (th : ChosenTender) (W : ℕ → Bool) where
       same_reply (commands.End contract how) after = left_same contract (release_of_contract (contract_at contract s) s.notices) (after tt)
       same_reply _ after = refl
 
-      -- two that differ in such bytes
+      -- the replies to two commands that differ only in such bytes are alike
       pub command_told : (command command' : Command) → SameBut th s caller command command' → LeavesAlike command → ToldAlike th caller (reply_for readings s u t caller command) (reply_for readings other u' t caller command')
       command_told command command' (Same e) after =
           subst (λ c. ToldAlike th caller (reply_for readings s u t caller command) (reply_for readings other u' t caller c)) e

@@ -1,4 +1,4 @@
--- Two runs that differ in sealed bytes alone stay alike.
+-- Two runs that differ only in sealed bytes remain alike.
 use Rattle.std.proofs.Common.{◌≡◌, ℕ, Bool, true, false, not, ◌&&◌, List, [], ◌∷◌, Option, Some, None, is_some, option_map, ◌+◌, refl, sym, ◌∙◌, ap, subst}
 use Rattle.std.specs.Prelude.{option_and_then}
 use Rattle.office_values.specs.Ids.{same_id}
@@ -33,11 +33,11 @@ use Rattle.office_machine.proofs.Worlds.WorldsKept.{with_own}
 use Rattle.office_machine.proofs.Worlds.WorldsSealed.{steps_stay}
 use Rattle.office_machine.proofs.Worlds.RepliesAlike.{told_same, but_digests, query_told, command_told}
 
--- nothing has the next receipt's number
+-- the number of the next receipt is unused
 next_free : (means : Means) (xs : List Given) (s : Tables) → Reaches means xs s → IsNext s
 next_free means xs s reached = let kept = all_kept means xs s reached in record { envelope = no_envelope_yet means.readings xs s kept; seal = (nothing_yet means.readings xs s kept).no_seal }
 
--- a publication leaves two worlds alike
+-- the put of a release leaves two worlds alike
 published : (th : ChosenTender) (p : Option ReleaseRow) (u u' : Tables) → AlikeOffices th u u' → AlikeOffices th (after_puts (publication_puts p) u) (after_puts (publication_puts p) u')
 published th None u u' a = a
 published th (Some p) u u' a = record { but_sealed = ap (after_puts (publication_puts (Some p))) a.but_sealed; envelopes = a.envelopes; seals = a.seals }
@@ -54,13 +54,13 @@ next_alike th means x x' a same =
 pub know_alike : (th : ChosenTender) (s s' : Tables) → AlikeOffices th s s' → KnowAlike s s'
 know_alike th s s' alike = ap (λ (u : Tables). u.tenderers) alike.but_sealed
 
--- what can be given still can with other bytes
+-- a command that can be given can be given with other bytes
 given_too : (th : ChosenTender) (s : Tables) (caller : Caller) (command command' : Command) → SameBut th s caller command command' → IsCommand command → IsCommand command'
 given_too th s caller command command' (Same e) h = subst IsCommand e h
 given_too th s caller command command' (Presented security bytes bytes' len who is is') h = subst IsCommand is' tt
 given_too th s caller command command' (Modified receipt bytes bytes' len who lot is is') h = subst IsCommand is' tt
 
--- where a request is accepted, it opens equal seals if any
+-- a request that is accepted opens equal seals, if it opens any
 abbrev pub FindsAlike : Tables → Tables → Request → Type 0
 FindsAlike s s' a = (command : Command) → a.demand ≡ Asks command → a.unavailable ≡ false → refusal_of (given_by_request s a command) ≡ None → OpensAlike command s s'
 
@@ -146,7 +146,7 @@ module _ (means : Means) (packages : Packages) (publishes : ReleasesHideSeals me
           let it = one command command' own same (refusal_of (given command)) (refusal_of (given' command')) refl refl step.refused in
           record { told = it.told; reached = it.first; reached' = it.second; alike = λ finds. it.alike (λ allowed. finds command refl refl allowed) }
 
-  -- one request
+  -- one request leaves the worlds alike
   pub step : (xs ys : List Given) (s s' : Tables) → Reaches means xs s → Reaches means ys s' → AlikeOffices th s s' → (a b : Request) → IsDemand s a a.demand → SameRequest th s a b → StepAlike means packages th xs ys s s' a b
   step xs ys s s' reached reached' alike a b own same =
       let form : s' ≡ record s { envelopes = s'.envelopes; seals = s'.seals } = alike.but_sealed in
@@ -155,7 +155,7 @@ module _ (means : Means) (packages : Packages) (publishes : ReleasesHideSeals me
       (subst (λ q. StepAlike means packages th xs ys s (record s { envelopes = s'.envelopes; seals = s'.seals }) a q) (sym request)
       (step_by xs ys s s'.envelopes s'.seals reached (subst (Reaches means ys) form reached') alike.envelopes alike.seals a.moment a.caller a.unavailable a.demand b.demand own same.demand))
 
-  -- a command that doesn't open the notice opens equal seals
+  -- a command that doesn't open the chosen notice opens equal seals, if it opens any
   opens_others : (s s' : Tables) → AlikeOffices th s s' → (command : Command) → opens_it th command ≡ false → OpensAlike command s s'
   opens_others s s' alike (commands.Open notice) apart = λ r e found of sealed.
       alike.seals r (ap (holds_of (is_theirs th)) found ∙ (ap (λ b. same_id e.tenderer th.who && (b && same_id e.lot th.lot)) (ap (λ k. same_id k th.notice) (equal_ids e.notice notice of) ∙ apart) ∙ none_of (same_id e.tenderer th.who) (same_id e.lot th.lot)))

@@ -1,4 +1,4 @@
--- In two worlds the same is found of the tenders of a lot, and a tenderer's own tenders are the same but for their digests, which nobody else is shown.
+-- In two worlds the evaluation is the same. A tenderer's own tenders differ at most in their digests, which nobody else sees.
 use Rattle.std.proofs.Common.{◌≡◌, ℕ, Bool, true, false, cond, ◌&&◌, ◌||◌, List, [], ◌∷◌, ◌++◌, map, filter, Option, Some, None, unwrap_or, refl, ◌∙◌, ap}
 use Rattle.std.specs.List.{flat_map}
 use mathlib.Core.Path.{fun_ext}
@@ -45,7 +45,7 @@ module _ (th : ChosenTender) (W : ℕ → Bool) where
   pairs-same f b (e ∷ es) [] all = absurd all
   pairs-same f b (e ∷ es) (e' ∷ es') all = λ i. blind th W f b e e' all.0 i ∷ pairs-same f b es es' all.1 i
 
-  -- what is found of tenders
+  -- the tender was opened
   abbrev read_one : EnvelopeRow → Bool
   read_one e = is_read e.state
 
@@ -54,12 +54,12 @@ module _ (th : ChosenTender) (W : ℕ → Bool) where
       ap (λ o. map (evaluated_tender weight (unwrap_or o 0)) (filter read_one es')) (pairs-lowest th W es es' all)
       ∙ pairs-same (evaluated_tender weight (lowest_in es)) (λ _ _. refl) (filter read_one es) (filter read_one es') (pairs-filter th W read_one (λ _ _. refl) es es' all)
 
-  -- a tenderer's own, of rows that are alike
+  -- a tenderer's own tenders, from rows that are alike
   module _ (notice lot id : List ℕ) where
     abbrev own : EnvelopeRow → Bool
     own e = of_tenderer notice lot id e
 
-    -- another's
+    -- a tender of another tenderer isn't one of the chosen tenderer
     elses : same_id id th.who ≡ false → (e : EnvelopeRow) → own e ≡ true → is_theirs th e ≡ false
     elses out e mine =
         ap (λ k. same_id k th.who && is_for_chosen_lot th e) (equal_ids e.tenderer id (both_parts (same_id e.notice notice && same_id e.lot lot) (same_id e.tenderer id) mine).1)
@@ -91,13 +91,13 @@ module _ (th : ChosenTender) (W : ℕ → Bool) where
         ap (λ tenders. cond (is_clerk caller || has_outcome awards l) (lot_told tenders (awards_of_lot l.lot awards) l) (lot_told [] [] l))
         (tenders_same weight (envelopes_of_lot l.notice l.lot s) (envelopes_of_lot l.notice l.lot other) (lot_pairs th W s es' all l.notice l.lot))
 
-    -- how awards came about
+    -- the evaluation is the same
     pub evaluation_same : (caller : Caller) (o : Option NoticeRow) (lots : List LotRow) (awards : List AwardRow) → evaluation_told caller other o lots awards ≡ evaluation_told caller s o lots awards
     evaluation_same caller None lots awards = refl
     evaluation_same caller (Some n) lots awards =
         ap (λ told. cond (is_opened n.state) (EvaluationSeen n.notice (map told lots)) (Refused NotOpened)) (fun_ext (lot_same caller n.weight awards))
 
-    -- one's own tenders, told to another than this tenderer, and told without their digests
+    -- the own tenders of any other tenderer are the same
     others_lot : (id : List ℕ) → same_id id th.who ≡ false → (l : LotRow) → own_of_lot (Tenderer id) other l ≡ own_of_lot (Tenderer id) s l
     others_lot id out l = elses_same l.notice l.lot id out s.envelopes es' all
 

@@ -1,4 +1,4 @@
--- Where no differing tender is opened, the whole of two runs is alike.
+-- If no differing tender is opened, two runs are alike to their end.
 use Rattle.std.proofs.Common.{◌≡◌, ℕ, ◌+◌, Bool, true, false, cond, List, [], ◌∷◌, Option, Some, None, refl, sym, ◌∙◌, ap, subst, inl, inr}
 use Rattle.office_values.specs.Ids.{same_id}
 use Rattle.office_base.specs.Tables.{same_number, Tables, envelope_at, seal_at}
@@ -26,7 +26,7 @@ use Rattle.office_machine.proofs.Worlds.WorldsPut.{AlikeOptions, pairs-found}
 use Rattle.office_machine.proofs.Worlds.WorldsKept.{with_own}
 use Rattle.office_machine.proofs.Worlds.SealsKept.{FindsAlike, step, itself, know_alike}
 
--- what further commands leave stays so through a run
+-- a fact that further commands keep is kept by a run
 module _ (P : List Given → Type 0) (on : (x : Given) (xs : List Given) → P xs → P (x ∷ xs)) where
   by_refusal : (o : Option Refusal) (x : Given) (xs : List Given) → P xs → P (accepted_by o x xs)
   by_refusal None x xs h = on x xs h
@@ -47,7 +47,7 @@ module _ (P : List Given → Type 0) (on : (x : Given) (xs : List Given) → P x
   all_more means s xs [] h = h
   all_more means s xs (a ∷ rest) h = all_more means (office_after means s a) (accepted_with s a xs) rest (one_more s a xs h)
 
--- what came in stays, and what is opened
+-- a tender that came in remains through a run
 still_came : (means : Means) (s : Tables) (xs : List Given) (rest : List Request) (r : ℕ) (c : Reception) → received_at xs r ≡ Some c → received_at (all_accepted means s xs rest) r ≡ Some c
 still_came means s xs rest r c h = all_more (λ xs. received_at xs r ≡ Some c) (λ x xs e. came_old (received_at xs r) (cond (same_number r (x.before.clock.receipts + 1)) (received_by x.command x (λ q. received_at xs q)) None) c e ∙ e) means s xs rest h
 
@@ -70,7 +70,7 @@ other_row : (th : ChosenTender) (W : ℕ → Bool) (e : EnvelopeRow) (o : Option
 other_row th W e None a = absurd a
 other_row th W e (Some e') a = record { row = e'; is = refl; state = ap (λ (e : EnvelopeRow). e.state) a.rows.but_digest }
 
--- the seal of a sealed tender
+-- the seal of a sealed tender has the bytes that came in
 its_seal : (r : ℕ) (c : Reception) (state : EnvelopeState) (seal : Option SealRow) → seal ≡ cond (is_kept state) (Some (record { receipt = r; bytes = c.bytes })) None → state ≡ envelope_states.Sealed → seal ≡ Some (record { receipt = r; bytes = c.bytes })
 its_seal r c state seal is sealed = is ∙ ap (λ st. cond (is_kept st) (Some (record { receipt = r; bytes = c.bytes })) None) sealed
 

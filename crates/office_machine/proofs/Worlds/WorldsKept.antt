@@ -1,4 +1,4 @@
--- Two worlds stay alike.
+-- Two worlds remain alike.
 use Rattle.std.proofs.Common.{◌≡◌, ℕ, Bool, true, false, not, cond, List, [], ◌∷◌, filter, Option, Some, None, is_some, refl, sym, ◌∙◌, ap}
 use Rattle.std.specs.List.{AllByRecursion}
 use Rattle.std.specs.Ordering.{nat_cmp}
@@ -45,7 +45,7 @@ own_of th W [] (e' ∷ es') all = absurd all
 own_of th W (e ∷ es) [] all = absurd all
 own_of th W (e ∷ es) (e' ∷ es') all = (all.0.own, own_of th W es es' all.1)
 
--- back to what a reader sees: each of theirs that was there still is
+-- two worlds that are alike in the proof's sense are alike as offices, if each chosen tender still exists
 pub offices_of : (th : ChosenTender) (W : ℕ → Bool) (t t' : Tables) → ((n : ℕ) → W n ≡ true → is_some (envelope_at n t) ≡ true) → AlikeIn th W t t' → AlikeOffices th t t'
 offices_of th W t t' there a = record {
   but_sealed = a.but_sealed;
@@ -61,18 +61,18 @@ offices_of th W t t' there a = record {
         let at : found.0.receipt ≡ n = found_key keyed.envelopes t.envelopes n found.0 found.1 in
         sym e ∙ (ap W (sym at) ∙ (sym own ∙ (sym (ap (holds_of (is_theirs th)) found.1) ∙ out)))
 
--- a receipt that is theirs has an envelope
+-- a receipt of the chosen tenderer for the chosen lot has an envelope
 pub is_there : (th : ChosenTender) (o : Option EnvelopeRow) → holds_of (is_theirs th) o ≡ true → is_some o ≡ true
 is_there th None e = cc
 is_there th (Some x) e = refl
 
--- the command gives no receipt
+-- the command gives out no receipt
 abbrev pub GivesNone : Command → Type 0
 GivesNone (commands.Present notice lot security bytes) = ⊥
 GivesNone (commands.Modify receipt bytes) = ⊥
 GivesNone command = Unit {0}
 
--- what rows that pass have
+-- if a property follows from passing, the rows that pass have it
 all_passing : (P : EnvelopeRow → Type 0) (p : EnvelopeRow → Bool) (es : List EnvelopeRow) → AllByRecursion (λ e. p e ≡ true → P e) es → AllByRecursion P (filter p es)
 all_passing P p [] h = tt
 all_passing P p (e ∷ es) h = by (p e) refl (all_passing P p es h.1)

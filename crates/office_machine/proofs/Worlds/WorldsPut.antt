@@ -1,4 +1,4 @@
--- Two worlds stay alike under puts that are.
+-- Two worlds remain alike under puts that are alike.
 use Rattle.std.proofs.Common.{◌≡◌, ℕ, Bool, true, false, cond, ◌||◌, List, [], ◌∷◌, ◌++◌, map, filter, Option, Some, None, refl, sym, ◌∙◌, ap, subst}
 use Rattle.std.specs.List.{list_any, AllByRecursion}
 use Rattle.std.specs.Ordering.{nat_cmp, eq_by_cmp}
@@ -17,7 +17,7 @@ use Rattle.office_base.proofs.RowLaws.Drops.{row_at-row_drop}
 use Rattle.office_base.proofs.SortedTables.{sorted-put}
 use Rattle.office_base.proofs.RowLaws.{row_at-row_put}
 
--- rows that are alike, each theirs as W says
+-- two rows are alike, and `W` says which are of the chosen tenderer for the chosen lot
 pub record Alike (th : ChosenTender) (W : ℕ → Bool) (e e' : EnvelopeRow) : Type 0 where
   pub rows : AlikeRows th e e'
   pub own : is_theirs th e ≡ W e.receipt
@@ -27,7 +27,7 @@ pub record AlikeIn (th : ChosenTender) (W : ℕ → Bool) (s s' : Tables) : Type
   pub envelopes : Pairs (Alike th W) s.envelopes s'.envelopes
   pub seals : (n : ℕ) → W n ≡ false → seal_at n s ≡ seal_at n s'
 
--- the put is of no envelope and of no seal's bytes
+-- the put is neither of an envelope nor of a seal's bytes
 abbrev pub IsPlain : Put → Type 0
 IsPlain (puts.Envelope e) = ⊥
 IsPlain (puts.Seal r) = ⊥
@@ -53,7 +53,7 @@ module _ (th : ChosenTender) (W : ℕ → Bool) where
       (λ i. nat_cmp (sym (receipt_is r r' b) i) (sym (receipt_is e e' all.0) i))
       (put_by e e' r r' es es' (nat_cmp r.receipt e.receipt) all.0 all.1 b (pairs-put es es' r r' all.1 b))
 
-  -- what is found is alike
+  -- the found rows are alike
   abbrev pub AlikeOptions : Option EnvelopeRow → Option EnvelopeRow → Type 0
   AlikeOptions None None = Unit {0}
   AlikeOptions (Some e) (Some e') = Alike th W e e'
@@ -74,7 +74,7 @@ module _ (th : ChosenTender) (W : ℕ → Bool) where
       (sym (receipt_is e e' all.0))
       (found_by e e' (find_envelope es n) (find_envelope es' n) (nat_cmp n e.receipt) all.0 (pairs-found es es' n all.1))
 
-  -- what reads no digest can't tell them apart
+  -- the function reads no digest
   abbrev pub IsBlind : {A : Type 0} → (EnvelopeRow → A) → Type 0
   IsBlind f = (e : EnvelopeRow) (d : List ℕ) → f (record e { digest = d }) ≡ f e
 
@@ -119,7 +119,7 @@ module _ (th : ChosenTender) (W : ℕ → Bool) where
   seal_drop : (ss ss' : List SealRow) (k n : ℕ) → IsInOrder nat_cmp seal_key ss → IsInOrder nat_cmp seal_key ss' → find_seal ss n ≡ find_seal ss' n → find_seal (drop_seal ss k) n ≡ find_seal (drop_seal ss' k) n
   seal_drop ss ss' k n o o' old = row_at-row_drop keyed.seals ss k n o ∙ (ap (cond (eq_by_cmp nat_cmp n k) None) old ∙ sym (row_at-row_drop keyed.seals ss' k n o'))
 
-  -- one put that is the same in both
+  -- a put that is the same in both worlds leaves them alike
   same_put : (p : Put) (s s' : Tables) → AlikeIn th W s s' → IsPlain p → IsSorted s → IsSorted s' → AlikeIn th W (after_put p s) (after_put p s')
   same_put (puts.DropSeal k) s s' a plain o o' = record { but_sealed = ap (λ (t : Tables). record t { envelopes = s'.envelopes; seals = drop_seal s'.seals k }) a.but_sealed; envelopes = a.envelopes; seals = λ n out. seal_drop s.seals s'.seals k n o.seals o'.seals (a.seals n out) }
   same_put (puts.Envelope e) s s' a plain o o' = absurd plain
@@ -132,7 +132,7 @@ module _ (th : ChosenTender) (W : ℕ → Bool) where
   seal_both : (r r' : SealRow) (s s' : Tables) → AlikeIn th W s s' → r.receipt ≡ r'.receipt → (W r.receipt ≡ false → r ≡ r') → AlikeIn th W (after_put (puts.Seal r) s) (after_put (puts.Seal r') s')
   seal_both r r' s s' a same rows = record { but_sealed = ap (λ (t : Tables). record t { envelopes = s'.envelopes; seals = put_seal s'.seals r' }) a.but_sealed; envelopes = a.envelopes; seals = λ n out. seal_put s.seals s'.seals r r' n same rows out (a.seals n out) }
 
-  -- pairs of puts
+  -- puts of two worlds that are alike
   pub data PutPair (p p' : Put) : Type 0 where
     Plain : IsPlain p → p ≡ p' → PutPair p p'
     TwoEnvelopes : (e e' : EnvelopeRow) → puts.Envelope e ≡ p → puts.Envelope e' ≡ p' → Alike th W e e' → PutPair p p'
@@ -165,7 +165,7 @@ module _ (th : ChosenTender) (W : ℕ → Bool) where
   pairs-map R f g (x ∷ xs) [] a h = absurd a
   pairs-map R f g (x ∷ xs) (y ∷ ys) a h = (h x y a.0, pairs-map R f g xs ys a.1 h)
 
-  -- a change that keeps the digest and whose envelope it is
+  -- a change that keeps the digest, the owner and the receipt leaves rows alike
   pub alike-set : (g : EnvelopeRow → EnvelopeRow) → ((e : EnvelopeRow) (d : List ℕ) → g (record e { digest = d }) ≡ record (g e) { digest = d }) → ((e : EnvelopeRow) → (g e).digest ≡ e.digest)
       → ((e : EnvelopeRow) → is_theirs th (g e) ≡ is_theirs th e) → ((e : EnvelopeRow) → (g e).receipt ≡ e.receipt) → (e e' : EnvelopeRow) → Alike th W e e' → Alike th W (g e) (g e')
   alike-set g sets keeps own key e e' a = record {
@@ -176,7 +176,7 @@ module _ (th : ChosenTender) (W : ℕ → Bool) where
     own = own e ∙ (a.own ∙ ap W (sym (key e)));
   }
 
--- puts that are the same in both worlds
+-- such puts of rows are the same in both worlds
 pub plain-map : {X : Type 0} (make : X → Put) (xs : List X) → ((x : X) → IsPlain (make x)) → AllByRecursion IsPlain (map make xs)
 plain-map make [] h = tt
 plain-map make (x ∷ xs) h = (h x, plain-map make xs h)

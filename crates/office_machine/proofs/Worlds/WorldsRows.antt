@@ -25,7 +25,7 @@ module _ (th : ChosenTender) (W : ℕ → Bool) (s : Tables) (es' : List Envelop
   awarded_pair None = tt
   awarded_pair (Some a) = envelope_pair a.receipt
 
--- the best of rows that are alike
+-- the best tenders of rows that are alike are alike
 module _ (th : ChosenTender) (W : ℕ → Bool) where
   pub pairs-lowest : (es es' : List EnvelopeRow) → Pairs (Alike th W) es es' → lowest_price es' ≡ lowest_price es
   pairs-lowest [] [] all = refl

@@ -1,4 +1,4 @@
--- In two worlds a tender that is presented or replaced with other bytes leaves them alike.
+-- A tender that is submitted or replaced with other bytes leaves two worlds alike.
 use Rattle.std.proofs.Common.{◌≡◌, ℕ, ◌+◌, Bool, true, false, cond, not, ◌&&◌, List, [], ◌∷◌, ◌++◌, length, Option, Some, None, is_some, refl, sym, ◌∙◌, ap, subst}
 use Rattle.std.specs.FinMap.{nat_cmp-IsAntisymmetric}
 use Rattle.std.specs.Cmp.{nat_cmp_total}
@@ -36,7 +36,7 @@ use Rattle.office_machine.proofs.Commands.Modify.{modify_pairs}
 use Rattle.office_machine.proofs.Worlds.WorldsStep.{tests_same}
 use Rattle.office_machine.proofs.Worlds.WorldsKept.{GivesNone, offices_of, is_there, quiet_step}
 
--- an envelope that is put first is there
+-- an envelope that is put first exists afterwards
 put_first : (e : EnvelopeRow) (rest : List Put) (s : Tables) → is_some (envelope_at e.receipt (after_puts (puts.Envelope e ∷ rest) s)) ≡ true
 put_first e rest s = (grows-puts rest (after_put (puts.Envelope e) s)).envelopes e.receipt (ap is_some (found_put keyed.envelopes s.envelopes e))
 
@@ -47,7 +47,7 @@ module _ (th : ChosenTender) (readings : Readings) (s : Tables) (es' : List Enve
   abbrev last : ℕ
   last = s.clock.receipts + 1
 
-  -- the next receipt is theirs as is said, every other as its envelope says
+  -- `W` marks the receipts of the chosen tenderer for the chosen lot, and the next receipt if `fresh`
   abbrev W : ℕ → Bool
   W n = cond (same_number n last) fresh (holds_of (is_theirs th) (envelope_at n s))
 
@@ -126,7 +126,7 @@ module _ (th : ChosenTender) (readings : Readings) (s : Tables) (es' : List Enve
           (record { but_sealed = refl; envelopes = all; seals = same_seals }) order order');
     }
 
--- a tenderer who isn't refused owns the tender that is modified
+-- if a replacement isn't refused, its tenderer owns the tender
 owns : (th : ChosenTender) (o : Option EnvelopeRow) → holds_of (is_for_chosen_lot th) o ≡ true → holds_of (is_anothers (Tenderer th.who)) o ≡ false → holds_of (is_theirs th) o ≡ true
 owns th None lot mine = lot
 owns th (Some e) lot mine =
@@ -149,7 +149,7 @@ module _ (th : ChosenTender) (readings : Readings) (s : Tables) (es' : List Enve
   quietly : (caller : Caller) (command : Command) → GivesNone command → Alike_after caller command command
   quietly caller command quiet = quiet_step th readings s es' ss' moment caller command order order' rows seals quiet
 
-  -- the same command
+  -- the same command in both worlds
   same_command : (caller : Caller) (command : Command) → Alike_after caller command command
   same_command caller (commands.Present notice lot security bytes) =
       presented th readings s es' ss' moment caller order next (same_id (Rattle.office_commands.specs.Callers.tenderer_of caller) th.who && (same_id notice th.notice && same_id lot th.lot)) order' none rows seals notice lot security bytes bytes refl refl (λ _. refl)
@@ -157,7 +157,7 @@ module _ (th : ChosenTender) (readings : Readings) (s : Tables) (es' : List Enve
       modified th readings s es' ss' moment caller order next (holds_of (is_theirs th) (envelope_at receipt s)) order' none rows seals receipt bytes bytes refl refl (λ _ _. refl)
   same_command caller command = quietly caller command tt
 
-  -- other bytes of this tenderer for this lot
+  -- the chosen tenderer submits other bytes for the chosen lot
   other_bytes : (security : Option NamedSecurity) (bytes bytes' : List ℕ) → length bytes ≡ length bytes' → Alike_after (Tenderer th.who) (commands.Present th.notice th.lot security bytes) (commands.Present th.notice th.lot security bytes')
   other_bytes security bytes bytes' len =
       presented th readings s es' ss' moment (Tenderer th.who) order next true order' none rows seals th.notice th.lot security bytes bytes' len

@@ -1,4 +1,4 @@
--- In two worlds a command is refused alike, and leaves them alike.
+-- In two worlds a command has the same refusal, and leaves them alike.
 use Rattle.std.proofs.Common.{◌≡◌, ℕ, ◌+◌, Bool, false, List, filter, Option, refl, [], None}
 use Rattle.std.specs.List.{AllByRecursion}
 use Rattle.office_commands.specs.declared.command.Caller.{Caller}
@@ -25,7 +25,7 @@ use Rattle.office_machine.specs.Machine.{tests_for, puts_for}
 use Rattle.office_machine.proofs.Worlds.WorldsPut.{Alike, PutPair, pairs-any, blind-option}
 use Rattle.office_machine.proofs.Worlds.WorldsRows.{pairs-winner, envelope_pair, lot_pairs}
 
--- these tenders have equal seals
+-- these tenders have equal seals in both worlds
 abbrev pub SealsAlike : Tables → List SealRow → List EnvelopeRow → Type 0
 SealsAlike s ss' es = AllByRecursion (λ (e : EnvelopeRow). seal_at e.receipt s ≡ find_seal ss' e.receipt) es
 
@@ -41,7 +41,7 @@ module _ (th : ChosenTender) (W : ℕ → Bool) (s : Tables) (es' : List Envelop
         blind-option th W (holds_of (is_above (reserved_in l + free_in w))) (λ _ _. refl) (winner n es) (winner n es'') (pairs-winner th W n es es'' all),
       ) refl
 
-  -- every test comes out alike
+  -- every test has the same result in both worlds
   pub tests_same : (t : ℕ) (caller : Caller) (command : Command) → tests_for s' t caller command ≡ tests_for s t caller command
   tests_same t caller (Present notice lot security bytes) = rw (pairs-any th W (is_sealed_by caller) (λ _ _. refl) (envelopes_of_lot notice lot s) (envelopes_of_lot notice lot s') (lot_pairs th W s es' all notice lot)) refl
   tests_same t caller (Modify receipt bytes) =
@@ -54,14 +54,14 @@ module _ (th : ChosenTender) (W : ℕ → Bool) (s : Tables) (es' : List Envelop
       awards_alike t (notice_at notice s) (lot_at (notice, lot) s) (line_of_lot (lot_at (notice, lot) s) s) (envelopes_of_lot notice lot s) (envelopes_of_lot notice lot s') (lot_pairs th W s es' all notice lot)
   tests_same t caller _ = refl
 
-  -- the command gives no receipt, and opens equal seals if any
+  -- the command gives out no receipt, and opens equal seals if it opens any
   abbrev pub GivesNoReceipt : Command → Type 0
   GivesNoReceipt (Present notice lot security bytes) = ⊥
   GivesNoReceipt (Modify receipt bytes) = ⊥
   GivesNoReceipt (Open notice) = SealsAlike s ss' (filter is_sealed_envelope (envelopes_of_notice notice s))
   GivesNoReceipt command = Unit {0}
 
--- in two worlds it puts rows that are alike, where it gives no receipt and opens equal seals
+-- in two worlds the command puts rows that are alike, if it gives out no receipt and opens equal seals
 abbrev pub PutsAlike : Command → Type 0
 PutsAlike command = (th : ChosenTender) (W : ℕ → Bool) (s : Tables) (es' : List EnvelopeRow) (ss' : List SealRow) (all : Pairs (Alike th W) s.envelopes es') (seals : (n : ℕ) → W n ≡ false → seal_at n s ≡ find_seal ss' n)
     (readings : Readings) (t : ℕ) (caller : Caller) → GivesNoReceipt th W s es' ss' all seals command

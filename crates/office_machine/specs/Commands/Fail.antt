@@ -1,4 +1,4 @@
--- The failure of an award.
+-- The failure of an award whose winner doesn't sign.
 use Rattle.award_core.specs.Rules.Fail.{fail_rows, fail_lacks, fail_tests, fail_puts}
 use Rattle.office_base.specs.Tables.{award_at}
 use Rattle.office_machine.specs.Replies.{Failed, release_of_award}

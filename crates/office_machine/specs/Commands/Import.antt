@@ -1,4 +1,4 @@
--- The import of a budget.
+-- The import of a budget file.
 use Rattle.std.specs.Prelude.{length, ℕ, List}
 use Rattle.tender_core.specs.Rules.Import.{import_rows, import_lacks, import_tests, import_puts}
 use Rattle.office_machine.specs.Replies.{Imported}

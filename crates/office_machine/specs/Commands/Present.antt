@@ -1,4 +1,4 @@
--- The presentation of a tender.
+-- The submission of a tender.
 use Rattle.office_base.specs.Rows.{holds_of}
 use Rattle.office_base.specs.Transitions.{is_in_time}
 use Rattle.office_base.specs.Tables.{notice_at}

@@ -1,4 +1,4 @@
--- Worked examples of budgets: files of appropriations, and what anybody sees of a line.
+-- Worked examples of budgets: budget files, and the public view of a line.
 use Rattle.std.specs.Prelude.{◌++◌, ◌∷◌, ◌≡◌, ◌≤◌, List, [], codes, replicate, ℕ}
 use Prim.Native.Nat.{suc-le-suc, zero-le}
 use Rattle.office_commands.specs.declared.budget.BudgetKind.TheVariants.{Add, Cut}
@@ -12,59 +12,60 @@ use Rattle.office_machine.specs.Replies.{Imported, LedgerSeen, LineSeen, Refused
 use Rattle.office_machine.specs.Requests.{Request}
 use Rattle.office_machine.specs.Worked.Office.{by_clerk, february, january, looks, money, pots, pots_are, roads, row, setup, told}
 
--- a budget file under this name
+-- A budget file with this name and these rows.
 abbrev pub file : ℕ → List ℕ → List BudgetRow → Request
 file moment batch rows = by_clerk moment (Import batch rows)
 
--- a second file
+-- A second budget file.
 abbrev pub second : List BudgetRow → Request
 second rows = file february (codes "B2") rows
 
--- one row that adds or cuts so much
+-- A row that adds this amount.
 abbrev pub adds : (amount : ℕ) → 1 ≤ amount → BudgetRow
 adds amount some = row roads Add amount some
 
+-- A row that cuts this amount.
 abbrev pub cuts : (amount : ℕ) → 1 ≤ amount → BudgetRow
 cuts amount some = row roads Cut amount some
 
--- a file of so many rows
+-- A budget file with so many rows of 1 each.
 abbrev pub file_of : ℕ → Request
 file_of rows = file january (codes "B1") (replicate rows (adds 1 (suc-le-suc zero-le)))
 
--- anybody looks at the roads
+-- The public asks for the roads.
 abbrev pub sees_line : Request
 sees_line = looks Public february (queries.Line roads)
 
 pub record BudgetsWorked : Type 0 where
-  -- a file brings money to a line, which it makes
+  -- A budget file makes a line and adds money to it.
   pub money_comes : told [] money ≡ Imported (codes "B1") 1 january ∷ []
-  -- anybody sees the line and its pots
+  -- The public sees the line with its balances.
   pub line_is_seen : told money (sees_line ∷ [])
       ≡ LineSeen roads (codes "Roads") (record { appropriation = 1000; free = 1000; reserved = 0; contracted = 0; paid = 0 }) ∷ []
-  -- and that another line isn't there
+  -- A query for a line that doesn't exist is refused.
   pub no_line_is_seen : told [] (sees_line ∷ []) ≡ Refused (NoSuch things.Line) ∷ []
-  -- a file without rows is taken in too, but no file twice
+  -- A budget file without rows is accepted, but no file is accepted twice.
   pub empty_file_once : told money (second [] ∷ second [] ∷ []) ≡ Imported (codes "B2") 0 february ∷ Refused Exists ∷ []
-  -- a file can't cut one unit more than is free, counted with its rows before
+  -- A budget file can't cut more than is free, counted with its earlier rows, not even by one unit.
   pub one_cut_too_much : told money (second (adds 5 (suc-le-suc zero-le) ∷ cuts 1006 (suc-le-suc zero-le) ∷ []) ∷ []) ≡ Refused InsufficientFunds ∷ []
-  -- and then none of its rows counts
+  -- If one row is refused, no row of the file counts.
   pub all_is_kept : pots (money ++ second (adds 5 (suc-le-suc zero-le) ∷ cuts 1006 (suc-le-suc zero-le) ∷ []) ∷ []) ≡ pots_are 1000 1000 0 0 0
-  -- but it can cut all that is free
+  -- A budget file can cut all free money.
   pub all_is_cut : pots (money ++ second (adds 5 (suc-le-suc zero-le) ∷ cuts 1005 (suc-le-suc zero-le) ∷ []) ∷ []) ≡ pots_are 0 0 0 0 0
-  -- what a notice reserved can't be cut
+  -- Money that a notice reserved can't be cut.
   pub reserved_is_kept : told setup (second (cuts 401 (suc-le-suc zero-le) ∷ []) ∷ second (cuts 400 (suc-le-suc zero-le) ∷ []) ∷ [])
       ≡ Refused InsufficientFunds ∷ Imported (codes "B2") 1 february ∷ []
-  -- a line that is neither there nor made by an earlier row can't be cut
+  -- A row can't cut from a line that doesn't exist and that no earlier row makes.
   pub unknown_line_is_cut : told [] (second (cuts 1 (suc-le-suc zero-le) ∷ adds 1 (suc-le-suc zero-le) ∷ []) ∷ []) ≡ Refused (NoSuch things.Line) ∷ []
-  -- one that an earlier row makes can
+  -- A row can cut from a line that an earlier row makes.
   pub new_line_is_cut : told [] (second (adds 1 (suc-le-suc zero-le) ∷ cuts 1 (suc-le-suc zero-le) ∷ []) ∷ []) ≡ Imported (codes "B2") 2 february ∷ []
-  -- an appropriation comes up to its bound, and not past it
+  -- An appropriation can reach its bound, and not exceed it.
   pub bound_is_reached : told [] (file january (codes "B1") (adds 1000000000000000 (suc-le-suc zero-le) ∷ []) ∷ second (adds 1 (suc-le-suc zero-le) ∷ []) ∷ [])
       ≡ Imported (codes "B1") 1 january ∷ Refused LimitReached ∷ []
-  -- a file may have 500 rows
+  -- A budget file has at most 500 rows.
   pub rows_are_bounded : told [] (file_of 501 ∷ file_of 500 ∷ [])
       ≡ Refused LimitReached ∷ Imported (codes "B1") 500 january ∷ []
-  -- the ledger has a line of each budget line, in the order of their names
+  -- The ledger lists all budget lines in the order of their identifiers.
   pub ledger_is_seen : told setup (file february (codes "B2") (row (codes "0900") Add 50 (suc-le-suc zero-le) ∷ []) ∷ looks Public february queries.Ledger ∷ [])
       ≡ Imported (codes "B2") 1 february
       ∷ LedgerSeen

@@ -1,4 +1,4 @@
--- Worked examples of cancelling: what a cancellation gives back, before the opening and after it.
+-- Worked examples of cancelling: what a cancellation returns and frees, before the opening and after it.
 use Rattle.std.specs.Prelude.{◌++◌, ◌∷◌, ◌≡◌, List, [], codes, map}
 use Rattle.office_commands.specs.declared.command.Caller.TheVariants.{Public}
 use Rattle.office_commands.specs.declared.commands.Command.TheVariants.{Present}
@@ -19,11 +19,11 @@ use Rattle.office_machine.specs.Replies.{OfNotice, Refused}
 use Rattle.office_machine.specs.Requests.{Request}
 use Rattle.office_machine.specs.Worked.Office.{awarded, awards, by, cancels, deadline, decided, examines, fails, february, l1, l2, looks, lot, money, n1, office, opens, pots, pots_are, presents, publish, security, setup, signs, standstill_end, states_of_lots, states_of_securities, states_of_tenders, t1, t2, tendered, tenderers, told, two_notices}
 
--- one tender of 700 with a security has the lot
+-- One tender of 700 with a security wins the lot.
 abbrev pub won : List Request
 won = setup ++ presents t1 february (codes "700") ∷ opens deadline ∷ examines 1 ∷ awards decided ∷ []
 
--- of two lots the first is contracted, the other one has a tender that isn't examined
+-- Of two lots, the first has a contract, and the other has a tender that isn't examined.
 abbrev pub one_contracted : List Request
 one_contracted =
     money
@@ -37,76 +37,77 @@ one_contracted =
     ∷ signs standstill_end 1
     ∷ []
 
--- two sealed tenders, and the notice is cancelled before its opening
+-- Two sealed tenders, and the notice is cancelled before its opening.
 abbrev pub cancelled : List Request
 cancelled = tendered ++ cancels february ∷ []
 
--- two lots of one line, and the notice is cancelled
+-- Two lots on one line, and the notice is cancelled.
 abbrev pub two_lots : List Request
 two_lots = money ++ publish Price (lot l1 600 ∷ lot l2 400 ∷ []) ∷ cancels february ∷ []
 
--- the states of all notices and of all awards
+-- The states of all notices.
 abbrev pub notice_states : List Request → List NoticeState
 notice_states asked = map (λ (n : NoticeRow). n.state) (office asked).notices
 
+-- The states of all awards.
 abbrev pub award_states : List Request → List AwardState
 award_states asked = map (λ (a : AwardRow). a.state) (office asked).awards
 
 pub record CancellingWorked : Type 0 where
-  -- a notice is cancelled before its opening
+  -- A notice is cancelled before its opening.
   pub is_cancelled : told tendered (cancels february ∷ []) ≡ OfNotice n1 2 february ∷ []
-  -- what was reserved is free again
+  -- The reserved money is free again.
   pub money_goes_back : pots cancelled ≡ pots_are 1000 1000 0 0 0
-  -- the sealed tenders are returned
+  -- The sealed tenders are returned.
   pub tenders_go_back : states_of_tenders cancelled ≡ envelope.Returned ∷ envelope.Returned ∷ []
-  -- their bytes are not kept
+  -- The bytes of the returned tenders aren't kept.
   pub bytes_go_back : (office cancelled).seals ≡ []
-  -- their securities are returned
+  -- The securities of the returned tenders are returned.
   pub securities_go_back : states_of_securities cancelled ≡ security_in.Returned ∷ security_in.Returned ∷ []
-  -- the notice has a release more
+  -- The notice has one release more.
   pub releases_are : map (λ (n : NoticeRow). n.releases) (office cancelled).notices ≡ 2 ∷ []
-  -- the lot is cancelled
+  -- The lot is cancelled.
   pub lot_is_cancelled : states_of_lots cancelled ≡ lot_in.Cancelled ∷ []
-  -- and so is the notice
+  -- The notice is cancelled.
   pub notice_is_cancelled : notice_states cancelled ≡ notice_in.Cancelled ∷ []
-  -- then there is nothing to open, to see in minutes or to cancel
+  -- A cancelled notice can't be cancelled again or opened, and it has no minutes.
   pub nothing_is_left : told cancelled (cancels february ∷ opens deadline ∷ looks Public deadline (queries.Minutes n1) ∷ [])
       ≡ Refused NothingToCancel ∷ Refused NotOpenForTenders ∷ Refused NotOpened ∷ []
-  -- a lot of 600 was awarded at 700
+  -- A lot of 600 was awarded at 700, which is reserved.
   pub won_pots : pots won ≡ pots_are 1000 300 700 0 0
-  -- its cancellation leaves nothing to sign and nothing to award
+  -- After the cancellation the award can't be signed, and the lot can't be awarded.
   pub award_is_cancelled : told won (cancels decided ∷ signs standstill_end 1 ∷ awards standstill_end ∷ [])
       ≡ OfNotice n1 4 decided ∷ Refused AlreadyDecided ∷ Refused AlreadyDecided ∷ []
-  -- the price is free again
+  -- The price of the cancelled award is free again.
   pub reserved_goes_back : pots (won ++ cancels decided ∷ []) ≡ pots_are 1000 1000 0 0 0
-  -- the award is cancelled
+  -- The award is cancelled.
   pub award_state : award_states (won ++ cancels decided ∷ []) ≡ award_in.Cancelled ∷ []
-  -- and the winner's security is returned
+  -- The winner's security is returned.
   pub security_goes_back : states_of_securities (won ++ cancels decided ∷ []) ≡ security_in.Returned ∷ []
-  -- an opened notice stays opened
+  -- A notice that was opened remains opened.
   pub notice_stays_opened : notice_states (won ++ cancels decided ∷ []) ≡ notice_in.Opened ∷ []
-  -- and so do its tenders
+  -- Its tenders remain opened.
   pub tender_stays_opened : states_of_tenders (won ++ cancels decided ∷ []) ≡ envelope.Opened ∷ []
-  -- a failed winner's security stays forfeited
+  -- The security of a winner who didn't sign remains forfeited.
   pub stays_forfeited : states_of_securities (won ++ fails standstill_end 1 ∷ cancels standstill_end ∷ []) ≡ security_in.Forfeited ∷ []
-  -- what the lot still reserved is free
+  -- The money that this lot still reserved is free again.
   pub failed_goes_back : pots (won ++ fails standstill_end 1 ∷ cancels standstill_end ∷ []) ≡ pots_are 1000 1000 0 0 0
-  -- and the failed award stays failed
+  -- The failed award remains failed.
   pub failed_award_stays : award_states (won ++ fails standstill_end 1 ∷ cancels standstill_end ∷ []) ≡ award_in.Failed ∷ []
-  -- a contracted lot stays, and the other one ends
+  -- A lot with a contract remains, and the other lot ends.
   pub other_lot_ends : states_of_lots (one_contracted ++ cancels standstill_end ∷ []) ≡ lot_in.Contracted ∷ lot_in.Cancelled ∷ []
-  -- the contract keeps its money
+  -- The contract keeps its money.
   pub contract_stays : pots (one_contracted ++ cancels standstill_end ∷ []) ≡ pots_are 1000 700 0 300 0
-  -- where all is contracted there is nothing to cancel
+  -- If every lot has a contract, there is nothing to cancel.
   pub nothing_but_contracts : told (awarded ++ signs standstill_end 1 ∷ []) (cancels standstill_end ∷ []) ≡ Refused NothingToCancel ∷ []
-  -- what two lots of one line reserved is free again
+  -- The money that two lots on one line reserved is free again.
   pub both_go_back : pots two_lots ≡ pots_are 1000 1000 0 0 0
-  -- another notice keeps its money
+  -- Another notice keeps its money.
   pub other_money_stays : pots (two_notices ++ cancels february ∷ []) ≡ pots_are 1000 700 300 0 0
-  -- and its tender
+  -- A tender for another notice remains sealed.
   pub other_tender_stays : states_of_tenders (two_notices ++ cancels february ∷ []) ≡ envelope.Returned ∷ envelope.Returned ∷ envelope.Sealed ∷ []
-  -- whose security is held
+  -- The security of that tender is still held.
   pub other_security_stays : states_of_securities (two_notices ++ cancels february ∷ [])
       ≡ security_in.Returned ∷ security_in.Returned ∷ security_in.Held ∷ []
-  -- a notice that isn't there can't be cancelled
+  -- A notice that doesn't exist can't be cancelled.
   pub no_such_notice : told money (cancels february ∷ []) ≡ Refused (NoSuch things.Notice) ∷ []

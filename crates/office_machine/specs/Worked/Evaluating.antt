@@ -1,4 +1,4 @@
--- Worked examples of evaluations: what the clerk is shown of tenders, what others are, and what the points are by which the next award is made.
+-- Worked examples of evaluations: what the clerk and others see of tenders, and the points by which the next award is made.
 use Rattle.std.specs.Prelude.{◌++◌, ◌∷◌, ◌≡◌, Bool, List, None, Option, Some, [], codes, false, true, ℕ}
 use Prim.Native.Nat.{suc-le-suc, zero-le}
 use Rattle.office_commands.specs.declared.command.Caller.{Caller}
@@ -20,11 +20,11 @@ use Rattle.office_machine.specs.Requests.{Request}
 use Rattle.office_machine.specs.Worked.Office.{awards, by, by_clerk, cancels, deadline, decided, examines, fails, february, l1, l2, looks, lot, money, n1, n2, opens, presents, publish, security, setup, setup_with, standstill_end, t1, t2, t3, tenderers, told}
 use Rattle.office_machine.specs.Worked.Withdrawing.{hour_later, two, withdraws}
 
--- a look at the evaluation
+-- A query for the evaluation.
 abbrev pub evaluates : Caller → List ℕ → Request
 evaluates caller notice = looks caller standstill_end (queries.Evaluation notice)
 
--- three tenders, the last of which can't be read, opened, where the price has 60 of a hundred points
+-- Three opened tenders, the last of which can't be read. The price has 60 of a hundred points.
 abbrev pub opened : List Request
 opened =
     setup_with 1000 (suc-le-suc zero-le) (Points 60) 600
@@ -34,18 +34,19 @@ opened =
     ∷ opens deadline
     ∷ []
 
--- both that can be are examined, with qualities of 10 and 35
+-- The two readable tenders are examined, with a quality of 10 and of 35.
 abbrev pub examined : List Request
 examined = opened ++ by_clerk decided (Examine 1 true (Some 10)) ∷ by_clerk decided (Examine 2 true (Some 35)) ∷ []
 
--- the dearer one has the lot, and its tenderer doesn't sign
+-- The dearer tender wins the lot.
 abbrev pub awarded : List Request
 awarded = examined ++ awards decided ∷ []
 
+-- The winner of the lot doesn't sign.
 abbrev pub failed : List Request
 failed = awarded ++ fails standstill_end 1 ∷ []
 
--- what is told of a tender
+-- A tender as the evaluation shows it.
 abbrev pub tender : ℕ → List ℕ → Reading → Option Bool → Option ℕ → Option ℕ → Bool → Bool → EvaluatedTender
 tender receipt who reading responsive quality points admissible failed = record {
   receipt = receipt;
@@ -58,39 +59,43 @@ tender receipt who reading responsive quality points admissible failed = record 
   failed = failed;
 }
 
--- one that isn't examined, one that may win, and the one that nobody can read
+-- A tender that isn't examined yet.
 abbrev pub waiting : ℕ → List ℕ → ℕ → EvaluatedTender
 waiting receipt who price = tender receipt who (Priced price price 0) None None None false false
 
+-- A tender that can win.
 abbrev pub admissible : ℕ → List ℕ → ℕ → Option ℕ → Option ℕ → EvaluatedTender
 admissible receipt who price quality points = tender receipt who (Priced price price 0) (Some true) quality points true false
 
+-- The tender that can't be read.
 abbrev pub unreadable : EvaluatedTender
 unreadable = tender 3 t3 Unreadable None None None false false
 
--- an award of the lot to the dearer tender
+-- The award of the lot to the dearer tender.
 abbrev pub award_of : AwardState → AwardRow
 award_of state = record { award = 1; notice = n1; lot = l1; receipt = 2; price = 750; moment = decided; state = state }
 
--- what is told of a lot, and of a notice with that one
+-- A lot as the evaluation shows it.
 abbrev pub lot_seen : List ℕ → LotState → List EvaluatedTender → List AwardRow → EvaluatedLot
 lot_seen lot state tenders awards = record { lot = lot; state = state; tenders = tenders; awards = awards }
 
+-- The evaluation of a notice that has this lot only.
 abbrev pub one_lot : LotState → List EvaluatedTender → List AwardRow → Reply
 one_lot state tenders awards = EvaluationSeen n1 (lot_seen l1 state tenders awards ∷ [])
 
--- the three tenders once both are examined, and once the award failed
+-- The three tenders after the examination.
 abbrev pub all_three : List EvaluatedTender
 all_three = admissible 1 t1 500 (Some 10) (Some 70000) ∷ admissible 2 t2 750 (Some 35) (Some 75000) ∷ unreadable ∷ []
 
+-- The three tenders after the award has failed.
 abbrev pub one_failed : List EvaluatedTender
 one_failed = admissible 1 t1 500 (Some 10) (Some 70000) ∷ tender 2 t2 (Priced 750 750 0) (Some true) (Some 35) None false true ∷ unreadable ∷ []
 
--- two tenders of 500 and 550, where the price alone decides, opened
+-- Two opened tenders of 500 and 550, of which the price alone decides.
 abbrev pub by_price : List Request
 by_price = setup ++ presents t1 february (codes "500") ∷ presents t2 february (codes "550") ∷ opens deadline ∷ []
 
--- two lots, a tender for each; the first is awarded and the other's isn't examined
+-- Two lots with one tender each. The first lot is awarded, and the tender of the other isn't examined.
 abbrev pub two_lots : List Request
 two_lots =
     money
@@ -104,26 +109,26 @@ two_lots =
     ∷ []
 
 pub record EvaluatingWorked : Type 0 where
-  -- there is none before the opening, nor of a notice that was cancelled before it, or that isn't there
+  -- The evaluation is refused before the opening, for a notice that was cancelled before it, and for a notice that doesn't exist.
   pub not_yet : told setup (evaluates Clerk n1 ∷ evaluates Public n1 ∷ evaluates Public n2 ∷ []) ≡ Refused NotOpened ∷ Refused NotOpened ∷ Refused (NoSuch things.Notice) ∷ []
   pub never : told (setup ++ cancels february ∷ []) (evaluates Clerk n1 ∷ []) ≡ Refused NotOpened ∷ []
-  -- the clerk sees what isn't examined
+  -- The clerk sees tenders that aren't examined yet.
   pub clerk_sees_all : told opened (evaluates Clerk n1 ∷ []) ≡ one_lot lot_in.Undecided (waiting 1 t1 500 ∷ waiting 2 t2 750 ∷ unreadable ∷ []) [] ∷ []
-  -- then 60000 and 10000 thousandths, and 40000 and 35000
+  -- After the examination, the tenders have 60000 + 10000 and 40000 + 35000 thousandths of points.
   pub clerk_sees_points : told examined (evaluates Clerk n1 ∷ []) ≡ one_lot lot_in.Undecided all_three [] ∷ []
-  -- others see the lot alone, whatever was examined
+  -- Before the award, others see only the lot, whatever was examined.
   pub confidential : told examined (evaluates Public n1 ∷ evaluates (Tenderer t1) n1 ∷ []) ≡ one_lot lot_in.Undecided [] [] ∷ one_lot lot_in.Undecided [] [] ∷ []
-  -- once it is awarded anybody sees why
+  -- After the award everyone sees the tenders and the award.
   pub awarded_for_all : told awarded (evaluates Public n1 ∷ evaluates Clerk n1 ∷ [])
       ≡ one_lot lot_in.Awarded all_three (award_of award_in.Active ∷ []) ∷ one_lot lot_in.Awarded all_three (award_of award_in.Active ∷ []) ∷ []
-  -- and still when the award has failed; who doesn't sign has no points
+  -- After the award has failed, everyone still sees them. A winner who didn't sign has no points.
   pub failed_for_all : told failed (evaluates Public n1 ∷ []) ≡ one_lot lot_in.Undecided one_failed (award_of award_in.Failed ∷ []) ∷ []
-  -- where the price alone decides there are no points, nor of what isn't responsive
+  -- If the price alone decides, no tender has points. A tender that isn't responsive has none either way.
   pub without_points : told (by_price ++ by_clerk decided (Examine 1 false None) ∷ examines 2 ∷ []) (evaluates Clerk n1 ∷ [])
       ≡ one_lot lot_in.Undecided (tender 1 t1 (Priced 500 500 0) (Some false) None None false false ∷ admissible 2 t2 550 None None ∷ []) [] ∷ []
-  -- a lot that is cancelled after the opening is shown, with what wasn't examined
+  -- A lot that is cancelled after the opening is shown with tenders that weren't examined.
   pub cancelled : told (by_price ++ cancels decided ∷ []) (evaluates Public n1 ∷ []) ≡ one_lot lot_in.Cancelled (waiting 1 t1 500 ∷ waiting 2 t2 550 ∷ []) [] ∷ []
-  -- lot by lot: the one that is awarded, and nothing of the other
+  -- Of two lots, the public sees the tenders of the awarded one only.
   pub lot_by_lot : told two_lots (evaluates Public n1 ∷ [])
       ≡ EvaluationSeen n1
       (lot_seen l1 lot_in.Awarded (admissible 1 t1 300 None None ∷ [])
@@ -131,6 +136,6 @@ pub record EvaluatingWorked : Type 0 where
       ∷ lot_seen l2 lot_in.Undecided [] []
       ∷ [])
       ∷ []
-  -- a tender that was withdrawn late stays, out of the running
+  -- A tender that was withdrawn late is still shown, but can't win any more.
   pub withdrawn_late : told (two ++ opens deadline ∷ withdraws t1 hour_later 1 ∷ []) (evaluates Clerk n1 ∷ [])
       ≡ one_lot lot_in.Undecided (tender 1 t1 (Priced 500 500 0) None None None false true ∷ waiting 2 t2 600 ∷ []) [] ∷ []

@@ -1,4 +1,4 @@
--- Worked examples of examining: opened tenders are found responsive or not, and where points decide of some quality.
+-- Worked examples of examining: an opened tender is found responsive or not, and gets a quality if points decide.
 use Rattle.std.specs.Prelude.{◌++◌, ◌∷◌, ◌≡◌, Bool, List, None, Option, Some, [], codes, false, true, ℕ}
 use Prim.Native.Nat.{suc-le-suc, zero-le}
 use Rattle.office_commands.specs.declared.commands.Command.TheVariants.{Examine}
@@ -11,11 +11,11 @@ use Rattle.office_machine.specs.Replies.{Examined, Refused, Reply}
 use Rattle.office_machine.specs.Requests.{Request}
 use Rattle.office_machine.specs.Worked.Office.{by_clerk, cancels, deadline, decided, february, opens, presents, refused, setup, setup_with, t1, t2, t3, tendered, told}
 
--- a tender is examined, perhaps with a quality
+-- A tender is examined, with a quality if one is given.
 abbrev pub judges : ℕ → Bool → Option ℕ → Request
 judges receipt responsive quality = by_clerk decided (Examine receipt responsive quality)
 
--- T1's tender is priced, T2's unreadable and T3's offers something else
+-- Three opened tenders: T1's is priced, T2's is unreadable, and T3's is nonconforming.
 abbrev pub three_opened : List Request
 three_opened =
     setup
@@ -25,7 +25,7 @@ three_opened =
     ∷ opens deadline
     ∷ []
 
--- two tenders, of which the price weighs 60 in a hundred
+-- Two tenders, for which the price has 60 of a hundred points.
 abbrev pub by_points : List Request
 by_points =
     setup_with 1000 (suc-le-suc zero-le) (Points 60) 600
@@ -34,29 +34,29 @@ by_points =
     ∷ opens deadline
     ∷ []
 
--- the refusal of a quality
+-- The refusal of a quality.
 abbrev pub bad_quality : Reply
 bad_quality = Refused (BadBody (Field fields.Quality))
 
 pub record ExaminingWorked : Type 0 where
-  -- a priced tender is examined once
+  -- A priced tender is examined once.
   pub is_examined : told three_opened (judges 1 true None ∷ judges 1 false None ∷ []) ≡ Examined 1 true decided ∷ Refused AlreadyDecided ∷ []
-  -- it may be found not responsive
+  -- A tender may be found not responsive.
   pub found_wanting : told three_opened (judges 1 false None ∷ []) ≡ Examined 1 false decided ∷ []
-  -- one without a price is decided as it is
+  -- A tender without a price isn't examined: its result is decided already.
   pub unreadable : told three_opened (judges 2 true None ∷ judges 3 true None ∷ []) ≡ Refused AlreadyDecided ∷ Refused AlreadyDecided ∷ []
-  -- no tender is examined before the opening
+  -- No tender is examined before the opening.
   pub not_opened : told tendered (judges 1 true None ∷ []) ≡ Refused NotOpened ∷ []
-  -- nor one that came late
+  -- A late tender isn't examined, because it isn't opened.
   pub late_is_not_opened : refused three_opened (presents t1 decided (codes "400") ∷ judges 4 true None ∷ []) ≡ None ∷ Some NotOpened ∷ []
-  -- a tender that isn't there can't be examined
+  -- A tender that doesn't exist can't be examined.
   pub no_such_tender : told three_opened (judges 99 true None ∷ []) ≡ Refused (NoSuch things.Tender) ∷ []
-  -- where the lowest price decides there is no quality, not even 0
+  -- If the price alone decides, no quality may be given, not even 0.
   pub no_quality_for_price : told three_opened (judges 1 true (Some 0) ∷ []) ≡ bad_quality ∷ []
-  -- where points decide, a responsive tender has at most the quality that the price leaves
+  -- If points decide, a quality is at most the points that the price leaves.
   pub quality_is_bounded : told by_points (judges 1 true (Some 41) ∷ judges 1 true (Some 40) ∷ []) ≡ bad_quality ∷ Examined 1 true decided ∷ []
-  -- it has one, and a tender that isn't responsive has none
+  -- If points decide, a responsive tender needs a quality, and a tender that isn't responsive may not have one.
   pub quality_is_wanted : told by_points (judges 1 true None ∷ judges 1 false (Some 10) ∷ judges 1 false None ∷ [])
       ≡ bad_quality ∷ bad_quality ∷ Examined 1 false decided ∷ []
-  -- once the lot is cancelled there is nothing to examine
+  -- After the lot is cancelled, no tender of it is examined.
   pub not_once_cancelled : refused three_opened (cancels decided ∷ judges 1 true None ∷ []) ≡ None ∷ Some AlreadyDecided ∷ []

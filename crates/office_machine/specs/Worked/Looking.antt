@@ -1,4 +1,4 @@
--- Worked examples of looking: who sees a tender, a security, the register and the minutes before the opening.
+-- Worked examples of queries: which callers see a tender, a security, the register and the minutes before the opening.
 use Rattle.std.specs.Prelude.{◌++◌, ◌∷◌, ◌≡◌, List, Some, [], codes, ℕ}
 use Rattle.office_commands.specs.declared.command.Caller.{Caller}
 use Rattle.office_commands.specs.declared.command.Caller.TheVariants.{Clerk, Public, Tenderer}
@@ -13,53 +13,56 @@ use Rattle.office_machine.specs.Replies.{Package, Refused, Registry, Security, T
 use Rattle.office_machine.specs.Requests.{Request}
 use Rattle.office_machine.specs.Worked.Office.{by, february, l1, looks, n1, n2, notice, presents, security, setup, t1, t2, told}
 
--- a look at a tender, a security and the register, and one by the public
+-- A query for a tender.
 abbrev pub sees_tender : Caller → ℕ → Request
 sees_tender caller receipt = looks caller february (queries.Tender receipt)
 
+-- A query for a security.
 abbrev pub sees_security : Caller → ℕ → Request
 sees_security caller security = looks caller february (queries.Security security)
 
+-- A query for the register of a notice.
 abbrev pub sees_register : Caller → List ℕ → Request
 sees_register caller notice = looks caller february (queries.Register notice)
 
+-- A query by the public.
 abbrev pub public_sees : Query → Request
 public_sees query = looks Public february query
 
--- T1's tender is modified: receipt 2 carries security 1
+-- T1's tender is replaced: receipt 2 carries security 1.
 abbrev pub modified : List Request
 modified = setup ++ presents t1 february (codes "500") ∷ by t1 february (Modify 1 (codes "4500")) ∷ []
 
 pub record LookingWorked : Type 0 where
-  -- a tenderer sees its own tender, with its digest and not its bytes
+  -- A tenderer sees its own tender with its digest, and without its bytes.
   pub own_tender : told modified (sees_tender (Tenderer t1) 1 ∷ sees_tender (Tenderer t1) 2 ∷ [])
       ≡ Tender (codes "500") 3 n1 l1 february 1 (Some 1) envelope.Withdrawn
       ∷ Tender (codes "4500") 4 n1 l1 february 2 (Some 1) envelope.Sealed
       ∷ []
-  -- nobody else does, not even the clerk
+  -- Nobody else sees the tender, not even the clerk.
   pub others_tender : told modified (sees_tender (Tenderer t2) 2 ∷ sees_tender Clerk 2 ∷ sees_tender Public 2 ∷ [])
       ≡ Refused NotYourTender ∷ Refused Forbidden ∷ Refused Forbidden ∷ []
-  -- a tender that wasn't received isn't there
+  -- A tender that didn't come in doesn't exist.
   pub no_such_tender : told modified (sees_tender (Tenderer t1) 99 ∷ []) ≡ Refused (NoSuch things.Tender) ∷ []
-  -- a security is seen by whoever named it and by the clerk
+  -- The tenderer who named a security and the clerk see it.
   pub security_is_held : told modified (sees_security (Tenderer t1) 1 ∷ sees_security Clerk 1 ∷ [])
       ≡ Security 50 (codes "G1") 1 security_in.Held t1 ∷ Security 50 (codes "G1") 1 security_in.Held t1 ∷ []
-  -- by nobody else; and it has the number of the first receipt alone
+  -- Nobody else sees the security. It has only the number of the first receipt.
   pub others_security : told modified (sees_security (Tenderer t2) 1 ∷ sees_security Public 1 ∷ sees_security Clerk 2 ∷ [])
       ≡ Refused NotYourTender ∷ Refused Forbidden ∷ Refused (NoSuch things.Security) ∷ []
-  -- the clerk sees the register: no digest and no tenderer
+  -- The clerk sees the register, which shows no digest and no tenderer.
   pub register_is_seen : told modified (sees_register Clerk n1 ∷ [])
       ≡ Registry n1
       (record { receipt = 1; lot = l1; moment = february; length = 3; state = envelope.Withdrawn }
       ∷ record { receipt = 2; lot = l1; moment = february; length = 4; state = envelope.Sealed }
       ∷ [])
       ∷ []
-  -- nobody else does
+  -- Nobody else sees the register.
   pub register_is_the_clerks : told modified (sees_register (Tenderer t1) n1 ∷ sees_register Public n1 ∷ sees_register Clerk n2 ∷ [])
       ≡ Refused Forbidden ∷ Refused Forbidden ∷ Refused (NoSuch things.Notice) ∷ []
-  -- there are no minutes before the opening
+  -- There are no minutes before the opening.
   pub no_minutes_yet : told modified (public_sees (queries.Minutes n1) ∷ public_sees (queries.Minutes n2) ∷ [])
       ≡ Refused NotOpened ∷ Refused (NoSuch things.Notice) ∷ []
-  -- anybody has the packages of what is published
+  -- Everyone sees the packages of published releases.
   pub packages_are_seen : told modified (public_sees (queries.Releases n1) ∷ public_sees (queries.Record n1) ∷ public_sees (queries.Record n2) ∷ [])
       ≡ Package [] ∷ Package [] ∷ Refused (NoSuch things.Notice) ∷ []

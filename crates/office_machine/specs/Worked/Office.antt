@@ -1,4 +1,4 @@
--- The office of the worked examples: its lines, notices, lots, tenderers and moments, and words for what is asked and told.
+-- The office of the worked examples: its lines, notices, lots, tenderers and moments, and short names for requests and replies.
 use Rattle.std.specs.Prelude.{◌%◌, ◌&&◌, ◌*◌, ◌++◌, ◌+◌, ◌-◌, ◌/◌, ◌∷◌, ◌≤◌, Bool, List, None, Option, Some, [], codes, cond, false, map, nat_eq, nat_le, option_map, true, ℕ}
 use Prim.Native.Nat.{suc-le-suc, zero-le}
 use Rattle.office_commands.specs.declared.budget.BudgetKind.{BudgetKind}
@@ -38,80 +38,81 @@ use Rattle.office_machine.specs.Replies.{Refused, Reply}
 use Rattle.office_machine.specs.Requests.{Asks, Looks, Request, all_accepted, last_office, office_after, reply_to}
 use Rattle.office_machine.specs.Sights.{Packages}
 
--- How tenders read in these examples.
+-- How tenders are read in these examples.
 
--- a price that nothing corrects, and one that comes to another when it is corrected
+-- A price, corrected if another one is stated.
 abbrev pub priced : Option ℕ → ℕ → Reading
 priced None price = Priced price price 0
 priced (Some stated) price = Priced stated price 1
 
--- a decimal digit
+-- The character is a decimal digit.
 abbrev pub is_digit : ℕ → Bool
 is_digit c = nat_le 48 c && nat_le c 57
 
--- a price in decimal digits; in `550/500` the price 550 is stated and comes to 500
+-- A price in decimal digits. In `550/500` the stated price is 550, and the corrected one 500.
 abbrev pub price_from : Option ℕ → ℕ → List ℕ → Reading
 price_from stated n [] = priced stated n
 price_from stated n (c ∷ rest) =
     cond (is_digit c) (price_from stated (10 * n + (c - 48)) rest) (cond (nat_eq c 47) (price_from (Some n) 0 rest) Unreadable)
 
--- a tender that begins with a dash offers something else than the lot asks for
+-- A tender that begins with a dash is nonconforming.
 abbrev pub reading_of : List ℕ → Reading
 reading_of [] = Unreadable
 reading_of (c ∷ rest) = cond (nat_eq c 45) Nonconforming (price_from None 0 (c ∷ rest))
 
--- a digest here is the bytes themselves, and releases and packages have no text
+-- In these examples the digest of bytes is the bytes themselves, and releases and packages have no text.
 abbrev pub means : Means
 means = record { readings = record { read = λ bytes items. reading_of bytes; digest = λ bytes. bytes }; release = λ x. Some [] }
 
+-- Packages have no text.
 abbrev pub packages : Packages
 packages query s = []
 
--- Moments.
+-- The moments.
 
--- 2026-01-05T09:00:00Z, when money comes and tenderers are registered
+-- 2026-01-05T09:00:00Z, when the budget file is imported and tenderers are registered.
 abbrev pub january : ℕ
 january = 1767603600
 
--- 2026-02-01T09:00:00Z, when the notice is published
+-- 2026-02-01T09:00:00Z, when the notice is published.
 abbrev pub published : ℕ
 published = 1769936400
 
--- 2026-02-02T10:00:00Z, when tenders come
+-- 2026-02-02T10:00:00Z, when tenders come in.
 abbrev pub february : ℕ
 february = 1770026400
 
--- 2026-03-01T12:00:00Z, the deadline
+-- 2026-03-01T12:00:00Z, the deadline.
 abbrev pub deadline : ℕ
 deadline = 1772366400
 
--- 2026-03-02T12:00:00Z, a later deadline
+-- 2026-03-02T12:00:00Z, a later deadline.
 abbrev pub next_day : ℕ
 next_day = 1772452800
 
--- 2026-03-02T10:00:00Z, when tenders are examined and the lot is awarded
+-- 2026-03-02T10:00:00Z, when tenders are examined and the lot is awarded.
 abbrev pub decided : ℕ
 decided = 1772445600
 
--- 2026-03-12T10:00:00Z, ten days later, the end of the standstill
+-- 2026-03-12T10:00:00Z, ten days later, the end of the standstill.
 abbrev pub standstill_end : ℕ
 standstill_end = 1773309600
 
--- 2026-03-22T10:00:00Z, the end of a standstill that begins there
+-- 2026-03-22T10:00:00Z, the end of a second standstill.
 abbrev pub second_end : ℕ
 second_end = 1774173600
 
--- 2026-05-30T12:00:00Z, ninety days after the deadline, when tenders are no longer in effect
+-- 2026-05-30T12:00:00Z, ninety days after the deadline, when tenders expire.
 abbrev pub expiry : ℕ
 expiry = 1780142400
 
--- Names.
+-- The names.
 
--- the roads' budget line
+-- The budget line of the roads.
 abbrev pub roads : List ℕ
 roads = codes "1000"
 
--- two notices, and the lots of each
+-- The identifiers of two notices and of two lots.
 abbrev pub n1 : List ℕ
 n1 = codes "N1"
 
@@ -124,7 +125,7 @@ l1 = codes "L1"
 abbrev pub l2 : List ℕ
 l2 = codes "L2"
 
--- three tenderers
+-- The identifiers of three tenderers.
 abbrev pub t1 : List ℕ
 t1 = codes "T1"
 
@@ -134,113 +135,117 @@ t2 = codes "T2"
 abbrev pub t3 : List ℕ
 t3 = codes "T3"
 
--- a letter and a number below 1000 in three digits
+-- A letter, and a number below 1000 in three digits.
 abbrev pub numbered_name : ℕ → ℕ → List ℕ
 numbered_name letter n = letter ∷ (48 + n / 100) ∷ (48 + n % 100 / 10) ∷ (48 + n % 10) ∷ []
 
--- What is asked.
+-- The requests.
 
--- a command by the clerk and one by a tenderer, and a look by anybody
+-- A command by the clerk.
 abbrev pub by_clerk : ℕ → Command → Request
 by_clerk moment command = record { moment = moment; caller = Clerk; demand = Asks command; unavailable = false }
 
+-- A command by this tenderer.
 abbrev pub by : List ℕ → ℕ → Command → Request
 by who moment command = record { moment = moment; caller = Tenderer who; demand = Asks command; unavailable = false }
 
+-- A query by this caller.
 abbrev pub looks : Caller → ℕ → Query → Request
 looks caller moment query = record { moment = moment; caller = caller; demand = Looks query; unavailable = false }
 
--- three loads of paving
+-- Three loads of paving.
 abbrev pub paving : List Item
 paving = record { id = codes "I1"; title = codes "Paving"; quantity = 3 } ∷ []
 
--- a lot of the roads with this estimate, whose tenders carry a security of 50
+-- A lot on the line of the roads with this estimate; its tenders need a security of 50.
 abbrev pub lot : List ℕ → ℕ → NewLot
 lot id estimate = record { id = id; title = codes "North"; line = roads; estimate = estimate; security = 50; items = paving }
 
--- road repair; tenders are in effect for 90 days, and contracts wait for 10
+-- A notice for road repair; its tenders are valid for 90 days, and its standstill lasts 10 days.
 abbrev pub notice : ℕ → Criteria → List NewLot → NewNotice
 notice due criteria lots = record { title = codes "Road repair"; deadline = due; validity = 90; standstill = 10; criteria = criteria; late_withdrawal = Refused; performance = 0; lots = lots }
 
--- the same, whose tenders can be withdrawn after the deadline at the price of their securities
+-- This notice, if tenders can be withdrawn late and then forfeit their securities.
 abbrev pub lenient : ℕ → Criteria → List NewLot → NewNotice
 lenient due criteria lots = record (notice due criteria lots) { late_withdrawal = Forfeits }
 
--- the same, which asks for a performance security of 70
+-- This notice, if it asks for a performance security of 70.
 abbrev pub demanding : ℕ → Criteria → List NewLot → NewNotice
 demanding due criteria lots = record (notice due criteria lots) { performance = 70 }
 
--- a row of a budget file
+-- A row of a budget file.
 abbrev pub row : List ℕ → BudgetKind → (amount : ℕ) → 1 ≤ amount → BudgetRow
 row line kind amount some = record { line = line; kind = kind; amount = amount; title = codes "Roads"; some = some }
 
--- so much money for the roads
+-- A budget file that adds this amount to the roads.
 abbrev pub funds : (amount : ℕ) → 1 ≤ amount → List Request
 funds amount some = by_clerk january (Import (codes "B1") (row roads Add amount some ∷ [])) ∷ []
 
--- a tenderer of this identifier and name is registered
+-- A tenderer with this identifier and name is registered.
 abbrev pub enrol : List ℕ → List ℕ → Request
 enrol who name = by_clerk january (Register who name (codes "High Street 1") [])
 
+-- Three tenderers are registered.
 abbrev pub tenderers : List Request
 tenderers = enrol t1 (codes "Alpha") ∷ enrol t2 (codes "Beta") ∷ enrol t3 (codes "Gamma") ∷ []
 
--- the notice N1 with these lots
+-- The notice N1 is published with these lots.
 abbrev pub publish : Criteria → List NewLot → Request
 publish criteria lots = by_clerk published (Publish n1 (notice deadline criteria lots))
 
--- so much money, the tenderers, and a notice with one lot of this estimate
+-- Money, the tenderers, and a notice with one lot of this estimate.
 abbrev pub setup_with : (amount : ℕ) → 1 ≤ amount → Criteria → ℕ → List Request
 setup_with amount some criteria estimate = funds amount some ++ tenderers ++ publish criteria (lot l1 estimate ∷ []) ∷ []
 
--- 1000 for the roads
+-- The roads have 1000.
 abbrev pub money : List Request
 money = funds 1000 (suc-le-suc zero-le)
 
--- with them, the tenderers, and a lot of 600 that goes to the lowest price
+-- The roads have 1000, tenderers are registered, and a lot of 600 goes to the lowest price.
 abbrev pub setup : List Request
 setup = setup_with 1000 (suc-le-suc zero-le) Price 600
 
--- a security with this reference and amount
+-- A security with this reference and amount.
 abbrev pub secured : List ℕ → ℕ → Option NamedSecurity
 secured reference amount = Some (record { reference = reference; amount = amount })
 
--- the one that the lot asks for
+-- The security that the lot asks for.
 abbrev pub security : Option NamedSecurity
 security = secured (codes "G1") 50
 
--- a tender for the lot with it
+-- A tender for the lot, with its security.
 abbrev pub presents : List ℕ → ℕ → List ℕ → Request
 presents who moment bytes = by who moment (Present n1 l1 security bytes)
 
--- the tenders are opened
+-- The tenders are opened.
 abbrev pub opens : ℕ → Request
 opens moment = by_clerk moment (Open n1)
 
--- a tender is examined as responsive
+-- A tender is examined as responsive.
 abbrev pub examines : ℕ → Request
 examines receipt = by_clerk decided (Examine receipt true None)
 
--- the lot is awarded
+-- The lot is awarded.
 abbrev pub awards : ℕ → Request
 awards moment = by_clerk moment (Award n1 l1)
 
--- the contract of an award is signed, or its winner doesn't sign
+-- The contract of an award is signed.
 abbrev pub signs : ℕ → ℕ → Request
 signs moment award = by_clerk moment (Sign award None)
 
+-- The winner of an award doesn't sign.
 abbrev pub fails : ℕ → ℕ → Request
 fails moment award = by_clerk moment (Fail award)
 
--- the notice is cancelled
+-- The notice is cancelled.
 abbrev pub cancels : ℕ → Request
 cancels moment = by_clerk moment (Cancel n1 (codes "Plans"))
 
--- two tenderers compete, at 500 and at 550
+-- Two tenderers compete, at 500 and at 550.
 abbrev pub tendered : List Request
 tendered = setup ++ presents t1 february (codes "500") ∷ presents t2 february (codes "550") ∷ []
 
--- the first tenderer tenders too for a lot of 300 of a second notice
+-- The first tenderer also submits a tender for a lot of 300 in a second notice.
 abbrev pub two_notices : List Request
 two_notices =
     tendered
@@ -248,65 +253,69 @@ two_notices =
     ∷ by t1 february (Present n2 l1 security (codes "290"))
     ∷ []
 
--- both tenders are opened and examined
+-- Both tenders are opened and examined.
 abbrev pub examined : List Request
 examined = tendered ++ opens deadline ∷ examines 1 ∷ examines 2 ∷ []
 
--- and the lot is awarded
+-- Both tenders are examined, and the lot is awarded.
 abbrev pub awarded : List Request
 awarded = examined ++ awards decided ∷ []
 
--- What is kept.
+-- The rows.
 
--- the notice once it is published with one lot of 600, and this lot
+-- The notice after its publication with one lot of 600.
 abbrev pub road_repair : NoticeRow
 road_repair = record worked_notice { published = published; validity = 90; state = notice_in.Receiving; opened = None }
 
+-- The lot of this notice.
 abbrev pub north : LotRow
 north = record { notice = n1; lot = l1; title = codes "North"; line = roads; estimate = 600; security = 50; items = paving; state = lot_in.Undecided; reserved = 600 }
 
--- What is told.
+-- The replies, and the office after them.
 
--- the office after these requests, from the empty one on
+-- The office to which these requests lead from the empty one.
 abbrev pub office : List Request → Tables
 office asked = last_office means no_tables asked
 
--- what these requests are told in an office
+-- The replies to these requests in an office.
 abbrev pub told_in : Tables → List Request → List Reply
 told_in s [] = []
 told_in s (a ∷ rest) = reply_to means packages s a ∷ told_in (office_after means s a) rest
 
--- what these are told after those
+-- The replies to these requests after earlier ones.
 abbrev pub told : List Request → List Request → List Reply
 told earlier asked = told_in (office earlier) asked
 
--- the refusal of each, if it is refused
+-- The refusal in a reply, if it is one.
 abbrev pub refusal_in : Reply → Option Refusal
 refusal_in (Refused why) = Some why
 refusal_in _ = None
 
+-- The refusals of these requests after earlier ones, each None if the request isn't refused.
 abbrev pub refused : List Request → List Request → List (Option Refusal)
 refused earlier asked = map refusal_in (told earlier asked)
 
--- the pots of the roads after these requests: appropriation, free, reserved, contracted, paid
+-- The appropriation and the balances of the roads after these requests.
 abbrev pub pots : List Request → Option Pots
 pots asked = option_map (λ (line : LineRow). pots_of line (office asked)) (line_at roads (office asked))
 
--- these amounts
+-- An appropriation and four balances.
 abbrev pub pots_are : ℕ → ℕ → ℕ → ℕ → ℕ → Option Pots
 pots_are appropriation free reserved contracted paid =
     Some (record { appropriation = appropriation; free = free; reserved = reserved; contracted = contracted; paid = paid })
 
--- the states of all lots, of all tenders and of all securities after them, in the order of their rows
+-- The states of all lots after these requests, in the order of their rows.
 abbrev pub states_of_lots : List Request → List LotState
 states_of_lots asked = map (λ (l : LotRow). l.state) (office asked).lots
 
+-- The states of all tenders after these requests, in the order of their rows.
 abbrev pub states_of_tenders : List Request → List EnvelopeState
 states_of_tenders asked = map (λ (e : EnvelopeRow). e.state) (office asked).envelopes
 
+-- The states of all securities after these requests, in the order of their rows.
 abbrev pub states_of_securities : List Request → List SecurityState
 states_of_securities asked = map (λ (s : SecurityRow). s.state) (office asked).securities
 
--- the accepted commands among these, the last one first
+-- The accepted commands among these requests, the last one first.
 abbrev pub accepted : List Request → List Given
 accepted asked = all_accepted means no_tables [] asked

@@ -1,4 +1,4 @@
--- Worked examples of receiving: sealed tenders come in time, late, twice, or to the wrong place.
+-- Worked examples of receiving: sealed tenders come in time, late, twice, or for a lot that doesn't exist.
 use Rattle.std.specs.Prelude.{◌++◌, ◌+◌, ◌∷◌, ◌≡◌, None, Some, [], codes, false, ℕ}
 use Rattle.office_commands.specs.declared.commands.Command.TheVariants.{Present}
 use Rattle.office_commands.specs.declared.notice.Criteria.TheVariants.{Price}
@@ -11,38 +11,38 @@ use Rattle.office_machine.specs.Replies.{Received, Refused}
 use Rattle.office_machine.specs.Requests.{Request}
 use Rattle.office_machine.specs.Worked.Office.{by, cancels, deadline, february, l1, l2, lot, money, n1, n2, office, opens, presents, publish, published, refused, security, setup, states_of_securities, t1, t2, tenderers, told, told_in}
 
--- T1 presents a text that is no price
+-- T1 submits a text that is no price.
 abbrev pub abc : ℕ → Request
 abc moment = presents t1 moment (codes "abc")
 
--- the setup when so many receipts were given out
+-- The setup, after so many receipts were given out.
 abbrev pub numbered : ℕ → Tables
 numbered receipts = record (office setup) { clock = record { moment = published; receipts = receipts; awards = 0 } }
 
 pub record ReceivingWorked : Type 0 where
-  -- a tender that no one could read is sealed like any other, and its receipt has its digest
+  -- A tender that nobody could read is sealed like any other, and its receipt has its digest.
   pub is_sealed : told setup (abc february ∷ []) ≡ Received (codes "abc") 1 (Some 1) envelope.Sealed february ∷ []
-  -- its bytes are kept
+  -- Its bytes are kept.
   pub bytes_are_kept : (office (setup ++ abc february ∷ [])).seals ≡ record { receipt = 1; bytes = codes "abc" } ∷ []
-  -- a tenderer has one sealed tender for a lot, another tenderer one of its own
+  -- A tenderer has at most one sealed tender for a lot. Another tenderer can have one too.
   pub one_each : told setup (abc february ∷ abc february ∷ presents t2 february (codes "abc") ∷ [])
       ≡ Received (codes "abc") 1 (Some 1) envelope.Sealed february
       ∷ Refused AlreadyPresented
       ∷ Received (codes "abc") 2 (Some 2) envelope.Sealed february
       ∷ []
-  -- for another lot it may have another
+  -- A tenderer can have a sealed tender for each lot of a notice.
   pub one_for_each_lot : refused (money ++ tenderers ++ publish Price (lot l1 600 ∷ lot l2 400 ∷ []) ∷ [])
       (abc february ∷ by t1 february (Present n1 l2 security (codes "400")) ∷ by t1 february (Present n1 l2 security (codes "390")) ∷ [])
       ≡ None ∷ None ∷ Some AlreadyPresented ∷ []
-  -- at the deadline a tender is in time
+  -- At the deadline, a tender is in time.
   pub at_deadline : told setup (abc deadline ∷ []) ≡ Received (codes "abc") 1 (Some 1) envelope.Sealed deadline ∷ []
-  -- one second later it is late: it gets a receipt, and is returned unopened
+  -- One second later a tender is late: it gets a receipt, and is returned unopened.
   pub one_second_late : told setup (abc (deadline + 1) ∷ []) ≡ Received (codes "abc") 1 (Some 1) envelope.Returned (deadline + 1) ∷ []
-  -- its bytes aren't kept
+  -- The bytes of a late tender aren't kept.
   pub late_bytes_go_back : (office (setup ++ abc (deadline + 1) ∷ [])).seals ≡ []
-  -- its security is returned
+  -- The security of a late tender is returned.
   pub late_security_goes_back : states_of_securities (setup ++ abc (deadline + 1) ∷ []) ≡ security_in.Returned ∷ []
-  -- what is kept of it
+  -- The row of a late tender.
   pub late_row_is : (office (setup ++ abc (deadline + 1) ∷ [])).envelopes
       ≡ record {
         receipt = 1;
@@ -60,22 +60,22 @@ pub record ReceivingWorked : Type 0 where
         failed = false;
       }
       ∷ []
-  -- a tender sealed before doesn't stand in the way of a late one
+  -- A tenderer who has a sealed tender can still submit a late one.
   pub late_and_sealed : told setup (abc february ∷ abc (deadline + 1) ∷ [])
       ≡ Received (codes "abc") 1 (Some 1) envelope.Sealed february
       ∷ Received (codes "abc") 2 (Some 2) envelope.Returned (deadline + 1)
       ∷ []
-  -- after the opening all are late, also at the deadline's second
+  -- After the opening every tender is late, even at the second of the deadline.
   pub after_opening : told (setup ++ opens deadline ∷ []) (abc deadline ∷ []) ≡ Received (codes "abc") 1 (Some 1) envelope.Returned deadline ∷ []
-  -- a moment that runs back counts as that of the last command: 2026-02-01T08:00:00Z, an hour before the publication
+  -- A moment before that of the last command counts as that: 2026-02-01T08:00:00Z is an hour before the publication.
   pub moment_runs_back : told setup (abc 1769932800 ∷ []) ≡ Received (codes "abc") 1 (Some 1) envelope.Sealed published ∷ []
-  -- no tender comes for a notice that isn't there
+  -- No tender comes in for a notice that doesn't exist.
   pub no_such_notice : told setup (by t1 february (Present n2 l1 security (codes "abc")) ∷ []) ≡ Refused (NoSuch things.Notice) ∷ []
-  -- nor for a lot that isn't there
+  -- No tender comes in for a lot that doesn't exist.
   pub no_such_lot : told setup (by t1 february (Present n1 l2 security (codes "abc")) ∷ []) ≡ Refused (NoSuch things.Lot) ∷ []
-  -- nor for a cancelled notice
+  -- No tender comes in for a cancelled notice.
   pub not_once_cancelled : refused setup (cancels february ∷ abc february ∷ []) ≡ None ∷ Some NotOpenForTenders ∷ []
-  -- 10^9 receipts are the most
+  -- At most 10^9 receipts are given out.
   pub last_receipt : told_in (numbered 999999999) (abc february ∷ presents t2 february (codes "abc") ∷ [])
       ≡ Received (codes "abc") 1000000000 (Some 1000000000) envelope.Sealed february
       ∷ Refused LimitReached

@@ -13,15 +13,15 @@ use Rattle.office_machine.specs.Replies.{Received, Refused}
 use Rattle.office_machine.specs.Requests.{Request}
 use Rattle.office_machine.specs.Worked.Office.{accepted, awards, by, by_clerk, cancels, deadline, examined, expiry, february, l1, l2, looks, lot, n1, n2, notice, office, opens, presents, refused, roads, setup, signs, t1, t2, tendered, told}
 
--- a request for which the office finds no memory
+-- The request, if memory is missing for it.
 abbrev pub unavailable : Request → Request
 unavailable a = record a { unavailable = true }
 
--- T1's tender
+-- T1's tender.
 abbrev pub bid : Request
 bid = presents t1 february (codes "500")
 
--- refused for its security, its caller, its receipt and its moment
+-- Four requests, refused for the security, the caller, the receipt and the moment.
 abbrev pub refusals : List Request
 refusals =
     by t1 (deadline - 1) (Present n1 l1 None (codes "500"))
@@ -30,25 +30,25 @@ refusals =
     ∷ opens (deadline - 1)
     ∷ []
 
--- anybody's looks at what is there and what isn't
+-- Queries of several callers, for rows that exist and for one that doesn't.
 abbrev pub sights : List Request
 sights = looks Public deadline (queries.Line roads) ∷ looks Clerk deadline (queries.Register n1) ∷ looks (Tenderer t1) deadline (queries.Tender 99) ∷ []
 
 pub record RefusingWorked : Type 0 where
-  -- a request that finds no memory may be accepted when it comes again
+  -- A request that is answered `Unavailable` may be accepted when it is sent again.
   pub no_memory : told setup (unavailable bid ∷ bid ∷ []) ≡ Refused Unavailable ∷ Received (codes "500") 1 (Some 1) envelope.Sealed february ∷ []
-  -- before that the office is as it was
+  -- A request that is answered `Unavailable` leaves the office as it was.
   pub nothing_is_kept : office (setup ++ unavailable bid ∷ []) ≡ office setup
-  -- four requests are refused
+  -- The four requests are refused.
   pub refusals_are : told setup refusals
       ≡ Refused SecurityMissing ∷ Refused Forbidden ∷ Refused (NoSuch things.Tender) ∷ Refused TooEarlyToOpen ∷ []
-  -- then the office is as before: not even its clock has moved
+  -- Refused requests leave the office as it was: not even its clock has moved.
   pub refusals_change_nothing : office (setup ++ refusals) ≡ office setup
-  -- so it is after every look
+  -- Queries leave the office as it was.
   pub sights_change_nothing : office (setup ++ sights) ≡ office setup
-  -- none of them counts among the accepted commands
+  -- Neither refused requests nor queries are among the accepted commands.
   pub accepted_are_none : accepted (setup ++ refusals ++ sights) ≡ accepted setup
-  -- their moments don't count for what comes after them
+  -- The moments of refused requests don't count for later requests.
   pub february_comes_still : told setup (refusals ++ bid ∷ [])
       ≡ Refused SecurityMissing
       ∷ Refused Forbidden
@@ -56,27 +56,27 @@ pub record RefusingWorked : Type 0 where
       ∷ Refused TooEarlyToOpen
       ∷ Received (codes "500") 1 (Some 1) envelope.Sealed february
       ∷ []
-  -- but that of an accepted command does, so that after a late tender none is in time
+  -- The moment of an accepted command counts: after a late tender, no tender is in time.
   pub late_moment_counts : told setup (presents t2 (deadline + 1) (codes "550") ∷ bid ∷ [])
       ≡ Received (codes "550") 1 (Some 1) envelope.Returned (deadline + 1)
       ∷ Received (codes "500") 2 (Some 2) envelope.Returned (deadline + 1)
       ∷ []
-  -- of several refusals the first in their order is answered: a bad quality before that nothing was opened
+  -- Of several refusals, the first in their order is answered: a bad quality is reported before `NotOpened`.
   pub quality_comes_first : told tendered (by_clerk february (Examine 1 true (Some 1)) ∷ []) ≡ Refused (BadBody (Field fields.Quality)) ∷ []
-  -- a missing lot before that the notice was cancelled
+  -- A missing lot is reported before a cancelled notice.
   pub lot_is_missed_first : refused setup (cancels february ∷ by t1 february (Present n1 l2 None (codes "500")) ∷ []) ≡ None ∷ Some (NoSuch things.Lot) ∷ []
-  -- a name that is taken before the deadline
+  -- An identifier that is taken is reported before the deadline.
   pub name_comes_before_deadline : told setup (by_clerk deadline (Publish n1 (notice deadline Price (lot l1 999 ∷ []))) ∷ []) ≡ Refused Exists ∷ []
-  -- the deadline before the funds
+  -- The deadline is reported before missing funds.
   pub deadline_comes_before_funds : told setup (by_clerk deadline (Publish n2 (notice deadline Price (lot l1 999 ∷ []))) ∷ [])
       ≡ Refused DeadlinePassed ∷ []
-  -- whose tender it is before its deadline
+  -- Another tenderer's tender is reported before the deadline.
   pub owner_comes_before_deadline : told tendered (by t2 deadline (Withdraw 1) ∷ []) ≡ Refused NotYourTender ∷ []
-  -- the deadline before that the tender was opened
+  -- The deadline is reported before the state of the tender.
   pub deadline_comes_before_state : told (tendered ++ opens deadline ∷ []) (by t1 deadline (Withdraw 1) ∷ []) ≡ Refused DeadlinePassed ∷ []
-  -- that a notice was cancelled before that it is too early
+  -- A cancelled notice is reported before a moment that is too early.
   pub cancelled_comes_before_early : refused tendered (cancels february ∷ opens february ∷ []) ≡ None ∷ Some NotOpenForTenders ∷ []
-  -- that tenders expired before the standstill
+  -- The expiry of tenders is reported before the standstill.
   pub expiry_comes_before_standstill : refused examined (awards (expiry - 1) ∷ signs expiry 1 ∷ []) ≡ None ∷ Some Expired ∷ []
-  -- that it was presented before comes before its security
+  -- An earlier tender for the lot is reported before a missing security.
   pub presented_comes_before_security : told tendered (by t1 february (Present n1 l1 None (codes "400")) ∷ []) ≡ Refused AlreadyPresented ∷ []

@@ -5,13 +5,13 @@ use Rattle.office_machine.specs.Replies.{Enrolled, Refused}
 use Rattle.office_machine.specs.Worked.Office.{enrol, january, office, setup, t1, t2, told}
 
 pub record RegisteringWorked : Type 0 where
-  -- a tenderer is registered
+  -- A tenderer is registered.
   pub is_registered : told [] (enrol t1 (codes "Alpha") ∷ []) ≡ Enrolled t1 january ∷ []
-  -- but not again
+  -- A tenderer isn't registered twice.
   pub not_twice : told setup (enrol t1 (codes "Alpha") ∷ []) ≡ Refused Exists ∷ []
-  -- and nobody as the clerk
+  -- No tenderer can have the identifier `clerk`.
   pub not_as_clerk : told setup (enrol (codes "clerk") (codes "Alpha") ∷ []) ≡ Refused Exists ∷ []
-  -- tenderers stand in the order of their names, with what was given
+  -- Tenderers are in the order of their identifiers, and their rows have the given names and addresses.
   pub in_order : (office (enrol t2 (codes "Beta") ∷ enrol t1 (codes "Alpha") ∷ [])).tenderers
       ≡ record { tenderer = t1; name = codes "Alpha"; address = codes "High Street 1"; key = [] }
       ∷ record { tenderer = t2; name = codes "Beta"; address = codes "High Street 1"; key = [] }

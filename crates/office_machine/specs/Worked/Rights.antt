@@ -1,4 +1,4 @@
--- Worked examples of rights: who may give which command.
+-- Worked examples of rights: which callers may give which command.
 use Rattle.std.specs.Prelude.{◌++◌, ◌∷◌, ◌≡◌, List, None, [], codes, false, map, replicate, true}
 use Rattle.office_commands.specs.declared.command.Caller.TheVariants.{Public}
 use Rattle.office_commands.specs.declared.commands.Command.{Command}
@@ -11,7 +11,7 @@ use Rattle.office_machine.specs.Replies.{Refused}
 use Rattle.office_machine.specs.Requests.{Asks, Request}
 use Rattle.office_machine.specs.Worked.Office.{by, by_clerk, february, l1, lot, money, n1, n2, next_day, notice, security, t1, tendered, told}
 
--- every command of the clerk
+-- All commands of the clerk.
 abbrev pub commands_of_clerk : List Command
 commands_of_clerk =
     Import (codes "B2") []
@@ -29,21 +29,21 @@ commands_of_clerk =
     ∷ End 1 Regular
     ∷ []
 
--- every command of a tenderer
+-- All commands of a tenderer.
 abbrev pub commands_of_tenderer : List Command
 commands_of_tenderer = Present n1 l1 security (codes "500") ∷ Modify 1 (codes "450") ∷ Withdraw 1 ∷ []
 
--- a command by the public
+-- A command by the public.
 abbrev pub by_public : Command → Request
 by_public command = record { moment = february; caller = Public; demand = Asks command; unavailable = false }
 
 pub record RightsWorked : Type 0 where
-  -- the public gives no command
+  -- The public may give no command.
   pub public_commands_nothing : told tendered (map by_public (commands_of_clerk ++ commands_of_tenderer)) ≡ replicate 16 (Refused Forbidden)
-  -- a tenderer gives none of the clerk's
+  -- A tenderer may give no command of the clerk.
   pub tenderer_is_no_clerk : told tendered (map (by t1 february) commands_of_clerk) ≡ replicate 13 (Refused Forbidden)
-  -- and the clerk none of a tenderer's
+  -- The clerk may give no command of a tenderer.
   pub clerk_is_no_tenderer : told tendered (map (by_clerk february) commands_of_tenderer) ≡ replicate 3 (Refused Forbidden)
-  -- who may not ask isn't told whether a thing is there
+  -- A caller who may not give a command doesn't learn whether the thing exists that it names.
   pub nothing_is_told : told money (by_public (Open n1) ∷ by t1 february (Pay 99 (codes "E1") 1) ∷ by_clerk february (Withdraw 99) ∷ [])
       ≡ replicate 3 (Refused Forbidden)

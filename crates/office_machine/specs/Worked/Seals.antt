@@ -1,4 +1,4 @@
--- Worked examples of seals: two runs that differ in the bytes that one tenderer seals tell nobody else a difference.
+-- Worked examples of sealed tenders: two runs that differ in the bytes that one tenderer seals give nobody else different replies.
 use Rattle.std.specs.Prelude.{◌++◌, ◌∷◌, ◌≡◌, List, None, Option, Some, [], codes, map, ℕ}
 use Rattle.office_commands.specs.declared.command.Caller.TheVariants.{Clerk, Public, Tenderer}
 use Rattle.office_commands.specs.declared.commands.Command.TheVariants.{Modify, Withdraw}
@@ -19,11 +19,11 @@ use Rattle.office_machine.specs.Worlds.{ChosenTender}
 use Rattle.office_machine.specs.Worked.Listing.{held_security, own}
 use Rattle.office_machine.specs.Worked.Office.{accepted, awards, by, deadline, decided, february, l1, looks, means, n1, north, office, opens, packages, presents, road_repair, setup, t1, t2, told}
 
--- T1 and its tenders for the lot
+-- T1 is the chosen tenderer, and N1's lot is the chosen lot.
 abbrev pub theirs : ChosenTender
 theirs = record { who = t1; notice = n1; lot = l1 }
 
--- T1 presents these bytes and replaces them by those; all look, T1 withdraws, and the clerk opens and awards
+-- T1 submits the first bytes and replaces them by the second ones. Everyone makes queries, T1 withdraws, and the clerk opens and awards.
 abbrev pub requests : List ℕ → List ℕ → List Request
 requests these those =
     presents t1 february these
@@ -45,14 +45,15 @@ requests these those =
     ∷ awards decided
     ∷ []
 
--- the bytes of either run
+-- The run with the one pair of bytes.
 abbrev pub one : List Request
 one = requests (codes "500") (codes "4500")
 
+-- The run with the other pair of bytes.
 abbrev pub other : List Request
 other = requests (codes "abc") (codes "abcd")
 
--- what is told but for the minutes at the end, where these digests are shown to T1
+-- The replies to a run, in which T1 sees these two digests.
 abbrev pub telling : List ℕ → List ℕ → List Reply
 telling these those =
     Received these 1 (Some 1) envelope.Sealed february
@@ -77,31 +78,32 @@ telling these those =
     ∷ Awarded l1 None 3 decided
     ∷ []
 
--- a tender that isn't withdrawn: from the opening on its price is anybody's
+-- A tender that isn't withdrawn, and the opening that reads it.
 abbrev pub opened : List ℕ → List Request
 opened bytes = presents t1 february bytes ∷ opens deadline ∷ []
 
+-- The readings of its opened tender.
 abbrev pub readings : List ℕ → List (Option Reading)
 readings bytes = map (λ (e : EnvelopeRow). e.reading) (office (setup ++ opened bytes)).envelopes
 
 pub record SealsWorked : Type 0 where
-  -- the two runs differ in T1's sealed bytes alone
+  -- The two runs differ only in T1's sealed bytes.
   pub same_but_seals : SameButSeals means theirs (office setup) one other
-  -- they are requests that can be given
+  -- The commands of the run can be given.
   pub can_be_given : AreRequests means (office setup) one
-  -- releases without a text tell nothing
+  -- Releases without a text reveal nothing.
   pub publishes_blindly : ReleasesHideSeals means
-  -- nor do packages without one
+  -- Packages without a text reveal nothing.
   pub sees_blindly : PackagesHideSeals packages
-  -- what is told in the first run
+  -- The replies to the one run.
   pub first_is_told : told setup one ≡ telling (codes "500") (codes "4500")
-  -- what is told in the other one: the same but for the digests, which T1 alone sees
+  -- The replies to the other run differ only in digests, which only T1 sees.
   pub other_is_told : told setup other ≡ telling (codes "abc") (codes "abcd")
-  -- without them it is equal
+  -- Without digests the replies are equal.
   pub alike_but_digests : map without_digest (told setup other) ≡ map without_digest (told setup one)
-  -- both receipts are withdrawn in the end, so that the opening and the award tell nothing either
+  -- Both tenders are withdrawn in the end, so the opening and the award reveal nothing either.
   pub both_are_withdrawn : map (fate_of_tender (accepted (setup ++ one))) (1 ∷ 2 ∷ []) ≡ Some envelope.Withdrawn ∷ Some envelope.Withdrawn ∷ []
-  -- a tender that is there at the opening is read then
+  -- A tender that is still sealed at the opening is read then.
   pub read_at_opening : readings (codes "500") ≡ Some (Priced 500 500 0) ∷ []
-  -- and so other bytes are told from it
+  -- So the readings of other bytes may differ.
   pub other_is_read : readings (codes "abc") ≡ Some Unreadable ∷ []

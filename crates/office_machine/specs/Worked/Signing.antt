@@ -1,4 +1,4 @@
--- Worked examples of signing: the standstill, winners who are passed over, and when awards expire.
+-- Worked examples of signing: the standstill, winners who are passed over, and the expiry of tenders.
 use Rattle.std.specs.Prelude.{◌++◌, ◌-◌, ◌∷◌, ◌≡◌, List, None, Some, []}
 use Rattle.office_values.specs.declared.refusal.Refusal.TheVariants.{AlreadyDecided, Expired, NoSuch, Standstill}
 use Rattle.office_values.specs.declared.refusal.Thing.TheVariants as things
@@ -7,44 +7,44 @@ use Rattle.office_machine.specs.Replies.{Awarded, Failed, Refused, Signed}
 use Rattle.office_machine.specs.Requests.{Request}
 use Rattle.office_machine.specs.Worked.Office.{awarded, awards, expiry, fails, l1, n1, office, pots, pots_are, refused, second_end, signs, standstill_end, states_of_lots, t1, told}
 
--- the first winner fails, and the next best tender has the lot
+-- The first winner doesn't sign, and the next best tender wins the lot.
 abbrev pub passed_over : List Request
 passed_over = awarded ++ fails standstill_end 1 ∷ awards standstill_end ∷ []
 
 pub record SigningWorked : Type 0 where
-  -- one second before the standstill of ten days is over, nothing is signed and nobody fails
+  -- One second before the standstill of ten days is over, an award can neither be signed nor fail.
   pub stands_still : told awarded (signs (standstill_end - 1) 1 ∷ fails (standstill_end - 1) 1 ∷ []) ≡ Refused Standstill ∷ Refused Standstill ∷ []
-  -- then the contract is signed
+  -- After the standstill the contract is signed.
   pub is_signed : told awarded (signs standstill_end 1 ∷ []) ≡ Signed 1 4 standstill_end ∷ []
-  -- its price is contracted
+  -- The price of a signed award is contracted.
   pub price_is_contracted : pots (awarded ++ signs standstill_end 1 ∷ []) ≡ pots_are 1000 500 0 500 0
-  -- what a contract is
+  -- The row of a contract.
   pub contract_is : (office (awarded ++ signs standstill_end 1 ∷ [])).contracts
       ≡ record { contract = 1; notice = n1; lot = l1; tenderer = t1; signed = 500; moment = standstill_end; ended = None; how = None; released = 0 } ∷ []
-  -- its lot is contracted
+  -- The lot of a signed award is contracted.
   pub lot_is_contracted : states_of_lots (awarded ++ signs standstill_end 1 ∷ []) ≡ lot_in.Contracted ∷ []
-  -- a signed award is decided
+  -- A signed award is decided: it can't be signed again or fail, and the lot can't be awarded.
   pub signed_once : refused (awarded ++ signs standstill_end 1 ∷ []) (signs standstill_end 1 ∷ fails standstill_end 1 ∷ awards standstill_end ∷ [])
       ≡ Some AlreadyDecided ∷ Some AlreadyDecided ∷ Some AlreadyDecided ∷ []
-  -- a winner who doesn't sign fails
+  -- An award fails if its winner doesn't sign.
   pub is_failed : told awarded (fails standstill_end 1 ∷ []) ≡ Failed 1 4 standstill_end ∷ []
-  -- what was reserved stays so
+  -- Its price is still reserved.
   pub stays_reserved : pots (awarded ++ fails standstill_end 1 ∷ []) ≡ pots_are 1000 500 500 0 0
-  -- the next best tender has the lot
+  -- The next best tender wins the lot.
   pub next_best_wins : told (awarded ++ fails standstill_end 1 ∷ []) (awards standstill_end ∷ [])
       ≡ Awarded l1 (Some (record { award = 2; price = 550; tender = 2 })) 5 standstill_end ∷ []
-  -- at its own price
+  -- The price of the next best tender is reserved.
   pub next_price_is_reserved : pots passed_over ≡ pots_are 1000 450 550 0 0
-  -- with a standstill of its own, while the failed award can't be signed
+  -- The new award has a standstill of its own. The failed award can't be signed.
   pub new_standstill : told passed_over (signs standstill_end 1 ∷ signs (second_end - 1) 2 ∷ signs second_end 2 ∷ [])
       ≡ Refused AlreadyDecided ∷ Refused Standstill ∷ Signed 2 6 second_end ∷ []
-  -- when that one fails too, nobody is left
+  -- If the second award fails too, nobody is left to win.
   pub nobody_is_left : told (passed_over ++ fails second_end 2 ∷ []) (awards second_end ∷ []) ≡ Awarded l1 None 7 second_end ∷ []
-  -- and all is free again
+  -- Then all money is free again.
   pub all_is_free : pots (passed_over ++ fails second_end 2 ∷ awards second_end ∷ []) ≡ pots_are 1000 1000 0 0 0
-  -- an award is signed up to the last second before the tenders expire
+  -- An award can be signed up to the last second before the tenders expire.
   pub at_last_second : told awarded (signs (expiry - 1) 1 ∷ []) ≡ Signed 1 4 (expiry - 1) ∷ []
-  -- and then it neither is nor fails
+  -- When tenders have expired, an award can neither be signed nor fail.
   pub expired : told awarded (signs expiry 1 ∷ fails expiry 1 ∷ []) ≡ Refused Expired ∷ Refused Expired ∷ []
-  -- an award that isn't there is neither signed nor failed
+  -- An award that doesn't exist can neither be signed nor fail.
   pub no_such_award : told awarded (signs standstill_end 2 ∷ fails standstill_end 2 ∷ []) ≡ Refused (NoSuch things.Award) ∷ Refused (NoSuch things.Award) ∷ []

@@ -1,4 +1,4 @@
--- A worked example of a whole procurement, from its money to its payments, by all sixteen commands.
+-- A whole procurement by all sixteen commands, from its money to its payments.
 use Rattle.std.specs.Prelude.{◌++◌, ◌∷◌, ◌≡◌, List, None, Some, [], codes, map, true, ℕ}
 use Rattle.office_commands.specs.declared.commands.Command.TheVariants.{AmendContract, AmendNotice, End, Modify, Pay, Withdraw}
 use Rattle.office_commands.specs.declared.contract.ChangeKind.TheVariants as changes
@@ -15,15 +15,15 @@ use Rattle.office_machine.specs.Replies.{Awarded, Enrolled, Examined, Failed, Im
 use Rattle.office_machine.specs.Requests.{AreRequests, Request}
 use Rattle.office_machine.specs.Worked.Office.{accepted, awards, by, by_clerk, cancels, decided, examines, fails, february, january, l1, l2, lot, means, money, n1, office, opens, pots, pots_are, presents, publish, published, roads, second_end, signs, standstill_end, states_of_lots, t1, t2, t3, tenderers, told}
 
--- 2026-03-01T18:00:00Z, to which the deadline is moved
+-- 2026-03-01T18:00:00Z, to which the deadline is moved.
 abbrev pub evening : ℕ
 evening = 1772388000
 
--- money, tenderers, and a notice of two lots
+-- Money, tenderers, and a notice of two lots.
 abbrev pub preparation : List Request
 preparation = money ++ tenderers ++ publish Price (lot l1 600 ∷ lot l2 300 ∷ []) ∷ []
 
--- the deadline moves; three tenders come for the first lot, the first of which is modified and the third withdrawn
+-- The deadline moves, and three tenders come for the first lot. The first of them is replaced, and the third is withdrawn.
 abbrev pub competition : List Request
 competition =
     by_clerk february (AmendNotice n1 evening (codes "More time"))
@@ -34,11 +34,11 @@ competition =
     ∷ by t3 february (Withdraw 3)
     ∷ []
 
--- they are opened and examined, and the cheaper one has the lot, but its tenderer doesn't sign
+-- The tenders are opened and examined. The cheaper one wins the lot, but its tenderer doesn't sign, so the other one wins.
 abbrev pub decision : List Request
 decision = opens evening ∷ examines 2 ∷ examines 4 ∷ awards decided ∷ fails standstill_end 1 ∷ awards standstill_end ∷ signs second_end 2 ∷ []
 
--- the contract is raised, paid and ended, and the second lot, for which nobody tendered, is cancelled
+-- The contract is raised, paid and ended. The second lot, for which no tender came, is cancelled.
 abbrev pub execution : List Request
 execution =
     by_clerk second_end (AmendContract 2 (codes "E1") changes.Raise 60 (codes "A longer road"))
@@ -47,16 +47,16 @@ execution =
     ∷ cancels second_end
     ∷ []
 
--- all of it
+-- The whole procurement.
 abbrev pub run : List Request
 run = preparation ++ competition ++ decision ++ execution
 
--- an amount that moves between two pots of the roads
+-- An amount that moves between two balances of the roads.
 abbrev pub moved : Pot → Pot → ℕ → Move
 moved from to amount = record { line = roads; from = from; to = to; amount = amount }
 
 pub record WholeRunWorked : Type 0 where
-  -- what the preparation is told: all is accepted
+  -- All requests of the preparation are accepted, with these replies.
   pub preparation_is_told : told [] preparation
       ≡ Imported (codes "B1") 1 january
       ∷ Enrolled t1 january
@@ -64,7 +64,7 @@ pub record WholeRunWorked : Type 0 where
       ∷ Enrolled t3 january
       ∷ OfNotice n1 1 published
       ∷ []
-  -- what the tenderers are told
+  -- The replies to the requests of the competition.
   pub competition_is_told : told preparation competition
       ≡ OfNotice n1 2 february
       ∷ Received (codes "500") 1 (Some 1) envelope.Sealed february
@@ -73,7 +73,7 @@ pub record WholeRunWorked : Type 0 where
       ∷ Received (codes "480") 4 (Some 1) envelope.Sealed february
       ∷ Withdrew 3 envelope.Withdrawn february
       ∷ []
-  -- what the decisions are told
+  -- The replies to the requests of the decision.
   pub decision_is_told : told (preparation ++ competition) decision
       ≡ OpenedAll n1 2 3 evening
       ∷ Examined 2 true decided
@@ -83,20 +83,20 @@ pub record WholeRunWorked : Type 0 where
       ∷ Awarded l1 (Some (record { award = 2; price = 540; tender = 2 })) 6 standstill_end
       ∷ Signed 2 7 second_end
       ∷ []
-  -- what is told of the contract, and of the cancellation
+  -- The replies to the requests about the contract and the cancellation.
   pub execution_is_told : told (preparation ++ competition ++ decision) execution
       ≡ OfContract 2 600 8 second_end
       ∷ OfContract 2 400 9 second_end
       ∷ OfContract 2 0 10 second_end
       ∷ OfNotice n1 11 second_end
       ∷ []
-  -- up to the opening both lots are reserved
+  -- Until the award, the estimates of both lots are reserved.
   pub pots_reserved : pots (preparation ++ competition) ≡ pots_are 1000 100 900 0 0
-  -- after the signing the second winner's price is contracted
+  -- After the signing, the price of the second winner is contracted.
   pub pots_contracted : pots (preparation ++ competition ++ decision) ≡ pots_are 1000 160 300 540 0
-  -- at last all is free but what was paid
+  -- In the end all money is free, except for the amount paid.
   pub pots_at_last : pots run ≡ pots_are 1000 800 0 0 200
-  -- these pots are what the accepted commands moved, the last one first
+  -- These balances follow from the moves of the accepted commands, the last one first.
   pub moves_are : moves (accepted run)
       ≡ moved Reserved Free 300
       ∷ moved Contracted Free 400
@@ -109,19 +109,19 @@ pub record WholeRunWorked : Type 0 where
       ∷ moved Free Reserved 300
       ∷ moved Outside Free 1000
       ∷ []
-  -- so 1820 came to be free
+  -- The moves brought 1820 into free.
   pub came_to_free : inflow (moves (accepted run)) roads Free ≡ 1820
-  -- and 1020 went from there, which leaves the 800
+  -- The moves took 1020 out of free, which leaves 800.
   pub went_from_free : outflow (moves (accepted run)) roads Free ≡ 1020
-  -- the fate of each tender
+  -- The fate of each tender.
   pub fates_of_tenders : map (fate_of_tender (accepted run)) (1 ∷ 2 ∷ 3 ∷ 4 ∷ [])
       ≡ Some envelope.Withdrawn ∷ Some envelope.Opened ∷ Some envelope.Withdrawn ∷ Some envelope.Opened ∷ []
-  -- and of each security
+  -- The fate of each security.
   pub fates_of_securities : map (fate_of_security (accepted run)) (1 ∷ 2 ∷ 3 ∷ 4 ∷ [])
       ≡ Some security_in.Forfeited ∷ Some security_in.Returned ∷ Some security_in.Returned ∷ None ∷ []
-  -- the states of the two lots
+  -- The states of the two lots.
   pub states_at_last : states_of_lots run ≡ lot_in.Contracted ∷ lot_in.Cancelled ∷ []
-  -- each of these requests can be given
+  -- Each of these requests can be given.
   pub can_be_given : AreRequests means no_tables run
-  -- so that the accepted commands reach the last office, and what the laws say of those holds of it
+  -- The accepted commands reach the last office, so the laws about reached offices are true of it.
   pub is_reached : Reaches means (accepted run) (office run)

@@ -1,4 +1,4 @@
-//! The amendment of a contract, planned: its reply, its release, and what it puts.
+//! The plan for a change of a contract: its reply, its release and its changes.
 ghost use Rattle.std.specs.Prelude.{◌≡◌, ℕ, List, true, IfErr, IfOk, None, Some};
 ghost use Rattle.award_core.specs.Rules.AmendContract.{amend_contract_rows};
 ghost use Rattle.office_commands.specs.Rights.{may};
@@ -38,7 +38,7 @@ use office_values::text::TextLine;
 use std::alloc::Global;
 use tender_core::asking::Asking;
 
-// The rows that it is decided on.
+// Loads the rows by which the command is decided.
 fn load<H: Lookups>(shelf: &mut H, contract: AskedNumber) -> Result<AmendContractRows, ShelfFault>
     ensures { LooksUp H.meaning shelf.old shelf.new result (λ s rows. rows ≡ amend_contract_rows s contract) }
 {
@@ -57,7 +57,7 @@ fn load<H: Lookups>(shelf: &mut H, contract: AskedNumber) -> Result<AmendContrac
     })
 }
 
-// What is told of an accepted amendment.
+// The text of the reply to an accepted change of a contract.
 fn reply(
     alloc: Global,
     asking: &Asking,
@@ -79,8 +79,7 @@ fn reply(
     Ok(text)
 }
 
-// The release of an accepted amendment of this contract. `Unavailable` also where it would be worth more than 10^15, never so in a reached
-// office.
+// The release of an accepted change of this contract. `Unavailable` also if the contract would be worth more than 10^15, which a reached office never allows.
 fn release(
     alloc: Global,
     publisher: &Publisher,
@@ -114,7 +113,7 @@ fn release(
     make_release(alloc, publisher, contract.notice, &rows.notice, t, &event)
 }
 
-/// Plans the amendment of a contract: a refusal takes no memory beside the rows.
+/// Plans a change of a contract. A refusal needs no memory except for the rows.
 pub fn plan<H: Lookups>(
     alloc: Global,
     shelf: &mut H,

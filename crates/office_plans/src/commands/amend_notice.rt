@@ -1,4 +1,4 @@
-//! The amendment of a notice, planned: its reply, its release, and what it puts.
+//! The plan for an amendment of a notice: its reply, its release and its changes.
 ghost use Rattle.std.specs.Prelude.{◌≡◌, true, IfErr, IfOk};
 ghost use Rattle.office_commands.specs.Rights.{may};
 ghost use Rattle.office_commands.specs.declared.command.CommandKind.TheVariants as kinds;
@@ -29,7 +29,7 @@ use std::alloc::Global;
 use tender_core::amend_notice::{AmendNoticeRows, puts, refusal};
 use tender_core::asking::Asking;
 
-// The rows that it is decided on.
+// Loads the rows by which the command is decided.
 fn load<H: Lookups>(shelf: &mut H, notice: &Id) -> Result<AmendNoticeRows, ShelfFault>
     ensures { LooksUp H.meaning shelf.old shelf.new result (λ s rows. rows ≡ amend_notice_rows s notice.now) }
 {
@@ -39,7 +39,7 @@ fn load<H: Lookups>(shelf: &mut H, notice: &Id) -> Result<AmendNoticeRows, Shelf
     })
 }
 
-// The deadline that stood before; the first moment where the notice isn't there.
+// The deadline before the amendment, or the first moment if the notice doesn't exist.
 fn deadline_in(row: &Option<NoticeRow>) -> Moment
     ensures { result ≡ deadline_in row.now }
 {
@@ -75,7 +75,7 @@ fn release(
     make_release(alloc, publisher, notice, &rows.notice, t, &event)
 }
 
-/// Plans the amendment of a notice: a refusal takes no memory beside the rows. Its rationale is kept for the release alone.
+/// Plans an amendment of a notice. A refusal needs no memory except for the rows. Only the release has the rationale.
 pub fn plan<H: Lookups>(
     alloc: Global,
     shelf: &mut H,

@@ -1,4 +1,4 @@
-//! The award of a lot, planned: its reply, its release, and what it puts.
+//! The plan for an award: its reply, its release and its changes.
 ghost use Rattle.std.specs.Prelude.{◌≡◌, ◌+◌, ℕ, List, IfErr, IfOk, None, Some, option_map, true};
 ghost use Rattle.award_core.specs.Rules.Award.{winner};
 ghost use Rattle.office_commands.specs.Rights.{may};
@@ -36,7 +36,7 @@ use office_values::settings::Publisher;
 use std::alloc::{AllocError, Global};
 use tender_core::asking::Asking;
 
-// The securities of a lot, in the order of their numbers, where nobody wins it; none where somebody does, since then none goes back.
+// The securities of a lot in the order of their numbers, or none if somebody wins, because an award to a winner returns no security.
 fn securities_unless_won<H: Lookups>(
     alloc: Global,
     shelf: &mut H,
@@ -53,7 +53,7 @@ fn securities_unless_won<H: Lookups>(
     }
 }
 
-// The rows that it is decided on.
+// Loads the rows by which the command is decided.
 fn load<H: Lookups>(
     alloc: Global,
     shelf: &mut H,
@@ -79,7 +79,7 @@ fn load<H: Lookups>(
     Ok(rows)
 }
 
-// Of the winner: the number of the award that is made, the price and the tender; none where nobody wins.
+// The number of the new award, the winner's price and the winner's receipt, or none of them if nobody wins.
 fn winner_numbers(
     clock: &ClockRow,
     best: Option<&EnvelopeRow>,
@@ -98,7 +98,7 @@ fn winner_numbers(
     }
 }
 
-// That a lot is awarded to this tender, or to nobody.
+// The text that says to which tender the lot is awarded, if to any.
 fn awarded_text(
     alloc: Global,
     clock: &ClockRow,
@@ -124,7 +124,7 @@ fn awarded_text(
     )
 }
 
-// What is told of an accepted award.
+// The text of the reply to an accepted award.
 fn reply(
     alloc: Global,
     asking: &Asking,
@@ -141,8 +141,8 @@ fn reply(
     awarded_text(alloc, &rows.clock, lot, best, release, t)
 }
 
-// The release of an award to this tender. `Unavailable` also where all 10^9 numbers of awards are given out, or the row of its tenderer is
-// missing, never so in a reached office.
+// The release of an award to this tender. `Unavailable` also if all 10^9 numbers of awards are used or the tenderer's row is missing, which can't happen in a
+// reached office.
 fn won<H: Lookups>(
     alloc: Global,
     shelf: &mut H,
@@ -175,7 +175,7 @@ fn won<H: Lookups>(
     make_release(alloc, publisher, notice, &rows.notice, t, &event)
 }
 
-// The release where none of the lot's tenders may win.
+// The release if no tender of the lot can win.
 fn lost<H: Lookups>(
     alloc: Global,
     shelf: &mut H,
@@ -200,7 +200,7 @@ fn lost<H: Lookups>(
     make_release(alloc, publisher, notice, &rows.notice, t, &event)
 }
 
-// The release of an accepted award.
+// The release of an accepted award, whether somebody wins or nobody.
 fn release<H: Lookups>(
     alloc: Global,
     shelf: &mut H,
@@ -222,7 +222,7 @@ fn release<H: Lookups>(
     }
 }
 
-/// Plans the award of a lot: a refusal takes no memory beside the rows.
+/// Plans the award of a lot. A refusal needs no memory except for the rows.
 pub fn plan<H: Lookups>(
     alloc: Global,
     shelf: &mut H,

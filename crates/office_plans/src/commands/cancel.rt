@@ -1,4 +1,4 @@
-//! A cancellation, planned: its reply, its release, and what it puts.
+//! The plan for a cancellation: its reply, its release and its changes.
 ghost use Rattle.std.specs.Prelude.{◌≡◌, [], IfErr, IfOk, filter, map, true};
 ghost use Rattle.office_commands.specs.Rights.{may};
 ghost use Rattle.office_commands.specs.declared.command.CommandKind.TheVariants as kinds;
@@ -36,7 +36,7 @@ use tender_core::cancel::{CancelRows, puts, refusal};
 use tender_core::ended::is_open;
 use tender_core::laws::cancels_agree;
 
-// The lines of the lots that are open.
+// The budget lines of the open lots.
 fn load_lines<H: Lookups>(
     alloc: Global,
     shelf: &mut H,
@@ -53,7 +53,7 @@ fn load_lines<H: Lookups>(
     Ok(lines)
 }
 
-// The rows that it is refused on: those that it is decided on, but for the lines. Takes no memory beside them.
+// Loads all rows by which the command is decided, except for the budget lines: no refusal depends on them. Takes no memory except for these rows.
 fn load<H: Lookups>(alloc: Global, shelf: &mut H, notice: &Id) -> Result<CancelRows, ShelfFault>
     ensures { LooksUp H.meaning shelf.old shelf.new result (λ s rows. rows ≡ cancel_on [] (cancel_rows s notice.now)) }
 {
@@ -74,7 +74,7 @@ fn load<H: Lookups>(alloc: Global, shelf: &mut H, notice: &Id) -> Result<CancelR
     })
 }
 
-// The rows that it is decided on: of the lines those of the open lots, on which the decision is the same as on all lines of the office.
+// Adds the budget lines of the open lots. With these lines the decision is the same as with all lines of the office.
 fn with_lines<H: Lookups>(
     alloc: Global,
     shelf: &mut H,
@@ -88,7 +88,7 @@ fn with_lines<H: Lookups>(
     Ok(rows)
 }
 
-// The release of an accepted cancellation: of the lots that are open, and the active awards of these.
+// The release of an accepted cancellation. It names the open lots and their active awards.
 fn release(
     alloc: Global,
     publisher: &Publisher,
@@ -121,7 +121,7 @@ fn release(
     make_release(alloc, publisher, notice, &rows.notice, t, &event)
 }
 
-/// Plans a cancellation: a refusal takes no memory beside the rows, and asks for no line. Its rationale is kept for the release alone.
+/// Plans a cancellation. A refusal needs no memory except for the rows, and looks up no budget line. Only the release has the rationale.
 pub fn plan<H: Lookups>(
     alloc: Global,
     shelf: &mut H,

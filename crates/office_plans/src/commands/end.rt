@@ -1,4 +1,4 @@
-//! The end of a contract, planned: its reply, its release, and what it puts.
+//! The plan for the end of a contract: its reply, its release and its changes.
 ghost use Rattle.std.specs.Prelude.{◌≡◌, ℕ, true, IfErr, IfOk, None, Some};
 ghost use Rattle.award_core.specs.Rules.End.{end_rows};
 ghost use Rattle.office_commands.specs.Rights.{may};
@@ -34,7 +34,7 @@ use office_values::settings::Publisher;
 use std::alloc::Global;
 use tender_core::asking::Asking;
 
-// The rows that it is decided on.
+// Loads the rows by which the command is decided.
 fn load<H: Lookups>(shelf: &mut H, contract: AskedNumber) -> Result<EndRows, ShelfFault>
     ensures { LooksUp H.meaning shelf.old shelf.new result (λ s rows. rows ≡ end_rows s contract) }
 {
@@ -55,7 +55,7 @@ fn load<H: Lookups>(shelf: &mut H, contract: AskedNumber) -> Result<EndRows, She
     })
 }
 
-// What is told of an accepted end.
+// The text of the reply to an accepted end of a contract.
 fn reply(
     alloc: Global,
     asking: &Asking,
@@ -94,7 +94,7 @@ fn release(
     make_release(alloc, publisher, contract.notice, &rows.notice, t, &event)
 }
 
-/// Plans the end of a contract: a refusal takes no memory beside the rows.
+/// Plans the end of a contract. A refusal needs no memory except for the rows.
 pub fn plan<H: Lookups>(
     alloc: Global,
     shelf: &mut H,

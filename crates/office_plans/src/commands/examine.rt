@@ -1,4 +1,4 @@
-//! The examination of a tender, planned: its reply, and what it puts.
+//! The plan for an examination of a tender: its reply and its changes.
 ghost use Rattle.std.specs.Prelude.{◌≡◌, IfOk, true};
 ghost use Rattle.award_core.specs.Rules.Examine.{examine_rows};
 ghost use Rattle.office_commands.specs.Rights.{may};
@@ -24,7 +24,7 @@ use office_values::refusal::Refusal;
 use std::alloc::{AllocError, Global};
 use tender_core::asking::Asking;
 
-// The rows that it is decided on.
+// Loads the rows by which the command is decided.
 fn load<H: Lookups>(shelf: &mut H, receipt: AskedNumber) -> Result<ExamineRows, ShelfFault>
     ensures { LooksUp H.meaning shelf.old shelf.new result (λ s rows. rows ≡ examine_rows s receipt) }
 {
@@ -40,7 +40,7 @@ fn load<H: Lookups>(shelf: &mut H, receipt: AskedNumber) -> Result<ExamineRows, 
     })
 }
 
-// What is told of an accepted examination.
+// The text of the reply to an accepted examination.
 fn reply(
     alloc: Global,
     receipt: AskedNumber,
@@ -59,7 +59,7 @@ fn reply(
     )
 }
 
-/// Plans the examination of a tender: a refusal takes no memory beside the rows.
+/// Plans an examination of a tender. A refusal needs no memory except for the rows.
 pub fn plan<H: Lookups>(
     alloc: Global,
     shelf: &mut H,

@@ -1,4 +1,4 @@
-//! The failing of an award, planned: its reply, its release, and what it puts.
+//! The plan for passing over a winner who doesn't sign: its reply, its release and its changes.
 ghost use Rattle.std.specs.Prelude.{◌≡◌, ℕ, true, IfErr, IfOk, Some};
 ghost use Rattle.award_core.specs.Rules.Fail.{fail_rows};
 ghost use Rattle.office_commands.specs.Rights.{may};
@@ -30,7 +30,7 @@ use office_values::settings::Publisher;
 use std::alloc::{AllocError, Global};
 use tender_core::asking::Asking;
 
-// The rows that it is decided on.
+// Loads the rows by which the command is decided.
 fn load<H: Lookups>(shelf: &mut H, award: AskedNumber) -> Result<FailRows, ShelfFault>
     ensures { LooksUp H.meaning shelf.old shelf.new result (λ s rows. rows ≡ fail_rows s award) }
 {
@@ -50,7 +50,7 @@ fn load<H: Lookups>(shelf: &mut H, award: AskedNumber) -> Result<FailRows, Shelf
     })
 }
 
-// That an award fails, by these values.
+// The text that says that this award fails.
 fn failed_text(
     alloc: Global,
     award: AskedNumber,
@@ -69,7 +69,7 @@ fn failed_text(
     )
 }
 
-// What is told of an accepted failing.
+// The text of the reply to an accepted `fail`.
 fn reply(
     alloc: Global,
     asking: &Asking,
@@ -84,7 +84,7 @@ fn reply(
     failed_text(alloc, award, release, t)
 }
 
-// The release of an accepted failing of this award.
+// The release of an accepted `fail` of this award.
 fn release(
     alloc: Global,
     publisher: &Publisher,
@@ -104,7 +104,7 @@ fn release(
     make_release(alloc, publisher, award.notice, &rows.notice, t, &event)
 }
 
-/// Plans that the winner of an award is passed over: a refusal takes no memory beside the rows.
+/// Plans that the winner of an award is passed over. A refusal needs no memory except for the rows.
 pub fn plan<H: Lookups>(
     alloc: Global,
     shelf: &mut H,

@@ -1,4 +1,4 @@
-//! The import of a budget file, planned: its reply, and what it puts.
+//! The plan for the import of a budget file: its reply and its changes.
 ghost use Rattle.std.specs.Prelude.{◌≡◌, IfOk, true};
 ghost use Rattle.office_commands.specs.Rights.{may};
 ghost use Rattle.office_commands.specs.declared.command.CommandKind.TheVariants as kinds;
@@ -28,7 +28,8 @@ use tender_core::budget_file::BudgetFile;
 use tender_core::import::{ImportRows, decide_import};
 use tender_core::laws::imports_agree;
 
-// The rows that it is decided on: of the lines those that its own rows name, on which the decision is the same as on all lines of the office.
+// Loads the rows by which the command is decided. Of the budget lines these are those that the file names, and the decision is the same as with all lines of
+// the office.
 fn load<H: Lookups>(
     alloc: Global,
     shelf: &mut H,
@@ -47,7 +48,7 @@ fn load<H: Lookups>(
     })
 }
 
-// What is told of an accepted import of so many rows.
+// The text of the reply to an accepted import of this many rows.
 fn reply(alloc: Global, batch: Id, rows: u64, moment: Moment) -> Result<Vec<u8>, AllocError>
     ensures { IfOk result (λ text. text.items ≡ reply_text (Imported batch rows moment)) }
 {
@@ -61,8 +62,8 @@ fn reply(alloc: Global, batch: Id, rows: u64, moment: Moment) -> Result<Vec<u8>,
     )
 }
 
-/// Plans the import of a budget file: a refusal takes no memory beside the rows. Where the lines stand that it names is among these, gathered
-/// in a table, so that a refused one may be `Unavailable` though no look-up failed.
+/// Plans the import of a budget file. A refusal needs no memory except for the rows. These include a table of the lines that the file names, so a file may be
+/// `Unavailable` instead of refused although no look-up failed.
 pub fn plan<H: Lookups>(
     alloc: Global,
     shelf: &mut H,

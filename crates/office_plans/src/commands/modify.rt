@@ -1,4 +1,4 @@
-//! The modification of a tender, planned: its reply, and what it puts.
+//! The plan for a modification of a tender: its reply and its changes.
 ghost use Rattle.std.specs.Prelude.{◌≡◌, IfOk, true};
 ghost use Rattle.sha2.specs.Sha256.{sha256};
 ghost use Rattle.office_commands.specs.Rights.{may};
@@ -27,7 +27,7 @@ use std::alloc::{AllocError, Global};
 use tender_core::asking::Asking;
 use tender_core::modify::{ModifyRows, puts, refusal};
 
-// The rows that it is decided on.
+// Loads the rows by which the command is decided.
 fn load<H: Lookups>(shelf: &mut H, receipt: AskedNumber) -> Result<ModifyRows, ShelfFault>
     ensures { LooksUp H.meaning shelf.old shelf.new result (λ s rows. rows ≡ modify_rows s receipt) }
 {
@@ -41,7 +41,7 @@ fn load<H: Lookups>(shelf: &mut H, receipt: AskedNumber) -> Result<ModifyRows, S
     })
 }
 
-// What is told of an accepted modification of this tender: the receipt of the one that comes in its place, with the same security.
+// The text of the reply to an accepted modification of this tender: the receipt of the new tender, which has the old one's security.
 fn reply(
     alloc: Global,
     t: Moment,
@@ -57,7 +57,7 @@ fn reply(
     received_text(alloc, digest, receipt, security, EnvelopeState::Sealed, t)
 }
 
-/// Plans the modification of a tender, which is another in its place: a refusal takes no memory beside the rows.
+/// Plans a modification of a tender, which replaces it by another one. A refusal needs no memory except for the rows.
 pub fn plan<H: Lookups>(
     alloc: Global,
     shelf: &mut H,

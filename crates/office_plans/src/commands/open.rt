@@ -1,4 +1,4 @@
-//! The opening of tenders, planned: its reply, its release, and what it puts.
+//! The plan for an opening: its reply, its release and its changes.
 ghost use Rattle.std.specs.Prelude.{◌≡◌, true, IfErr, IfOk};
 ghost use Rattle.office_commands.specs.Rights.{may};
 ghost use Rattle.office_commands.specs.declared.command.CommandKind.TheVariants as kinds;
@@ -33,7 +33,7 @@ use tender_core::asking::Asking;
 use tender_core::laws::readings_are_put;
 use tender_core::opening::{OpenRows, OpenedTender, puts, refusal};
 
-// The rows that it is decided on, beside the sealed tenders.
+// Loads the rows by which an opening is decided, except for the sealed tenders.
 fn load<H: Lookups>(shelf: &mut H, notice: &Id) -> Result<OpenRows, ShelfFault>
     ensures { LooksUp H.meaning shelf.old shelf.new result (λ s rows. rows ≡ open_rows s notice.now) }
 {
@@ -43,7 +43,7 @@ fn load<H: Lookups>(shelf: &mut H, notice: &Id) -> Result<OpenRows, ShelfFault>
     })
 }
 
-// That so many tenders are opened, by these values.
+// The text that says how many tenders were opened.
 fn opened_text(
     alloc: Global,
     notice: Id,
@@ -64,7 +64,7 @@ fn opened_text(
     )
 }
 
-// What is told of an accepted opening of these tenders.
+// The text of the reply to an accepted opening of these tenders.
 fn reply(
     alloc: Global,
     asking: &Asking,
@@ -102,7 +102,7 @@ fn release<H: Lookups>(
     make_release(alloc, publisher, notice, &rows.notice, t, &event)
 }
 
-/// Plans the opening of the tenders of a notice: a refused one takes no memory beside the notice's row, and reads no tender.
+/// Plans the opening of a notice's tenders. A refusal needs no memory except for the notice's row, and reads no tender.
 pub fn plan<H: Lookups>(
     alloc: Global,
     shelf: &mut H,

@@ -1,4 +1,4 @@
-//! A payment, planned: its reply, its release, and what it puts.
+//! The plan for a payment: its reply, its release and its changes.
 ghost use Rattle.std.specs.Prelude.{◌≡◌, ℕ, List, true, IfErr, IfOk, None, Some};
 ghost use Rattle.office_commands.specs.Rights.{may};
 ghost use Rattle.office_commands.specs.declared.command.CommandKind.TheVariants as kinds;
@@ -35,7 +35,7 @@ use office_values::settings::Publisher;
 use std::alloc::Global;
 use tender_core::asking::Asking;
 
-// The rows that it is decided on.
+// Loads the rows by which the command is decided.
 fn load<H: Lookups>(shelf: &mut H, contract: AskedNumber) -> Result<PayRows, ShelfFault>
     ensures { LooksUp H.meaning shelf.old shelf.new result (λ s rows. rows ≡ pay_rows s contract) }
 {
@@ -51,7 +51,7 @@ fn load<H: Lookups>(shelf: &mut H, contract: AskedNumber) -> Result<PayRows, She
     })
 }
 
-// What is told of an accepted payment.
+// The text of the reply to an accepted payment.
 fn reply(
     alloc: Global,
     asking: &Asking,
@@ -72,8 +72,8 @@ fn reply(
     Ok(text)
 }
 
-// The release of an accepted payment under this contract. `Unavailable` also where the row of the tenderer who signed it is missing, as
-// never in an office that commands reach.
+// The release of an accepted payment under this contract. `Unavailable` also if the row of the contract's tenderer is missing, which can't happen in a reached
+// office.
 fn release<H: Lookups>(
     alloc: Global,
     shelf: &mut H,
@@ -103,7 +103,7 @@ fn release<H: Lookups>(
     make_release(alloc, publisher, contract.notice, &rows.notice, t, &event)
 }
 
-/// Plans a payment under a contract: a refusal takes no memory beside the rows.
+/// Plans a payment under a contract. A refusal needs no memory except for the rows.
 pub fn plan<H: Lookups>(
     alloc: Global,
     shelf: &mut H,

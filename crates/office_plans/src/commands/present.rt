@@ -1,4 +1,4 @@
-//! A tender that is presented, planned: its reply, and what it puts.
+//! The plan for a submission: its reply and its changes.
 ghost use Rattle.std.specs.Prelude.{◌≡◌, ℕ, List, IfOk, cond, option_map, true};
 ghost use Rattle.sha2.specs.Sha256.{sha256};
 ghost use Rattle.office_commands.specs.Rights.{may};
@@ -34,7 +34,7 @@ use tender_core::asking::Asking;
 use tender_core::present::{PresentRows, puts, refusal};
 use tender_core::tenders::is_in_time;
 
-// The rows that it is decided on. Of the lot's tenders the rule asks for the caller's own alone, which may be few among many.
+// Loads the rows by which the command is decided. Of the lot's tenders these are only the caller's own, which may be few among many.
 fn load<H: Lookups>(
     alloc: Global,
     shelf: &mut H,
@@ -53,7 +53,7 @@ fn load<H: Lookups>(
     })
 }
 
-// The number of the security, which is that of the receipt; none where none is named.
+// The number of the security, which is the number of the receipt, or none if the tender names no security.
 fn number_of(receipt: u64, security: &Option<NamedSecurity>) -> Option<u64>
     ensures { result ≡ option_map (λ _. receipt) security.now }
 {
@@ -63,7 +63,7 @@ fn number_of(receipt: u64, security: &Option<NamedSecurity>) -> Option<u64>
     }
 }
 
-// Where the tender is then: one that comes late goes back.
+// The state of the new tender: sealed if it comes in time, and returned if it comes late.
 fn state_of(in_time: bool) -> EnvelopeState
     ensures { result ≡ cond in_time states.Sealed states.Returned }
 {
@@ -74,7 +74,7 @@ fn state_of(in_time: bool) -> EnvelopeState
     }
 }
 
-// What is told of an accepted presentation: the next receipt, with the digest of the sealed bytes and the number of the security that is named.
+// The text of the reply to an accepted submission: the next receipt, with the digest of the sealed bytes and the number of the named security.
 fn reply(
     alloc: Global,
     t: Moment,
@@ -92,7 +92,7 @@ fn reply(
     received_text(alloc, digest, receipt, number, state, t)
 }
 
-/// Plans a tender that is presented: its receipt, whether it came in time or late. A refusal takes no memory beside the rows.
+/// Plans a submission. A tender gets a receipt whether it comes in time or late. A refusal needs no memory except for the rows.
 pub fn plan<H: Lookups>(
     alloc: Global,
     shelf: &mut H,

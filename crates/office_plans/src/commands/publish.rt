@@ -1,4 +1,4 @@
-//! The publication of a notice, planned: its reply, its release, and what it puts.
+//! The plan for the publication of a notice: its reply, its release and its changes.
 ghost use Rattle.std.specs.Prelude.{◌≡◌, IfErr, IfOk, map, true};
 ghost use Rattle.office_commands.specs.Rights.{may};
 ghost use Rattle.office_commands.specs.declared.command.CommandKind.TheVariants as kinds;
@@ -31,7 +31,7 @@ use tender_core::asking::Asking;
 use tender_core::laws::publishes_agree;
 use tender_core::publish::{PublishRows, puts, refusal};
 
-// The lines of the lots.
+// The budget lines of the new lots.
 fn load_lines<H: Lookups>(
     alloc: Global,
     shelf: &mut H,
@@ -46,7 +46,8 @@ fn load_lines<H: Lookups>(
     Ok(lines)
 }
 
-// The rows that it is decided on: of the lines those of its lots, on which the decision is the same as on all lines of the office.
+// Loads the rows by which the command is decided. Of the budget lines these are those of the new lots, and the decision is the same as with all lines of the
+// office.
 fn load<H: Lookups>(
     alloc: Global,
     shelf: &mut H,
@@ -91,8 +92,8 @@ fn release(
     make_release(alloc, publisher, notice, &rows.notice, t, &event)
 }
 
-/// Plans the publication of a notice: a refusal takes no memory beside the rows. The lines of its lots among these are gathered in a table,
-/// so that a refused one may be `Unavailable` though no look-up failed.
+/// Plans the publication of a notice. A refusal needs no memory except for the rows. These include a table of the lots' budget lines, so a notice may be
+/// `Unavailable` instead of refused although no look-up failed.
 pub fn plan<H: Lookups>(
     alloc: Global,
     shelf: &mut H,

@@ -1,4 +1,4 @@
-//! The registration of a tenderer, planned: its reply, and what it puts.
+//! The plan for the registration of a tenderer: its reply and its changes.
 ghost use Rattle.std.specs.Prelude.{◌≡◌, IfOk, true};
 ghost use Rattle.office_commands.specs.Rights.{may};
 ghost use Rattle.office_commands.specs.declared.command.CommandKind.TheVariants as kinds;
@@ -23,7 +23,7 @@ use std::alloc::{AllocError, Global};
 use tender_core::asking::Asking;
 use tender_core::register::{RegisterRows, puts, refusal};
 
-// The rows that it is decided on.
+// Loads the rows by which the command is decided.
 fn load<H: Lookups>(shelf: &mut H, tenderer: &Id) -> Result<RegisterRows, ShelfFault>
     ensures { LooksUp H.meaning shelf.old shelf.new result (λ s rows. rows ≡ register_rows s tenderer.now) }
 {
@@ -33,7 +33,7 @@ fn load<H: Lookups>(shelf: &mut H, tenderer: &Id) -> Result<RegisterRows, ShelfF
     })
 }
 
-// What is told of an accepted registration.
+// The text of the reply to an accepted registration.
 fn reply(alloc: Global, tenderer: Id, moment: Moment) -> Result<Vec<u8>, AllocError>
     ensures { IfOk result (λ text. text.items ≡ reply_text (Enrolled tenderer moment)) }
 {
@@ -46,7 +46,7 @@ fn reply(alloc: Global, tenderer: Id, moment: Moment) -> Result<Vec<u8>, AllocEr
     )
 }
 
-/// Plans the registration of a tenderer, with the SHA-256 of the tenderer's key: a refusal takes no memory beside the rows.
+/// Plans the registration of a tenderer, with the SHA-256 of the tenderer's key. A refusal needs no memory except for the rows.
 pub fn plan<H: Lookups>(
     alloc: Global,
     shelf: &mut H,

@@ -1,4 +1,4 @@
-//! The signing of a contract, planned: its reply, its release, and what it puts.
+//! The plan for the signing of a contract: its reply, its release and its changes.
 ghost use Rattle.std.specs.Prelude.{◌≡◌, ℕ, Option, true, IfErr, IfOk, Some};
 ghost use Rattle.award_core.specs.Rules.Sign.{sign_rows};
 ghost use Rattle.office_commands.specs.Rights.{may};
@@ -34,7 +34,7 @@ use office_values::settings::Publisher;
 use std::alloc::{AllocError, Global};
 use tender_core::asking::Asking;
 
-// The rows that it is decided on.
+// Loads the rows by which the command is decided.
 fn load<H: Lookups>(
     alloc: Global,
     shelf: &mut H,
@@ -58,7 +58,7 @@ fn load<H: Lookups>(
     })
 }
 
-// That a contract is signed, by these values.
+// The text that says that this contract is signed.
 fn signed_text(
     alloc: Global,
     contract: AskedNumber,
@@ -77,7 +77,7 @@ fn signed_text(
     )
 }
 
-// What is told of an accepted signing.
+// The text of the reply to an accepted signing.
 fn reply(
     alloc: Global,
     asking: &Asking,
@@ -92,7 +92,7 @@ fn reply(
     signed_text(alloc, award, release, t)
 }
 
-// The release of an accepted signing of this award, whatever performance security is named.
+// The release of an accepted signing of this award. It doesn't depend on the performance security that is named.
 fn release<H: Lookups>(
     alloc: Global,
     shelf: &mut H,
@@ -118,7 +118,7 @@ fn release<H: Lookups>(
     make_release(alloc, publisher, award.notice, &rows.notice, t, &event)
 }
 
-/// Plans the signing of the contract of an award, with a performance security where one is named: a refusal takes no memory beside the rows.
+/// Plans the signing of a contract, with a performance security if one is named. A refusal needs no memory except for the rows.
 pub fn plan<H: Lookups>(
     alloc: Global,
     shelf: &mut H,

@@ -1,4 +1,4 @@
-//! The withdrawal of a tender, planned: its reply, and what it puts.
+//! The plan for a withdrawal of a tender: its reply and its changes.
 ghost use Rattle.std.specs.Prelude.{◌≡◌, IfOk, true};
 ghost use Rattle.office_commands.specs.Rights.{may};
 ghost use Rattle.office_commands.specs.declared.command.CommandKind.TheVariants as kinds;
@@ -27,7 +27,7 @@ use tender_core::asking::Asking;
 use tender_core::tenders::is_late;
 use tender_core::withdraw::{WithdrawRows, puts, refusal};
 
-// The rows that it is decided on.
+// Loads the rows by which the command is decided.
 fn load<H: Lookups>(shelf: &mut H, receipt: AskedNumber) -> Result<WithdrawRows, ShelfFault>
     ensures { LooksUp H.meaning shelf.old shelf.new result (λ s rows. rows ≡ withdraw_rows s receipt) }
 {
@@ -47,7 +47,7 @@ fn load<H: Lookups>(shelf: &mut H, receipt: AskedNumber) -> Result<WithdrawRows,
     })
 }
 
-// Where a tender is that was taken back: from the deadline on it stays where it was.
+// The state of a tender after its withdrawal. From the deadline on it keeps its state.
 fn state_after(late: bool, envelope: &Option<EnvelopeRow>) -> EnvelopeState
     ensures { result ≡ state_after late envelope.now }
 {
@@ -61,7 +61,7 @@ fn state_after(late: bool, envelope: &Option<EnvelopeRow>) -> EnvelopeState
     }
 }
 
-// That a tender was taken back, and is then there.
+// The text that says that a tender was withdrawn, and which state it has now.
 fn withdrew_text(
     alloc: Global,
     receipt: AskedNumber,
@@ -82,7 +82,7 @@ fn withdrew_text(
     )
 }
 
-// What is told of an accepted withdrawal.
+// The text of the reply to an accepted withdrawal.
 fn reply(
     alloc: Global,
     t: Moment,
@@ -97,8 +97,8 @@ fn reply(
     withdrew_text(alloc, receipt, state, t)
 }
 
-/// Plans the withdrawal of a tender: before the deadline its security goes back; from then on, where its notice lets it, it is out of the running
-/// and its security is forfeited. A refusal takes no memory beside the rows.
+/// Plans a withdrawal of a tender. Before the deadline its security is returned. From then on, if the notice allows a withdrawal, the tender can't win any more
+/// and its security is forfeited. A refusal needs no memory except for the rows.
 pub fn plan<H: Lookups>(
     alloc: Global,
     shelf: &mut H,

@@ -1,4 +1,4 @@
--- Awards: the text that makes the table, its columns, the text that puts one, and its row: the key, then the other fields.
+-- The table of awards: the texts that create and change it, its columns, and how a row is written and read.
 use Rattle.std.specs.Prelude.{◌≤◌, ℕ, List, [], ◌∷◌, codes, pos}
 use Rattle.std.specs.Ordering.{nat_cmp}
 use Rattle.sqlite_value.specs.declared.value.Value.TheVariants.{Int, Text}
@@ -23,23 +23,23 @@ awards =
     table_by_rowid (codes "awards") (number_column (codes "award") ∷ text_column (codes "notice") ∷ text_column (codes "lot")
     ∷ number_column (codes "receipt") ∷ number_column (codes "price") ∷ number_column (codes "moment") ∷ text_column (codes "state") ∷ []) create_awards
 
--- its index, for questions that aren't by its key
+-- creates the index for look-ups by notice
 abbrev pub create_awards_of_notice : List ℕ
 create_awards_of_notice = codes "CREATE INDEX awards_of_notice ON awards (notice)"
 
 abbrev pub awards_of_notice : Index
 awards_of_notice = index_on (codes "awards_of_notice") (2 ∷ [])
 
--- the text that puts one
+-- inserts an award, or replaces the row that has its key
 abbrev pub upsert_awards : List ℕ
 upsert_awards = codes "INSERT INTO awards (award, notice, lot, receipt, price, moment, state) VALUES (?1, ?2, ?3, ?4, ?5, ?6, ?7) ON CONFLICT (award) DO UPDATE SET notice = ?2, lot = ?3, receipt = ?4, price = ?5, moment = ?6, state = ?7"
 
--- its row
+-- the values of an award, in the order of the columns
 abbrev pub award_values : AwardRow → Row
 award_values x =
     Int (pos x.award) ∷ Text x.notice ∷ Text x.lot ∷ Int (pos x.receipt) ∷ Int (pos x.price) ∷ Int (pos x.moment) ∷ Text (award_state_text x.state) ∷ []
 
--- what a row is read as
+-- the award that a row is read as
 abbrev pub award_read : Row → AwardRow
 award_read r = record {
   award = number_in_value (column r 0);
@@ -51,10 +51,10 @@ award_read r = record {
   state = award_state_in (bytes (column r 6));
 }
 
--- its fields are in their ranges
+-- each field is in its range
 abbrev pub AwardFits : AwardRow → Type 0
 AwardFits x = IsOfficeNumber x.award × IsId x.notice × IsId x.lot × IsOfficeNumber x.receipt × (x.price ≤ amount_limit) × (x.moment ≤ last_moment)
 
--- the table, with the order of its keys and its rows
+-- the table, the order of its keys, and how its rows are written and read
 abbrev pub award_form : Form ℕ AwardRow
 award_form = rowid_form awards nat_cmp award_key award_values award_read

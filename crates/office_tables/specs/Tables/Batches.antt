@@ -1,4 +1,4 @@
--- Budget files: the text that makes the table, its columns, the text that puts one, and its row: the key, then the other fields.
+-- The table of budget files: the texts that create and change it, its columns, and how a row is written and read.
 use Rattle.std.specs.Prelude.{◌≤◌, ℕ, List, [], ◌∷◌, codes, pos}
 use Rattle.sqlite_value.specs.declared.value.Value.TheVariants.{Int, Text}
 use Rattle.sqlite_value.specs.Order.{Row, column, bytes}
@@ -17,22 +17,22 @@ abbrev pub batches : Table
 batches =
     table_with (codes "batches") (text_column (codes "batch") ∷ number_column (codes "moment") ∷ number_column (codes "rows") ∷ []) (1 ∷ []) create_batches
 
--- the text that puts one
+-- inserts a budget file, or replaces the row that has its key
 abbrev pub upsert_batches : List ℕ
 upsert_batches = codes "INSERT INTO batches (batch, moment, rows) VALUES (?1, ?2, ?3) ON CONFLICT (batch) DO UPDATE SET moment = ?2, rows = ?3"
 
--- its row
+-- the values of a budget file, in the order of the columns
 abbrev pub batch_values : BatchRow → Row
 batch_values x = Text x.batch ∷ Int (pos x.moment) ∷ Int (pos x.rows) ∷ []
 
--- what a row is read as
+-- the budget file that a row is read as
 abbrev pub batch_read : Row → BatchRow
 batch_read r = record { batch = bytes (column r 0); moment = number_in_value (column r 1); rows = number_in_value (column r 2) }
 
--- its fields are in their ranges
+-- each field is in its range
 abbrev pub BatchFits : BatchRow → Type 0
 BatchFits x = IsId x.batch × (x.moment ≤ last_moment) × (x.rows ≤ 500)
 
--- the table, with the order of its keys and its rows
+-- the table, the order of its keys, and how its rows are written and read
 abbrev pub batch_form : Form (List ℕ) BatchRow
 batch_form = indexed_form batches id_cmp batch_key batch_values batch_read

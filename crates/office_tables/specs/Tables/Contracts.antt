@@ -1,4 +1,4 @@
--- Contracts: the text that makes the table, its columns, the text that puts one, and its row: the key, then the other fields.
+-- The table of contracts: the texts that create and change it, its columns, and how a row is written and read.
 use Rattle.std.specs.Prelude.{◌≤◌, ℕ, List, [], ◌∷◌, codes, IfSome, pos, option_map}
 use Rattle.std.specs.Ordering.{nat_cmp}
 use Rattle.sqlite_value.specs.declared.value.Value.TheVariants.{Int, Text}
@@ -24,24 +24,24 @@ contracts =
     ∷ text_column (codes "tenderer") ∷ number_column (codes "signed") ∷ number_column (codes "moment") ∷ perhaps_number_column (codes "ended")
     ∷ perhaps_text_column (codes "how") ∷ number_column (codes "released") ∷ []) create_contracts
 
--- its index, for questions that aren't by its key
+-- creates the index for look-ups by notice
 abbrev pub create_contracts_of_notice : List ℕ
 create_contracts_of_notice = codes "CREATE INDEX contracts_of_notice ON contracts (notice)"
 
 abbrev pub contracts_of_notice : Index
 contracts_of_notice = index_on (codes "contracts_of_notice") (2 ∷ [])
 
--- the text that puts one
+-- inserts a contract, or replaces the row that has its key
 abbrev pub upsert_contracts : List ℕ
 upsert_contracts = codes "INSERT INTO contracts (contract, notice, lot, tenderer, signed, moment, ended, how, released) VALUES (?1, ?2, ?3, ?4, ?5, ?6, ?7, ?8, ?9) ON CONFLICT (contract) DO UPDATE SET notice = ?2, lot = ?3, tenderer = ?4, signed = ?5, moment = ?6, ended = ?7, how = ?8, released = ?9"
 
--- its row
+-- the values of a contract, in the order of the columns
 abbrev pub contract_values : ContractRow → Row
 contract_values x =
     Int (pos x.contract) ∷ Text x.notice ∷ Text x.lot ∷ Text x.tenderer ∷ Int (pos x.signed) ∷ Int (pos x.moment) ∷ or_null x.ended
     ∷ text_or_null (option_map how_text x.how) ∷ Int (pos x.released) ∷ []
 
--- what a row is read as
+-- the contract that a row is read as
 abbrev pub contract_read : Row → ContractRow
 contract_read r = record {
   contract = number_in_value (column r 0);
@@ -55,12 +55,12 @@ contract_read r = record {
   released = number_in_value (column r 8);
 }
 
--- its fields are in their ranges
+-- each field is in its range
 abbrev pub ContractFits : ContractRow → Type 0
 ContractFits x =
     IsOfficeNumber x.contract × IsId x.notice × IsId x.lot × IsId x.tenderer × (x.signed ≤ total_limit) × (x.moment ≤ last_moment)
     × IfSome x.ended (λ moment. moment ≤ last_moment) × (x.released ≤ total_limit)
 
--- the table, with the order of its keys and its rows
+-- the table, the order of its keys, and how its rows are written and read
 abbrev pub contract_form : Form ℕ ContractRow
 contract_form = rowid_form contracts nat_cmp contract_key contract_values contract_read

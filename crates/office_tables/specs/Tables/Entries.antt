@@ -1,4 +1,4 @@
--- Entries of contracts: the text that makes the table, its columns, the text that puts one, and its row: the key, then the other fields.
+-- The table of the entries of contracts: the texts that create and change it, its columns, and how a row is written and read.
 use Rattle.std.specs.Prelude.{◌≤◌, ℕ, List, [], ◌∷◌, codes, IfSome, pos}
 use Rattle.sqlite_value.specs.declared.value.Value.TheVariants.{Int, Text}
 use Rattle.sqlite_value.specs.Order.{Row, column, bytes}
@@ -21,16 +21,16 @@ entries =
     table_with (codes "entries") (number_column (codes "contract") ∷ text_column (codes "entry") ∷ text_column (codes "kind")
     ∷ number_column (codes "amount") ∷ number_column (codes "moment") ∷ perhaps_text_column (codes "rationale") ∷ []) (1 ∷ 2 ∷ []) create_entries
 
--- the text that puts one
+-- inserts an entry of a contract, or replaces the row that has its key
 abbrev pub upsert_entries : List ℕ
 upsert_entries = codes "INSERT INTO entries (contract, entry, kind, amount, moment, rationale) VALUES (?1, ?2, ?3, ?4, ?5, ?6) ON CONFLICT (contract, entry) DO UPDATE SET kind = ?3, amount = ?4, moment = ?5, rationale = ?6"
 
--- its row
+-- the values of an entry of a contract, in the order of the columns
 abbrev pub entry_values : EntryRow → Row
 entry_values x =
     Int (pos x.contract) ∷ Text x.entry ∷ Text (entry_kind_text x.kind) ∷ Int (pos x.amount) ∷ Int (pos x.moment) ∷ text_or_null x.rationale ∷ []
 
--- what a row is read as
+-- the entry of a contract that a row is read as
 abbrev pub entry_read : Row → EntryRow
 entry_read r = record {
   contract = number_in_value (column r 0);
@@ -41,10 +41,10 @@ entry_read r = record {
   rationale = perhaps_text_in (column r 5);
 }
 
--- its fields are in their ranges
+-- each field is in its range
 abbrev pub EntryFits : EntryRow → Type 0
 EntryFits x = IsOfficeNumber x.contract × IsId x.entry × IsSum x.amount × (x.moment ≤ last_moment) × IfSome x.rationale IsTextLine
 
--- the table, with the order of its keys and its rows
+-- the table, the order of its keys, and how its rows are written and read
 abbrev pub entry_form : Form (ℕ × List ℕ) EntryRow
 entry_form = indexed_form entries entry_cmp entry_key entry_values entry_read

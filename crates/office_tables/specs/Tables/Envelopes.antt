@@ -1,4 +1,4 @@
--- Tenders: the text that makes the table, its columns, the text that puts one, and its row: the key, then the other fields.
+-- The table of tenders, without their bytes: the texts that create and change it, its columns, and how a row is written and read.
 use Rattle.std.specs.Prelude.{◌≡◌, ◌≤◌, ℕ, List, [], ◌∷◌, codes, IfSome, length, pos, option_map}
 use Rattle.std.specs.Ordering.{nat_cmp}
 use Rattle.sqlite_value.specs.declared.value.Value.TheVariants.{Int, Text, Blob}
@@ -26,25 +26,25 @@ envelopes =
     ∷ perhaps_number_column (codes "corrected") ∷ perhaps_number_column (codes "corrections") ∷ perhaps_number_column (codes "responsive")
     ∷ perhaps_number_column (codes "quality") ∷ number_column (codes "failed") ∷ []) create_envelopes
 
--- its index, for questions that aren't by its key
+-- creates the index for look-ups by notice, by lot, and by the tenderer in a lot
 abbrev pub create_envelopes_of_notice : List ℕ
 create_envelopes_of_notice = codes "CREATE INDEX envelopes_of_notice ON envelopes (notice, lot, tenderer)"
 
 abbrev pub envelopes_of_notice : Index
 envelopes_of_notice = index_on (codes "envelopes_of_notice") (2 ∷ 3 ∷ 4 ∷ [])
 
--- the text that puts one
+-- inserts a tender, or replaces the row that has its key
 abbrev pub upsert_envelopes : List ℕ
 upsert_envelopes = codes "INSERT INTO envelopes (receipt, notice, lot, tenderer, moment, length, digest, security, state, reading, stated, corrected, corrections, responsive, quality, failed) VALUES (?1, ?2, ?3, ?4, ?5, ?6, ?7, ?8, ?9, ?10, ?11, ?12, ?13, ?14, ?15, ?16) ON CONFLICT (receipt) DO UPDATE SET notice = ?2, lot = ?3, tenderer = ?4, moment = ?5, length = ?6, digest = ?7, security = ?8, state = ?9, reading = ?10, stated = ?11, corrected = ?12, corrections = ?13, responsive = ?14, quality = ?15, failed = ?16"
 
--- its row
+-- the values of a tender, in the order of the columns
 abbrev pub envelope_values : EnvelopeRow → Row
 envelope_values x =
     Int (pos x.receipt) ∷ Text x.notice ∷ Text x.lot ∷ Text x.tenderer ∷ Int (pos x.moment) ∷ Int (pos x.length) ∷ Blob x.digest ∷ or_null x.security
     ∷ Text (envelope_state_text x.state) ∷ text_or_null (option_map reading_word x.reading) ∷ or_null (stated_price x.reading) ∷ or_null (corrected_price x.reading)
     ∷ or_null (count_of_corrections x.reading) ∷ or_null (option_map as_number x.responsive) ∷ or_null x.quality ∷ Int (pos (as_number x.failed)) ∷ []
 
--- what a row is read as
+-- the tender that a row is read as
 abbrev pub envelope_read : Row → EnvelopeRow
 envelope_read r = record {
   receipt = number_in_value (column r 0);
@@ -62,12 +62,12 @@ envelope_read r = record {
   failed = truth_in (column r 15);
 }
 
--- its fields are in their ranges
+-- each field is in its range
 abbrev pub EnvelopeFits : EnvelopeRow → Type 0
 EnvelopeFits x =
     IsOfficeNumber x.receipt × IsId x.notice × IsId x.lot × IsId x.tenderer × (x.moment ≤ last_moment) × IsWithin 1 32768 x.length × (length x.digest ≡ 32)
     × IfSome x.security IsOfficeNumber × ReadingFits x.reading × IfSome x.quality (λ points. points ≤ 100)
 
--- the table, with the order of its keys and its rows
+-- the table, the order of its keys, and how its rows are written and read
 abbrev pub envelope_form : Form ℕ EnvelopeRow
 envelope_form = rowid_form envelopes nat_cmp envelope_key envelope_values envelope_read

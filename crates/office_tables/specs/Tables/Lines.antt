@@ -1,4 +1,4 @@
--- Budget lines: the text that makes the table, its columns, the text that puts one, and its row: the key, then the other fields.
+-- The table of budget lines: the texts that create and change it, its columns, and how a row is written and read.
 use Rattle.std.specs.Prelude.{◌≤◌, ℕ, List, [], ◌∷◌, codes, pos}
 use Rattle.sqlite_value.specs.declared.value.Value.TheVariants.{Int, Text}
 use Rattle.sqlite_value.specs.Order.{Row, column, bytes}
@@ -19,22 +19,22 @@ lines =
     table_with (codes "lines") (text_column (codes "line") ∷ text_column (codes "title") ∷ number_column (codes "appropriation")
     ∷ number_column (codes "free") ∷ []) (1 ∷ []) create_lines
 
--- the text that puts one
+-- inserts a budget line, or replaces the row that has its key
 abbrev pub upsert_lines : List ℕ
 upsert_lines = codes "INSERT INTO lines (line, title, appropriation, free) VALUES (?1, ?2, ?3, ?4) ON CONFLICT (line) DO UPDATE SET title = ?2, appropriation = ?3, free = ?4"
 
--- its row
+-- the values of a budget line, in the order of the columns
 abbrev pub line_values : LineRow → Row
 line_values x = Text x.line ∷ Text x.title ∷ Int (pos x.appropriation) ∷ Int (pos x.free) ∷ []
 
--- what a row is read as
+-- the budget line that a row is read as
 abbrev pub line_read : Row → LineRow
 line_read r = record { line = bytes (column r 0); title = bytes (column r 1); appropriation = number_in_value (column r 2); free = number_in_value (column r 3) }
 
--- its fields are in their ranges
+-- each field is in its range
 abbrev pub LineFits : LineRow → Type 0
 LineFits x = IsId x.line × IsTextLine x.title × (x.appropriation ≤ total_limit) × (x.free ≤ total_limit)
 
--- the table, with the order of its keys and its rows
+-- the table, the order of its keys, and how its rows are written and read
 abbrev pub line_form : Form (List ℕ) LineRow
 line_form = indexed_form lines id_cmp line_key line_values line_read

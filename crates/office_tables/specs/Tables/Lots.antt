@@ -1,4 +1,4 @@
--- Lots: the text that makes the table, its columns, the text that puts one, and its row: the key, then the other fields.
+-- The table of lots: the texts that create and change it, its columns, and how a row is written and read.
 use Rattle.std.specs.Prelude.{◌≤◌, ℕ, List, [], ◌∷◌, codes, pos}
 use Rattle.sqlite_value.specs.declared.value.Value.TheVariants.{Int, Text}
 use Rattle.sqlite_value.specs.Order.{Row, column, bytes}
@@ -24,24 +24,24 @@ lots =
     ∷ number_column (codes "estimate") ∷ number_column (codes "security") ∷ text_column (codes "items") ∷ text_column (codes "state")
     ∷ number_column (codes "reserved") ∷ []) (1 ∷ 2 ∷ []) create_lots
 
--- its index, for questions that aren't by its key
+-- creates the index for look-ups by budget line
 abbrev pub create_lots_of_line : List ℕ
 create_lots_of_line = codes "CREATE INDEX lots_of_line ON lots (line)"
 
 abbrev pub lots_of_line : Index
 lots_of_line = index_on (codes "lots_of_line") (4 ∷ [])
 
--- the text that puts one
+-- inserts a lot, or replaces the row that has its key
 abbrev pub upsert_lots : List ℕ
 upsert_lots = codes "INSERT INTO lots (notice, lot, title, line, estimate, security, items, state, reserved) VALUES (?1, ?2, ?3, ?4, ?5, ?6, ?7, ?8, ?9) ON CONFLICT (notice, lot) DO UPDATE SET title = ?3, line = ?4, estimate = ?5, security = ?6, items = ?7, state = ?8, reserved = ?9"
 
--- its row
+-- the values of a lot, in the order of the columns
 abbrev pub lot_values : LotRow → Row
 lot_values x =
     Text x.notice ∷ Text x.lot ∷ Text x.title ∷ Text x.line ∷ Int (pos x.estimate) ∷ Int (pos x.security) ∷ Text (items_text x.items)
     ∷ Text (lot_state_text x.state) ∷ Int (pos x.reserved) ∷ []
 
--- what a row is read as
+-- the lot that a row is read as
 abbrev pub lot_read : Row → LotRow
 lot_read r = record {
   notice = bytes (column r 0);
@@ -55,7 +55,7 @@ lot_read r = record {
   reserved = number_in_value (column r 8);
 }
 
--- its fields are in their ranges
+-- each field is in its range, but for the items
 abbrev pub LotFits : LotRow → Type 0
 LotFits x =
     IsId x.notice × IsId x.lot × IsTextLine x.title × IsId x.line × IsSum x.estimate × (x.security ≤ amount_limit) × (x.reserved ≤ amount_limit)
@@ -64,6 +64,6 @@ LotFits x =
 abbrev pub IsLot : LotRow → Type 0
 IsLot x = LotFits x × AreItems x.items
 
--- the table, with the order of its keys and its rows
+-- the table, the order of its keys, and how its rows are written and read
 abbrev pub lot_form : Form (List ℕ × List ℕ) LotRow
 lot_form = indexed_form lots lot_cmp lot_key lot_values lot_read

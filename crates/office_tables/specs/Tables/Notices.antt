@@ -1,4 +1,4 @@
--- Notices: the text that makes the table, its columns, the text that puts one, and its row: the key, then the other fields.
+-- The table of notices: the texts that create and change it, its columns, and how a row is written and read.
 use Rattle.std.specs.Prelude.{◌≤◌, ℕ, List, [], ◌∷◌, codes, IfSome, pos}
 use Rattle.sqlite_value.specs.declared.value.Value.TheVariants.{Int, Text}
 use Rattle.sqlite_value.specs.Order.{Row, column, bytes}
@@ -24,17 +24,17 @@ notices =
     ∷ text_column (codes "state") ∷ perhaps_number_column (codes "opened") ∷ number_column (codes "amendments") ∷ number_column (codes "releases")
     ∷ number_column (codes "performance") ∷ []) (1 ∷ []) create_notices
 
--- the text that puts one
+-- inserts a notice, or replaces the row that has its key
 abbrev pub upsert_notices : List ℕ
 upsert_notices = codes "INSERT INTO notices_2 (notice, title, published, deadline, validity, standstill, weight, state, opened, amendments, releases, performance) VALUES (?1, ?2, ?3, ?4, ?5, ?6, ?7, ?8, ?9, ?10, ?11, ?12) ON CONFLICT (notice) DO UPDATE SET title = ?2, published = ?3, deadline = ?4, validity = ?5, standstill = ?6, weight = ?7, state = ?8, opened = ?9, amendments = ?10, releases = ?11, performance = ?12"
 
--- its row
+-- the values of a notice, in the order of the columns
 abbrev pub notice_values : NoticeRow → Row
 notice_values x =
     Text x.notice ∷ Text x.title ∷ Int (pos x.published) ∷ Int (pos x.deadline) ∷ Int (pos x.validity) ∷ Int (pos x.standstill) ∷ Int (pos x.weight)
     ∷ Text (notice_state_text x.state) ∷ or_null x.opened ∷ Int (pos x.amendments) ∷ Int (pos x.releases) ∷ Int (pos x.performance) ∷ []
 
--- what a row is read as
+-- the notice that a row is read as
 abbrev pub notice_read : Row → NoticeRow
 notice_read r = record {
   notice = bytes (column r 0);
@@ -51,18 +51,18 @@ notice_read r = record {
   performance = number_in_value (column r 11);
 }
 
--- its fields are in their ranges
+-- each field is in its range
 abbrev pub NoticeFits : NoticeRow → Type 0
 NoticeFits x =
     IsId x.notice × IsTextLine x.title × (x.published ≤ last_moment) × (x.deadline ≤ last_moment) × IsWithin 1 365 x.validity × (x.standstill ≤ 90)
     × (x.weight ≤ 100) × IfSome x.opened (λ moment. moment ≤ last_moment) × (x.amendments ≤ 50) × (x.releases ≤ 9999)
     × (x.performance ≤ amount_limit)
 
--- the table, with the order of its keys and its rows
+-- the table, the order of its keys, and how its rows are written and read
 abbrev pub notice_form : Form (List ℕ) NoticeRow
 notice_form = indexed_form notices id_cmp notice_key notice_values notice_read
 
--- a notice of an earlier program, which knew no performance securities and had a table of its own: none is asked. This program keeps the table with no rows
+-- The table of notices in version 1, which had no performance securities. This program keeps the table, without rows.
 abbrev pub create_former_notices : List ℕ
 create_former_notices = codes "CREATE TABLE notices (notice TEXT NOT NULL PRIMARY KEY CHECK (length(notice) BETWEEN 1 AND 32), title TEXT NOT NULL CHECK (length(title) BETWEEN 1 AND 200), published INTEGER NOT NULL CHECK (published BETWEEN 0 AND 4102444799), deadline INTEGER NOT NULL CHECK (deadline BETWEEN 0 AND 4102444799), validity INTEGER NOT NULL CHECK (validity BETWEEN 1 AND 365), standstill INTEGER NOT NULL CHECK (standstill BETWEEN 0 AND 90), weight INTEGER NOT NULL CHECK (weight BETWEEN 0 AND 100), state TEXT NOT NULL CHECK (state IN ('receiving', 'opened', 'cancelled')), opened INTEGER CHECK (opened BETWEEN 0 AND 4102444799), amendments INTEGER NOT NULL CHECK (amendments BETWEEN 0 AND 50), releases INTEGER NOT NULL CHECK (releases BETWEEN 0 AND 9999)) STRICT"
 
@@ -73,6 +73,7 @@ former_notices =
     ∷ text_column (codes "state") ∷ perhaps_number_column (codes "opened") ∷ number_column (codes "amendments") ∷ number_column (codes "releases") ∷ []) (1
     ∷ []) create_former_notices
 
+-- the values of a notice in that table, in the order of its columns
 abbrev pub former_values : NoticeRow → Row
 former_values x =
     Text x.notice ∷ Text x.title ∷ Int (pos x.published) ∷ Int (pos x.deadline) ∷ Int (pos x.validity) ∷ Int (pos x.standstill) ∷ Int (pos x.weight)
@@ -81,7 +82,7 @@ former_values x =
 abbrev pub former_read : Row → NoticeRow
 former_read r = record (notice_read r) { performance = 0 }
 
--- what such a program's notice is for this one
+-- a notice of version 1 as this program reads it: it asks for no performance security
 abbrev pub asks_nothing : NoticeRow → NoticeRow
 asks_nothing x = record x { performance = 0 }
 

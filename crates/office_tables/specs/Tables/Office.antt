@@ -1,4 +1,4 @@
--- The clock, as a table of one record: the text that makes the table, its columns, the text that puts one, and its row: the version, then the fields.
+-- The table of the clock, which has one row: the texts that create and change it, its columns, and how the row is written and read.
 use Rattle.std.specs.Prelude.{◌≤◌, ◌^◌, ℕ, List, [], ◌∷◌, codes, pos}
 use Rattle.std.specs.declared.cmp.Ordering.{Ordering}
 use Rattle.std.specs.declared.cmp.Ordering.TheVariants.{Equal}
@@ -18,11 +18,11 @@ office =
     table_by_rowid (codes "office") (number_column (codes "version") ∷ number_column (codes "moment") ∷ number_column (codes "receipts")
     ∷ number_column (codes "awards") ∷ []) create_office
 
--- the text that puts one
+-- inserts the clock, or replaces the row that has this version
 abbrev pub upsert_office : List ℕ
 upsert_office = codes "INSERT INTO office (version, moment, receipts, awards) VALUES (?1, ?2, ?3, ?4) ON CONFLICT (version) DO UPDATE SET moment = ?2, receipts = ?3, awards = ?4"
 
--- all its records have one key
+-- the one key that all clocks have, so that the table has one row
 abbrev pub clock_key : ClockRow → Unit {0}
 clock_key x = tt
 
@@ -33,22 +33,22 @@ clock_cmp a b = Equal
 abbrev pub this_version : ℕ
 this_version = 2
 
--- the clock stands in the office's one row, behind the version of its tables
+-- the values of the one row: a version of the tables, then the clock
 abbrev pub clock_values_of : ℕ → ClockRow → Row
 clock_values_of version x = Int (pos version) ∷ Int (pos x.moment) ∷ Int (pos x.receipts) ∷ Int (pos x.awards) ∷ []
 
 abbrev pub clock_values : ClockRow → Row
 clock_values x = clock_values_of this_version x
 
--- what a row is read as
+-- the clock that a row is read as
 abbrev pub clock_read : Row → ClockRow
 clock_read r = record { moment = number_in_value (column r 1); receipts = number_in_value (column r 2); awards = number_in_value (column r 3) }
 
--- its fields are in their ranges
+-- each field is in its range
 abbrev pub ClockFits : ClockRow → Type 0
 ClockFits x = (x.moment ≤ last_moment) × (x.receipts ≤ 10 ^ 9) × (x.awards ≤ 10 ^ 9)
 
--- the table, with the order of its keys and its rows
+-- the table, with this version in its row
 abbrev pub clock_form_of : ℕ → Form (Unit {0}) ClockRow
 clock_form_of version = rowid_form office clock_cmp clock_key (clock_values_of version) clock_read
 

@@ -1,4 +1,4 @@
--- Performance securities: the text that makes the table, its columns, the text that puts one, and its row: the key, then the other fields.
+-- The table of performance securities: the texts that create and change it, its columns, and how a row is written and read.
 use Rattle.std.specs.Prelude.{ℕ, List, [], ◌∷◌, codes, pos}
 use Rattle.std.specs.Ordering.{nat_cmp}
 use Rattle.sqlite_value.specs.declared.value.Value.TheVariants.{Int, Text}
@@ -20,15 +20,15 @@ performance =
     table_by_rowid (codes "performance") (number_column (codes "contract") ∷ text_column (codes "reference") ∷ number_column (codes "amount")
     ∷ text_column (codes "state") ∷ []) create_performance
 
--- the text that puts one
+-- inserts a performance security, or replaces the row that has its key
 abbrev pub upsert_performance : List ℕ
 upsert_performance = codes "INSERT INTO performance (contract, reference, amount, state) VALUES (?1, ?2, ?3, ?4) ON CONFLICT (contract) DO UPDATE SET reference = ?2, amount = ?3, state = ?4"
 
--- its row
+-- the values of a performance security, in the order of the columns
 abbrev pub performance_values : PerformanceRow → Row
 performance_values x = Int (pos x.contract) ∷ Text x.reference ∷ Int (pos x.amount) ∷ Text (security_state_text x.state) ∷ []
 
--- what a row is read as
+-- the performance security that a row is read as
 abbrev pub performance_read : Row → PerformanceRow
 performance_read r = record {
   contract = number_in_value (column r 0);
@@ -37,10 +37,10 @@ performance_read r = record {
   state = security_state_in (bytes (column r 3));
 }
 
--- its fields are in their ranges
+-- each field is in its range
 abbrev pub PerformanceFits : PerformanceRow → Type 0
 PerformanceFits x = IsOfficeNumber x.contract × IsId x.reference × IsSum x.amount
 
--- the table, with the order of its keys and its rows
+-- the table, the order of its keys, and how its rows are written and read
 abbrev pub performance_form : Form ℕ PerformanceRow
 performance_form = rowid_form performance nat_cmp performance_key performance_values performance_read

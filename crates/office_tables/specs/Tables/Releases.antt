@@ -1,4 +1,4 @@
--- Releases: the text that makes the table, its columns, the text that puts one, and its row: the key, then the other fields.
+-- The table of releases: the texts that create and change it, its columns, and how a row is written and read.
 use Rattle.std.specs.Prelude.{◌≤◌, ℕ, List, [], ◌∷◌, codes, IsUtf8, pos}
 use Rattle.sqlite_value.specs.declared.value.Value.TheVariants.{Int, Text}
 use Rattle.sqlite_value.specs.Order.{Row, column, bytes}
@@ -19,22 +19,22 @@ releases =
     table_with (codes "releases") (text_column (codes "notice") ∷ number_column (codes "seq") ∷ number_column (codes "moment") ∷ text_column (codes "text")
     ∷ []) (1 ∷ 2 ∷ []) create_releases
 
--- the text that puts one
+-- inserts a release, or replaces the row that has its key
 abbrev pub upsert_releases : List ℕ
 upsert_releases = codes "INSERT INTO releases (notice, seq, moment, text) VALUES (?1, ?2, ?3, ?4) ON CONFLICT (notice, seq) DO UPDATE SET moment = ?3, text = ?4"
 
--- its row
+-- the values of a release, in the order of the columns
 abbrev pub release_values : ReleaseRow → Row
 release_values x = Text x.notice ∷ Int (pos x.seq) ∷ Int (pos x.moment) ∷ Text x.text ∷ []
 
--- what a row is read as
+-- the release that a row is read as
 abbrev pub release_read : Row → ReleaseRow
 release_read r = record { notice = bytes (column r 0); seq = number_in_value (column r 1); moment = number_in_value (column r 2); text = bytes (column r 3) }
 
--- its fields are in their ranges
+-- each field is in its range
 abbrev pub ReleaseFits : ReleaseRow → Type 0
 ReleaseFits x = IsId x.notice × IsWithin 1 9999 x.seq × (x.moment ≤ last_moment) × IsUtf8 x.text
 
--- the table, with the order of its keys and its rows
+-- the table, the order of its keys, and how its rows are written and read
 abbrev pub release_form : Form (List ℕ × ℕ) ReleaseRow
 release_form = indexed_form releases release_cmp release_key release_values release_read

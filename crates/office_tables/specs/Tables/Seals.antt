@@ -1,4 +1,4 @@
--- The bytes of tenders: the text that makes the table, its columns, the text that puts one, and its row: the key, then the other fields.
+-- The table of tenders' bytes: the texts that create and change it, its columns, and how a row is written and read.
 use Rattle.std.specs.Prelude.{ℕ, List, [], ◌∷◌, codes, pos}
 use Rattle.std.specs.Ordering.{nat_cmp}
 use Rattle.sqlite_value.specs.declared.value.Value.TheVariants.{Int, Blob}
@@ -17,26 +17,26 @@ create_seals = codes "CREATE TABLE seals (receipt INTEGER NOT NULL PRIMARY KEY C
 abbrev pub seals : Table
 seals = table_by_rowid (codes "seals") (number_column (codes "receipt") ∷ bytes_column (codes "bytes") ∷ []) create_seals
 
--- the text that puts one
+-- inserts the bytes of a tender, or replaces the row that has its key
 abbrev pub upsert_seals : List ℕ
 upsert_seals = codes "INSERT INTO seals (receipt, bytes) VALUES (?1, ?2) ON CONFLICT (receipt) DO UPDATE SET bytes = ?2"
 
--- and the text that drops one
+-- deletes the bytes of a tender
 abbrev pub delete_seal : List ℕ
 delete_seal = codes "DELETE FROM seals WHERE receipt = ?1"
 
--- its row
+-- a tender's receipt and its bytes, in the order of the columns
 abbrev pub seal_values : SealRow → Row
 seal_values x = Int (pos x.receipt) ∷ Blob x.bytes ∷ []
 
--- what a row is read as
+-- the bytes of a tender that a row is read as
 abbrev pub seal_read : Row → SealRow
 seal_read r = record { receipt = number_in_value (column r 0); bytes = bytes (column r 1) }
 
--- its fields are in their ranges
+-- each field is in its range
 abbrev pub SealFits : SealRow → Type 0
 SealFits x = IsOfficeNumber x.receipt × IsSealed x.bytes
 
--- the table, with the order of its keys and its rows
+-- the table, the order of its keys, and how its rows are written and read
 abbrev pub seal_form : Form ℕ SealRow
 seal_form = rowid_form seals nat_cmp seal_key seal_values seal_read

@@ -1,4 +1,4 @@
--- Tender securities: the text that makes the table, its columns, the text that puts one, and its row: the key, then the other fields.
+-- The table of tender securities: the texts that create and change it, its columns, and how a row is written and read.
 use Rattle.std.specs.Prelude.{ℕ, List, [], ◌∷◌, codes, pos}
 use Rattle.std.specs.Ordering.{nat_cmp}
 use Rattle.sqlite_value.specs.declared.value.Value.TheVariants.{Int, Text}
@@ -21,23 +21,23 @@ securities =
     table_by_rowid (codes "securities") (number_column (codes "security") ∷ text_column (codes "tenderer") ∷ text_column (codes "notice")
     ∷ text_column (codes "lot") ∷ text_column (codes "reference") ∷ number_column (codes "amount") ∷ text_column (codes "state") ∷ []) create_securities
 
--- its index, for questions that aren't by its key
+-- creates the index for look-ups by notice
 abbrev pub create_securities_of_notice : List ℕ
 create_securities_of_notice = codes "CREATE INDEX securities_of_notice ON securities (notice)"
 
 abbrev pub securities_of_notice : Index
 securities_of_notice = index_on (codes "securities_of_notice") (3 ∷ [])
 
--- the text that puts one
+-- inserts a tender security, or replaces the row that has its key
 abbrev pub upsert_securities : List ℕ
 upsert_securities = codes "INSERT INTO securities (security, tenderer, notice, lot, reference, amount, state) VALUES (?1, ?2, ?3, ?4, ?5, ?6, ?7) ON CONFLICT (security) DO UPDATE SET tenderer = ?2, notice = ?3, lot = ?4, reference = ?5, amount = ?6, state = ?7"
 
--- its row
+-- the values of a tender security, in the order of the columns
 abbrev pub security_values : SecurityRow → Row
 security_values x =
     Int (pos x.security) ∷ Text x.tenderer ∷ Text x.notice ∷ Text x.lot ∷ Text x.reference ∷ Int (pos x.amount) ∷ Text (security_state_text x.state) ∷ []
 
--- what a row is read as
+-- the tender security that a row is read as
 abbrev pub security_read : Row → SecurityRow
 security_read r = record {
   security = number_in_value (column r 0);
@@ -49,10 +49,10 @@ security_read r = record {
   state = security_state_in (bytes (column r 6));
 }
 
--- its fields are in their ranges
+-- each field is in its range
 abbrev pub SecurityFits : SecurityRow → Type 0
 SecurityFits x = IsOfficeNumber x.security × IsId x.tenderer × IsId x.notice × IsId x.lot × IsId x.reference × IsSum x.amount
 
--- the table, with the order of its keys and its rows
+-- the table, the order of its keys, and how its rows are written and read
 abbrev pub security_form : Form ℕ SecurityRow
 security_form = rowid_form securities nat_cmp security_key security_values security_read

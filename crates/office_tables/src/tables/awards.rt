@@ -1,4 +1,4 @@
-//! Awards: the texts of their table, their rows, and the questions for them.
+//! The table of awards: its SQL texts, its rows as values, and its look-ups.
 ghost use Rattle.std.specs.Prelude.{◌≡◌};
 ghost use Rattle.sqlite.specs.Values.{bound};
 ghost use Rattle.office_base.specs.Tables.{award_at, awards_of_notice};
@@ -18,14 +18,14 @@ use sqlite::{Alter, Connection, Row};
 use sqlite_value::value::ValueRef;
 use std::alloc::Global;
 
-/// The text that makes the table.
+/// Creates the table.
 pub(crate) const CREATE: &str =
     "CREATE TABLE awards (award INTEGER NOT NULL PRIMARY KEY CHECK (award BETWEEN 1 AND 1000000000), notice TEXT NOT NULL CHECK (length(notice) BETWEEN 1 AND 32), lot TEXT NOT NULL CHECK (length(lot) BETWEEN 1 AND 32), receipt INTEGER NOT NULL CHECK (receipt BETWEEN 1 AND 1000000000), price INTEGER NOT NULL CHECK (price BETWEEN 0 AND 1000000000000), moment INTEGER NOT NULL CHECK (moment BETWEEN 0 AND 4102444799), state TEXT NOT NULL CHECK (state IN ('active', 'failed', 'cancelled', 'signed'))) STRICT";
 
-/// The text that makes its index.
+/// Creates the index for look-ups by notice.
 pub(crate) const CREATE_INDEX: &str = "CREATE INDEX awards_of_notice ON awards (notice)";
 
-/// The text that puts one.
+/// Inserts an award, or replaces the row that has its key.
 pub(crate) const PUT: &str =
     "INSERT INTO awards (award, notice, lot, receipt, price, moment, state) VALUES (?1, ?2, ?3, ?4, ?5, ?6, ?7) ON CONFLICT (award) DO UPDATE SET notice = ?2, lot = ?3, receipt = ?4, price = ?5, moment = ?6, state = ?7";
 

@@ -1,4 +1,4 @@
-//! Budget files: the texts of their table, their rows, and the questions for them.
+//! The table of budget files: its SQL texts, its rows as values, and its look-ups.
 ghost use Rattle.std.specs.Prelude.{◌≡◌};
 ghost use Rattle.sqlite.specs.Values.{bound};
 ghost use Rattle.office_base.specs.Tables.{batch_at};
@@ -16,11 +16,11 @@ use sqlite::{Alter, Connection, Row};
 use sqlite_value::value::ValueRef;
 use std::alloc::Global;
 
-/// The text that makes the table.
+/// Creates the table.
 pub(crate) const CREATE: &str =
     "CREATE TABLE batches (batch TEXT NOT NULL PRIMARY KEY CHECK (length(batch) BETWEEN 1 AND 32), moment INTEGER NOT NULL CHECK (moment BETWEEN 0 AND 4102444799), rows INTEGER NOT NULL CHECK (rows BETWEEN 0 AND 500)) STRICT";
 
-/// The text that puts one.
+/// Inserts a budget file, or replaces the row that has its key.
 pub(crate) const PUT: &str =
     "INSERT INTO batches (batch, moment, rows) VALUES (?1, ?2, ?3) ON CONFLICT (batch) DO UPDATE SET moment = ?2, rows = ?3";
 
@@ -53,7 +53,7 @@ impl Stored for BatchRow {
     }
 }
 
-/// The batch of this identifier.
+/// The budget file of this identifier.
 pub fn get_batch<S: Alter>(
     alloc: Global,
     conn: &mut Connection<S>,

@@ -1,4 +1,4 @@
-//! Merges of a notice's releases: the texts of their table, their rows, and the questions for them.
+//! The table of merges of notices' releases: its SQL texts, its rows as values, and its look-ups.
 ghost use Rattle.std.specs.Prelude.{◌≡◌};
 ghost use Rattle.sqlite.specs.Values.{bound};
 ghost use Rattle.office_base.specs.Tables.{compiled_at};
@@ -16,11 +16,11 @@ use sqlite::{Alter, Connection, Row};
 use sqlite_value::value::ValueRef;
 use std::alloc::Global;
 
-/// The text that makes the table.
+/// Creates the table.
 pub(crate) const CREATE: &str =
     "CREATE TABLE compiled (notice TEXT NOT NULL PRIMARY KEY CHECK (length(notice) BETWEEN 1 AND 32), text TEXT NOT NULL) STRICT";
 
-/// The text that puts one.
+/// Inserts the merge of a notice's releases, or replaces the row that has its key.
 pub(crate) const PUT: &str =
     "INSERT INTO compiled (notice, text) VALUES (?1, ?2) ON CONFLICT (notice) DO UPDATE SET text = ?2";
 
@@ -51,7 +51,7 @@ impl Stored for CompiledRow {
     }
 }
 
-/// The merge of the releases of this notice, where it is kept.
+/// The merge of this notice's releases, if one is stored.
 pub fn get_compiled<S: Alter>(
     alloc: Global,
     conn: &mut Connection<S>,

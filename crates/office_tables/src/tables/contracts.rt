@@ -1,4 +1,4 @@
-//! Contracts: the texts of their table, their rows, and the questions for them.
+//! The table of contracts: its SQL texts, its rows as values, and its look-ups.
 ghost use Rattle.std.specs.Prelude.{◌≡◌};
 ghost use Rattle.sqlite.specs.Values.{bound};
 ghost use Rattle.office_base.specs.Tables.{contract_at, contracts_of_notice};
@@ -18,14 +18,14 @@ use sqlite::{Alter, Connection, Row};
 use sqlite_value::value::ValueRef;
 use std::alloc::Global;
 
-/// The text that makes the table.
+/// Creates the table.
 pub(crate) const CREATE: &str =
     "CREATE TABLE contracts (contract INTEGER NOT NULL PRIMARY KEY CHECK (contract BETWEEN 1 AND 1000000000), notice TEXT NOT NULL CHECK (length(notice) BETWEEN 1 AND 32), lot TEXT NOT NULL CHECK (length(lot) BETWEEN 1 AND 32), tenderer TEXT NOT NULL CHECK (length(tenderer) BETWEEN 1 AND 32), signed INTEGER NOT NULL CHECK (signed BETWEEN 0 AND 1000000000000000), moment INTEGER NOT NULL CHECK (moment BETWEEN 0 AND 4102444799), ended INTEGER CHECK (ended BETWEEN 0 AND 4102444799), how TEXT CHECK (how IN ('regular', 'default')), released INTEGER NOT NULL CHECK (released BETWEEN 0 AND 1000000000000000)) STRICT";
 
-/// The text that makes its index.
+/// Creates the index for look-ups by notice.
 pub(crate) const CREATE_INDEX: &str = "CREATE INDEX contracts_of_notice ON contracts (notice)";
 
-/// The text that puts one.
+/// Inserts a contract, or replaces the row that has its key.
 pub(crate) const PUT: &str =
     "INSERT INTO contracts (contract, notice, lot, tenderer, signed, moment, ended, how, released) VALUES (?1, ?2, ?3, ?4, ?5, ?6, ?7, ?8, ?9) ON CONFLICT (contract) DO UPDATE SET notice = ?2, lot = ?3, tenderer = ?4, signed = ?5, moment = ?6, ended = ?7, how = ?8, released = ?9";
 

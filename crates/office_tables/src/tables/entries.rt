@@ -1,4 +1,4 @@
-//! Entries of contracts: the texts of their table, their rows, and the questions for them.
+//! The table of the entries of contracts: its SQL texts, its rows as values, and its look-ups.
 ghost use Rattle.std.specs.Prelude.{◌≡◌};
 ghost use Rattle.sqlite.specs.Values.{bound};
 ghost use Rattle.office_base.specs.Tables.{entry_at, entries_of_contract};
@@ -18,11 +18,11 @@ use sqlite::{Alter, Connection, Row};
 use sqlite_value::value::ValueRef;
 use std::alloc::Global;
 
-/// The text that makes the table.
+/// Creates the table.
 pub(crate) const CREATE: &str =
     "CREATE TABLE entries (contract INTEGER NOT NULL CHECK (contract BETWEEN 1 AND 1000000000), entry TEXT NOT NULL CHECK (length(entry) BETWEEN 1 AND 32), kind TEXT NOT NULL CHECK (kind IN ('raise', 'cut', 'payment')), amount INTEGER NOT NULL CHECK (amount BETWEEN 1 AND 1000000000000), moment INTEGER NOT NULL CHECK (moment BETWEEN 0 AND 4102444799), rationale TEXT CHECK (length(rationale) BETWEEN 1 AND 200), PRIMARY KEY (contract, entry)) STRICT";
 
-/// The text that puts one.
+/// Inserts an entry of a contract, or replaces the row that has its key.
 pub(crate) const PUT: &str =
     "INSERT INTO entries (contract, entry, kind, amount, moment, rationale) VALUES (?1, ?2, ?3, ?4, ?5, ?6) ON CONFLICT (contract, entry) DO UPDATE SET kind = ?3, amount = ?4, moment = ?5, rationale = ?6";
 

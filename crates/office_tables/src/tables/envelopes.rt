@@ -1,4 +1,4 @@
-//! Tenders: the texts of their table, their rows, and the questions for them.
+//! The table of tenders, without their bytes: its SQL texts, its rows as values, and its look-ups.
 ghost use Rattle.std.specs.Prelude.{◌≡◌};
 ghost use Rattle.sqlite.specs.Values.{bound};
 ghost use Rattle.office_base.specs.Tables.{envelope_at, envelopes_of_lot, envelopes_of_notice, envelopes_of_tenderer};
@@ -24,15 +24,15 @@ use sqlite::{Alter, Connection, Row};
 use sqlite_value::value::ValueRef;
 use std::alloc::Global;
 
-/// The text that makes the table.
+/// Creates the table.
 pub(crate) const CREATE: &str =
     "CREATE TABLE envelopes (receipt INTEGER NOT NULL PRIMARY KEY CHECK (receipt BETWEEN 1 AND 1000000000), notice TEXT NOT NULL CHECK (length(notice) BETWEEN 1 AND 32), lot TEXT NOT NULL CHECK (length(lot) BETWEEN 1 AND 32), tenderer TEXT NOT NULL CHECK (length(tenderer) BETWEEN 1 AND 32), moment INTEGER NOT NULL CHECK (moment BETWEEN 0 AND 4102444799), length INTEGER NOT NULL CHECK (length BETWEEN 1 AND 32768), digest BLOB NOT NULL CHECK (length(digest) = 32), security INTEGER CHECK (security BETWEEN 1 AND 1000000000), state TEXT NOT NULL CHECK (state IN ('sealed', 'withdrawn', 'returned', 'opened')), reading TEXT CHECK (reading IN ('unreadable', 'nonconforming', 'priced')), stated INTEGER CHECK (stated BETWEEN 0 AND 1000000000000000), corrected INTEGER CHECK (corrected BETWEEN 0 AND 1000000000000), corrections INTEGER CHECK (corrections BETWEEN 0 AND 9223372036854775807), responsive INTEGER CHECK (responsive BETWEEN 0 AND 1), quality INTEGER CHECK (quality BETWEEN 0 AND 100), failed INTEGER NOT NULL CHECK (failed BETWEEN 0 AND 1)) STRICT";
 
-/// The text that makes its index.
+/// Creates the index for look-ups by notice, by lot, and by the tenderer in a lot.
 pub(crate) const CREATE_INDEX: &str =
     "CREATE INDEX envelopes_of_notice ON envelopes (notice, lot, tenderer)";
 
-/// The text that puts one.
+/// Inserts a tender, or replaces the row that has its key.
 pub(crate) const PUT: &str =
     "INSERT INTO envelopes (receipt, notice, lot, tenderer, moment, length, digest, security, state, reading, stated, corrected, corrections, responsive, quality, failed) VALUES (?1, ?2, ?3, ?4, ?5, ?6, ?7, ?8, ?9, ?10, ?11, ?12, ?13, ?14, ?15, ?16) ON CONFLICT (receipt) DO UPDATE SET notice = ?2, lot = ?3, tenderer = ?4, moment = ?5, length = ?6, digest = ?7, security = ?8, state = ?9, reading = ?10, stated = ?11, corrected = ?12, corrections = ?13, responsive = ?14, quality = ?15, failed = ?16";
 
@@ -88,7 +88,7 @@ impl Stored for EnvelopeRow {
     }
 }
 
-/// The tender of this receipt.
+/// The tender that has this receipt.
 pub fn get_envelope<S: Alter>(
     alloc: Global,
     conn: &mut Connection<S>,

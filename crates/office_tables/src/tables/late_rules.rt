@@ -1,4 +1,4 @@
-//! What lets tenders be withdrawn late: the texts of their table, their rows, and the questions for them.
+//! The table of notices whose tenders may be withdrawn late: its SQL texts, its rows as values, and its look-ups.
 ghost use Rattle.std.specs.Prelude.{◌≡◌};
 ghost use Rattle.sqlite.specs.Values.{bound};
 ghost use Rattle.office_base.specs.Tables.{late_at};
@@ -16,15 +16,15 @@ use sqlite::{Alter, Connection, Row};
 use sqlite_value::value::ValueRef;
 use std::alloc::Global;
 
-/// The text that makes the table.
+/// Creates the table.
 pub(crate) const CREATE: &str =
     "CREATE TABLE late_rules (notice TEXT NOT NULL PRIMARY KEY CHECK (length(notice) BETWEEN 1 AND 32)) STRICT";
 
-/// The text that puts one.
+/// Inserts a notice whose tenders may be withdrawn late, or replaces the row that has its key.
 pub(crate) const PUT: &str =
     "INSERT INTO late_rules (notice) VALUES (?1) ON CONFLICT (notice) DO UPDATE SET notice = ?1";
 
-/// The values of the row that lets tenders for a notice be withdrawn late.
+/// The values of the row that allows late withdrawals for a notice.
 pub fn late_values(row: &LateRow) -> [ValueRef<'_>; 1]
     ensures row { bound result ≡ late_values row.now }
     ensures fits { LateFits row.now }
@@ -47,7 +47,7 @@ impl Stored for LateRow {
     }
 }
 
-/// The row that lets tenders of this notice be withdrawn late.
+/// The row that allows late withdrawals for this notice, if it does.
 pub fn get_late<S: Alter>(
     alloc: Global,
     conn: &mut Connection<S>,

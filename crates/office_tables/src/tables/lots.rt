@@ -1,4 +1,4 @@
-//! Lots: the texts of their table, their rows, the questions for them, and their put.
+//! The table of lots: its SQL texts, its rows as values, its look-ups, and its put.
 ghost use Rattle.std.specs.Prelude.{◌≡◌, [], ◌∷◌, IsTrue, OnOk, OnErr};
 ghost use Rattle.sqlite.specs.Held.{state};
 ghost use Rattle.sqlite.specs.State.{HasCleanDisk, Survives};
@@ -24,18 +24,18 @@ use sqlite::{Alter, Connection, Error, Row, Transaction};
 use sqlite_value::value::ValueRef;
 use std::alloc::Global;
 
-/// The text that makes the table.
+/// Creates the table.
 pub(crate) const CREATE: &str =
     "CREATE TABLE lots (notice TEXT NOT NULL CHECK (length(notice) BETWEEN 1 AND 32), lot TEXT NOT NULL CHECK (length(lot) BETWEEN 1 AND 32), title TEXT NOT NULL CHECK (length(title) BETWEEN 1 AND 200), line TEXT NOT NULL CHECK (length(line) BETWEEN 1 AND 32), estimate INTEGER NOT NULL CHECK (estimate BETWEEN 1 AND 1000000000000), security INTEGER NOT NULL CHECK (security BETWEEN 0 AND 1000000000000), items TEXT NOT NULL, state TEXT NOT NULL CHECK (state IN ('undecided', 'awarded', 'contracted', 'unsuccessful', 'cancelled')), reserved INTEGER NOT NULL CHECK (reserved BETWEEN 0 AND 1000000000000), PRIMARY KEY (notice, lot)) STRICT";
 
-/// The text that makes its index.
+/// Creates the index for look-ups by budget line.
 pub(crate) const CREATE_INDEX: &str = "CREATE INDEX lots_of_line ON lots (line)";
 
-/// The text that puts one.
+/// Inserts a lot, or replaces the row that has its key.
 pub(crate) const PUT: &str =
     "INSERT INTO lots (notice, lot, title, line, estimate, security, items, state, reserved) VALUES (?1, ?2, ?3, ?4, ?5, ?6, ?7, ?8, ?9) ON CONFLICT (notice, lot) DO UPDATE SET title = ?3, line = ?4, estimate = ?5, security = ?6, items = ?7, state = ?8, reserved = ?9";
 
-/// The values of a lot, whose items' text is handed in.
+/// The values of a lot; the caller passes the text of its items.
 pub fn lot_values<'a>(row: &'a LotRow, items: &'a [u8]) -> [ValueRef<'a>; 9]
     requires { items.now ≡ items_text row.now.items }
     ensures row { bound result ≡ lot_values row.now }
@@ -126,7 +126,7 @@ pub fn list_lots_of_line<S: Alter>(
     )
 }
 
-// Adds a lot, or replaces the one of its key.
+// Inserts a lot, or replaces the one that has its key.
 pub(crate) fn put_lot<S: Alter>(
     alloc: Global,
     tx: &mut Transaction<'_, S>,

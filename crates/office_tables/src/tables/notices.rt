@@ -1,4 +1,4 @@
-//! Notices, and those of earlier programs: the texts of their table, their rows, the questions for them, and their put.
+//! The table of notices and that of version 1: their SQL texts, their rows as values, the look-ups, and the put.
 ghost use Rattle.std.specs.Prelude.{◌≡◌, [], ◌∷◌, IsTrue, OnOk, OnErr};
 ghost use Rattle.sqlite.specs.Held.{state};
 ghost use Rattle.sqlite.specs.State.{HasCleanDisk, Survives};
@@ -26,15 +26,15 @@ use sqlite::{Alter, Connection, Error, Row, Transaction};
 use sqlite_value::value::ValueRef;
 use std::alloc::Global;
 
-/// The text that makes the table.
+/// Creates the table.
 pub(crate) const CREATE: &str =
     "CREATE TABLE notices_2 (notice TEXT NOT NULL PRIMARY KEY CHECK (length(notice) BETWEEN 1 AND 32), title TEXT NOT NULL CHECK (length(title) BETWEEN 1 AND 200), published INTEGER NOT NULL CHECK (published BETWEEN 0 AND 4102444799), deadline INTEGER NOT NULL CHECK (deadline BETWEEN 0 AND 4102444799), validity INTEGER NOT NULL CHECK (validity BETWEEN 1 AND 365), standstill INTEGER NOT NULL CHECK (standstill BETWEEN 0 AND 90), weight INTEGER NOT NULL CHECK (weight BETWEEN 0 AND 100), state TEXT NOT NULL CHECK (state IN ('receiving', 'opened', 'cancelled')), opened INTEGER CHECK (opened BETWEEN 0 AND 4102444799), amendments INTEGER NOT NULL CHECK (amendments BETWEEN 0 AND 50), releases INTEGER NOT NULL CHECK (releases BETWEEN 0 AND 9999), performance INTEGER NOT NULL CHECK (performance BETWEEN 0 AND 1000000000000)) STRICT";
 
-/// The text that makes the table of earlier programs.
+/// Creates the table of version 1.
 pub(crate) const CREATE_FORMER: &str =
     "CREATE TABLE notices (notice TEXT NOT NULL PRIMARY KEY CHECK (length(notice) BETWEEN 1 AND 32), title TEXT NOT NULL CHECK (length(title) BETWEEN 1 AND 200), published INTEGER NOT NULL CHECK (published BETWEEN 0 AND 4102444799), deadline INTEGER NOT NULL CHECK (deadline BETWEEN 0 AND 4102444799), validity INTEGER NOT NULL CHECK (validity BETWEEN 1 AND 365), standstill INTEGER NOT NULL CHECK (standstill BETWEEN 0 AND 90), weight INTEGER NOT NULL CHECK (weight BETWEEN 0 AND 100), state TEXT NOT NULL CHECK (state IN ('receiving', 'opened', 'cancelled')), opened INTEGER CHECK (opened BETWEEN 0 AND 4102444799), amendments INTEGER NOT NULL CHECK (amendments BETWEEN 0 AND 50), releases INTEGER NOT NULL CHECK (releases BETWEEN 0 AND 9999)) STRICT";
 
-/// The text that puts one.
+/// Inserts a notice, or replaces the row that has its key.
 pub(crate) const PUT: &str =
     "INSERT INTO notices_2 (notice, title, published, deadline, validity, standstill, weight, state, opened, amendments, releases, performance) VALUES (?1, ?2, ?3, ?4, ?5, ?6, ?7, ?8, ?9, ?10, ?11, ?12) ON CONFLICT (notice) DO UPDATE SET title = ?2, published = ?3, deadline = ?4, validity = ?5, standstill = ?6, weight = ?7, state = ?8, opened = ?9, amendments = ?10, releases = ?11, performance = ?12";
 
@@ -85,7 +85,7 @@ impl Stored for NoticeRow {
     }
 }
 
-/// A notice as an earlier program kept it, which knew no performance securities: none is asked.
+/// A notice in the table of version 1, which had no performance securities. It is read as one that asks for none.
 #[derive(Drop)]
 pub struct FormerNotice {
     pub row: NoticeRow,
@@ -135,7 +135,7 @@ pub fn get_notice<S: Alter>(
     )
 }
 
-/// The first so many notices behind this one, or of all, in the order of their identifiers.
+/// The first `most` notices after this one, or the first of all, in the order of their identifiers.
 pub fn list_notices_after<S: Alter>(
     alloc: Global,
     conn: &mut Connection<S>,
@@ -160,7 +160,7 @@ pub fn list_notices_after<S: Alter>(
     }
 }
 
-/// Adds a notice, or replaces the one of its key.
+/// Inserts a notice, or replaces the one that has its key.
 pub fn put_notice<S: Alter>(tx: &mut Transaction<'_, S>, row: &NoticeRow) -> Result<(), Error>
     ensures same_reference { tx.new.conn.ghost_name ≡ tx.old.conn.ghost_name }
     ensures puts { HasCleanDisk (state S.Store tx.new.conn.now) → IsTrue (state S.Store tx.old.conn.now).in_transaction → OnOk result (Puts (state S.Store tx.old.conn.now) (state S.Store tx.new.conn.now) (Put.Notice row.now ∷ [])) }

@@ -1,4 +1,4 @@
-//! The clock, and that of earlier programs: the texts of its table, its row, and the question for it.
+//! The table of the clock, which has one row: its SQL texts, the row as values, and the look-up.
 ghost use Rattle.std.specs.Prelude.{◌≡◌, ◌<◌, Some, IfOk};
 ghost use Rattle.sqlite_value.specs.Order.{column};
 ghost use Rattle.sqlite.specs.Values.{bound};
@@ -19,15 +19,15 @@ use std::alloc::Global;
 /// The version of the tables that this program makes.
 pub const VERSION: u64 = 2;
 
-/// The text that makes the table.
+/// Creates the table.
 pub(crate) const CREATE: &str =
     "CREATE TABLE office (version INTEGER NOT NULL PRIMARY KEY CHECK (version BETWEEN 1 AND 2147483647), moment INTEGER NOT NULL CHECK (moment BETWEEN 0 AND 4102444799), receipts INTEGER NOT NULL CHECK (receipts BETWEEN 0 AND 1000000000), awards INTEGER NOT NULL CHECK (awards BETWEEN 0 AND 1000000000)) STRICT";
 
-/// The text that puts one.
+/// Inserts the clock, or replaces the row that has this version.
 pub(crate) const PUT: &str =
     "INSERT INTO office (version, moment, receipts, awards) VALUES (?1, ?2, ?3, ?4) ON CONFLICT (version) DO UPDATE SET moment = ?2, receipts = ?3, awards = ?4";
 
-/// The values of the office's one row: the version of its tables, and the clock.
+/// The values of the one row: the version of the tables, then the clock.
 pub fn clock_values(row: &ClockRow) -> [ValueRef<'static>; 4]
     ensures row { bound result ≡ clock_values row.now }
     ensures fits { ClockFits row.now }
@@ -58,7 +58,7 @@ impl Stored for ClockRow {
     }
 }
 
-/// The clock as an earlier program kept it, behind the version of its tables.
+/// The clock of an earlier program, with the version of its tables.
 #[derive(Clone, Copy)]
 pub struct FormerClock {
     pub version: u64,
@@ -85,7 +85,7 @@ impl Stored for FormerClock {
     }
 }
 
-// The clock of the office's one row.
+// The clock of the one row. No row is a fault of the store.
 fn clock_of(found: Option<ClockRow>) -> Result<ClockRow, ShelfFault>
     ensures { IfOk result (λ clock. found ≡ Some clock) }
 {
@@ -95,7 +95,7 @@ fn clock_of(found: Option<ClockRow>) -> Result<ClockRow, ShelfFault>
     }
 }
 
-/// The clock.
+/// The clock of the office.
 pub fn get_clock<S: Alter>(alloc: Global, conn: &mut Connection<S>) -> Result<ClockRow, ShelfFault>
     ensures { TellsOnly S.Store conn.old conn.new result (λ t clock. clock ≡ t.clock) }
 {

@@ -1,4 +1,4 @@
-//! Performance securities: the texts of their table, their rows, and the questions for them.
+//! The table of performance securities: its SQL texts, its rows as values, and its look-ups.
 ghost use Rattle.std.specs.Prelude.{◌≡◌};
 ghost use Rattle.sqlite.specs.Values.{bound};
 ghost use Rattle.office_base.specs.Tables.{performance_at};
@@ -17,11 +17,11 @@ use sqlite::{Alter, Connection, Row};
 use sqlite_value::value::ValueRef;
 use std::alloc::Global;
 
-/// The text that makes the table.
+/// Creates the table.
 pub(crate) const CREATE: &str =
     "CREATE TABLE performance (contract INTEGER NOT NULL PRIMARY KEY CHECK (contract BETWEEN 1 AND 1000000000), reference TEXT NOT NULL CHECK (length(reference) BETWEEN 1 AND 32), amount INTEGER NOT NULL CHECK (amount BETWEEN 1 AND 1000000000000), state TEXT NOT NULL CHECK (state IN ('held', 'returned', 'forfeited'))) STRICT";
 
-/// The text that puts one.
+/// Inserts a performance security, or replaces the row that has its key.
 pub(crate) const PUT: &str =
     "INSERT INTO performance (contract, reference, amount, state) VALUES (?1, ?2, ?3, ?4) ON CONFLICT (contract) DO UPDATE SET reference = ?2, amount = ?3, state = ?4";
 

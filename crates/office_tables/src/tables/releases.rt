@@ -1,4 +1,4 @@
-//! Releases: the texts of their table, their rows, and the questions for them.
+//! The table of releases: its SQL texts, its rows as values, and its look-ups.
 ghost use Rattle.std.specs.Prelude.{◌≡◌};
 ghost use Rattle.sqlite.specs.Values.{bound};
 ghost use Rattle.office_base.specs.Tables.{release_at, releases_of_notice};
@@ -17,11 +17,11 @@ use sqlite::{Alter, Connection, Row};
 use sqlite_value::value::ValueRef;
 use std::alloc::Global;
 
-/// The text that makes the table.
+/// Creates the table.
 pub(crate) const CREATE: &str =
     "CREATE TABLE releases (notice TEXT NOT NULL CHECK (length(notice) BETWEEN 1 AND 32), seq INTEGER NOT NULL CHECK (seq BETWEEN 1 AND 9999), moment INTEGER NOT NULL CHECK (moment BETWEEN 0 AND 4102444799), text TEXT NOT NULL, PRIMARY KEY (notice, seq)) STRICT";
 
-/// The text that puts one.
+/// Inserts a release, or replaces the row that has its key.
 pub(crate) const PUT: &str =
     "INSERT INTO releases (notice, seq, moment, text) VALUES (?1, ?2, ?3, ?4) ON CONFLICT (notice, seq) DO UPDATE SET moment = ?3, text = ?4";
 
@@ -56,7 +56,7 @@ impl Stored for ReleaseRow {
     }
 }
 
-/// The release of this notice at this place.
+/// The release of this notice with this number.
 pub fn get_release<S: Alter>(
     alloc: Global,
     conn: &mut Connection<S>,
@@ -73,7 +73,7 @@ pub fn get_release<S: Alter>(
     )
 }
 
-/// The releases of a notice, in their sequence.
+/// The releases of a notice, in the order of their numbers.
 pub fn list_releases_of_notice<S: Alter>(
     alloc: Global,
     conn: &mut Connection<S>,

@@ -1,4 +1,4 @@
-//! The bytes of tenders: the texts of their table, their rows, and the questions for them.
+//! The table of tenders' bytes: its SQL texts, its rows as values, and its look-ups.
 ghost use Rattle.std.specs.Prelude.{◌≡◌};
 ghost use Rattle.sqlite.specs.Values.{bound};
 ghost use Rattle.office_base.specs.Tables.{seal_at};
@@ -16,18 +16,18 @@ use sqlite::{Alter, Connection, Row};
 use sqlite_value::value::ValueRef;
 use std::alloc::Global;
 
-/// The text that makes the table.
+/// Creates the table.
 pub(crate) const CREATE: &str =
     "CREATE TABLE seals (receipt INTEGER NOT NULL PRIMARY KEY CHECK (receipt BETWEEN 1 AND 1000000000), bytes BLOB NOT NULL CHECK (length(bytes) BETWEEN 1 AND 32768)) STRICT";
 
-/// The text that puts one.
+/// Inserts the bytes of a tender, or replaces the row that has its key.
 pub(crate) const PUT: &str =
     "INSERT INTO seals (receipt, bytes) VALUES (?1, ?2) ON CONFLICT (receipt) DO UPDATE SET bytes = ?2";
 
-/// The text that drops one.
+/// Deletes the bytes of a tender.
 pub(crate) const DROP: &str = "DELETE FROM seals WHERE receipt = ?1";
 
-/// The values of a tender's bytes.
+/// A tender's receipt and its bytes, as values.
 pub fn seal_values(row: &SealRow) -> [ValueRef<'_>; 2]
     ensures row { bound result ≡ seal_values row.now }
     ensures fits { SealFits row.now }
@@ -54,7 +54,7 @@ impl Stored for SealRow {
     }
 }
 
-/// The bytes of the tender of this receipt.
+/// The bytes of the tender that has this receipt.
 pub fn get_seal<S: Alter>(
     alloc: Global,
     conn: &mut Connection<S>,

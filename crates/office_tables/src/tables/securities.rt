@@ -1,4 +1,4 @@
-//! Tender securities: the texts of their table, their rows, and the questions for them.
+//! The table of tender securities: its SQL texts, its rows as values, and its look-ups.
 ghost use Rattle.std.specs.Prelude.{◌≡◌};
 ghost use Rattle.sqlite.specs.Values.{bound};
 ghost use Rattle.office_base.specs.Tables.{security_at, securities_of_lot, securities_of_notice};
@@ -18,14 +18,14 @@ use sqlite::{Alter, Connection, Row};
 use sqlite_value::value::ValueRef;
 use std::alloc::Global;
 
-/// The text that makes the table.
+/// Creates the table.
 pub(crate) const CREATE: &str =
     "CREATE TABLE securities (security INTEGER NOT NULL PRIMARY KEY CHECK (security BETWEEN 1 AND 1000000000), tenderer TEXT NOT NULL CHECK (length(tenderer) BETWEEN 1 AND 32), notice TEXT NOT NULL CHECK (length(notice) BETWEEN 1 AND 32), lot TEXT NOT NULL CHECK (length(lot) BETWEEN 1 AND 32), reference TEXT NOT NULL CHECK (length(reference) BETWEEN 1 AND 32), amount INTEGER NOT NULL CHECK (amount BETWEEN 1 AND 1000000000000), state TEXT NOT NULL CHECK (state IN ('held', 'returned', 'forfeited'))) STRICT";
 
-/// The text that makes its index.
+/// Creates the index for look-ups by notice.
 pub(crate) const CREATE_INDEX: &str = "CREATE INDEX securities_of_notice ON securities (notice)";
 
-/// The text that puts one.
+/// Inserts a tender security, or replaces the row that has its key.
 pub(crate) const PUT: &str =
     "INSERT INTO securities (security, tenderer, notice, lot, reference, amount, state) VALUES (?1, ?2, ?3, ?4, ?5, ?6, ?7) ON CONFLICT (security) DO UPDATE SET tenderer = ?2, notice = ?3, lot = ?4, reference = ?5, amount = ?6, state = ?7";
 

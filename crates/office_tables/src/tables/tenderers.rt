@@ -1,4 +1,4 @@
-//! Tenderers: the texts of their table, their rows, and the questions for them.
+//! The table of tenderers: its SQL texts, its rows as values, and its look-ups.
 ghost use Rattle.std.specs.Prelude.{◌≡◌};
 ghost use Rattle.sqlite.specs.Values.{bound};
 ghost use Rattle.office_base.specs.Tables.{tenderer_at};
@@ -17,11 +17,11 @@ use sqlite::{Alter, Connection, Row};
 use sqlite_value::value::ValueRef;
 use std::alloc::Global;
 
-/// The text that makes the table.
+/// Creates the table.
 pub(crate) const CREATE: &str =
     "CREATE TABLE tenderers (tenderer TEXT NOT NULL PRIMARY KEY CHECK (length(tenderer) BETWEEN 1 AND 32), name TEXT NOT NULL CHECK (length(name) BETWEEN 1 AND 200), address TEXT NOT NULL CHECK (length(address) BETWEEN 1 AND 200), key BLOB NOT NULL CHECK (length(key) = 32)) STRICT";
 
-/// The text that puts one.
+/// Inserts a tenderer, or replaces the row that has its key.
 pub(crate) const PUT: &str =
     "INSERT INTO tenderers (tenderer, name, address, key) VALUES (?1, ?2, ?3, ?4) ON CONFLICT (tenderer) DO UPDATE SET name = ?2, address = ?3, key = ?4";
 
@@ -72,7 +72,7 @@ pub fn get_tenderer<S: Alter>(
     )
 }
 
-/// The first so many tenderers behind this one, or of all, in the order of their identifiers.
+/// The first `most` tenderers after this one, or the first of all, in the order of their identifiers.
 pub fn list_tenderers_after<S: Alter>(
     alloc: Global,
     conn: &mut Connection<S>,

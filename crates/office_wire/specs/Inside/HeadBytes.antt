@@ -1,4 +1,4 @@
--- A head as it is kept: its bytes, and where its parts are.
+-- A stored head: its bytes, and the places of its parts.
 use Rattle.std.specs.Prelude.{ℕ, ◌⊎◌, ◌≡◌, true, false, List, length, map, All}
 use Rattle.httparse.specs.Grammar.{HasNoRequest, NeverHasRequest, MayBecomeRequest}
 use Rattle.httparse.specs.Spans.{span_bytes, header_bytes, IsWithin, IsHeaderWithin, IsRequestWithin, IsRequestOf}
@@ -9,21 +9,21 @@ use Rattle.office_wire.specs.declared.head.Parsed.{Parsed}
 use Rattle.office_wire.specs.declared.head.Parsed.TheVariants as parsed
 use Rattle.office_wire.specs.Head.{HeadView, first_line_ends}
 
--- each span lies in the bytes
+-- Each span is within the bytes.
 pub record HeadIsKept (bytes : List ℕ) (method target : Span) (fields : List HeaderSpan) : Type 0 where
   pub method_in : IsWithin (length bytes) method
   pub target_in : IsWithin (length bytes) target
   pub fields_in : All (IsHeaderWithin (length bytes)) fields
 
--- what the spans cover
+-- The parts of the bytes that the spans cover.
 abbrev pub spans_view : List ℕ → List HeaderSpan → RequestSpans → HeadView
 spans_view bytes fields s = record { method = span_bytes bytes s.method; target = span_bytes bytes s.path; fields = map (header_bytes bytes) fields }
 
--- no head yet, and more bytes may make it one, or its first line isn't at its end
+-- The bytes have no head. More bytes may make them one, or their first line hasn't ended.
 abbrev pub IsOpen : List ℕ → Type 0
 IsOpen bytes = HasNoRequest bytes × ((first_line_ends bytes ≡ false) ⊎ MayBecomeRequest bytes)
 
--- what the parser said of these bytes
+-- The result of parsing these bytes.
 abbrev pub Parses : List ℕ → List HeaderSpan → Parsed → Type 0
 Parses bytes headers (parsed.Whole spans) = IsRequestWithin bytes headers spans × IsRequestOf bytes headers spans
 Parses bytes headers parsed.Open = IsOpen bytes

@@ -1,4 +1,4 @@
--- A notice's deadline is moved to a later one (Model Law, article 14).
+-- The rule of an amendment: the deadline of a notice is moved to a later moment (Model Law, article 14).
 use Rattle.std.specs.Prelude.{ℕ, ◌+◌, Bool, false, not, ◌||◌, List, [], ◌∷◌, is_some, nat_lt, nat_le}
 use Rattle.office_base.specs.Limits.{amendment_limit}
 use Rattle.office_values.specs.declared.refusal.Thing.TheVariants as things
@@ -13,21 +13,23 @@ use Rattle.office_base.specs.declared.puts.Put.{Put}
 use Rattle.office_base.specs.Tables.{Tables, notice_at}
 use Rattle.tender_core.specs.declared.amend_notice.AmendNoticeRows.{AmendNoticeRows}
 
+-- whether a notice has as many amendments as it can have
 abbrev pub has_all_amendments : NoticeRow → Bool
 has_all_amendments n = nat_le amendment_limit n.amendments
 
+-- the notice with the new deadline, one more amendment and one more release
 abbrev pub amended : ℕ → NoticeRow → NoticeRow
 amended deadline n = record n { deadline = deadline; amendments = n.amendments + 1; releases = n.releases + 1 }
 
--- the rows of an office that the amendment of a notice looks at
+-- the rows that an amendment reads: the notice and the clock
 abbrev pub amend_notice_rows : Tables → List ℕ → AmendNoticeRows
 amend_notice_rows s notice = record { notice = notice_at notice s; clock = s.clock }
 
--- nothing is lacking: it looks at the notice alone
+-- no row can be missing, because the rule reads only the notice that the request names
 abbrev pub amend_notice_lacks : AmendNoticeRows → Bool
 amend_notice_lacks rows = false
 
--- when it is refused, by these rows
+-- the conditions of its refusals, in order
 abbrev pub amend_notice_tests : AmendNoticeRows → ℕ → ℕ → List (Bool × Refusal)
 amend_notice_tests rows t deadline =
     (not (is_some rows.notice), NoSuch things.Notice)
@@ -37,6 +39,6 @@ amend_notice_tests rows t deadline =
     ∷ (holds_of has_all_amendments rows.notice || has_all_releases rows.notice, LimitReached)
     ∷ []
 
--- what it puts: the notice and the clock
+-- its changes: the notice and the clock
 abbrev pub amend_notice_puts : AmendNoticeRows → ℕ → ℕ → List Put
 amend_notice_puts rows t deadline = puts_if (λ (n : NoticeRow). puts.Notice (amended deadline n) ∷ clock_put rows.clock t ∷ []) rows.notice

@@ -1,4 +1,4 @@
--- The cancellation of a procurement (Model Law, article 19): of a notice, the lots that are still undecided or awarded.
+-- The rule of a cancellation: all lots of a notice that are still undecided or awarded end (Model Law, article 19).
 use Rattle.std.specs.Prelude.{ℕ, ◌+◌, Bool, not, cond, ◌&&◌, List, [], ◌∷◌, ◌++◌, map, filter, is_some}
 use Rattle.std.specs.List.{list_any}
 use Rattle.office_values.specs.Ids.{same_id}
@@ -26,31 +26,33 @@ use Rattle.office_base.specs.declared.puts.Put.TheVariants as puts
 use Rattle.office_base.specs.declared.puts.Put.{Put}
 use Rattle.tender_core.specs.declared.cancel.CancelRows.{CancelRows}
 
+-- whether a lot is still undecided or awarded
 abbrev pub is_open_lot : LotRow → Bool
 is_open_lot l = is_open l.state
 
+-- the lot, cancelled, with nothing reserved
 abbrev pub cancelled_lot : LotRow → LotRow
 cancelled_lot l = record l { state = lot_states.Cancelled; reserved = 0 }
 
 abbrev pub cancelled_lot_put : LotRow → Put
 cancelled_lot_put l = puts.Lot (cancelled_lot l)
 
--- what these lots have reserved of a line
+-- the sum that these lots have reserved on a budget line
 abbrev pub freed : List ℕ → List LotRow → ℕ
 freed line lots = sum_over (λ (l : LotRow). cond (same_id l.line line) l.reserved 0) lots
 
--- the line of a lot, with what all these lots had reserved free again
+-- the budget line of a lot, after the money that these lots had reserved on it is free again
 abbrev pub freed_line : List LineRow → List LotRow → LotRow → LineRow
 freed_line lines lots l = record (line_found lines l.line) { line = l.line; free = free_in (find_line lines l.line) + freed l.line lots }
 
 abbrev pub freed_line_put : List LineRow → List LotRow → LotRow → Put
 freed_line_put lines lots l = puts.Line (freed_line lines lots l)
 
--- the lot of these identifiers is one of those that end
+-- whether the lot with these identifiers is one of those that end
 abbrev pub ends : List LotRow → List ℕ → List ℕ → Bool
 ends lots notice lot = holds_of is_open_lot (find_lot lots (notice, lot))
 
--- an active award of a lot that ends
+-- whether an award is active and its lot ends
 abbrev pub is_ended_award : List LotRow → AwardRow → Bool
 is_ended_award lots a = is_active a.state && ends lots a.notice a.lot
 
@@ -60,10 +62,11 @@ cancelled_award a = record a { state = award_states.Cancelled }
 abbrev pub award_put : AwardRow → Put
 award_put a = puts.Award (cancelled_award a)
 
--- a sealed tender of a lot that ends
+-- whether a tender is sealed and its lot ends
 abbrev pub is_ended_envelope : List LotRow → EnvelopeRow → Bool
 is_ended_envelope lots e = is_sealed e.state && ends lots e.notice e.lot
 
+-- the tender, returned unopened
 abbrev pub returned_envelope : EnvelopeRow → EnvelopeRow
 returned_envelope e = record e { state = envelope_states.Returned }
 
@@ -73,15 +76,15 @@ envelope_put e = puts.Envelope (returned_envelope e)
 abbrev pub drop_put : EnvelopeRow → Put
 drop_put e = puts.DropSeal e.receipt
 
--- a held security of a lot that ends
+-- whether a security is held and its lot ends
 abbrev pub is_ended_security : List LotRow → SecurityRow → Bool
 is_ended_security lots s = is_held_security s && ends lots s.notice s.lot
 
--- a notice that was receiving tenders is cancelled, an opened one stays so
+-- the notice, with one more release: cancelled if it was receiving tenders, and otherwise in its present state
 abbrev pub cancelled_notice : NoticeRow → NoticeRow
 cancelled_notice n = record n { state = cond (is_receiving n.state) notice_states.Cancelled n.state; releases = n.releases + 1 }
 
--- the rows of an office that a cancellation looks at
+-- the rows that a cancellation reads
 abbrev pub cancel_rows : Tables → List ℕ → CancelRows
 cancel_rows s notice = record {
   notice = notice_at notice s;
@@ -93,15 +96,15 @@ cancel_rows s notice = record {
   clock = s.clock;
 }
 
--- the line of a lot isn't there
+-- whether the row of a lot's budget line is missing
 abbrev pub lacks_line : List LineRow → LotRow → Bool
 lacks_line lines l = not (is_some (find_line lines l.line))
 
--- what is lacking where the notice is there: the line of a lot that ends
+-- whether the notice exists, but the budget line of a lot that ends is missing
 abbrev pub cancel_lacks : CancelRows → Bool
 cancel_lacks rows = is_some rows.notice && list_any (lacks_line rows.lines) (filter is_open_lot rows.lots)
 
--- when it is refused, by these rows
+-- the conditions of its refusals, in order
 abbrev pub cancel_tests : CancelRows → List (Bool × Refusal)
 cancel_tests rows =
     (not (is_some rows.notice), NoSuch things.Notice)
@@ -109,8 +112,7 @@ cancel_tests rows =
     ∷ (has_all_releases rows.notice, LimitReached)
     ∷ []
 
--- what it puts: of the lots that end the lines, the lots, their awards, their tenders with the bytes of these, and their securities; the
--- notice, and the clock
+-- its changes: for the lots that end, their lines, the lots, their awards, their tenders without the bytes, and their securities; then the notice and the clock
 abbrev pub cancel_puts : CancelRows → ℕ → List Put
 cancel_puts rows t =
     puts_if (λ (n : NoticeRow).

@@ -1,4 +1,4 @@
--- A sealed tender is replaced by another, with the same security (Model Law, article 41).
+-- The rule of a modification: a sealed tender is replaced by another one, with the same security (Model Law, article 41).
 use Rattle.std.specs.Prelude.{ℕ, ◌+◌, Bool, false, not, ◌&&◌, List, [], ◌∷◌, None, is_some, length}
 use Rattle.office_commands.specs.declared.command.Caller.{Caller}
 use Rattle.office_commands.specs.Callers.{is_by}
@@ -17,16 +17,18 @@ use Rattle.office_base.specs.Tables.{Tables, envelope_at}
 use Rattle.office_base.specs.Parents.{notice_of_envelope}
 use Rattle.tender_core.specs.declared.modify.ModifyRows.{ModifyRows}
 
+-- whether a tender belongs to another tenderer than the caller
 abbrev pub is_anothers : Caller → EnvelopeRow → Bool
 is_anothers caller e = not (is_by caller e.tenderer)
 
 abbrev pub isnt_sealed : EnvelopeRow → Bool
 isnt_sealed e = not (is_sealed e.state)
 
+-- the tender, withdrawn
 abbrev pub withdrawn : EnvelopeRow → EnvelopeRow
 withdrawn e = record e { state = envelope_states.Withdrawn }
 
--- the new envelope of the old one's tenderer, for its lot and with its security
+-- the row of the new tender, which has the tenderer, the lot and the security of the old one
 abbrev pub replacing : (List ℕ → List ℕ) → ClockRow → ℕ → EnvelopeRow → List ℕ → EnvelopeRow
 replacing digest clock t e bytes = record {
   receipt = clock.receipts + 1;
@@ -44,15 +46,15 @@ replacing digest clock t e bytes = record {
   failed = false;
 }
 
--- the rows of an office that a modification looks at
+-- the rows that a modification reads
 abbrev pub modify_rows : Tables → ℕ → ModifyRows
 modify_rows s receipt = record { envelope = envelope_at receipt s; notice = notice_of_envelope (envelope_at receipt s) s; clock = s.clock }
 
--- what is lacking where the tender is there: its notice
+-- whether the tender exists, but its notice is missing
 abbrev pub modify_lacks : ModifyRows → Bool
 modify_lacks rows = is_some rows.envelope && not (is_some rows.notice)
 
--- when it is refused, by these rows
+-- the conditions of its refusals, in order
 abbrev pub modify_tests : ModifyRows → ℕ → Caller → List (Bool × Refusal)
 modify_tests rows t caller =
     (not (is_some rows.envelope), NoSuch things.Tender)
@@ -62,7 +64,7 @@ modify_tests rows t caller =
     ∷ (has_all_receipts rows.clock, LimitReached)
     ∷ []
 
--- what it puts: the old tender, whose bytes go, the new one with its bytes, and the clock
+-- its changes: the old tender is withdrawn and its bytes are dropped, the new tender and its bytes are stored, and the clock counts the new receipt
 abbrev pub modify_puts : (List ℕ → List ℕ) → ModifyRows → ℕ → List ℕ → List Put
 modify_puts digest rows t bytes =
     puts_if (λ (e : EnvelopeRow).

@@ -1,4 +1,4 @@
--- A tender is presented, in time or late (Model Law, articles 17 and 40).
+-- The rule of a submission: a tender comes, in time or late (Model Law, articles 17 and 40).
 use Rattle.std.specs.Prelude.{ℕ, ◌+◌, Bool, false, not, cond, ◌&&◌, List, [], ◌∷◌, ◌++◌, Option, None, is_some, option_map, nat_lt, length}
 use Rattle.std.specs.List.{list_any}
 use Rattle.office_commands.specs.declared.command.Caller.{Caller}
@@ -22,17 +22,19 @@ use Rattle.office_base.specs.declared.puts.Put.{Put}
 use Rattle.office_base.specs.Tables.{Tables, notice_at, lot_at, envelopes_of_lot}
 use Rattle.tender_core.specs.declared.present.PresentRows.{PresentRows}
 
--- a sealed tender of this caller
+-- whether a tender is sealed and comes from this caller
 abbrev pub is_sealed_by : Caller → EnvelopeRow → Bool
 is_sealed_by caller e = is_sealed e.state && is_by caller e.tenderer
 
+-- whether a lot requires a tender security
 abbrev pub asks_security : LotRow → Bool
 asks_security l = nat_lt 0 l.security
 
+-- whether a security is less than the lot requires
 abbrev pub is_too_small : LotRow → NamedSecurity → Bool
 is_too_small l named = nat_lt named.amount l.security
 
--- the envelope of the next receipt
+-- the row of the new tender: sealed if it is in time, and returned if it is late
 abbrev pub received : (List ℕ → List ℕ) → ClockRow → ℕ → Caller → List ℕ → List ℕ → Option NamedSecurity → List ℕ → Bool → EnvelopeRow
 received digest clock t caller notice lot security bytes in_time = record {
   receipt = clock.receipts + 1;
@@ -50,6 +52,7 @@ received digest clock t caller notice lot security bytes in_time = record {
   failed = false;
 }
 
+-- the row of its security: held if the tender is in time, and returned if it is late
 abbrev pub security_row : ClockRow → Caller → List ℕ → List ℕ → Bool → NamedSecurity → SecurityRow
 security_row clock caller notice lot in_time named = record {
   security = clock.receipts + 1;
@@ -64,10 +67,11 @@ security_row clock caller notice lot in_time named = record {
 abbrev pub security_put : ClockRow → Caller → List ℕ → List ℕ → Bool → NamedSecurity → Put
 security_put clock caller notice lot in_time named = puts.Security (security_row clock caller notice lot in_time named)
 
--- in time the bytes are kept
+-- the change that stores the bytes, if the tender is in time
 abbrev pub seal_puts : ClockRow → List ℕ → Bool → List Put
 seal_puts clock bytes in_time = cond in_time (puts.Seal (record { receipt = clock.receipts + 1; bytes = bytes }) ∷ []) []
 
+-- the changes for a tender: its row, the clock, its bytes and its security
 abbrev pub received_puts : (List ℕ → List ℕ) → ClockRow → ℕ → Caller → List ℕ → List ℕ → Option NamedSecurity → List ℕ → Bool → List Put
 received_puts digest clock t caller notice lot security bytes in_time =
     puts.Envelope (received digest clock t caller notice lot security bytes in_time)
@@ -75,7 +79,7 @@ received_puts digest clock t caller notice lot security bytes in_time =
     ∷ seal_puts clock bytes in_time
     ++ put_if (security_put clock caller notice lot in_time) security
 
--- the rows of an office that a presentation looks at
+-- the rows that a submission reads
 abbrev pub present_rows : Tables → List ℕ → List ℕ → PresentRows
 present_rows s notice lot = record {
   notice = notice_at notice s;
@@ -84,11 +88,11 @@ present_rows s notice lot = record {
   clock = s.clock;
 }
 
--- nothing is lacking: the notice and the lot are named
+-- no row can be missing, because the request names the notice and the lot
 abbrev pub present_lacks : PresentRows → Bool
 present_lacks rows = false
 
--- when it is refused, by these rows
+-- the conditions of its refusals, in order
 abbrev pub present_tests : PresentRows → ℕ → Caller → Option NamedSecurity → List (Bool × Refusal)
 present_tests rows t caller security =
     (not (is_some rows.notice), NoSuch things.Notice)
@@ -101,7 +105,7 @@ present_tests rows t caller security =
     ∷ (has_all_receipts rows.clock, LimitReached)
     ∷ []
 
--- what it puts
+-- its changes: the tender, the clock, its bytes if it is in time, and its security if it names one
 abbrev pub present_puts : (List ℕ → List ℕ) → PresentRows → ℕ → Caller → List ℕ → List ℕ → Option NamedSecurity → List ℕ → List Put
 present_puts digest rows t caller notice lot security bytes =
     received_puts digest rows.clock t caller notice lot security bytes (holds_of (is_in_time t) rows.notice)

@@ -1,5 +1,5 @@
--- The publication of a tender notice: its lots reserve their estimates (UNCITRAL Model Law 2011, articles 33 and 39, as far as
--- the books are concerned).
+-- The rule of a publication: the lots of the new notice reserve their estimates (UNCITRAL Model Law 2011, articles 33 and 39, as far as they concern the
+-- books).
 use Rattle.std.specs.Prelude.{ℕ, ◌-◌, Bool, false, cond, not, ◌||◌, List, [], ◌∷◌, ◌++◌, None, is_some, unwrap_or, nat_lt, nat_le, map, length}
 use Rattle.std.specs.List.{list_any}
 use Rattle.office_values.specs.Ids.{same_id}
@@ -24,42 +24,45 @@ use Rattle.office_base.specs.declared.puts.Put.TheVariants as puts
 use Rattle.office_base.specs.declared.puts.Put.{Put}
 use Rattle.tender_core.specs.declared.publish.PublishRows.{PublishRows}
 
--- the most lots of a notice, and the most items of a lot
+-- the greatest number of lots of a notice
 abbrev pub lot_limit : ℕ
 lot_limit = 20
 
+-- the greatest number of items of a lot
 abbrev pub item_limit : ℕ
 item_limit = 50
 
--- what the lots want of a line: the estimates of those that are of it, added up
+-- the sum of the estimates of those lots that are on a budget line
 abbrev pub wanted : List ℕ → List NewLot → ℕ
 wanted line lots = sum_over (λ (lot : NewLot). cond (same_id lot.line line) lot.estimate 0) lots
 
--- the lot's line isn't held
+-- whether the budget line of a lot doesn't exist
 abbrev pub is_on_no_line : List LineRow → NewLot → Bool
 is_on_no_line lines lot = not (is_some (find_line lines lot.line))
 
--- the lots want more of this one's line than is free on it
+-- whether the lots together need more money of this lot's budget line than is free on it
 abbrev pub is_short : List LineRow → List NewLot → NewLot → Bool
 is_short lines lots lot = nat_lt (free_in (find_line lines lot.line)) (wanted lot.line lots)
 
 abbrev pub has_too_many_items : NewLot → Bool
 has_too_many_items lot = nat_lt item_limit (length lot.items)
 
+-- an empty row for a budget line that doesn't exist
 abbrev pub no_line : List ℕ → LineRow
 no_line line = record { line = line; title = []; appropriation = 0; free = 0 }
 
+-- the row of a budget line, or an empty one if the line doesn't exist
 abbrev pub line_found : List LineRow → List ℕ → LineRow
 line_found lines line = unwrap_or (find_line lines line) (no_line line)
 
--- the line of a lot, with what all lots want of it no longer free
+-- the budget line of a lot, after all lots on it have reserved their estimates
 abbrev pub reserving_line : List LineRow → List NewLot → NewLot → LineRow
 reserving_line lines lots lot = record (line_found lines lot.line) { line = lot.line; free = free_in (find_line lines lot.line) - wanted lot.line lots }
 
 abbrev pub reserving_line_put : List LineRow → List NewLot → NewLot → Put
 reserving_line_put lines lots lot = puts.Line (reserving_line lines lots lot)
 
--- the lot, undecided, with its estimate reserved
+-- the row of a new lot: undecided, with its estimate reserved
 abbrev pub lot_row : List ℕ → NewLot → LotRow
 lot_row notice lot = record {
   notice = notice;
@@ -76,7 +79,7 @@ lot_row notice lot = record {
 abbrev pub new_lot_put : List ℕ → NewLot → Put
 new_lot_put notice lot = puts.Lot (lot_row notice lot)
 
--- the notice, open for tenders, with its first release
+-- the row of a new notice: open for tenders, with its first release
 abbrev pub notice_row : ℕ → List ℕ → NewNotice → NoticeRow
 notice_row t notice new = record {
   notice = notice;
@@ -96,25 +99,25 @@ notice_row t notice new = record {
 abbrev pub notice_put : ℕ → List ℕ → NewNotice → Put
 notice_put t notice new = puts.Notice (notice_row t notice new)
 
--- a notice that says so lets tenders be withdrawn late
+-- the change that allows late withdrawals, if the notice says `forfeits`
 abbrev pub late_puts : List ℕ → LateWithdrawal → List Put
 late_puts notice Refused = []
 late_puts notice Forfeits = puts.Late (record { notice = notice }) ∷ []
 
--- the lines of its lots, the lots, the notice and the clock
+-- the changes without that for late withdrawals: the budget lines, the lots, the notice and the clock
 abbrev pub publish_parts : ClockRow → ℕ → List ℕ → List LineRow → NewNotice → List Put
 publish_parts clock t notice lines new =
     map (reserving_line_put lines new.lots) new.lots ++ map (new_lot_put notice) new.lots ++ (notice_put t notice new ∷ puts.Clock (record clock { moment = t }) ∷ [])
 
--- the rows of an office that a publication looks at
+-- the rows that a publication reads
 abbrev pub publish_rows : Tables → List ℕ → PublishRows
 publish_rows s notice = record { notice = notice_at notice s; lines = s.lines; clock = s.clock }
 
--- nothing is lacking: the lines are named
+-- no row can be missing, because a budget line that doesn't exist is a refusal
 abbrev pub publish_lacks : PublishRows → Bool
 publish_lacks rows = false
 
--- when it is refused, by these rows; a new notice has no releases, so their limit isn't reached
+-- the conditions of its refusals, in order; the limit of releases isn't one, because a new notice has none yet
 abbrev pub publish_tests : PublishRows → ℕ → NewNotice → List (Bool × Refusal)
 publish_tests rows t new =
     (list_any (is_on_no_line rows.lines) new.lots, NoSuch things.Line)
@@ -124,6 +127,6 @@ publish_tests rows t new =
     ∷ (nat_lt lot_limit (length new.lots) || list_any has_too_many_items new.lots, LimitReached)
     ∷ []
 
--- what it puts: these, and what the notice says of late withdrawals
+-- its changes: the budget lines, the lots, the notice and the clock, and the row that allows late withdrawals
 abbrev pub publish_puts : PublishRows → ℕ → List ℕ → NewNotice → List Put
 publish_puts rows t notice new = publish_parts rows.clock t notice rows.lines new ++ late_puts notice new.late_withdrawal

@@ -1,5 +1,5 @@
--- A tender is taken back by its tenderer (Model Law, articles 17 and 41): before the deadline it is withdrawn and its security goes back;
--- from then on, where its notice lets it, it stays where it is, out of the running, and its security is forfeited.
+-- The rule of a withdrawal (Model Law, articles 17 and 41). Before the deadline the tender is withdrawn, and its security is returned. From the deadline on, if
+-- the notice allows it, the tender stays in its state but can't win any more, and its security is forfeited.
 use Rattle.std.specs.Prelude.{ℕ, Bool, true, false, not, cond, ◌&&◌, ◌||◌, List, [], ◌∷◌, Option, is_some}
 use Rattle.office_commands.specs.declared.command.Caller.{Caller}
 use Rattle.office_values.specs.declared.refusal.Thing.TheVariants as things
@@ -20,25 +20,25 @@ use Rattle.office_base.specs.Tables.{Tables, envelope_at}
 use Rattle.office_base.specs.Parents.{notice_of_envelope, lot_of_envelope, security_of_envelope, late_of_envelope}
 use Rattle.tender_core.specs.declared.withdraw.WithdrawRows.{WithdrawRows}
 
--- it is neither sealed nor opened
+-- whether a tender is neither sealed nor opened
 abbrev pub is_out : EnvelopeRow → Bool
 is_out e = not (is_sealed e.state) && not (is_read e.state)
 
--- it is no tender that can be withdrawn: from the deadline on one that was opened can be as well
+-- whether the state of a tender forbids its withdrawal: only a sealed tender can be withdrawn, or from the deadline on also an opened one
 abbrev pub cant_be_taken_back : Bool → EnvelopeRow → Bool
 cant_be_taken_back late e = cond late (is_out e) (isnt_sealed e)
 
--- the tender is out of the running, or its lot isn't undecided
+-- whether the tender can't win any more, or its lot is no longer undecided
 abbrev pub is_decided : Option EnvelopeRow → Option LotRow → Bool
 is_decided envelope lot = holds_of (λ (e : EnvelopeRow). e.failed) envelope || holds_of (λ (l : LotRow). not (is_undecided l.state)) lot
 
--- before the deadline, and from then on, with the security that the envelope names
+-- the changes before the deadline, and those from the deadline on (`true`); the security is the one that the tender names
 abbrev pub taken_back_puts : ClockRow → ℕ → EnvelopeRow → Option SecurityRow → Bool → List Put
 taken_back_puts clock t e security false =
     puts.Envelope (withdrawn e) ∷ puts.DropSeal e.receipt ∷ clock_put clock t ∷ put_if (security_settled Returned) security
 taken_back_puts clock t e security true = puts.Envelope (passed_over e) ∷ clock_put clock t ∷ put_if (security_settled Forfeited) security
 
--- the rows of an office that a withdrawal looks at
+-- the rows that a withdrawal reads
 abbrev pub withdraw_rows : Tables → ℕ → WithdrawRows
 withdraw_rows s receipt = record {
   envelope = envelope_at receipt s;
@@ -49,12 +49,12 @@ withdraw_rows s receipt = record {
   clock = s.clock;
 }
 
--- what is lacking where the tender is there: its notice, its lot, or the security that it names
+-- whether the tender exists, but its notice, its lot or the security that it names is missing
 abbrev pub withdraw_lacks : WithdrawRows → Bool
 withdraw_lacks rows =
     holds_of (λ (e : EnvelopeRow). not (is_some rows.notice) || not (is_some rows.lot) || lacks_security e rows.security) rows.envelope
 
--- when it is refused, by these rows
+-- the conditions of its refusals, in order
 abbrev pub withdraw_tests : WithdrawRows → ℕ → Caller → List (Bool × Refusal)
 withdraw_tests rows t caller =
     (not (is_some rows.envelope), NoSuch things.Tender)
@@ -65,7 +65,7 @@ withdraw_tests rows t caller =
     ∷ (is_late rows.late t rows.notice && holds_of (is_expired t) rows.notice, Expired)
     ∷ []
 
--- what it puts
+-- its changes: the tender, its bytes before the deadline, the clock and the security
 abbrev pub withdraw_puts : WithdrawRows → ℕ → List Put
 withdraw_puts rows t =
     puts_if (λ (e : EnvelopeRow). taken_back_puts rows.clock t e rows.security (is_late rows.late t rows.notice)) rows.envelope

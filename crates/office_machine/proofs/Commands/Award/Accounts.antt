@@ -51,7 +51,7 @@ not_awarded lot_states.Contracted e = cc
 not_awarded lot_states.Unsuccessful e = cc
 not_awarded lot_states.Cancelled e = cc
 
--- the price of a winner, if there is one
+-- the price of the winner; 0 if there is none
 abbrev price : Option EnvelopeRow → ℕ
 price None = 0
 price (Some e) = price_of e
@@ -69,7 +69,7 @@ module _ (readings : Readings) (xs : List Given) (s : Tables) (moment : ℕ) (ca
   abbrev securities : List SecurityRow
   securities = securities_of_lot n i s
 
-  -- whoever wins
+  -- with any winner, or none
   module _ (l : LotRow) (row : NoticeRow) (w : LineRow) (lot : lot_at k s ≡ Some l) (notice : notice_at n s ≡ Some row) (line : line_at l.line s ≡ Some w) (undecided : is_undecided l.state ≡ true) where
     at : (l.notice, l.lot) ≡ k
     at = found_key keyed.lots s.lots k l lot
@@ -89,7 +89,7 @@ module _ (readings : Readings) (xs : List Given) (s : Tables) (moment : ℕ) (ca
     line_here : find_line s.lines w.line ≡ Some w
     line_here = ap (find_line s.lines) line_is ∙ line
 
-    -- the books after it, and what it moved
+    -- the books after the award
     abbrev after : Option EnvelopeRow → Tables
     after None = record s { lots = put_lot s.lots (unsuccessful l); lines = put_line s.lines (record w { free = w.free + l.reserved }) }
     after (Some e) = record s {
@@ -150,7 +150,7 @@ module _ (readings : Readings) (xs : List Given) (s : Tables) (moment : ℕ) (ca
         let c = not_awarded l.state undecided in
         cc
 
-    -- the move is of the lot's line
+    -- the moves after the award: its own on the lot's line, and the earlier ones
     moves_are : (o : Option EnvelopeRow) → best ≡ o → moved o ≡ moves (x ∷ xs)
     moves_are o won = λ z. move_of_award (line_in (sym lot z)) (reserved_for xs k) (sym won z) ∷ moves xs
 
@@ -194,7 +194,7 @@ module _ (readings : Readings) (xs : List Given) (s : Tables) (moment : ℕ) (ca
         one a b v u (inr p) (inl q) f g x y = absurd (none_active a v p.1 f (x ∙ ap (λ (v : AwardRow). v.notice) q.1) (y ∙ ap (λ (v : AwardRow). v.lot) q.1))
         one a b v u (inr p) (inr q) f g x y = kept.one_active a b v u p.1 q.1 f g x y
 
-    -- and all that it puts
+    -- all puts of the award
     effect_is : (o : Option EnvelopeRow) → best ≡ o → decision_puts s.clock (time_of x) row l w o securities ≡ effect readings x
     effect_is o won =
         (λ z. decision_puts s.clock (time_of x) row l w (sym (ap (λ r. winner r (envelopes_of_lot n i s)) (sym notice) ∙ won) z) securities)

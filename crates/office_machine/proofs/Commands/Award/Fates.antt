@@ -1,4 +1,4 @@
--- An award keeps the fates, of nobody or of a tender.
+-- An award keeps the fates, with a winner or without one.
 use Rattle.std.specs.Prelude.{◌≡◌, ℕ, ◌+◌, Bool, true, false, cond, not, ◌&&◌, List, [], ◌∷◌, map, filter, Option, Some, None, option_map, is_some, max, unwrap_or}
 use Rattle.std.proofs.Common.{refl, sym, ap, ◌∙◌, subst}
 use Rattle.std.specs.List.{AllByRecursion}
@@ -112,7 +112,7 @@ module _ (readings : Readings) (name lot_name : List ℕ) (xs : List Given) (t :
   key_is : lot_key l ≡ (name, lot_name)
   key_is = found_key keyed.lots t.lots (name, lot_name) l lot_found
 
-  -- nobody
+  -- nobody wins
 
   abbrev nobody_first : Tables
   nobody_first =
@@ -156,7 +156,7 @@ module _ (readings : Readings) (name lot_name : List ℕ) (xs : List Given) (t :
       (subst (λ (u : Tables). OnLines u.lines u.lots) nobody_is (lines-puts nobody_puts t kept.lines nobody_fit))
       (subst (λ (u : Tables). AreInOrder u) nobody_is (order-puts nobody_puts t kept.order))
 
-  -- a tender
+  -- a tender wins
   module _ (e : EnvelopeRow) (wins : winner (Some n) rows ≡ Some e) where
     abbrev Among : EnvelopeRow → Type 0
     Among f = (envelope_at f.receipt t ≡ Some f) × ((same_id f.notice name && same_id f.lot lot_name) ≡ true)
@@ -183,7 +183,7 @@ module _ (readings : Readings) (name lot_name : List ℕ) (xs : List Given) (t :
     abbrev after : Tables
     after = after_puts ps t
 
-    -- the office with the lot awarded
+    -- the office after the lot is awarded
     abbrev W : View
     W = record (seen t) { lot_at = λ k. option_map (λ s. cond (eq_by_cmp lot_cmp k (name, lot_name)) lot.Awarded s) ((seen t).lot_at k) }
 

@@ -5,7 +5,7 @@ use Rattle.std.specs.List.{AllByRecursion, list_any}
 use Rattle.office_base.specs.declared.records.EnvelopeRow.{EnvelopeRow}
 use Rattle.award_core.specs.Rules.Award.{is_admissible, is_better, better, best_with}
 
--- what passes, with what holds of it
+-- the elements that pass keep their property
 pub passing : {X : Type 0} (P : X → Type 0) (p : X → Bool) (xs : List X) → AllByRecursion P xs
     → AllByRecursion (λ x. P x × (p x ≡ true)) (filter p xs)
 passing P p [] h = tt
@@ -31,7 +31,7 @@ module _ (P : EnvelopeRow → Type 0) (weight lowest : ℕ) where
       subst (λ e. P e × (is_admissible e ≡ true)) is (better_step f found (own, adm) rest)
   best_step f found e own rest false adm h = rest e h
 
-  -- it is one of the rows, and admissible
+  -- the winner is one of the rows, and admissible
   pub best_is : (rows : List EnvelopeRow) (e : EnvelopeRow) → AllByRecursion P rows → best_with weight lowest rows ≡ Some e
       → P e × (is_admissible e ≡ true)
   best_is [] e all h = absurd (let no : None ≡ Some e = h in cc)
@@ -47,7 +47,7 @@ some_step : (b others : Bool) (f e : EnvelopeRow) (found : Option EnvelopeRow) �
 some_step true others f e found rest h = refl
 some_step false others f e found rest h = rest h
 
--- there is one where one is admissible
+-- without a winner no row is admissible
 pub best_none : (weight lowest : ℕ) (rows : List EnvelopeRow) → best_with weight lowest rows ≡ None → list_any is_admissible rows ≡ false
 best_none weight lowest [] h = refl
 best_none weight lowest (f ∷ rows) h =

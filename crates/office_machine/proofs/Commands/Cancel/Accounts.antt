@@ -43,7 +43,7 @@ use Rattle.office_machine.proofs.Accounts.Joins.{is_of}
 use Rattle.office_machine.proofs.Rows.Mapped.{put_changed, changed, put_changed_is, row_at-changed, sum-put_filtered, sum_over-passing}
 use Rattle.office_base.proofs.SumsOver.{sum_over-append_map, sum_over-zero, sum_over-ext}
 
--- this much of the line is free again
+-- this amount of the line becomes free again
 record IsFreed (before after : Option LineRow) (amount : ℕ) : Type 0 where
   appropriation_is : appropriation_in after ≡ appropriation_in before
   free_is : free_in after ≡ free_in before + amount
@@ -61,7 +61,7 @@ each_freed lines all (lot ∷ lots) q = (
   each_freed lines all lots q,
 )
 
--- of a line that no lot names nothing is freed
+-- on a line that no lot names, nothing becomes free
 freed_of_none : (lines : List LineRow) (all lots : List LotRow) (q : List ℕ) → some_has id_cmp line_key q (map (freed_line lines all) lots) ≡ false → freed q lots ≡ 0
 freed_of_none lines all [] q none = refl
 freed_of_none lines all (lot ∷ lots) q none =
@@ -78,7 +78,7 @@ freed_after lines lots q =
     (each_freed lines lots lots q)
     (λ none. none_freed (find_line lines q) (freed q lots) (freed_of_none lines lots lots q none))
 
--- changed rows, put one after another
+-- rows are changed and put one after another
 rows_put_changed : {K X : Type 0} (R : K → K → Ordering) (key : X → K) (g : X → X) (ys xs : List X) → rows_put R key xs (map g ys) ≡ put_changed R key g xs ys
 rows_put_changed R key g [] xs = refl
 rows_put_changed R key g (y ∷ ys) xs = rows_put_changed R key g ys (row_put R key xs (g y))
@@ -88,7 +88,7 @@ after_awards : (make : AwardRow → AwardRow) (rows : List AwardRow) (rest : Lis
 after_awards make [] rest t = refl
 after_awards make (a ∷ rows) rest t = after_awards make rows rest (after_put (puts.Award (make a)) t)
 
--- what was changed was there before
+-- a changed row existed before its change
 before_change : {X : Type 0} (g : X → X) (o : Option X) (y : X) → option_map g o ≡ Some y → (x : X) × (o ≡ Some x) × (g x ≡ y)
 before_change g None y e = cc
 before_change g (Some x) y e = (x, refl, let f : Some (g x) ≡ Some y = e in cc)
@@ -147,7 +147,7 @@ module _ (readings : Readings) (xs : List Given) (s : Tables) (moment : ℕ) (ca
   award_after : (a : ℕ) → find_award awards' a ≡ option_map (changed is_ended_one cancelled_award) (find_award s.awards a)
   award_after a = row_at-changed keyed.awards is_ended_one cancelled_award (λ _. refl) s.awards a
 
-  -- a lot keeps its line
+  -- a lot remains on its line
   same_line : (q : List ℕ) (o : Option LotRow) → is_of (option_map (changed is_ended cancelled_lot) o) q ≡ is_of o q
   same_line q None = refl
   same_line q (Some l) = elim (is_ended l) as (λ b. same_id (cond b (cancelled_lot l) l).line q ≡ same_id l.line q) [ true ↦ refl | false ↦ refl ]
@@ -158,7 +158,7 @@ module _ (readings : Readings) (xs : List Given) (s : Tables) (moment : ℕ) (ca
   no_zero_at : (q : List ℕ) (l : LotRow) → reserved_by q (cancelled_lot l) ≡ 0
   no_zero_at q l = elim (same_id l.line q) as (λ b. ◌≡◌ {A = ℕ} (cond b 0 0) 0) [ true ↦ refl | false ↦ refl ]
 
-  -- what was reserved for them goes out
+  -- the amount reserved for the ended lots is no longer reserved
   reserved_after : (q : List ℕ) → reserved_over q lots' + freed q ended ≡ reserved_over q s.lots
   reserved_after q =
       omega (
@@ -170,7 +170,7 @@ module _ (readings : Readings) (xs : List Given) (s : Tables) (moment : ℕ) (ca
         sum_over-zero (filter is_ended s.lots),
       )
 
-  -- each of them has reserved what is held for it
+  -- each lot that ends has reserved the amount that is held for it
   held_by : (q : List ℕ) (l : LotRow) → find_lot s.lots (l.notice, l.lot) ≡ Some l → (b : Bool) → is_ended l ≡ b
       → cond b (cond (same_id l.line q) (reserved_for xs (l.notice, l.lot)) 0) 0 ≡ cond b (reserved_by q l) 0
   held_by q l is true e = ap (λ m. cond (same_id l.line q) m 0) ((kept.lots (l.notice, l.lot) l is).held (and_parts _ _ e).1)
@@ -214,7 +214,7 @@ module _ (readings : Readings) (xs : List Given) (s : Tables) (moment : ℕ) (ca
       let old = kept.lots j l is in
       subst (LotIs (x ∷ xs) s' j) e (record { of_notice = old.of_notice; on_line = there_after nat_list_cmp_total line_key l.line (map (freed_line s.lines ended) ended) s.lines old.on_line; held = old.held })
 
-  -- an active award of a lot that ends is one that ends
+  -- an active award of a lot that ends is cancelled
   ends_too : (w : AwardRow) (l : LotRow) → find_lot s.lots (w.notice, w.lot) ≡ Some l → is_active w.state ≡ true → is_ended l ≡ true → is_ended_one w ≡ true
   ends_too w l is active e =
       let parts = and_parts _ _ e in
@@ -246,7 +246,7 @@ module _ (readings : Readings) (xs : List Given) (s : Tables) (moment : ℕ) (ca
       by g true h = let i = ends_too w (kept.awards a w is).of_lot.0 (kept.awards a w is).of_lot.1 g h in absurd cc
       by g false h = (kept.awards a w is).of_lot.2 g
 
-  -- an award that is active was there before
+  -- an award that is active after the cancellation was active before it
   was_active : (a : ℕ) (w v : AwardRow) → find_award s.awards a ≡ Some w → (b : Bool) → cond b (cancelled_award w) w ≡ v → is_active v.state ≡ true → find_award s.awards a ≡ Some v
   was_active a w v is true f g = let h : is_active (cancelled_award w).state ≡ true = ap (λ (v : AwardRow). is_active v.state) f ∙ g in cc
   was_active a w v is false f g = is ∙ ap Some f
@@ -254,7 +254,7 @@ module _ (readings : Readings) (xs : List Given) (s : Tables) (moment : ℕ) (ca
   award_before : (a : ℕ) (v : AwardRow) → find_award s'.awards a ≡ Some v → (w : AwardRow) × (find_award s.awards a ≡ Some w) × (changed is_ended_one cancelled_award w ≡ v)
   award_before a v h = before_change (changed is_ended_one cancelled_award) (find_award s.awards a) v (sym (award_after a) ∙ h)
 
-  -- an award of a contract is not active
+  -- an award of a contract isn't active
   isnt_active : (w : AwardRow) → is_active w.state ≡ false → (b : Bool) → is_active (cond b (cancelled_award w) w).state ≡ false
   isnt_active w e true = refl
   isnt_active w e false = e

@@ -60,7 +60,7 @@ lots_fit : (lines : List LineRow) (rows : List LotRow) → AllByRecursion (IsOnL
 lots_fit lines [] h = tt
 lots_fit lines (l ∷ rows) h = (h.0, lots_fit lines rows h.1)
 
--- two tests that agree on what is found change it alike
+-- two tests that agree on the found row change it alike
 tests_agree : {X : Type 0} (p q : X → Bool) (g : X → X) (o : Option X) → ((x : X) → o ≡ Some x → p x ≡ q x)
     → option_map (changed p g) o ≡ option_map (changed q g) o
 tests_agree p q g None h = refl
@@ -105,12 +105,12 @@ module _ (readings : Readings) (name : List ℕ) (rationale : List ℕ) (xs : Li
   ends_all : (q k : List ℕ) → q ≡ name → is_live ((seen t).lot_at (q, k)) ≡ true → E q k ≡ true
   ends_all q k e live = ends_is q k ∙ all_by q k (lot_at (q, k) t) refl e live
 
-  -- a row of a lot that ends is of the notice
+  -- a row of a lot that ends is a row of the notice
   of_notice_too : (q k : List ℕ) (a b : Bool) → E q k ≡ b → (same_id q name && (a && b)) ≡ (a && b)
   of_notice_too q k a true e = ap (λ s. s && (a && true)) (ap (λ n. same_id n name) (ends_only q k e) ∙ same_itself name)
   of_notice_too q k a false e = no_both (same_id q name) a
 
-  -- a lot that is live ends where it is of the notice
+  -- a live lot ends exactly if it is a lot of the notice
   ends_here : (q k : List ℕ) → is_live ((seen t).lot_at (q, k)) ≡ true → (b c : Bool) → E q k ≡ b → same_id q name ≡ c → b ≡ c
   ends_here q k live true true e s = refl
   ends_here q k live true false e s = let no : true ≡ false = sym (ap (λ n. same_id n name) (ends_only q k e) ∙ same_itself name) ∙ s in cc
@@ -174,7 +174,7 @@ module _ (readings : Readings) (name : List ℕ) (rationale : List ℕ) (xs : Li
       ∙ after-append (map security_returned ended_securities) last_puts t5
       ∙ ap (after_puts last_puts) (after_securities returned ended_securities t5)
 
-  -- the rows afterwards
+  -- the tender is returned
   abbrev envelope_test : EnvelopeRow → Bool
   envelope_test e = same_id e.notice name && is_ended_envelope lots e
 
@@ -229,7 +229,7 @@ module _ (readings : Readings) (name : List ℕ) (rationale : List ℕ) (xs : Li
       alike (seen after) (after_change c (seen t)) envelopes_are securities_are awards_are lots_are
       (λ q. notices_put t.notices name q n cancelled_notice (λ s. cond (is_receiving s) notice.Cancelled s) (λ n. refl) (λ n. refl) found)
 
-  -- the seals afterwards
+  -- the seals after the cancellation
   seal_is : (r : ℕ) → seal_at r after ≡ cond (holds_of envelope_test (envelope_at r t)) None (seal_at r t)
   seal_is r =
       ap (λ rows. Rattle.office_base.specs.Tables.find_seal (rows_drop nat_cmp seal_key t.seals (map (λ (e : EnvelopeRow). e.receipt) rows)) r) (filter_filter (is_ended_envelope lots) (λ (e : EnvelopeRow). same_id e.notice name) t.envelopes)

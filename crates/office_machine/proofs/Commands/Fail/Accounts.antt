@@ -1,4 +1,4 @@
--- A failing of an award keeps the accounts.
+-- A failure of an award keeps the accounts.
 use Rattle.std.proofs.Common.{◌≡◌, ℕ, Bool, true, false, List, ◌∷◌, ◌++◌, Some, None, refl, sym, ◌∙◌, ap, subst, arith}
 use Rattle.std.specs.List.{AllByRecursion}
 use Rattle.office_commands.specs.declared.command.Caller.{Caller}

@@ -1,4 +1,4 @@
--- The failing of an award keeps the fates.
+-- A failure of an award keeps the fates.
 use Rattle.std.specs.Prelude.{◌≡◌, ℕ, Bool, true, false, cond, List, [], ◌∷◌, Option, Some, None, option_map, option_and_then, is_some, max}
 use Rattle.std.proofs.Common.{refl, sym, ap, ◌∙◌, subst}
 use Rattle.std.specs.List.{AllByRecursion}
@@ -42,7 +42,7 @@ use Rattle.office_machine.proofs.FateLaws.States.{map_same, lots_put, active_sta
 use Rattle.office_base.proofs.RowLaws.{all-found}
 use Rattle.office_machine.proofs.Rows.Keyed as keyed
 
--- the row of which this is the state
+-- the row that has this state
 pub row_of : {X S : Type 0} (f : X → S) (o : Option X) (s : S) → option_map f o ≡ Some s → (x : X) × (o ≡ Some x) × (f x ≡ s)
 row_of f None s h = let no : None ≡ Some s = h in absurd cc
 row_of f (Some x) s h = (x, refl, let is : Some (f x) ≡ Some s = h in cc)
@@ -51,7 +51,7 @@ pub row_there : {X S : Type 0} (f : X → S) (o : Option X) → is_some (option_
 row_there f None h = absurd (let no : false ≡ true = h in cc)
 row_there f (Some x) h = (x, refl)
 
--- a lot that is found has its line
+-- the line of an existing lot exists
 pub on_line : (readings : Readings) (xs : List Given) (t : Tables) (kept : FatesStand readings xs t) (k : List ℕ × List ℕ) (l : LotRow) → lot_at k t ≡ Some l
     → IsOnLine t.lines l
 on_line readings xs t kept k l found =
@@ -159,7 +159,7 @@ module _ (readings : Readings) (number : ℕ) (xs : List Given) (t : Tables) (m 
         (λ s. securities_put forfeited t.securities k is.row is.found refl s ∙ ap (λ o. option_map (λ v. cond (has_number s o) (forfeited v) v) (security_at s t)) (sym carried))
         refl refl refl (tt, (line_there, (tt, (tt, (tt, (tt, tt)))))))
 
-  -- the rows that it needs are there
+  -- the rows that the command needs exist
   pub rows_there : (P : Option NoticeRow → Option LotRow → Option EnvelopeRow → Type 0)
       → ((n : NoticeRow) → notice_at w.notice t ≡ Some n → (l : LotRow) → lot_at (w.notice, w.lot) t ≡ Some l → P (Some n) (Some l) (Some e))
       → P (notice_at w.notice t) (lot_at (w.notice, w.lot) t) (envelope_at w.receipt t)

@@ -29,7 +29,7 @@ use Rattle.office_machine.proofs.Commands.Import.Columns.{Changed, IsCovered, st
 use Rattle.office_machine.proofs.Rows.RowsPut.{lines_put, after_lines, there_after}
 use Rattle.office_base.proofs.SumsOver.{sum_over-append_map, sum_over-ext, sum_over-zero}
 
--- what a row's move brings to a pot, and takes from it
+-- the amount that a row's move brings into free
 into_free : (cut same : Bool) (n : ℕ) → cond (same_pot (cond cut Outside Free) Free && same) n 0 ≡ cond same (cond cut 0 n) 0
 into_free true true n = refl
 into_free true false n = refl
@@ -50,7 +50,7 @@ from_outside true true n = refl
 from_outside true false n = refl
 from_outside false same n = refl
 
--- rows move nothing into these pots or out of them
+-- the place is neither outside nor free, so the rows of a budget file don't touch it
 abbrev IsElsewhere : Pot → Type 0
 IsElsewhere p = (same_pot Outside p ≡ false) × (same_pot Free p ≡ false)
 
@@ -83,7 +83,7 @@ module _ (ms : List Move) (rows : List BudgetRow) (q : List ℕ) where
   went_elsewhere p h =
       omega (arith, out_of p (λ _. 0) (λ row. from_other p h (is_cut row.kind) (same_id row.line q) row.amount), sum_over-zero rows)
 
--- rows that pass no limit keep the bound
+-- if no row exceeds the limit, each appropriation remains within its bound
 row_within : (m : List Standing) (row : BudgetRow) → ((p : List ℕ) → appropriation_of (columns_at m p) ≤ total_limit) → passes_limit (columns_at m row.line) row ≡ false → (q : List ℕ) → appropriation_of (columns_at (after_row m row) q) ≤ total_limit
 row_within m row within h q =
     subst (λ c. appropriation_of c ≤ total_limit) (sym (columns_at-after_row m row q))
@@ -104,7 +104,7 @@ rows_within m (row ∷ rows) within h q =
     let passes = neither _ _ h in
     rows_within (after_row m row) rows (row_within m row within passes.0) passes.1 q
 
--- no more is free than was appropriated
+-- no line has more free money than its appropriation
 pub covered : (xs : List Given) (s : Tables) → AccountsStand xs s → IsSorted s → (q : List ℕ) → IsCovered (columns_at (standings s) q)
 covered xs s kept order q =
     let stand = columns_stand s q in
@@ -115,11 +115,11 @@ module _ (readings : Readings) (xs : List Given) (s : Tables) (moment : ℕ) (ca
   x = record { before = s; moment = moment; caller = caller; command = commands.Import batch rows }
 
   module _ (allowed : first_of (command_tests x) ≡ None) where
-    -- the lines of the file's rows
+    -- the lines that the file's rows put
     abbrev file_lines : List LineRow
     file_lines = map (imported_line (after_rows (standings s) rows)) rows
 
-    -- the office after it, with its tables written out
+    -- the office after the import, with its tables written out
     abbrev imported : Tables
     imported = record s {
       lines = lines_put s.lines file_lines;
@@ -186,7 +186,7 @@ module _ (readings : Readings) (xs : List Given) (s : Tables) (moment : ℕ) (ca
     pub import_keeps : AccountsStand (x ∷ xs) (after_puts (effect readings x) s)
     import_keeps = subst (AccountsStand (x ∷ xs)) (sym imported_is) keeps
 
-    -- the appropriation of a line after it is within the bound, if all were before
+    -- if all appropriations were within the bound, they still are after the import
     pub import_fits : ((p : List ℕ) → appropriation p s ≤ total_limit) → (q : List ℕ) → appropriation q (after_puts (effect readings x) s) ≤ total_limit
     import_fits fit q =
         let within : (p : List ℕ) → appropriation_of (columns_at (standings s) p) ≤ total_limit = λ p. let stand = columns_stand s p in omega (arith, fit p, stand.appropriation_is) in

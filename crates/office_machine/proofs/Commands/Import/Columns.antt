@@ -1,4 +1,4 @@
--- The columns of a line after the rows of a file.
+-- The appropriation and the free amount of a line after the rows of a file.
 use Rattle.std.specs.Prelude.{◌≡◌, ℕ, ◌+◌, ◌-◌, ◌≤◌, Bool, true, false, cond, ◌&&◌, List, [], ◌∷◌, map, Option, Some, None, option_map, nat_lt, ◌||◌}
 use Rattle.std.proofs.Common.{refl, sym, ap, ◌∙◌, subst, arith}
 use Rattle.std.specs.List.{AllByRecursion}
@@ -20,7 +20,7 @@ use Rattle.office_machine.proofs.Passed.{neither, at_least}
 use Rattle.office_machine.proofs.Parents.Whole.{not_less}
 use Rattle.office_machine.proofs.Rows.RowsPut.{some_has, lines_put, found_after}
 
--- the columns of this row, where there is one, are these
+-- the row of a line, if it exists, has these amounts
 pub record StandsAt (found : Option LineRow) (held : Option Columns) : Type 0 where
   pub appropriation_is : appropriation_in found ≡ appropriation_of held
   pub free_is : free_in found ≡ free_of held
@@ -29,7 +29,7 @@ stands_itself : (found : Option LineRow) → StandsAt found (option_map columns_
 stands_itself None = record { appropriation_is = refl; free_is = refl }
 stands_itself (Some row) = record { appropriation_is = refl; free_is = refl }
 
--- rows that don't name a line leave its columns
+-- rows for other lines leave the amounts of a line
 unnamed : (after m : List Standing) (rows : List BudgetRow) (q : List ℕ) → some_has id_cmp line_key q (map (imported_line after) rows) ≡ false
     → columns_at (after_rows m rows) q ≡ columns_at m q
 unnamed after m [] q none = refl
@@ -46,7 +46,7 @@ each_right after (row ∷ rows) q = (
   each_right after rows q,
 )
 
--- once its lines are put, each line has the columns that the file comes to
+-- after its lines are put, each line has the amounts that the file leads to
 pub stands_after : (t : Tables) (rows : List BudgetRow) (q : List ℕ)
     → StandsAt (find_line (lines_put t.lines (map (imported_line (after_rows (standings t) rows)) rows)) q) (columns_at (after_rows (standings t) rows) q)
 stands_after t rows q =
@@ -54,19 +54,19 @@ stands_after t rows q =
     found_after nat_list_cmp_total line_key (λ found. StandsAt found (columns_at after q)) q (map (imported_line after) rows) t.lines (each_right after rows q)
     (λ none. subst (StandsAt (line_at q t)) (sym (unnamed after (standings t) rows q none ∙ columns_at-standings t q)) (stands_itself (line_at q t)))
 
--- what a row brings to a line, and cuts from it
+-- the amount that a row adds to a line
 abbrev pub adds : List ℕ → BudgetRow → ℕ
 adds q row = cond (same_id row.line q) (cond (is_cut row.kind) 0 row.amount) 0
 
 abbrev pub cuts : List ℕ → BudgetRow → ℕ
 cuts q row = cond (same_id row.line q) (cond (is_cut row.kind) row.amount 0) 0
 
--- both columns have changed by so much
+-- both amounts have changed by the money added and cut
 pub record Changed (held after : Option Columns) (more less : ℕ) : Type 0 where
   pub appropriation_is : appropriation_of after + less ≡ appropriation_of held + more
   pub free_is : free_of after + less ≡ free_of held + more
 
--- no more is free than was appropriated
+-- no more money is free than was appropriated
 abbrev pub IsCovered : Option Columns → Type 0
 IsCovered held = free_of held ≤ appropriation_of held
 
@@ -83,7 +83,7 @@ own_step : (a f n : ℕ) (cut : Bool) → f ≤ a → (cut && nat_lt f n) ≡ fa
 own_step a f n true within h = let enough : n ≤ f = at_least f n h in record { appropriation_is = omega arith; free_is = omega arith }
 own_step a f n false within h = record { appropriation_is = omega arith; free_is = omega arith }
 
--- the columns of a row's own line
+-- the amounts of a row's own line
 own_columns : (held : Option Columns) (row : BudgetRow) → IsCovered held → cuts_too_much held row ≡ false
     → Changed held (Some (columns_after held row)) (cond (is_cut row.kind) 0 row.amount) (cond (is_cut row.kind) row.amount 0)
 own_columns held row within h =
@@ -110,7 +110,7 @@ row_changes : (m : List Standing) (row : BudgetRow) (q : List ℕ) → IsCovered
     → Changed (columns_at m q) (columns_at (after_row m row) q) (adds q row) (cuts q row)
 row_changes m row q within h = row_step m row q within h (same_id row.line q) refl
 
--- rows of which none cuts too much bring what they add and take what they cut
+-- if no row cuts too much, the rows change a line by the money that they add and cut
 pub rows_change : (m : List Standing) (rows : List BudgetRow) (q : List ℕ) → ((p : List ℕ) → IsCovered (columns_at m p)) → any_while_walking cuts_too_much m rows ≡ false
     → Changed (columns_at m q) (columns_at (after_rows m rows) q) (sum_over (adds q) rows) (sum_over (cuts q) rows)
 rows_change m [] q covered h = same_columns (columns_at m q) (columns_at m q) refl
@@ -126,7 +126,7 @@ rows_change m (row ∷ rows) q covered h =
       free_is = omega (arith, here.free_is, more.free_is);
     }
 
--- where none of them takes more than is free, none takes more than was appropriated
+-- if no row cuts more than the free money, none cuts more than the appropriation
 below_by : (b : Bool) (a f n : ℕ) → f ≤ a → (b && nat_lt f n) ≡ false → (b && nat_lt a n) ≡ false
 below_by true a f n within h = let enough : n ≤ f = at_least f n h in not_less a n (omega (arith, within, enough))
 below_by false a f n within h = refl

@@ -1,4 +1,4 @@
--- A modification keeps the fates.
+-- A replacement keeps the fates.
 use Rattle.std.specs.Prelude.{◌≡◌, ℕ, ◌+◌, Bool, true, false, cond, List, ◌∷◌, Option, Some, None, option_map, max}
 use Rattle.std.proofs.Common.{refl, sym, ap, ◌∙◌, subst}
 use Rattle.std.specs.List.{AllByRecursion}
@@ -66,7 +66,7 @@ module _ (readings : Readings) (receipt : ℕ) (bytes : List ℕ) (xs : List Giv
     abbrev f : ℕ → EnvelopeRow → EnvelopeRow
     f r d = cond (eq_by_cmp nat_cmp r receipt) (withdrawn d) d
 
-    -- the office with the old tender withdrawn
+    -- the office after the old tender is withdrawn
     abbrev W : View
     W = record (seen t) { envelope_at = λ r. option_map (f r) (envelope_at r t) }
 

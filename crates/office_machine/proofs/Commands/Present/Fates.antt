@@ -1,4 +1,4 @@
--- A presentation keeps the fates.
+-- A submission keeps the fates.
 use Rattle.std.specs.Prelude.{◌≡◌, ℕ, ◌+◌, Bool, true, false, cond, not, List, ◌∷◌, Option, Some, None, option_map, is_some, max, nat_le}
 use Rattle.std.proofs.Common.{refl, sym, ap, ◌∙◌, subst}
 use Rattle.std.specs.List.{AllByRecursion}
@@ -46,7 +46,7 @@ lives : (o : Option LotState) → is_some o ≡ true → ((l : LotState) → o �
 lives None there h = there
 lives (Some l) there h = ap (λ x. is_live (Some x)) (h l refl)
 
--- who comes in time finds the notice receiving
+-- if the tender is in time and its notice isn't cancelled, the notice is receiving
 in_time_receiving : (t : ℕ) (o : Option NoticeRow) → holds_of (λ (n : NoticeRow). is_cancelled n.state) o ≡ false → holds_of (is_in_time t) o ≡ true
     → option_map notice_state o ≡ Some notice.Receiving
 in_time_receiving t None unended in_time = cc
@@ -99,7 +99,7 @@ module _ (readings : Readings) (name lot_name : List ℕ) (bytes : List ℕ) (xs
       by true h = refl
       by false h = cc
 
-  -- the office with the new security
+  -- the office after the new security
   module _ (S : ℕ → Option SecurityRow) (sound_S : IsSound (record V { security_at = S }))
       (secured : (s : ℕ) → new.security ≡ Some s → IsSecured (record V { security_at = S }) new s) where
     abbrev W : View
@@ -124,7 +124,7 @@ module _ (readings : Readings) (name lot_name : List ℕ) (bytes : List ℕ) (xs
   came_new =
       came_here (received_at xs k) (Some (presented x name lot_name sec bytes)) (same_number k k) (nothing_yet readings xs t kept).no_reception (same_itself k)
 
-  -- the tables afterwards
+  -- the tables after the command
   module _ (u : Tables) (envelopes_are : (r : ℕ) → envelope_at r u ≡ added k new (λ r. envelope_at r t) r)
       (seals_are : (r : ℕ) → seal_at r u ≡ cond b (cond (eq_by_cmp nat_cmp r k) (Some new_seal) (seal_at r t)) (seal_at r t)) where
     other_seal : (r : ℕ) → eq_by_cmp nat_cmp r k ≡ false → seal_at r u ≡ seal_at r t
@@ -193,7 +193,7 @@ module _ (readings : Readings) (name lot_name : List ℕ) (bytes : List ℕ) (xs
     tenders_are =
         subst (EnvelopesMatch readings.digest (received_at (x ∷ xs)) (fate_of_tender (x ∷ xs)) (λ r. seal_at r u) k) (λ i r. envelopes_same r i) tenders_after
 
--- with no security, and with one
+-- the fates after a submission, with a security and without one
 module _ (readings : Readings) (name lot_name : List ℕ) (bytes : List ℕ) (xs : List Given) (t : Tables) (m : ℕ) (caller : Caller) (kept : FatesStand readings xs t)
     (notice_there : is_some (notice_at name t) ≡ true) (lot_there : is_some (lot_at (name, lot_name) t) ≡ true)
     (unended : holds_of (λ (n : NoticeRow). is_cancelled n.state) (notice_at name t) ≡ false) where
@@ -220,7 +220,7 @@ module _ (readings : Readings) (name lot_name : List ℕ) (bytes : List ℕ) (xs
       → Rattle.office_base.specs.Tables.find_seal (Rattle.office_base.specs.Tables.put_seal t.seals kept_seal) r ≡ cond (eq_by_cmp nat_cmp r next) (Some kept_seal) (seal_at r t)
   seals_put r = row_at-row_put nat_cmp_total seal_key t.seals kept_seal r
 
-  -- no security
+  -- without a security
   module _ (b : Bool) (b_is : holds_of (is_in_time (max m t.clock.moment)) (notice_at name t) ≡ b) (u : Tables)
       (envelopes_are : (r : ℕ) → envelope_at r u ≡ added next (row None b) (λ r. envelope_at r t) r)
       (seals_are : (r : ℕ) → seal_at r u ≡ cond b (cond (eq_by_cmp nat_cmp r next) (Some kept_seal) (seal_at r t)) (seal_at r t))
@@ -253,7 +253,7 @@ module _ (readings : Readings) (name lot_name : List ℕ) (bytes : List ℕ) (xs
       unnamed_kept false b_is (after_puts (ps None false) t) (envelopes_put None false)
       (λ r. refl) refl refl refl kept.lines (order-puts (ps None false) t kept.order)
 
-  -- a security
+  -- with a security
   module _ (named : NamedSecurity) (b : Bool) (b_is : holds_of (is_in_time (max m t.clock.moment)) (notice_at name t) ≡ b) (u : Tables)
       (envelopes_are : (r : ℕ) → envelope_at r u ≡ added next (row (Some named) b) (λ r. envelope_at r t) r)
       (seals_are : (r : ℕ) → seal_at r u ≡ cond b (cond (eq_by_cmp nat_cmp r next) (Some kept_seal) (seal_at r t)) (seal_at r t))

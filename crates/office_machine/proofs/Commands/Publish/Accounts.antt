@@ -46,7 +46,7 @@ module _ (ms : List Move) (lots : List NewLot) (q : List ℕ) where
   out_of : (p : Pot) → outflow (map move_of_lot lots ++ ms) q p ≡ sum_over (λ (lot : NewLot). cond (same_pot Free p && same_id lot.line q) lot.estimate 0) lots + outflow ms q p
   out_of p = sum_over-append_map (λ (m : Move). cond (same_pot m.from p && same_id m.line q) m.amount 0) move_of_lot lots ms
 
--- the lines of the lots are there
+-- the lines of the lots exist
 abbrev pub OnLines : List LineRow → List NewLot → Type 0
 OnLines lines lots = AllByRecursion (λ (lot : NewLot). IsSome (find_line lines lot.line)) lots
 
@@ -54,7 +54,7 @@ pub on_lines : (lines : List LineRow) (lots : List NewLot) → list_any (is_on_n
 on_lines lines [] none = tt
 on_lines lines (lot ∷ lots) none = let each = neither _ _ none in (not_false _ each.0, on_lines lines lots each.1)
 
--- each lot's estimate is found by its identifier
+-- the estimate of each lot is found by the lot's identifier
 abbrev AreFound : List NewLot → List NewLot → Type 0
 AreFound all lots = AllByRecursion (λ (lot : NewLot). (n : ℕ) → estimate_in all lot.id n ≡ lot.estimate) lots
 
@@ -83,14 +83,14 @@ module _ (readings : Readings) (xs : List Given) (s : Tables) (moment : ℕ) (ca
   x = record { before = s; moment = moment; caller = caller; command = commands.Publish notice content }
 
   module _ (allowed : first_of (command_tests x) ≡ None) where
-    -- the lines and the rows of its lots
+    -- the puts of the lines
     abbrev lot_lines : List LineRow
     lot_lines = map (reserving_line s.lines content.lots) content.lots
 
     abbrev lot_rows : List LotRow
     lot_rows = map (lot_row notice) content.lots
 
-    -- the office after it, with its tables written out
+    -- the office after the publication, with its tables written out
     abbrev published : Tables
     published = record s {
       lines = lines_put s.lines lot_lines;
@@ -122,7 +122,7 @@ module _ (readings : Readings) (xs : List Given) (s : Tables) (moment : ℕ) (ca
     new : AreNew lot_cmp lot_key s.lots lot_rows
     new = lots_new s.lots notice content.lots own (all_absent content.lots)
 
-    -- the lots that were there are still found
+    -- no new lot has the key of an earlier one, so earlier lots are still found
     none_at : (key : List ℕ × List ℕ) (lot : LotRow) → find_lot s.lots key ≡ Some lot → (lots : List NewLot) → AreAbsent s.lots notice lots → AllByRecursion (λ (r : LotRow). eq_by_cmp lot_cmp key (lot_key r) ≡ true → Some r ≡ Some lot) (map (lot_row notice) lots)
     none_at key lot is [] absent = tt
     none_at key lot is (added ∷ lots) absent = (λ e. let k = ap (find_lot s.lots) (equal_keys lots_exact key (notice, added.id) e) in let none = absent.0 in absurd cc, none_at key lot is lots absent.1)
@@ -156,7 +156,7 @@ module _ (readings : Readings) (xs : List Given) (s : Tables) (moment : ℕ) (ca
     line_there : (line : List ℕ) → IsSome (find_line s.lines line) → IsSome (find_line published.lines line)
     line_there line there = there_after nat_list_cmp_total line_key line lot_lines s.lines there
 
-    -- a lot that was there
+    -- the facts remain true of an earlier lot
     old_lot : (key : List ℕ × List ℕ) (lot : LotRow) → find_lot s.lots key ≡ Some lot → LotIs (x ∷ xs) published key lot
     old_lot key lot found =
         let old = kept.lots key lot found in
@@ -173,7 +173,7 @@ module _ (readings : Readings) (xs : List Given) (s : Tables) (moment : ℕ) (ca
             absurd cc
         by false e = refl
 
-    -- a lot of this notice
+    -- the facts are true of a lot of this notice
     new_lot : (lot : NewLot) → IsSome (find_line s.lines lot.line) → ((n : ℕ) → estimate_in content.lots lot.id n ≡ lot.estimate) → LotIs (x ∷ xs) published (notice, lot.id) (lot_row notice lot)
     new_lot lot on_line estimated = record {
       of_notice = ap is_some (found_put keyed.notices s.notices (notice_row (time_of x) notice content));

@@ -37,7 +37,7 @@ use Rattle.office_machine.proofs.FateLaws.Seen.{seen, lot_state, notice_state, L
 use Rattle.office_machine.proofs.FateLaws.FatesHold.{FatesStand, Keeps, given, tenders_same, named_same}
 use Rattle.office_machine.proofs.FateLaws.QuietFates.{all_append, all_of_map, kept_after}
 
--- what holds of each row put at a key, and where there is none of what was there, holds of what is found
+-- a property of each row that is put at a key, and of the earlier row if none is put there, is a property of the found row
 module _ {K X : Type 0} {R : K → K → Ordering} (o : IsTotalOrder R) (key : X → K) where
   one_put : (P : Option X → Type 0) (r : X) (found : Option X) (b : Bool) → (b ≡ true → P (Some r)) → P found → P (cond b (Some r) found)
   one_put P r found true here there = here refl

@@ -22,7 +22,7 @@ use Rattle.office_base.proofs.RowLaws.{row_at-row_put}
 use Rattle.office_machine.proofs.Rows.RowsPut.{some_has, lines_put, lots_put, AreNew, found_after, sum_over-rows_put}
 use Rattle.office_base.proofs.SumsOver.{sum_over-map}
 
--- this much of the line is no longer free
+-- this amount of the line is no longer free
 pub record IsTaken (before after : Option LineRow) (amount : ℕ) : Type 0 where
   pub appropriation_is : appropriation_in after ≡ appropriation_in before
   pub free_is : free_in after ≡ free_in before - amount
@@ -40,7 +40,7 @@ each_taken lines all (lot ∷ lots) q = (
   each_taken lines all lots q,
 )
 
--- of a line that no lot names they want nothing
+-- lots on other lines need no money of a line
 wanted_of_none : (lines : List LineRow) (all lots : List NewLot) (q : List ℕ) → some_has id_cmp line_key q (map (reserving_line lines all) lots) ≡ false → wanted q lots ≡ 0
 wanted_of_none lines all [] q none = refl
 wanted_of_none lines all (lot ∷ lots) q none =
@@ -50,7 +50,7 @@ wanted_of_none lines all (lot ∷ lots) q none =
 none_taken : (found : Option LineRow) (amount : ℕ) → amount ≡ 0 → IsTaken found found amount
 none_taken found amount none = record { appropriation_is = refl; free_is = omega (arith, none) }
 
--- once the lines of all lots are put, what they want of each is taken
+-- after the lines of all lots are put, each line has less free money by the estimates of its lots
 pub taken_after : (lines : List LineRow) (lots : List NewLot) (q : List ℕ)
     → IsTaken (find_line lines q) (find_line (lines_put lines (map (reserving_line lines lots) lots)) q) (wanted q lots)
 taken_after lines lots q =
@@ -73,7 +73,7 @@ enough_by lines all (lot ∷ lots) q none =
     let passes = neither _ _ none in
     enough_step lines all q lot (wanted q lots) passes.0 (enough_by lines all lots q passes.1) (same_id lot.line q) refl
 
--- a line of which no lot is short has what they want
+-- if no lot is short of money, each line has enough free money for the estimates of its lots
 pub enough : (lines : List LineRow) (lots : List NewLot) (q : List ℕ) → list_any (is_short lines lots) lots ≡ false → wanted q lots ≤ free_in (find_line lines q)
 enough lines lots q none =
     elim (enough_by lines lots lots q none) as (λ _. wanted q lots ≤ free_in (find_line lines q)) [
@@ -81,7 +81,7 @@ enough lines lots q none =
       | inr is ↦ is
     ]
 
--- none of the lots is there
+-- none of the lots exists yet
 abbrev pub AreAbsent : List LotRow → List ℕ → List NewLot → Type 0
 AreAbsent held notice lots = AllByRecursion (λ (lot : NewLot). find_lot held (notice, lot.id) ≡ None) lots
 
@@ -103,7 +103,7 @@ absent_later held notice lot (other ∷ lots) apart none =
     let each = neither _ _ apart in
     (absent_step held notice lot other each.0 none.0, absent_later held notice lot lots each.1 none.1)
 
--- lots with identifiers of their own are new, one after another
+-- if no two lots have the same identifier, each of them is new when it is put
 pub lots_new : (held : List LotRow) (notice : List ℕ) (lots : List NewLot) → repeats_id lot_id lots ≡ false → AreAbsent held notice lots
     → AreNew lot_cmp lot_key held (map (lot_row notice) lots)
 lots_new held notice [] own none = tt
@@ -111,7 +111,7 @@ lots_new held notice (lot ∷ lots) own none =
     let each = neither _ _ own in
     (none.0, lots_new (put_lot held (lot_row notice lot)) notice lots each.1 (absent_later held notice lot lots each.0 none.1))
 
--- they reserve what they want
+-- the lots reserve their estimates
 pub reserved_after : (held : List LotRow) (notice : List ℕ) (lots : List NewLot) (q : List ℕ) → AreNew lot_cmp lot_key held (map (lot_row notice) lots)
     → sum_over (reserved_by q) (lots_put held (map (lot_row notice) lots)) ≡ sum_over (reserved_by q) held + wanted q lots
 reserved_after held notice lots q new =

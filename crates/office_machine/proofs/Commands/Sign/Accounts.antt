@@ -96,7 +96,7 @@ module _ (readings : Readings) (xs : List Given) (s : Tables) (moment : ℕ) (ca
     held : reserved_for xs k ≡ l.reserved
     held = lot_is.held (open_too l.state awarded.0)
 
-    -- the lot of the move, and its line
+    -- the lot of the move is that of the award
     of_award : lot_in_award (award_at a s) ≡ k
     of_award = ap lot_in_award is
 

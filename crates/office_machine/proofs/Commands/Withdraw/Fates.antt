@@ -40,7 +40,7 @@ use Rattle.office_machine.proofs.FateLaws.FatesHold.{FatesStand, Keeps, given, s
 use Rattle.office_machine.proofs.FateLaws.FatesChanged.{kept_by_change, is_sealed_state, securities_put, securities_left, effective, not_effective}
 use Rattle.office_machine.proofs.Rows.Keyed as keyed
 
--- the parts of rows that a withdrawal leaves
+-- the columns of rows that a withdrawal doesn't change
 module _ (digest : List ℕ → List ℕ) (receipt : ℕ) (change : EnvelopeRow → EnvelopeRow)
     (notice : (e : EnvelopeRow) → (change e).notice ≡ e.notice) (lot : (e : EnvelopeRow) → (change e).lot ≡ e.lot)
     (tenderer : (e : EnvelopeRow) → (change e).tenderer ≡ e.tenderer) (carried : (e : EnvelopeRow) → (change e).security ≡ e.security)
@@ -77,7 +77,7 @@ module _ (readings : Readings) (receipt : ℕ) (xs : List Given) (t : Tables) (m
     own : e.receipt ≡ receipt
     own = found_key keyed.envelopes t.envelopes receipt e found
 
-    -- the security goes as the command decides
+    -- the security gets the state that the command decides
     security_goes : (state : SecurityState) → withdrawn_security x (received_at xs receipt) ≡ state → (s : ℕ) (w : SecurityRow)
         → (let w' : SecurityRow = cond (has_number s e.security) (settled state w) w in w'.state) ≡ cond (is_held w.state) (security_decided (Withdraw receipt) x (received_at xs) s) w.state
     security_goes state decided s w =
@@ -88,12 +88,12 @@ module _ (readings : Readings) (receipt : ℕ) (xs : List Given) (t : Tables) (m
         carried : carries s (received_at xs receipt) ≡ has_number s e.security
         carried = ap (carries s) stands.came_is ∙ ap (has_number s) (sym stands.stands.security_is)
 
-    -- the tender changed and the security settled, where the command lets it be taken back so
+    -- the tender is changed and the security settled, as the command decides
     module _ (late : Bool) (change : EnvelopeRow → EnvelopeRow) (state : SecurityState) where
       abbrev c : Change
       c = taking_back (seen t) receipt change state e.security
 
-      -- the tables, with the security's row as it is put
+      -- the tables after the command, with the put row of the security
       abbrev after : Option SecurityRow → Tables
       after so = after_puts (taken_back_puts t.clock T e so late) t
 
@@ -101,7 +101,7 @@ module _ (readings : Readings) (receipt : ℕ) (xs : List Given) (t : Tables) (m
       settled_in None = t.securities
       settled_in (Some w) = put_security t.securities (settled state w)
 
-      -- what they are, whatever the security
+      -- the facts about these tables, with any security
       record Puts (so : Option SecurityRow) : Type 0 where
         envelopes_are : (after so).envelopes ≡ put_envelope t.envelopes (change e)
         securities_are : (after so).securities ≡ settled_in so
@@ -154,7 +154,7 @@ module _ (readings : Readings) (receipt : ℕ) (xs : List Given) (t : Tables) (m
             (taken_kept (Some is.row) (puts (Some is.row))
             (λ s. securities_put (settled state) t.securities n is.row is.found refl s ∙ ap (λ o. option_map (λ w. cond (has_number s o) (settled state w) w) (security_at s t)) (sym carried)))
 
-    -- before the deadline
+    -- a withdrawal before the deadline
     module _ (not_late : holds_of (is_past_deadline T) (notice_at e.notice t) ≡ false) (sealed : e.state ≡ envelope.Sealed) where
       in_time : is_effective x (received_at xs receipt) ≡ true
       in_time = effective readings.digest xs x receipt e stands.came fits stands.came_is stands.stands.of_notice not_late
@@ -204,7 +204,7 @@ module _ (readings : Readings) (receipt : ℕ) (xs : List Given) (t : Tables) (m
           puts None = record { envelopes_are = refl; securities_are = refl; seals_are = refl; rest = refl; receipts_are = refl; fit = (tt, (tt, (tt, tt))) }
           puts (Some w) = record { envelopes_are = refl; securities_are = refl; seals_are = refl; rest = refl; receipts_are = refl; fit = (tt, (tt, (tt, (tt, tt)))) }
 
-    -- from the deadline on the tender stays, and its seal
+    -- a withdrawal from the deadline on leaves the tender's state and its seal
     module _ (is_past : holds_of (is_past_deadline T) (notice_at e.notice t) ≡ true) where
       too_late : is_effective x (received_at xs receipt) ≡ false
       too_late = not_effective xs x receipt e stands.came stands.came_is stands.stands.of_notice is_past
@@ -236,7 +236,7 @@ module _ (readings : Readings) (receipt : ℕ) (xs : List Given) (t : Tables) (m
           puts None = record { envelopes_are = refl; securities_are = refl; seals_are = refl; rest = refl; receipts_are = refl; fit = (tt, (tt, tt)) }
           puts (Some w) = record { envelopes_are = refl; securities_are = refl; seals_are = refl; rest = refl; receipts_are = refl; fit = (tt, (tt, (tt, tt))) }
 
-    -- early or late, as the deadline and the notice say
+    -- a withdrawal is early or late as the deadline and the notice say
     taken_back_kept : (late : Option LateRow) (past : Bool) → holds_of (is_past_deadline T) (notice_at e.notice t) ≡ past → (not (is_some late) && past) ≡ false
         → ((is_some late && past) ≡ false → e.state ≡ envelope.Sealed)
         → FatesStand readings (x ∷ xs) (after_puts (taken_back_puts t.clock T e (option_and_then (λ n. security_at n t) e.security) (is_some late && past)) t)

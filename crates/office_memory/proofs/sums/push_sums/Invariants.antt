@@ -6,7 +6,7 @@ use Rattle.office_base.specs.declared.records.ContractRow.{ContractRow}
 use Rattle.office_memory.specs.MemoryTables.{tables_of}
 use Rattle.office_memory.proofs.sums.push_sums.Given as goal
 
--- what was pushed, and the contracts of the lot that are left, are all of it
+-- the sums that were appended and those of the remaining contracts are all sums of the lot
 abbrev pub invariant-loop-contract : goal.invariant-loop-contract
 invariant-loop-contract l =
     l.sums.items ++ map (sums_of (tables_of l.tables).entries) (filter (λ (c : ContractRow). same_id c.lot l.lot.lot) (map (λ r. r.now) l.contract-iterator.rest.items))

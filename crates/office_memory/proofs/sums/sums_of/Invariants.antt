@@ -6,7 +6,7 @@ use Rattle.office_base.specs.EntrySums.{bare_sums, sums_with_entries}
 use Rattle.office_memory.specs.Inside.Adding.{HasRoom}
 use Rattle.office_memory.proofs.sums.sums_of.Given as goal
 
--- the entries that are left lead where all lead, and there is room for them
+-- adding the remaining entries gives the sums of the contract, and doesn't overflow
 abbrev pub invariant-loop-kept : goal.invariant-loop-kept
 invariant-loop-kept l =
     (sums_with_entries l.sums (values_of l.kept-iterator) ≡ sums_with_entries (bare_sums l.contract) (filter (λ (e : EntryRow). same_number e.contract l.contract.contract) l.entries))

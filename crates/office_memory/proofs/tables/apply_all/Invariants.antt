@@ -4,7 +4,7 @@ use Rattle.office_memory.specs.Inside.Drops.{without_seals}
 use Rattle.office_memory.specs.MemoryTables.{tables_of, after_undos, CanUndoAll}
 use Rattle.office_memory.proofs.tables.apply_all.Given as goal
 
--- the changes that are left lead where all lead; what was made can be taken back, and there is room to remember the rest
+-- The remaining changes lead to the tables after all changes. Those made can be taken back, and the list of them can take the rest without memory.
 abbrev pub invariant-loop-put : goal.invariant-loop-put
 invariant-loop-put l =
     (after_puts l.put-iterator.rest.items (without_seals l.drops.items (tables_of l.tables)) ≡ after_puts l.fn.puts.items (tables_of l.fn.tables))

@@ -3,6 +3,6 @@ use Rattle.office_memory.specs.Inside.Drops.{without_seals}
 use Rattle.office_memory.specs.MemoryTables.{tables_of}
 use Rattle.office_memory.proofs.tables.drop_all.Given as goal
 
--- the drops that are left lead where all lead
+-- the remaining drops lead to the tables after all drops
 abbrev pub invariant-loop-receipt : goal.invariant-loop-receipt
 invariant-loop-receipt l = without_seals l.receipt-iterator.rest.items (tables_of l.tables) ≡ without_seals l.fn.drops.items (tables_of l.fn.tables)

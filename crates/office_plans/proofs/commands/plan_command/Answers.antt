@@ -12,13 +12,13 @@ use Rattle.office_values.specs.declared.refusal.Refusal.{Refusal}
 use Rattle.office_values.specs.declared.settings.Publisher.{Publisher}
 use Rattle.tender_core.specs.declared.asking.Asking.{Asking}
 
--- a plan of one of the commands that publish nothing, whose publisher may be any, is that of the command that was given
+-- A plan for a command that publishes nothing holds for any publisher, so it is the plan of the given command.
 planned : {S : Type 0} (M : Meaning S) (publisher : Publisher) (asking : Asking) (a b : S) (given command : Command) (result : Result Plan Refusal) → given ≡ command
     → ((any : Publisher) → Looks M a b (λ (s : Tables). IsPlanned any (given_by asking s command) result)) → Looks M a b (λ (s : Tables). IsPlanned publisher (given_by asking s given) result)
 planned M publisher asking a b given command result is of_any =
     subst (λ (k : Command). Looks M a b (λ (s : Tables). IsPlanned publisher (given_by asking s k) result)) (sym is) (of_any publisher)
 
--- a refusal that is told of a command is told of the command that was given
+-- The refusal of a command is the refusal of the given command, because the two are the same.
 told : {S : Type 0} (M : Meaning S) (asking : Asking) (a b : S) (given command : Command) (result : Result Plan Refusal) → given ≡ command
     → TellsRefusal M a b (λ (s : Tables). given_by asking s command) result → TellsRefusal M a b (λ (s : Tables). given_by asking s given) result
 told M asking a b given command result is tells = subst (λ (k : Command). TellsRefusal M a b (λ (s : Tables). given_by asking s k) result) (sym is) tells

@@ -12,7 +12,7 @@ use Rattle.office_plans.specs.declared.published.Released.{Released}
 use Rattle.office_plans.proofs.KeptObjects.{has_merge_on}
 use Rattle.office_plans.proofs.published.keep.Goals as goal
 
--- what is kept of a release that can be stored, with the merge that it joins
+-- A release that can be stored is kept as its row, with the merge that it joins.
 is_kept : (r : Released) (s : Tables) (k : Kept) (kept : Result Publication Refusal) → IsStorable (view r.release) → IsKeptOf r.notice s k → KeepsReleasesOf r.notice s
     → IfOk kept (λ p. IsStorable (view r.release) → p.release ≡ as_row r)
     → IfOk kept (λ p. IsStorable (view r.release) → (s : Tables) → IsKeptOf r.notice s k → KeepsReleasesOf r.notice s → p.merge ≡ merged_row s p.release)

@@ -7,7 +7,7 @@ use Rattle.office_plans.specs.Replies.{reply_text}
 use Rattle.office_plans.proofs.Maybe.{if_ok}
 use Rattle.office_plans.proofs.replies.notice_reply.Goals as goal
 
--- equal replies
+-- Replies are equal if their parts are equal.
 told_alike : (notice : List ℕ) (release release' t t' : ℕ) → release ≡ release' → t ≡ t' → OfNotice notice release t ≡ OfNotice notice release' t'
 told_alike notice release release' t t' e f = λ i. OfNotice notice (e i) (f i)
 

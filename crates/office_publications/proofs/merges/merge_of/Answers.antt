@@ -9,7 +9,7 @@ use Rattle.office_base.specs.declared.records.ReleaseRow.{ReleaseRow}
 use Rattle.office_publications.specs.Merges.{AreObjects, body_in}
 use Rattle.office_publications.proofs.merges.merge_of.Goals as goal
 
--- what is said of a result that is no error
+-- a fact about a successful result
 of_ok : {T E : Type 0} (r : Result T E) (P : Type 0) → is_err r ≡ false → OnOk r P → P
 of_ok (Ok value) P is h = h
 of_ok (Err why) P is h = absurd cc

@@ -3,7 +3,7 @@ use Rattle.office_base.specs.Joined.{entry_sum}
 use Rattle.office_publications.specs.Worth.{is_contract_cut}
 use Rattle.office_publications.proofs.worth.cut.Given as goal
 
--- what is added up so far and the rest are the whole; each entry adds at most the greatest amount
+-- the sum so far and the sum of the rest add up to the whole; each entry adds at most the greatest amount
 abbrev pub invariant-loop-entry : goal.invariant-loop-entry
 invariant-loop-entry l =
     (l.sum + entry_sum is_contract_cut (drop l.entry-index l.entries) l.contract ≡ entry_sum is_contract_cut l.entries l.contract) × (l.sum ≤ l.entry-index * 10 ^ 12)

@@ -7,7 +7,7 @@ use Rattle.office_ledger.specs.declared.joined.JoinedRow.{JoinedRow}
 use Rattle.office_store.specs.LedgerRows.{HasTaken, KeepsOffice}
 use Rattle.office_store.proofs.sums.add_up.Given as goal
 
--- what was taken is what was added up
+-- the rows that were taken are those that were added up
 abbrev pub invariant-rows : goal.invariant-rows
 invariant-rows g l =
     let old = l.fn.rows.conn.now in

@@ -9,7 +9,7 @@ use Rattle.office_tables.proofs.MakingSteps.{goes_refused}
 use Rattle.office_tables.proofs.Stepping.{on_err}
 use Rattle.office_tables.proofs.editions.make_among.Goals as goal
 
--- what the list has of a table
+-- the program's line for a table
 abbrev line_of : Later → LaterLine
 line_of x = (x.0, x.1.now, x.2.now)
 

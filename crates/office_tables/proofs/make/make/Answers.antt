@@ -17,7 +17,7 @@ use Rattle.office_tables.proofs.MakingSteps.{founded, goes_then, goes_refused}
 use Rattle.office_tables.proofs.Stepping.{on_ok_with, on_err, on_err_with}
 use Rattle.office_tables.proofs.make.make.Goals as goal
 
--- each text of an index makes it
+-- each text creates its index
 all_indexings : AreIndexings (create_lots_of_line ∷ create_envelopes_of_notice ∷ create_securities_of_notice ∷ create_awards_of_notice ∷ create_contracts_of_notice ∷ [])
 all_indexings = ((Lots, lots_of_line, indexes_lots_of_line, refl), ((Envelopes, envelopes_of_notice, indexes_envelopes_of_notice, refl), ((Securities, securities_of_notice, indexes_securities_of_notice, refl), ((Awards, awards_of_notice, indexes_awards_of_notice, refl), ((Contracts, contracts_of_notice, indexes_contracts_of_notice, refl), tt)))))
 

@@ -6,12 +6,12 @@ use Rattle.std.proofs.lemmas.Str.{digit_value_digit}
 use Rattle.office_wire.proofs.framing.capped_number.Goals.{then-number-gt-MOST_BODY, else-number-gt-MOST_BODY}
 use Rattle.office_wire.proofs.framing.capped_number.Goals as goal
 
--- one digit more, capped
+-- after one digit more, the number is above the bound
 more_capped : (now number value digit code : ℕ) → number ≡ min 65537 value → digit + 48 ≡ code
     → 65536 < number * 10 + (code - 48) → now ≡ 65537 → now ≡ min 65537 (value * 10 + digit)
 more_capped now number value digit code is code_is over at = omega arith
 
--- one digit more, and not above
+-- after one digit more, the number isn't above the bound
 more_below : (now number value digit code : ℕ) → number ≡ min 65537 value → digit + 48 ≡ code
     → number * 10 + (code - 48) ≤ 65536 → now ≡ number * 10 + (code - 48) → now ≡ min 65537 (value * 10 + digit)
 more_below now number value digit code is code_is below at = omega arith

@@ -6,7 +6,7 @@ use borrow.Rule.Slice.PartMut.{put_mid, post_of}
 use lib.Seq.{take-add, take-append-le}
 use Rattle.office_wire.proofs.reading.fill.Goals as goal
 
--- what stands at the front once n bytes of a part were written behind the first at
+-- after `n` bytes are written from `at` on, the beginning is the first `at` bytes followed by these
 front_then : (at k n : ℕ) (xs ys : List ℕ) → at ≤ length xs → n ≤ length ys → take (at + n) (put_mid at k xs ys) ≡ take at xs ++ take n ys
 front_then at k n xs ys within fits =
     take-add at n (put_mid at k xs ys)

@@ -105,7 +105,7 @@ returns-clause-ran g c h input e s holds =
     let inv = c.rounds.invariant.ran h input e s holds in
     (inv.steps, ran_cut g.D.Responder.meaning.answers input inv.rest _ s inv.steps _ _ inv.answered (cut_none inv.rest _ inv.now), inv.holds)
 
--- ---- whatever the reader tells of its bytes
+-- ---- with any reader
 
 pub returns-in_err-moment-clause-stepped : goal.returns-in_err-moment-clause-stepped
 returns-in_err-moment-clause-stepped g c h s holds =

@@ -3,7 +3,7 @@ use Rattle.std.specs.List.{filter_map}
 use Rattle.office_base.specs.Rows.{row_at}
 use Rattle.office_memory.proofs.group_index.GroupIndex.indexed.Given as goal
 
--- what was found and the rows at the keys that are left are the rows of the group
+-- the found rows and those at the remaining keys are the rows of the group
 abbrev pub invariant-loop-key : goal.invariant-loop-key
 invariant-loop-key g l =
     map (λ row. row.now) l.found.items

@@ -12,7 +12,7 @@ use Rattle.office_plans.specs.Asking.{given_by}
 use Rattle.std.specs.Option.{option_copied}
 use Rattle.tender_core.specs.declared.asking.Asking.{Asking}
 
--- its tests are those of the rows that it loads
+-- The tests of the rule are the tests on the loaded rows.
 rule : (asking : Asking) (contract : ℕ) (entry : List ℕ) (kind : ChangeKind) (amount : ℕ) (rationale : List ℕ) → IsTested asking (AmendContract contract entry kind amount rationale) (λ (s : Tables). amend_contract_rows s contract) (λ (rows : AmendContractRows). rows.clock)
     (λ (rows : AmendContractRows) (t : ℕ). amend_contract_tests rows entry kind amount)
 rule asking contract entry kind amount rationale = record { clock = λ s. refl; tested = λ s. refl }

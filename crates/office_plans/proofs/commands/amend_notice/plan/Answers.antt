@@ -10,7 +10,7 @@ use Rattle.tender_core.specs.Rules.AmendNotice.{amend_notice_puts, amend_notice_
 use Rattle.tender_core.specs.declared.amend_notice.AmendNoticeRows.{AmendNoticeRows}
 use Rattle.tender_core.specs.declared.asking.Asking.{Asking}
 
--- its tests are those of the rows that it loads
+-- The tests of the rule are the tests on the loaded rows.
 rule : (asking : Asking) (notice : List ℕ) (deadline : ℕ) (rationale : List ℕ) → IsTested asking (AmendNotice notice deadline rationale) (λ (s : Tables). amend_notice_rows s notice) (λ (rows : AmendNoticeRows). rows.clock)
     (λ (rows : AmendNoticeRows) (t : ℕ). amend_notice_tests rows t deadline)
 rule asking notice deadline rationale = record { clock = λ s. refl; tested = λ s. refl }

@@ -13,7 +13,7 @@ use Rattle.office_plans.specs.Asking.{given_by}
 use Rattle.office_plans.specs.AwardedLots.{awarded_rows}
 use Rattle.tender_core.specs.declared.asking.Asking.{Asking}
 
--- its tests are those of the rows that it loads
+-- The tests of the rule are the tests on the loaded rows.
 rule : (asking : Asking) (notice : List ℕ) (lot : List ℕ) → IsTested asking (Award notice lot) (λ (s : Tables). awarded_rows s notice lot) (λ (rows : AwardRows). rows.clock)
     (λ (rows : AwardRows) (t : ℕ). award_tests rows t)
 rule asking notice lot = record { clock = λ s. refl; tested = λ s. refl }

@@ -11,7 +11,7 @@ use Rattle.office_plans.specs.Replies.{reply_text}
 use Rattle.office_plans.proofs.Maybe.{if_ok}
 use Rattle.office_plans.proofs.commands.award.reply.Goals as goal
 
--- equal replies
+-- Replies are equal if their parts are equal.
 told_alike : (lot : List ℕ) (best best' : Option Winning) (release release' t t' : ℕ) → best ≡ best' → release ≡ release' → t ≡ t'
     → Awarded lot best release t ≡ Awarded lot best' release' t'
 told_alike lot best best' release release' t t' e f g = λ i. Awarded lot (e i) (f i) (g i)

@@ -14,7 +14,7 @@ use Rattle.tender_core.specs.Rules.Cancel.{cancel_puts, cancel_rows, cancel_test
 use Rattle.tender_core.specs.declared.asking.Asking.{Asking}
 use Rattle.tender_core.specs.declared.cancel.CancelRows.{CancelRows}
 
--- its tests are those of the rows that it loads, be it with the lines of its open lots or with none
+-- The tests of the rule are the tests on the loaded rows, with the lines of the open lots or without any line.
 refused : (asking : Asking) (notice : List ℕ) (rationale : List ℕ)
     → IsTested asking (Cancel notice rationale) (λ (s : Tables). cancel_on [] (cancel_rows s notice)) (λ (rows : CancelRows). rows.clock)
     (λ (rows : CancelRows) (t : ℕ). cancel_tests rows)

@@ -12,7 +12,7 @@ use Rattle.office_plans.specs.Asking.{given_by}
 use Rattle.std.specs.Option.{option_copied}
 use Rattle.tender_core.specs.declared.asking.Asking.{Asking}
 
--- its tests are those of the rows that it loads
+-- The tests of the rule are the tests on the loaded rows.
 rule : (asking : Asking) (contract : ℕ) (how : How) → IsTested asking (End contract how) (λ (s : Tables). end_rows s contract) (λ (rows : EndRows). rows.clock)
     (λ (rows : EndRows) (t : ℕ). end_tests rows)
 rule asking contract how = record { clock = λ s. refl; tested = λ s. refl }

@@ -12,7 +12,7 @@ use Rattle.office_plans.specs.Asking.{given_by}
 use Rattle.office_plans.specs.Replies.{reply_text}
 use Rattle.tender_core.specs.declared.asking.Asking.{Asking}
 
--- its tests are those of the rows that it loads
+-- The tests of the rule are the tests on the loaded rows.
 rule : (asking : Asking) (receipt : ℕ) (responsive : Bool) (quality : Option ℕ) → IsTested asking (Examine receipt responsive quality) (λ (s : Tables). examine_rows s receipt) (λ (rows : ExamineRows). rows.clock)
     (λ (rows : ExamineRows) (t : ℕ). examine_tests rows responsive quality)
 rule asking receipt responsive quality = record { clock = λ s. refl; tested = λ s. refl }

@@ -11,7 +11,7 @@ use Rattle.office_plans.specs.Asking.{given_by}
 use Rattle.std.specs.Option.{option_copied}
 use Rattle.tender_core.specs.declared.asking.Asking.{Asking}
 
--- its tests are those of the rows that it loads
+-- The tests of the rule are the tests on the loaded rows.
 rule : (asking : Asking) (award : ℕ) → IsTested asking (Fail award) (λ (s : Tables). fail_rows s award) (λ (rows : FailRows). rows.clock)
     (λ (rows : FailRows) (t : ℕ). fail_tests rows t)
 rule asking award = record { clock = λ s. refl; tested = λ s. refl }

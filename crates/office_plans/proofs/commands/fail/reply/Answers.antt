@@ -7,7 +7,7 @@ use Rattle.office_plans.specs.Replies.{reply_text}
 use Rattle.office_plans.proofs.Maybe.{if_ok}
 use Rattle.office_plans.proofs.commands.fail.reply.Goals as goal
 
--- equal replies
+-- Replies are equal if their parts are equal.
 told_alike : (award release release' t t' : ℕ) → release ≡ release' → t ≡ t' → Failed award release t ≡ Failed award release' t'
 told_alike award release release' t t' e f = λ i. Failed award (e i) (f i)
 

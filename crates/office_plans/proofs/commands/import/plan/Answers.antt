@@ -20,7 +20,7 @@ use Rattle.office_plans.proofs.commands.import.plan.Goals as goal
 use Rattle.tender_core.specs.Rules.Import.{import_puts, import_rows, import_tests}
 use Rattle.tender_core.specs.declared.import.ImportRows.{ImportRows}
 
--- its tests are those of the rows that it loads
+-- The tests of the rule are the tests on the loaded rows.
 rule : RowsAreKept id_cmp standing_key → ImportsAgree → (asking : Asking) (batch : List ℕ) (rows : List BudgetRow)
     → IsTested asking (Import batch rows) (λ (s : Tables). import_named s batch rows) (λ (loaded : ImportRows). loaded.clock) (λ (loaded : ImportRows) (t : ℕ). import_tests loaded)
 rule kept laws asking batch rows = record {

@@ -17,7 +17,7 @@ use Rattle.tender_core.specs.Rules.Modify.{modify_puts, modify_rows, modify_test
 use Rattle.tender_core.specs.declared.asking.Asking.{Asking}
 use Rattle.tender_core.specs.declared.modify.ModifyRows.{ModifyRows}
 
--- its tests are those of the rows that it loads
+-- The tests of the rule are the tests on the loaded rows.
 rule : (asking : Asking) (receipt : ℕ) (sealed : List ℕ) → IsTested asking (Modify receipt sealed) (λ (s : Tables). modify_rows s receipt) (λ (rows : ModifyRows). rows.clock)
     (λ (rows : ModifyRows) (t : ℕ). modify_tests rows t asking.caller.now)
 rule asking receipt sealed = record { clock = λ s. refl; tested = λ s. refl }

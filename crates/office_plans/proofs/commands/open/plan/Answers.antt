@@ -15,7 +15,7 @@ use Rattle.tender_core.specs.declared.asking.Asking.{Asking}
 use Rattle.tender_core.specs.declared.opening.OpenRows.{OpenRows}
 use Rattle.tender_core.specs.declared.opening.OpenedTender.{OpenedTender}
 
--- its tests are those of the rows that it loads
+-- The tests of the rule are the tests on the loaded rows.
 rule : (asking : Asking) (notice : List ℕ) → IsTested asking (Open notice) (λ (s : Tables). open_rows s notice) (λ (rows : OpenRows). rows.clock)
     (λ (rows : OpenRows) (t : ℕ). open_tests rows t)
 rule asking notice = record { clock = λ s. refl; tested = λ s. refl }

@@ -10,7 +10,7 @@ use Rattle.office_plans.proofs.commands.open.reply.Goals as goal
 use Rattle.tender_core.specs.declared.opening.OpenRows.{OpenRows}
 use Rattle.tender_core.specs.declared.opening.OpenedTender.{OpenedTender}
 
--- equal replies
+-- Replies are equal if their parts are equal.
 told_alike : (notice : List ℕ) (count count' release release' t t' : ℕ) → count ≡ count' → release ≡ release' → t ≡ t'
     → OpenedAll notice count release t ≡ OpenedAll notice count' release' t'
 told_alike notice count count' release release' t t' e f g = λ i. OpenedAll notice (e i) (f i) (g i)

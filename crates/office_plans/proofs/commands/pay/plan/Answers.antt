@@ -11,7 +11,7 @@ use Rattle.office_plans.specs.Asking.{given_by}
 use Rattle.std.specs.Option.{option_copied}
 use Rattle.tender_core.specs.declared.asking.Asking.{Asking}
 
--- its tests are those of the rows that it loads
+-- The tests of the rule are the tests on the loaded rows.
 rule : (asking : Asking) (contract : ℕ) (entry : List ℕ) (amount : ℕ) → IsTested asking (Pay contract entry amount) (λ (s : Tables). pay_rows s contract) (λ (rows : PayRows). rows.clock)
     (λ (rows : PayRows) (t : ℕ). pay_tests rows entry amount)
 rule asking contract entry amount = record { clock = λ s. refl; tested = λ s. refl }

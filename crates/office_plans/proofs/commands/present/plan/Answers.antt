@@ -19,7 +19,7 @@ use Rattle.tender_core.specs.Rules.Present.{present_puts, present_tests, receive
 use Rattle.tender_core.specs.declared.asking.Asking.{Asking}
 use Rattle.tender_core.specs.declared.present.PresentRows.{PresentRows}
 
--- its tests are those of the rows that it loads
+-- The tests of the rule are the tests on the loaded rows.
 rule : (asking : Asking) (notice : List ℕ) (lot : List ℕ) (security : Option NamedSecurity) (sealed : List ℕ) → IsTested asking (Present notice lot security sealed) (λ (s : Tables). own_rows asking.caller.now s notice lot) (λ (rows : PresentRows). rows.clock)
     (λ (rows : PresentRows) (t : ℕ). present_tests rows t asking.caller.now security)
 rule asking notice lot security sealed = record { clock = λ s. refl; tested = λ s. sym (own_tests asking.caller.now notice lot s (time_of (given_by asking s (Present notice lot security sealed))) security) }

@@ -18,7 +18,7 @@ use Rattle.tender_core.specs.Rules.Publish.{publish_puts, publish_rows, publish_
 use Rattle.tender_core.specs.declared.asking.Asking.{Asking}
 use Rattle.tender_core.specs.declared.publish.PublishRows.{PublishRows}
 
--- its tests are those of the rows that it loads
+-- The tests of the rule are the tests on the loaded rows.
 rule : RowsAreKept id_cmp line_key → PublishesAgree → (asking : Asking) (notice : List ℕ) (content : NewNotice) → IsTested asking (Publish notice content) (λ (s : Tables). publish_named s notice content.lots) (λ (rows : PublishRows). rows.clock)
     (λ (rows : PublishRows) (t : ℕ). publish_tests rows t content)
 rule kept laws asking notice content = record {
@@ -28,7 +28,7 @@ rule kept laws asking notice content = record {
       (lines_agree kept s line_of_new content.lots));
 }
 
--- rows that were loaded by the lots of a content are those of its lots
+-- Rows that were loaded by the borrowed lots of a notice are those of its lots.
 loaded : {S : Type 0} (M : Meaning S) (a b : S) (rows : PublishRows) (notice : List ℕ) (borrowed lots : List NewLot) → borrowed ≡ lots
     → Looks M a b (λ (s : Tables). rows ≡ publish_named s notice borrowed) → Looks M a b (λ (s : Tables). rows ≡ publish_named s notice lots)
 loaded M a b rows notice borrowed lots same looked = subst (λ (ls : List NewLot). Looks M a b (λ (s : Tables). rows ≡ publish_named s notice ls)) same looked

@@ -12,7 +12,7 @@ use Rattle.tender_core.specs.Rules.Register.{register_puts, register_rows, regis
 use Rattle.tender_core.specs.declared.asking.Asking.{Asking}
 use Rattle.tender_core.specs.declared.register.RegisterRows.{RegisterRows}
 
--- its tests are those of the rows that it loads
+-- The tests of the rule are the tests on the loaded rows.
 rule : (asking : Asking) (tenderer : List ℕ) (name : List ℕ) (address : List ℕ) (key : List ℕ) → IsTested asking (Register tenderer name address key) (λ (s : Tables). register_rows s tenderer) (λ (rows : RegisterRows). rows.clock)
     (λ (rows : RegisterRows) (t : ℕ). register_tests rows tenderer)
 rule asking tenderer name address key = record { clock = λ s. refl; tested = λ s. refl }

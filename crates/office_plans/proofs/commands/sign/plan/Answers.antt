@@ -12,7 +12,7 @@ use Rattle.office_plans.specs.Asking.{given_by}
 use Rattle.std.specs.Option.{option_copied}
 use Rattle.tender_core.specs.declared.asking.Asking.{Asking}
 
--- its tests are those of the rows that it loads
+-- The tests of the rule are the tests on the loaded rows.
 rule : (asking : Asking) (award : ℕ) (security : Option NamedSecurity) → IsTested asking (Sign award security) (λ (s : Tables). sign_rows s award) (λ (rows : SignRows). rows.clock)
     (λ (rows : SignRows) (t : ℕ). sign_tests rows t security)
 rule asking award security = record { clock = λ s. refl; tested = λ s. refl }

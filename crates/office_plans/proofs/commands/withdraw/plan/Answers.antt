@@ -13,7 +13,7 @@ use Rattle.tender_core.specs.Rules.Withdraw.{withdraw_puts, withdraw_rows, withd
 use Rattle.tender_core.specs.declared.asking.Asking.{Asking}
 use Rattle.tender_core.specs.declared.withdraw.WithdrawRows.{WithdrawRows}
 
--- its tests are those of the rows that it loads
+-- The tests of the rule are the tests on the loaded rows.
 rule : (asking : Asking) (receipt : ℕ) → IsTested asking (Withdraw receipt) (λ (s : Tables). withdraw_rows s receipt) (λ (rows : WithdrawRows). rows.clock)
     (λ (rows : WithdrawRows) (t : ℕ). withdraw_tests rows t asking.caller.now)
 rule asking receipt = record { clock = λ s. refl; tested = λ s. refl }

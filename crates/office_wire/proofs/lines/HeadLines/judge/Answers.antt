@@ -23,7 +23,7 @@ returns-then-self-clause-no_head c said front last e none =
     cc (sym test ∙ said) in
     subst HasNoRequest (sym e) (no_head_push front last none other)
 
--- all that came is empty lines
+-- all bytes so far are empty lines
 blank_now : (c : goal.After-self-1) → skip_empty c.self.inside.bytes.items ≡ []
 blank_now c =
     let bytes = c.self.inside.bytes.items in
