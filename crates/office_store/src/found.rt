@@ -142,6 +142,7 @@ fn origin_of(edition: u64) -> Origin
 
 /// Enters the office that is there, where one of an earlier edition becomes one as this program makes it; or makes an office where no name of its tables
 /// is taken. The store is open then.
+#[tactic(auto, using(crate::proofs::Causes::refused_so))]
 pub(crate) fn enter<S: Alter>(alloc: Global, conn: &mut Connection<S>) -> Result<Origin, OpenFault>
     ensures enters { HasCleanDisk (state S.Store conn.new) → IfOk result (λ origin. Enters S.Store origin conn.old conn.new) }
     ensures none { HasCleanDisk (state S.Store conn.new) → IfErr result (λ e. e ≡ OpenFault.NotAnOffice → IsNoOffice S.Store conn.old) }

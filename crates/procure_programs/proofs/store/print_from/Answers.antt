@@ -1,14 +1,20 @@
 use Rattle.sqlite_wal.specs.Files.{image_at}
 use Rattle.sqlite.specs.Files.{over_files}
 use Rattle.office_store.specs.SqlMeaning.{sql_meaning}
-use Rattle.procure_programs.proofs.OpenedFiles.{closes_ok, kept_served}
+use Rattle.procure_programs.proofs.OpenedFiles.{closes, kept_served}
+use Rattle.procure_programs.proofs.StoppedFiles.{closes_half}
 use Rattle.procure_programs.proofs.store.print_from.Goals as goal
 
-pub returns : goal.returns
-returns g c =
-    let opened = c.in_ok-opened.opened.shelf in
+pub returns-in-Ok-close_office-clause-keeps : goal.returns-in-Ok-close_office-clause-keeps
+returns-in-Ok-close_office-clause-keeps g c =
+    let opened = c.in-Ok.opened.shelf in
     let left = c.print_shelf-shelf.result.0 in
-    record {
-      keeps = closes_ok (image_at g.S.Start) c.args.settings 0 opened left c.close_office.result c.in_ok-opened.ensures.held c.in_ok-opened.ensures.empty
-          (kept_served (sql_meaning over_files) c.args.settings opened left c.print_shelf-shelf.ensures) c.close_office.ensures;
-    }
+    closes (image_at g.S.Start) c.args.settings 0 opened left c.in-Ok-close_office.left.0 c.in-Ok.ensures.held c.in-Ok.ensures.empty
+    (kept_served (sql_meaning over_files) c.args.settings opened left c.print_shelf-shelf.ensures) c.in-Ok-close_office.ensures.closed
+
+pub returns-in-Err-close_office-clause-half : goal.returns-in-Err-close_office-clause-half
+returns-in-Err-close_office-clause-half g c =
+    let opened = c.in-Ok.opened.shelf in
+    let left = c.print_shelf-shelf.result.0 in
+    closes_half (image_at g.S.Start) c.args.settings 0 opened left c.in-Err-close_office.store c.order.ensures c.in-Ok.ensures.held c.in-Ok.ensures.empty c.in-Ok.ensures.sound c.in-Ok.ensures.alone
+    (kept_served (sql_meaning over_files) c.args.settings opened left c.print_shelf-shelf.ensures) c.in-Err-close_office.ensures.half

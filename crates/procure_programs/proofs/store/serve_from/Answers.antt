@@ -1,10 +1,15 @@
 use Rattle.sqlite_wal.specs.Files.{image_at}
-use Rattle.procure_programs.proofs.OpenedFiles.{closes_ok}
+use Rattle.procure_programs.proofs.OpenedFiles.{closes}
+use Rattle.procure_programs.proofs.StoppedFiles.{closes_half}
 use Rattle.procure_programs.proofs.store.serve_from.Goals as goal
 
-pub returns : goal.returns
-returns g c =
-    let it = c.in_ok-shelf.ensures.serves in
-    record {
-      serves = closes_ok (image_at g.S.Start) c.args.settings c.args.count it.opened c.in_ok-shelf.shelf c.close_office.result it.held it.empty it.served c.close_office.ensures;
-    }
+pub returns-in-Ok-close_office-clause-serves : goal.returns-in-Ok-close_office-clause-serves
+returns-in-Ok-close_office-clause-serves g c =
+    let it = c.in-Ok.ensures.serves in
+    closes (image_at g.S.Start) c.args.settings c.args.count it.opened c.in-Ok.left.0 c.in-Ok-close_office.left.0 it.held it.empty it.served c.in-Ok-close_office.ensures.closed
+
+pub returns-in-Err-close_office-clause-half : goal.returns-in-Err-close_office-clause-half
+returns-in-Err-close_office-clause-half g c =
+    let it = c.in-Ok.ensures.serves in
+    closes_half (image_at g.S.Start) c.args.settings c.args.count it.opened c.in-Ok.left.0 c.in-Err-close_office.store c.order.ensures it.held it.empty it.sound it.alone it.served
+    c.in-Err-close_office.ensures.half
