@@ -1,13 +1,14 @@
 -- Why an office isn't entered.
-use Rattle.std.proofs.Common.{◌≡◌, ◌⊎◌, inl, inr, ℕ, ◌≤◌, List, [], true, false, refl, sym, subst, IsTrue, arith}
+use Rattle.std.proofs.Common.{◌≡◌, ◌∙◌, ◌⊎◌, inl, inr, ℕ, ◌≤◌, List, [], true, false, refl, sym, subst, IsTrue, arith}
 use Rattle.sqlite_value.specs.Order.{Row}
 use Rattle.sqlite_trees.specs.declared.store.Store.{Ghosts}
 use Rattle.sqlite.specs.Effect.{Database}
+use Rattle.sqlite.specs.declared.error.Error.{Error}
 use Rattle.sqlite.specs.Held.{Held, state}
 use Rattle.sqlite.specs.State.{State, HasCleanDisk, Survives}
 use Rattle.office_tables.specs.Editions.{edition_of, has_late}
-use Rattle.office_tables.specs.Failing.{DiskFails}
-use Rattle.office_tables.specs.Steps.{IsAsked, Refused}
+use Rattle.office_tables.specs.Failing.{DiskFails, fault_of}
+use Rattle.office_tables.specs.Steps.{IsAsked, IsRefusedBy, Refused}
 use Rattle.office_tables.specs.Version.{get_version}
 use Rattle.office_store.specs.Forms.{HasForms}
 use Rattle.office_base.specs.declared.shelf.ShelfFault.{ShelfFault}
@@ -37,3 +38,7 @@ hindered g old mid new rows edition why asked known is clean kept survives ended
 pub store_of : (why : ShelfFault) → opening_of why ≡ fault.Store → why ≡ shelf.Store
 store_of shelf.NoMemory is = absurd (cc)
 store_of shelf.Store is = refl
+
+-- the question for the version was refused
+pub refused_so : {S : Type 0} (g : Ghosts S) (old new : Held S) (e : Error) (why : OpenFault) → IsRefusedBy g get_version [] old new e → why ≡ opening_of (fault_of e) → EntersOrCanNot g why old new
+refused_so g old new e why refused is store was alone = inr (inl (e, refused, store_of (fault_of e) (sym is ∙ store)))

@@ -26,28 +26,25 @@ is_at n t = t.tree == n
 
 no_other : (n : ℕ) (x : Table) (xs : List Table) → ((y : Table) → Has xs y → same_name x.name y.name ≡ false) → ((y : Table) → Has xs y → y.tree ≡ n → y ≡ x) → filter (is_at n) xs ≡ []
 no_other n x [] apart alone = refl
-no_other n x (y ∷ xs) apart alone = go (is_at n y) refl
+no_other n x (y ∷ xs) apart alone = go (is_at n y) refl (no_other n x xs (λ z h. apart z (inr h)) (λ z h. alone z (inr h)))
   where
-    rest : filter (is_at n) xs ≡ []
-    rest = no_other n x xs (λ z h. apart z (inr h)) (λ z h. alone z (inr h))
-
-    go : (b : Bool) → is_at n y ≡ b → cond b (y ∷ filter (is_at n) xs) (filter (is_at n) xs) ≡ []
-    go true at =
+    go : (b : Bool) → is_at n y ≡ b → filter (is_at n) xs ≡ [] → cond b (y ∷ filter (is_at n) xs) (filter (is_at n) xs) ≡ []
+    go true at rest =
         let same : y ≡ x = alone y (inl refl) (eqb-true y.tree n at) in
         absurd (true≢false (sym (same_itself x.name) ∙ ap (λ (t : Table). same_name x.name t.name) (sym same) ∙ apart y (inl refl)))
-    go false at = rest
+    go false at rest = rest
 
 only_one : (n : ℕ) (x : Table) (xs : List Table) → AreNamed xs → Has xs x → x.tree ≡ n → ((y : Table) → Has xs y → y.tree ≡ n → y ≡ x) → length (filter (is_at n) xs) ≡ 1
 only_one n x [] named there tree alone = absurd there
-only_one n x (y ∷ xs) named there tree alone = go (is_at n y) refl
+only_one n x (y ∷ xs) named there tree alone = go (is_at n y) refl (λ later. only_one n x xs named.1 later tree (λ z h. alone z (inr h)))
   where
-    go : (b : Bool) → is_at n y ≡ b → length (cond b (y ∷ filter (is_at n) xs) (filter (is_at n) xs)) ≡ 1
-    go true at =
+    go : (b : Bool) → is_at n y ≡ b → (Has xs x → length (filter (is_at n) xs) ≡ 1) → length (cond b (y ∷ filter (is_at n) xs) (filter (is_at n) xs)) ≡ 1
+    go true at rest =
         let same : y ≡ x = alone y (inl refl) (eqb-true y.tree n at) in
         ap (λ (l : List Table). suc (length l)) (no_other n y xs (λ z h. all_has (λ t. same_name y.name t.name ≡ false) xs z named.0 h) (λ z h at. alone z (inr h) at ∙ sym same))
-    go false at = elim there [
+    go false at rest = elim there [
       | inl same ↦ absurd (true≢false (sym (eq-eqb y.tree n (ap (λ (t : Table). t.tree) (sym same) ∙ tree)) ∙ at))
-      | inr later ↦ only_one n x xs named.1 later tree (λ z h. alone z (inr h))
+      | inr later ↦ rest later
     ]
 
 counted : (key : Option ℕ) (t : Table) (index : ℕ) → length (key_indexes key t index) ≡ index_count key
@@ -110,9 +107,11 @@ plain Performances = (refl, refl, refl)
 -- ---- their names
 
 pub has_mapped : {X Y : Type 0} (f : X → Y) (xs : List X) (x : X) → Has xs x → Has (map f xs) (f x)
+has_mapped f [] x none = absurd none
 has_mapped f (y ∷ xs) x (inl same) = inl (ap f same)
 has_mapped f (y ∷ xs) x (inr later) = inr (has_mapped f xs x later)
 
 pub was_mapped : {X Y : Type 0} (f : X → Y) (xs : List X) (y : Y) → Has (map f xs) y → (x : X) × Has xs x × (y ≡ f x)
+was_mapped f [] y none = absurd none
 was_mapped f (x ∷ xs) y (inl same) = (x, inl refl, same)
 was_mapped f (x ∷ xs) y (inr later) = let it = was_mapped f xs y later in (it.0, inr it.1, it.2)

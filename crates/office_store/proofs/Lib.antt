@@ -3,7 +3,7 @@ mod Once
 mod Shelves
 mod FormsStand
 mod FormsFound
-mod Causes
+pub mod Causes
 mod RestKept
 pub mod Founding
 mod Migrating

@@ -144,6 +144,7 @@ fn origin_of(edition: u64) -> Origin
 
 /// Enters the office in the database, and migrates it if it is of an earlier edition. It makes an office if there is none and no name of its tables is taken.
 /// After success the store is open.
+#[tactic(auto, using(crate::proofs::Causes::refused_so))]
 pub(crate) fn enter<S: Alter>(alloc: Global, conn: &mut Connection<S>) -> Result<Origin, OpenFault>
     ensures enters { HasCleanDisk (state S.Store conn.new) → IfOk result (λ origin. Enters S.Store origin conn.old conn.new) }
     ensures none { HasCleanDisk (state S.Store conn.new) → IfErr result (λ e. e ≡ OpenFault.NotAnOffice → IsNoOffice S.Store conn.old) }

@@ -18,8 +18,8 @@ returns-then-all_stand-clause-forms g c open_now =
     (forms_stand c.args.edition it.now (c.schema.ensures.live open_now).0 (λ k.
     subst (λ s. StandsOrLacks c.args.edition s (table_of k)) c.schema.ensures.value (c.all_stand.ensures.right c.if-all_stand.true lists k)))
 
-pub returns-else-all_stand-clause-lacks : goal.returns-else-all_stand-clause-lacks
-returns-else-all_stand-clause-lacks g c store open_now alone has =
+pub returns-clause-lacks : goal.returns-clause-lacks
+returns-clause-lacks g c store open_now alone has =
     let it = state g.S.Store c.args.conn.now in
     let settled = c.is_autocommit.ensures.settled (search rules) open_now in
     let lists : ListsForms c.schema-2.result.now = subst ListsForms (sym c.schema-2.ensures.value) c.in-Ok.ensures.forms in

@@ -1,4 +1,4 @@
-use Rattle.std.proofs.Common.{rules, arith, ◌≡◌, ◌∙◌, refl, sym, subst, inl, inr, [], true, false, IsTrue}
+use Rattle.std.proofs.Common.{rules, arith, ◌≡◌, refl, sym, subst, inl, inr, [], true, false, IsTrue}
 use Rattle.std.specs.Prelude.{nat_lt}
 use Rattle.sqlite.specs.Held.{state}
 use Rattle.sqlite.specs.declared.error.Error.TheVariants.{SqlInputError}
@@ -9,7 +9,7 @@ use Rattle.office_tables.specs.Steps.{IsRefusal}
 use Rattle.office_tables.specs.Tables.Office.{this_version}
 use Rattle.office_tables.specs.Version.{get_version}
 use Rattle.office_store.specs.Founding.{Enters, version_in, is_other_version, takes_a_name, LeavesOffice}
-use Rattle.office_store.proofs.Causes.{hindered, store_of}
+use Rattle.office_store.proofs.Causes.{hindered}
 use Rattle.office_store.proofs.Founding.{sound_after, founded_after, leaves_before, refused_on, shown_is_left}
 use Rattle.office_store.proofs.Migrating.{late_committed, leaves_readied_before, readied_after, readied_enters, readied_shows, never_other, shown_version}
 use Rattle.office_store.proofs.found.enter.Goals as goal
@@ -185,7 +185,3 @@ returns-in-Err-SqlInputError-clause-failed g c clean store was alone =
     let none : takes_a_name c.args.conn.now.schema ≡ false = search rules in
     let input : c.in-Err-SqlInputError.field-0 ≡ SqlInputError c.in-Err-SqlInputError.field-0-0 = search rules in
     inr (inr (inr ((c.in-Err-SqlInputError.field-0-0, subst (IsRefusal g.S.Store get_version [] c.args.conn.now) input (c.in-Err-SqlInputError.ensures.refused early)), none)))
-
-pub returns-in-Err-clause-failed : goal.returns-in-Err-clause-failed
-returns-in-Err-clause-failed g c clean store was alone =
-    inr (inl (c.in-Err.error, c.in-Err.ensures.failed clean, store_of _ (sym c.open_fault.ensures.is ∙ store)))
