@@ -1,9 +1,12 @@
 //! The decision on a payment under a contract.
-ghost use Rattle.std.specs.Prelude.{◌≡◌, IfOk, IfErr, false};
+ghost use Rattle.std.specs.Prelude.{◌≡◌, IfOk, IfErr, Some};
+ghost use Rattle.std.specs.Option.{is_none};
 ghost use Rattle.office_values.specs.declared.refusal.Refusal.TheVariants.{Unavailable};
 ghost use Rattle.office_base.specs.Deciding.{Decides};
 ghost use Rattle.office_base.specs.Rules.{first_of};
-ghost use Rattle.award_core.specs.Rules.Pay.{pay_lacks, pay_tests, pay_puts};
+ghost use Rattle.office_base.specs.Transitions.{puts_if};
+ghost use Rattle.award_core.specs.Found.{found_unless};
+ghost use Rattle.award_core.specs.Rules.Pay.{pay_found, pay_tests, pay_puts};
 
 use crate::entries::{has_all_entries, has_entry, is_beyond};
 use office_base::puts::Put;
@@ -25,8 +28,17 @@ pub struct PayRows {
     pub clock: ClockRow,
 }
 
-/// The refusal of the payment, if one of its conditions is true.
-pub fn refusal(rows: &PayRows, entry: &Id, amount: EntryAmount) -> Option<Refusal>
+/// The rows of a payment that isn't refused.
+#[derive(Drop)]
+pub struct PayFound {
+    pub contract: ContractRow,
+    pub entries: Rows<EntryRow>,
+    pub notice: NoticeRow,
+    pub clock: ClockRow,
+}
+
+// The refusal of the payment, if one of its conditions is true.
+fn refusal(rows: &PayRows, entry: &Id, amount: EntryAmount) -> Option<Refusal>
     ensures { result ≡ first_of (pay_tests rows.now entry.now amount) }
 {
     let Some(contract) = &rows.contract else {
@@ -47,24 +59,37 @@ pub fn refusal(rows: &PayRows, entry: &Id, amount: EntryAmount) -> Option<Refusa
     None
 }
 
-/// The changes of the payment. `Unavailable` if the contract or its notice is missing, or if the notice has as many releases as it can have.
+/// These rows, unless the payment is refused. `Unavailable` if the notice of the contract is missing, which isn't so in an office that its
+/// commands made. Takes no memory.
+pub fn found(rows: PayRows, entry: &Id, amount: EntryAmount) -> Result<PayFound, Refusal>
+    ensures { result ≡ found_unless (first_of (pay_tests rows entry.now amount)) (pay_found rows) }
+{
+    if let Some(why) = refusal(&rows, entry, amount) {
+        return Err(why);
+    }
+    Ok(PayFound {
+        contract: rows.contract.ok_or(Refusal::Unavailable)?,
+        entries: rows.entries,
+        notice: rows.notice.ok_or(Refusal::Unavailable)?,
+        clock: rows.clock,
+    })
+}
+
+/// The changes of the payment. `Unavailable` also if the notice has as many releases as it can have.
 pub fn puts(
     alloc: Global,
     t: Moment,
-    rows: PayRows,
+    found: PayFound,
     entry: Id,
     amount: EntryAmount,
 ) -> Result<Vec<Put>, Refusal>
-    ensures puts { IfOk result (λ made. made.items ≡ pay_puts rows t entry amount) }
-    ensures whole { IfOk result (λ _. pay_lacks rows ≡ false) }
+    ensures puts { IfOk result (λ made. made.items ≡ pay_puts found t entry amount) }
     ensures fault { IfErr result (λ e. e ≡ Unavailable) }
 {
-    let contract = rows.contract.ok_or(Refusal::Unavailable)?;
-    let notice = rows.notice.ok_or(Refusal::Unavailable)?;
-    let notice = with_next_release(notice).ok_or(Refusal::Unavailable)?;
+    let notice = with_next_release(found.notice).ok_or(Refusal::Unavailable)?;
     let mut made = Vec::with_capacity(alloc, 3)?;
     made.push(Put::Entry(EntryRow {
-        contract: contract.contract,
+        contract: found.contract.contract,
         entry,
         kind: EntryKind::Payment,
         amount,
@@ -72,7 +97,7 @@ pub fn puts(
         rationale: None,
     }))?;
     made.push(Put::Notice(notice))?;
-    made.push(Put::Clock(at_moment(rows.clock, t)))?;
+    made.push(Put::Clock(at_moment(found.clock, t)))?;
     Ok(made)
 }
 
@@ -86,10 +111,7 @@ pub fn decide_pay(
     entry: Id,
     amount: EntryAmount,
 ) -> Result<Vec<Put>, Refusal>
-    ensures { Decides result (first_of (pay_tests rows entry amount)) (pay_lacks rows) (pay_puts rows t entry amount) }
+    ensures { Decides result (first_of (pay_tests rows entry amount)) (is_none (pay_found rows)) (puts_if (λ f. pay_puts f t entry amount) (pay_found rows)) }
 {
-    match refusal(&rows, &entry, amount) {
-        Some(why) => Err(why),
-        None => puts(alloc, t, rows, entry, amount),
-    }
+    puts(alloc, t, found(rows, &entry, amount)?, entry, amount)
 }

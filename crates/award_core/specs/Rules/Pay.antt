@@ -1,12 +1,12 @@
 -- The rule of a payment under a contract.
-use Rattle.std.specs.Prelude.{ℕ, Bool, not, ◌&&◌, ◌||◌, List, [], ◌∷◌, None, is_some}
+use Rattle.std.specs.Prelude.{ℕ, Bool, not, ◌||◌, List, [], ◌∷◌, Option, Some, None, is_some, option_map, option_and_then}
 use Rattle.std.specs.List.{list_any}
 use Rattle.office_base.specs.declared.records.EntryKind.TheVariants as entry_kinds
 use Rattle.office_values.specs.declared.refusal.Thing.TheVariants as things
 use Rattle.office_values.specs.declared.refusal.Refusal.{Refusal}
 use Rattle.office_values.specs.declared.refusal.Refusal.TheVariants.{NoSuch, Exists, MoreThanOutstanding, ContractEnded, LimitReached}
 use Rattle.office_base.specs.Rows.{holds_of}
-use Rattle.office_base.specs.Transitions.{clock_put, with_next_release, has_all_releases, puts_if}
+use Rattle.office_base.specs.Transitions.{clock_put, with_next_release, has_all_releases}
 use Rattle.award_core.specs.Rules.AmendContract.{has_ended, is_beyond, is_taken, has_all_entries}
 use Rattle.office_base.specs.declared.records.NoticeRow.{NoticeRow}
 use Rattle.office_base.specs.declared.records.ContractRow.{ContractRow}
@@ -16,6 +16,7 @@ use Rattle.office_base.specs.declared.puts.Put.{Put}
 use Rattle.office_base.specs.Tables.{Tables, contract_at, entries_of_contract}
 use Rattle.office_base.specs.Parents.{notice_of_contract}
 use Rattle.award_core.specs.declared.pay.PayRows.{PayRows}
+use Rattle.award_core.specs.declared.pay.PayFound.{PayFound}
 
 -- the entry of the payment
 abbrev pub payment_row : ℕ → ContractRow → List ℕ → ℕ → EntryRow
@@ -31,9 +32,12 @@ pay_rows s contract = record {
   clock = s.clock;
 }
 
--- whether the contract exists, but its notice is missing
-abbrev pub pay_lacks : PayRows → Bool
-pay_lacks rows = is_some rows.contract && not (is_some rows.notice)
+-- the rows, if the contract and its notice exist
+abbrev pub pay_found : PayRows → Option PayFound
+pay_found rows =
+    option_and_then (λ (c : ContractRow). option_map (λ (n : NoticeRow).
+    record { contract = c; entries = rows.entries; notice = n; clock = rows.clock }
+    ) rows.notice) rows.contract
 
 -- the conditions of its refusals, in order
 abbrev pub pay_tests : PayRows → List ℕ → ℕ → List (Bool × Refusal)
@@ -46,8 +50,6 @@ pay_tests rows entry amount =
     ∷ []
 
 -- its changes: the payment, the notice and the clock
-abbrev pub pay_puts : PayRows → ℕ → List ℕ → ℕ → List Put
-pay_puts rows t entry amount =
-    puts_if (λ (c : ContractRow). puts_if (λ (n : NoticeRow).
-    puts.Entry (payment_row t c entry amount) ∷ puts.Notice (with_next_release n) ∷ clock_put rows.clock t ∷ []
-    ) rows.notice) rows.contract
+abbrev pub pay_puts : PayFound → ℕ → List ℕ → ℕ → List Put
+pay_puts f t entry amount =
+    puts.Entry (payment_row t f.contract entry amount) ∷ puts.Notice (with_next_release f.notice) ∷ clock_put f.clock t ∷ []
