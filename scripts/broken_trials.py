@@ -59,6 +59,7 @@ class BrokenLife(Life):
 COMMANDS: dict[str, tuple[str, Callable[[BrokenLife], tuple[Any, ...]]]] = {
     "import": ("import_budget", lambda of: ("B2", budget("1000,cut,500,Roads"))),
     "import, adding": ("import_budget", lambda of: ("B2", budget("1000,add,1,Roads"))),
+    "import, a new line": ("import_budget", lambda of: ("B2", budget("3000,add,1,Parks"))),
     "register": ("register", lambda of: ("T9",)),
     "publish": ("publish", lambda of: ("N", publication(of))),
     "amend_notice": ("amend_notice", lambda of: ("R", text_of(of.deadline + 31 * DAY))),
@@ -148,6 +149,11 @@ def releases_gone(name: str, which: str = "") -> str:
     return f"DELETE FROM releases WHERE notice = '{name}'{which};"
 
 
+def release_added(name: str) -> str:
+    """A release under the number that the notice's next one gets."""
+    return f"INSERT INTO releases SELECT notice, seq + 1, moment, text FROM releases WHERE notice = '{name}' ORDER BY seq DESC LIMIT 1;"
+
+
 def merge_gone(name: str) -> str:
     return f"DELETE FROM compiled WHERE notice = '{name}';"
 
@@ -159,12 +165,18 @@ def of_releases(name: str, is_long: bool) -> list[tuple[str, ...]]:
     found = [("all releases", releases_gone(name)), ("all releases and the merge", releases_gone(name) + merge_gone(name)),
              ("the merge", merge_gone(name), ANEW), ("the merge that isn't JSON", f"UPDATE compiled SET text = '{{{{' WHERE notice = '{name}';"),
              ("the merge that is no object", f"UPDATE compiled SET text = '[]' WHERE notice = '{name}';"),
-             ("the merge, and a release that is no object", merge_gone(name) + f"UPDATE releases SET text = '[]' WHERE notice = '{name}' AND seq = 1;")]
+             ("the merge, and a release that is no object", merge_gone(name) + f"UPDATE releases SET text = '[]' WHERE notice = '{name}' AND seq = 1;"),
+             ("a release with the next number is there", release_added(name))]
     if is_long:
         found += [("a release in the middle", releases_gone(name, second), MAY), ("the last release", releases_gone(name, last)),
                   ("a release in the middle and the merge", releases_gone(name, second) + merge_gone(name)),
                   ("the last release and the merge", releases_gone(name, last) + merge_gone(name))]
     return found
+
+
+# Rows whose parent is missing, or whose number comes next: what makes them of other rows.
+def renamed(table: str, key: str, change: str) -> str:
+    return f"UPDATE {table} SET {change} WHERE {key};"
 
 
 # Of each command: what is gone or out of range, the change, and the refusal that says so, MAY or ANEW.
@@ -174,8 +186,15 @@ TRIALS: dict[str, list[tuple[str, ...]]] = {
         ("an appropriation below the cut", "UPDATE lines SET appropriation = 100 WHERE line = '1000';", "InsufficientFunds"),
     ],
     "import, adding": [("more free than a line may have", "UPDATE lines SET free = 1000000000000000 WHERE line = '1000';", "LimitReached")],
-    "register": [],
-    "publish": [("the first lot's line", line_gone("1000"), "NoSuch line"), ("the other lot's line", line_gone("2000"), "NoSuch line")],
+    "import, a new line": [("a lot of it is there", renamed("lots", "notice = 'R' AND lot = 'L2'", "line = '3000'"))],
+    "register": [("a tender of the tenderer is there", renamed("envelopes", "receipt = {R1}", "tenderer = 'T9'"), MAY)],
+    "publish": [
+        ("the first lot's line", line_gone("1000"), "NoSuch line"), ("the other lot's line", line_gone("2000"), "NoSuch line"),
+        ("a lot of it is there", renamed("lots", "notice = 'R' AND lot = 'L2'", "notice = 'N', lot = 'L9'")),
+        ("a tender for it is there", renamed("envelopes", "receipt = {R1}", "notice = 'N'")),
+        ("a release of it is there", renamed("releases", "notice = 'R'", "notice = 'N'")),
+        ("a release and a merge of it are there", renamed("releases", "notice = 'R'", "notice = 'N'") + renamed("compiled", "notice = 'R'", "notice = 'N'")),
+    ],
     "amend_notice": [("its notice", notice_gone("R"), "NoSuch notice"), *of_releases("R", False)],
     "cancel": [
         ("its notice", notice_gone("R"), "NoSuch notice"), ("its lots", lot_gone("R") + lot_gone("R", "L2"), "NothingToCancel"),
@@ -188,6 +207,7 @@ TRIALS: dict[str, list[tuple[str, ...]]] = {
     ],
     "present": [
         ("its notice", notice_gone("R"), "NoSuch notice"), ("its lot", lot_gone("R"), "NoSuch lot"), ("the tenderer", tenderer_gone("T3"), "BadKey"),
+        ("a tender with its receipt is there", "UPDATE office SET receipts = 0;"),
     ],
     "modify": [
         ("its tender", tender_gone("R1"), "NoSuch tender"), ("its notice", notice_gone("R")), ("the tenderer", tenderer_gone("T1"), "BadKey"),
@@ -208,7 +228,8 @@ TRIALS: dict[str, list[tuple[str, ...]]] = {
     "examine": [("its tender", tender_gone("E1"), "NoSuch tender"), ("its notice", notice_gone("E")), ("its lot", lot_gone("E"))],
     "award": [
         ("its notice", notice_gone("A"), "NoSuch notice"), ("its lot", lot_gone("A"), "NoSuch lot"), ("its lot's line", line_gone("1000")),
-        ("the winner", tenderer_gone("T1")), ("more reserved than there", over_reserved("A", "L1"), MAY), *of_releases("A", False),
+        ("the winner", tenderer_gone("T1")), ("more reserved than there", over_reserved("A", "L1"), MAY),
+        ("an award with its number is there", "UPDATE office SET awards = 0;"), *of_releases("A", False),
     ],
     "award, to nobody": [
         ("its lot's line", line_gone("2000")), ("a tender's security", security_gone("A3"), MAY), ("more reserved than there", over_reserved("A", "L2"), MAY),
@@ -219,7 +240,8 @@ TRIALS: dict[str, list[tuple[str, ...]]] = {
     ],
     "sign": [
         ("its award", AWARD_GONE, "NoSuch award"), ("its notice", notice_gone("W")), ("its lot", lot_gone("W")), ("its tender", tender_gone("W1")),
-        ("its tender's security", security_gone("W1"), MAY), *of_releases("W", False),
+        ("its tender's security", security_gone("W1"), MAY),
+        ("a contract with its number is there", renamed("contracts", "contract = {contract}", "contract = {award}")), *of_releases("W", False),
     ],
     "raise": [
         ("its contract", CONTRACT_GONE, "NoSuch contract"), ("its notice", notice_gone("C")), ("its lot", lot_gone("C"), "InsufficientFunds"),

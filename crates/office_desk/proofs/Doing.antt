@@ -24,6 +24,7 @@ module _ {S : Type 0} (M : Meaning S) (publisher : Publisher) (moment : ℕ) (ca
     before = kept.before;
     all = λ honest t held keeps. tt;
     none = λ honest t held. kept.same honest t held;
+    whole = λ honest t held. tt;
     stop_all = λ honest t held keeps. tt;
     stop_none = λ honest u left. inl (kept.stop honest u left);
     sound = λ honest was. kept.sound honest was;
@@ -43,6 +44,7 @@ module _ {S : Type 0} (M : Meaning S) (publisher : Publisher) (moment : ℕ) (ca
       all = λ honest t held keeps. subst (λ (u : Tables). M.holds new u) (next_is t (plan (alters.before honest) t held) keeps)
           (alters.all honest t (kept.same (alters.before honest) t held));
       none = λ honest t held. tt;
+      whole = λ honest t held. (plan (alters.before honest) t held).whole;
       stop_all = λ honest t held keeps u left.
           alters.stop_all honest t (kept.same (alters.before honest) t held) u left ∙ next_is t (plan (alters.before honest) t held) keeps;
       stop_none = λ honest. tt;
@@ -52,6 +54,7 @@ module _ {S : Type 0} (M : Meaning S) (publisher : Publisher) (moment : ℕ) (ca
       before = λ honest. kept.before (alters.before honest);
       all = λ honest t held keeps. tt;
       none = λ honest t held. alters.none honest t (kept.same (alters.before honest) t held);
+      whole = λ honest t held. tt;
       stop_all = λ honest t held keeps. tt;
       stop_none = λ honest u left. stopped u (alters.before honest) (alters.stop_none honest u left);
       sound = λ honest was. alters.sound honest (kept.sound (alters.before honest) was);

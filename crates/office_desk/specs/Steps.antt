@@ -13,6 +13,7 @@ use Rattle.office_base.specs.Tables.{Tables, contract_at, entries_of_contract}
 use Rattle.office_base.specs.declared.records.ContractRow.{ContractRow}
 use Rattle.office_base.specs.declared.records.EntryRow.{EntryRow}
 use Rattle.office_base.specs.Shelves.{Meaning}
+use Rattle.office_machine.specs.Lacking.{is_lacking}
 use Rattle.office_machine.specs.Machine.{Given, refusal_of, Reaches}
 use Rattle.office_machine.specs.Accounts.{AccountsHold}
 use Rattle.office_machine.specs.Fates.{TendersHaveFates, SecuritiesHaveFates, PerformancesHaveFates}
@@ -40,13 +41,14 @@ IsReplyOrRefusal publisher x (Err why) = (refusal_of x ≡ Some why) ⊎ (why �
 abbrev pub IsOfficeAfter : {S : Type 0} → Meaning S → Publisher → S → (Tables → Given) → Tables → Type 0
 IsOfficeAfter M publisher old x u = (t : Tables) → M.holds old t → KeepsItsReleases (x t) → (refusal_of (x t) ≡ None) × (u ≡ next_with_merges publisher (x t))
 
--- The effect of a command that was asked for. After Ok the command is done, if the notice for which it publishes keeps its releases. After a refusal nothing
--- has changed. A stop leaves the tables without the command or with all of it. After a refusal it leaves only what it could leave before, and after
+-- The effect of a command that was asked for. After Ok the command is done, if the notice for which it publishes keeps its releases, and no row that it needs
+-- was missing. After a refusal nothing has changed. A stop leaves the tables without the command or with all of it. After a refusal it leaves only what it could leave before, and after
 -- `Unavailable` perhaps the tables with the command.
 pub record Does {S T : Type 0} (M : Meaning S) (publisher : Publisher) (old new : S) (result : Result T Refusal) (x : Tables → Given) : Type 0 where
   pub before : M.honest new → M.honest old
   pub all : M.honest new → (t : Tables) → M.holds old t → KeepsItsReleases (x t) → OnOk result (M.holds new (next_with_merges publisher (x t)))
   pub none : M.honest new → (t : Tables) → M.holds old t → OnErr result (M.holds new t)
+  pub whole : M.honest new → (t : Tables) → M.holds old t → OnOk result (is_lacking (x t) ≡ false)
   pub stop_all : M.honest new → (t : Tables) → M.holds old t → KeepsItsReleases (x t)
       → OnOk result ((u : Tables) → M.may_leave new u → u ≡ next_with_merges publisher (x t))
   pub stop_none : M.honest new → IfErr result (λ why. (u : Tables) → M.may_leave new u → M.may_leave old u ⊎ ((why ≡ Unavailable) × IsOfficeAfter M publisher old x u))

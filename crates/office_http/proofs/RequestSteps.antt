@@ -15,7 +15,7 @@ use Rattle.office_requests.specs.declared.route.Allow.{Allow}
 use Rattle.office_requests.specs.declared.route.Route.{Route}
 use Rattle.office_http.specs.Credentials.{credentials_of}
 use Rattle.office_http.specs.Meaning.{Meant, Refuses, Gives, Sees, meant, meant_at, meant_by, meant_asked, who}
-use Rattle.office_http.specs.Answering.{GivesCommand, IsRefusedText, ShowsMeant, is_accepted, reply_to_meant, tables_after}
+use Rattle.office_http.specs.Answering.{GivesWhole, IsRefusedText, ShowsMeant, is_accepted, reply_to_meant, tables_after}
 use Rattle.office_http.specs.Inside.Meant.{Answered, CanBeMeant, HoldsStanding}
 use Rattle.office_http.proofs.AnswerSteps.{TellsRefusal, is_refused, is_unavailable, tells_unavailable}
 use Rattle.office_http.proofs.KnownCallers.{IsKnown, IsRead, who_known}
@@ -123,16 +123,16 @@ module _ (settings : Settings) (s : Tables) (text : List ℕ) (request : Request
 
   -- A command that was read is the command of the request.
   read_gives : routed request.head.method request.head.target ≡ Ok route → Ok caller ≡ who settings s (credentials_of request.head.fields)
-      → (read ≡ asked_by_route caller route request) ⊎ (read ≡ Err Unavailable) → GivesCommand (meant_asked caller read) → GivesCommand (meant settings request s)
+      → (read ≡ asked_by_route caller route request) ⊎ (read ≡ Err Unavailable) → GivesWhole s (meant_asked caller read) → GivesWhole s (meant settings request s)
   read_gives at by (inl is) gives =
-      subst GivesCommand
+      subst (GivesWhole s)
       (ap (λ (r : Result Asked Refusal). meant_asked caller r) is
       ∙ sym (ap (λ (r : Result Route (Refusal × Option Allow)). meant_at settings request s r) at ∙ ap (λ (c : Result Caller Refusal). meant_by route request c) (sym by)))
       gives
-  read_gives at by (inr is) gives = absurd (subst (λ (r : Result Asked Refusal). GivesCommand (meant_asked caller r)) is gives)
+  read_gives at by (inr is) gives = absurd (subst (λ (r : Result Asked Refusal). GivesWhole s (meant_asked caller r)) is gives)
 
   pub asked_gives : routed request.head.method request.head.target ≡ Ok route
       → (Ok caller ≡ who settings s (credentials_of request.head.fields)) ⊎ (let none : Result Caller Refusal = Err Unavailable in Ok caller ≡ none)
-      → (read ≡ asked_by_route caller route request) ⊎ (read ≡ Err Unavailable) → GivesCommand (meant_asked caller read) → GivesCommand (meant settings request s)
+      → (read ≡ asked_by_route caller route request) ⊎ (read ≡ Err Unavailable) → GivesWhole s (meant_asked caller read) → GivesWhole s (meant settings request s)
   asked_gives at (inl by) is gives = read_gives at by is gives
   asked_gives at (inr never) is gives = absurd (cc)

@@ -7,6 +7,7 @@ use Rattle.office_values.specs.declared.refusal.Refusal.TheVariants as refusals
 use Rattle.office_values.specs.declared.settings.Settings.{Settings}
 use Rattle.office_base.specs.Tables.{Tables}
 use Rattle.office_base.specs.Shelves.{Meaning}
+use Rattle.office_machine.specs.Commands.{rule_of}
 use Rattle.office_machine.specs.Machine.{refusal_of}
 use Rattle.office_machine.specs.Replies as machine
 use Rattle.office_machine.specs.Requests.{reply_by}
@@ -142,17 +143,17 @@ IsAnswered M settings old new moment m text =
     → (busy : Bool) × (text ≡ answer_bytes settings busy s moment (m s)) × M.holds new (tables_left settings busy s moment (m s))
     × IsReached settings.publisher (tables_left settings busy s moment (m s)) × StopsAfter M settings old new busy s moment (m s)
 
--- A command is given.
-abbrev pub GivesCommand : Meant → Type 0
-GivesCommand (Refuses why method) = ⊥
-GivesCommand (Gives caller command) = Unit {0}
-GivesCommand (Sees caller query) = ⊥
+-- A command is given, and these tables have each row that it needs
+abbrev pub GivesWhole : Tables → Meant → Type 0
+GivesWhole s (Refuses why method) = ⊥
+GivesWhole s (Gives caller command) = (rule_of command).lacks s ≡ false
+GivesWhole s (Sees caller query) = ⊥
 
--- The store still holds the tables that it held. Otherwise a command is given and the answer is a 200 in JSON, like that to an accepted command. The new tables
--- aren't said here.
+-- The store still holds the tables that it held. Otherwise a command is given, no row that it needs is missing, and the answer is a 200 in JSON, like that to an
+-- accepted command. The new tables aren't said here.
 abbrev pub ChangesOnlyAccepting : {S : Type 0} → Meaning S → S → S → (Tables → Meant) → List ℕ → Type 0
 ChangesOnlyAccepting M old new m text =
-    M.honest new → (s : Tables) → M.holds old s → M.holds new s ⊎ (GivesCommand (m s) × ((reply : List ℕ) × (text ≡ response_of (Json reply))))
+    M.honest new → (s : Tables) → M.holds old s → M.holds new s ⊎ (GivesWhole s (m s) × ((reply : List ℕ) × (text ≡ response_of (Json reply))))
 
 -- A command was given that isn't refused, and it wasn't answered with `Unavailable`.
 abbrev pub is_done : Bool → Tables → ℕ → Meant → Bool

@@ -1,15 +1,38 @@
 -- In a reached office, no row is missing that an accepted command needs.
-use Rattle.std.specs.Prelude.{List}
-use Rattle.office_base.specs.Tables.{Tables}
+use Rattle.std.specs.Prelude.{◌≡◌, ℕ, true, cond, List, Option, Some, None, IsSome, is_some}
+use Rattle.std.proofs.Common.{◌∙◌, ap, refl}
+use Rattle.office_base.specs.States.{is_sealed}
+use Rattle.office_base.specs.Tables.{Tables, envelope_at, seal_at}
+use Rattle.office_base.specs.declared.records.EnvelopeRow.{EnvelopeRow}
+use Rattle.office_base.specs.declared.records.EnvelopeState.TheVariants as states
+use Rattle.office_base.specs.declared.records.EnvelopeState.{EnvelopeState}
+use Rattle.office_base.specs.declared.records.SealRow.{SealRow}
+use Rattle.office_machine.specs.Fates.{is_kept}
 use Rattle.office_machine.specs.Lacking.{NothingIsLacking}
 use Rattle.office_machine.specs.Machine.{Given, Means, Reaches}
 use Rattle.office_machine.proofs.Accounts.AccountsKept.{all_kept}
 use Rattle.office_machine.proofs.Commands.{lawful}
+use Rattle.office_machine.proofs.FateLaws.FatesHold.{FatesStand}
+use Rattle.office_machine.proofs.FateLaws.FatesKept.{all_kept as fates_kept}
+use Rattle.office_machine.proofs.FateLaws.NextReceipt.{no_envelope_yet}
 use Rattle.office_machine.proofs.FateLaws.PerformancesKept.{performances_there}
 use Rattle.office_machine.proofs.Parents.ParentsThere.{parents_there}
 use Rattle.office_machine.proofs.Parents.Whole.{IsWhole}
 use Rattle.office_machine.proofs.Passed.{allowed_by}
 use Rattle.office_machine.proofs.Rows.SortedTables.{sorted}
+
+-- A tender that is still sealed has its seal.
+seal_kept : (st : EnvelopeState) (seal : SealRow) → is_sealed st ≡ true → is_some (let o : Option SealRow = cond (is_kept st) (Some seal) None in o) ≡ true
+seal_kept states.Sealed seal is = refl
+seal_kept states.Withdrawn seal is = cc
+seal_kept states.Returned seal is = cc
+seal_kept states.Opened seal is = cc
+
+seals_there : (means : Means) (xs : List Given) (s : Tables) → FatesStand means.readings xs s → (n : ℕ) (e : EnvelopeRow) → envelope_at n s ≡ Some e → is_sealed e.state ≡ true
+    → IsSome (seal_at n s)
+seals_there means xs s kept n e is sealed =
+    let stands = (kept.tenders.received n e is).stands in
+    ap is_some stands.seal_is ∙ seal_kept e.state _ sealed
 
 whole : (means : Means) (xs : List Given) (s : Tables) → Reaches means xs s → IsWhole xs s
 whole means xs s reached = record {
@@ -17,6 +40,8 @@ whole means xs s reached = record {
   performances = performances_there means xs s reached;
   accounts = all_kept means xs s reached;
   order = sorted means xs s reached;
+  unused = no_envelope_yet means.readings xs s (fates_kept means xs s reached);
+  seals = seals_there means xs s (fates_kept means xs s reached);
 }
 
 pub none_lacking : NothingIsLacking

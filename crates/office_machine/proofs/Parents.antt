@@ -1,4 +1,5 @@
 -- The rows that other rows refer to.
+pub mod NoOrphans
 pub mod ParentsPut
 pub mod ParentsThere
 pub mod PerformancesAsked

@@ -2,6 +2,7 @@ pub mod Counted
 pub mod Readings
 pub mod Replies
 pub mod Rule
+pub mod Orphans
 pub mod Commands
 pub mod Publications
 pub mod Machine

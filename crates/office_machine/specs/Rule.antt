@@ -1,5 +1,5 @@
 -- The rule of a command, and the parts that rules share.
-use Rattle.std.specs.Prelude.{ℕ, Bool, List, [], map, filter, Option, Some, None, option_map}
+use Rattle.std.specs.Prelude.{ℕ, Bool, ◌&&◌, List, [], map, filter, Option, Some, None, is_some, option_map}
 use Rattle.office_commands.specs.declared.item.Item.{Item}
 use Rattle.office_commands.specs.declared.command.Caller.{Caller}
 use Rattle.office_values.specs.declared.refusal.Refusal.{Refusal}
@@ -59,10 +59,18 @@ abbrev pub items_of_row : Option LotRow → List Item
 items_of_row None = []
 items_of_row (Some l) = l.items
 
+-- The seal of a tender exists, and its lot.
+abbrev pub has_seal_and_lot : Tables → EnvelopeRow → Bool
+has_seal_and_lot s e = is_some (seal_at e.receipt s) && is_some (lot_at (e.notice, e.lot) s)
+
+-- The tenders of a notice that are still sealed, which alone are opened.
+abbrev pub sealed_of_notice : List ℕ → Tables → List EnvelopeRow
+sealed_of_notice notice s = filter is_sealed_envelope (envelopes_of_notice notice s)
+
 -- A sealed tender with its bytes and the items of its lot.
 abbrev pub sealed_tender : Tables → EnvelopeRow → SealedTender
 sealed_tender s e = record { envelope = e; bytes = bytes_in (seal_at e.receipt s); items = items_of_row (lot_at (e.notice, e.lot) s) }
 
 -- The sealed tenders of a notice.
 abbrev pub sealed_tenders : List ℕ → Tables → List SealedTender
-sealed_tenders notice s = map (sealed_tender s) (filter is_sealed_envelope (envelopes_of_notice notice s))
+sealed_tenders notice s = map (sealed_tender s) (sealed_of_notice notice s)

@@ -1,5 +1,5 @@
 -- The facts that follow from a decision on rows (`Decides`).
-use Rattle.std.specs.Prelude.{◌≡◌, ◌⊎◌, Bool, List, Option, Some, None, Result, Vec, Ok, Err, IsErrAnd}
+use Rattle.std.specs.Prelude.{◌≡◌, ◌⊎◌, Bool, false, List, Option, Some, None, Result, Vec, Ok, Err, IsErrAnd}
 use Rattle.std.proofs.Common.{◌∙◌, refl, sym, subst, inl, inr}
 use Rattle.std.specs.declared.alloc.Global.{Global}
 use Rattle.office_values.specs.declared.refusal.Refusal.{Refusal}
@@ -28,6 +28,12 @@ pub makes : (puts : Vec Put Global) (first : Option Refusal) (lacks : Bool) (mad
 unfolding Decides
 makes puts (Some w) lacks made is = absurd cc
 makes puts None lacks made is = is.0.1
+
+-- And nothing is missing.
+pub wholes : (puts : Vec Put Global) (first : Option Refusal) (lacks : Bool) (made : List Put) → Decides (Ok puts) first lacks made → lacks ≡ false
+unfolding Decides
+wholes puts (Some w) lacks made is = absurd cc
+wholes puts None lacks made is = is.0.0
 
 -- A plan with the decision's refusal is right if the specification refuses the command by the same conditions.
 pub told_refused : (publisher : Publisher) (x : Given) (result : Result Plan Refusal) (why : Refusal) (first : Option Refusal) → IsErrAnd result (λ y. y ≡ why)

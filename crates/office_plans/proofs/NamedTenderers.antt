@@ -19,7 +19,8 @@ use Rattle.office_machine.proofs.Rows.Keyed.{tenderers}
 use Rattle.office_publications.specs.NoticeEvents.{has_sealed}
 use Rattle.tender_core.specs.Rules.Open.{is_sealed_envelope}
 use Rattle.office_plans.specs.LookedUp.{with_row}
-use Rattle.office_plans.specs.Opening.{sealed_of_notice, tender_read, tenders_read}
+use Rattle.office_machine.specs.Rule.{sealed_of_notice}
+use Rattle.office_plans.specs.Opening.{tender_read, tenders_read}
 use Rattle.office_plans.specs.Tenderers.{tenderer_of, tenderers_named, with_tenderers}
 
 or_false : (b : Bool) → (b || false) ≡ b

@@ -1,5 +1,5 @@
 -- A command that is decided on rows that were looked up. The decision is the specification's, and the look-ups leave the store as it was.
-use Rattle.std.specs.Prelude.{◌≡◌, ℕ, Bool, true, not, cond, List, Option, Some, Err, max}
+use Rattle.std.specs.Prelude.{◌≡◌, ℕ, Bool, true, false, not, cond, List, Option, Some, Err, max}
 use Rattle.std.proofs.Common.{◌∙◌, ap, inl, sym}
 use Rattle.office_values.specs.declared.refusal.Refusal.{Refusal}
 use Rattle.office_values.specs.declared.refusal.Refusal.TheVariants.{Forbidden}
@@ -10,6 +10,7 @@ use Rattle.office_base.specs.Shelves.{Looks, LooksFollow, Meaning}
 use Rattle.office_base.specs.Tables.{Tables}
 use Rattle.office_base.specs.declared.puts.Put.{Put}
 use Rattle.office_base.specs.declared.records.ClockRow.{ClockRow}
+use Rattle.office_machine.specs.Lacking.{is_lacking}
 use Rattle.office_machine.specs.Machine.{Given, command_tests, effect, may_give, refusal_of, time_of}
 use Rattle.office_machine.specs.OfficeMeans.{office_readings}
 use Rattle.office_plans.specs.Asking.{given_by}
@@ -47,6 +48,10 @@ module _ {R : Type 0} {asking : Asking} {command : Command} {rows_of : Tables �
       → effect office_readings (x s) ≡ puts (rows_of s) (time_of (x s)) → made ≡ effect office_readings (x s)
   puts_on puts made is s are own = is ∙ on_rows puts s are ∙ sym own
 
+  -- No row is missing to the command that isn't to these rows.
+  pub whole_on : (lacks : R → Bool) → lacks rows ≡ false → (s : Tables) → rows ≡ rows_of s → is_lacking (x s) ≡ lacks (rows_of s) → is_lacking (x s) ≡ false
+  whole_on lacks whole s are own = own ∙ sym (ap lacks are) ∙ whole
+
   -- If the decision is a refusal, then so is the plan.
   pub not_planned : {S : Type 0} (M : Meaning S) (publisher : Publisher) (a b : S) (answer : Option Refusal) (why : Refusal) → Looks M a b (λ s. rows ≡ rows_of s)
       → may_give asking.caller.now command ≡ true → answer ≡ first_of (tests rows t) → answer ≡ Some why → Looks M a b (λ s. IsPlanned publisher (x s) (Err why))
@@ -61,6 +66,10 @@ two_looks M follow a b c P Q All first second all = (
       let sooner = second.0.before honest in
       all s (first.1 sooner s held) (second.1 honest s (first.0.same sooner s held)),
 )
+
+-- Two facts of one call.
+pub both_looks : {S : Type 0} (M : Meaning S) (a b : S) (P Q : Tables → Type 0) → Looks M a b P → Looks M a b Q → Looks M a b (λ s. P s × Q s)
+both_looks M a b P Q first second = (first.0, λ honest s held. (first.1 honest s held, second.1 honest s held))
 
 -- The facts that three such calls report hold at once.
 pub three_looks : {S : Type 0} (M : Meaning S) → LooksFollow M → (a b c d : S) (P Q R All : Tables → Type 0) → Looks M a b P → Looks M b c Q → Looks M c d R

@@ -1,14 +1,15 @@
 -- The tenders that an opening reads.
-use Rattle.std.specs.Prelude.{◌≡◌, ℕ, List, [], ◌∷◌, ◌++◌, map}
+use Rattle.std.specs.Prelude.{◌≡◌, ℕ, Bool, false, ◌||◌, List, [], ◌∷◌, ◌++◌, map}
+use Rattle.std.specs.List.{list_any}
 use Rattle.std.proofs.Common.{refl, sym, ap, ◌∙◌}
 use Rattle.std.proofs.lemmas.List.{append_assoc}
 use Rattle.office_base.specs.Tables.{Tables}
 use Rattle.office_base.specs.declared.records.EnvelopeRow.{EnvelopeRow}
 use Rattle.tender_core.specs.Rules.Open.{with_reading}
 use Rattle.tender_core.specs.declared.opening.OpenedTender.{OpenedTender}
-use Rattle.office_machine.specs.Rule.{sealed_tender, sealed_tenders}
+use Rattle.office_machine.specs.Rule.{sealed_of_notice, sealed_tender, sealed_tenders}
 use Rattle.office_machine.specs.OfficeMeans.{office_readings}
-use Rattle.office_plans.specs.Opening.{tender_read, sealed_of_notice, tenders_read}
+use Rattle.office_plans.specs.Opening.{tender_read, tenders_read}
 
 each_read : (s : Tables) (es : List EnvelopeRow) → map (tender_read s) es ≡ map (with_reading office_readings.read) (map (sealed_tender s) es)
 each_read s [] = refl
@@ -27,3 +28,7 @@ next_read read old new tender e left rest all pushed is taken before =
     ∙ ap (λ (t : OpenedTender). old ++ t ∷ map read rest) is
     ∙ ap (λ (es : List EnvelopeRow). old ++ map read es) (sym taken)
     ∙ before
+
+-- If the first tender is whole, the rest misses something if and only if all do.
+pub rest_whole : (lost : EnvelopeRow → Bool) (e : EnvelopeRow) (left rest : List EnvelopeRow) (b : Bool) → lost e ≡ false → left ≡ e ∷ rest → list_any lost left ≡ b → list_any lost rest ≡ b
+rest_whole lost e left rest b whole taken before = sym (ap (λ (c : Bool). c || list_any lost rest) whole) ∙ sym (ap (list_any lost) taken) ∙ before

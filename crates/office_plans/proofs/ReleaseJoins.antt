@@ -1,5 +1,5 @@
 -- A release that a command publishes and the merge that it joins, added to the command's changes.
-use Rattle.std.specs.Prelude.{◌≡◌, ℕ, ◌+◌, ◌-◌, true, List, ◌∷◌, [], ◌++◌, Option, Some, None, Result, Ok, Err, IfOk, IfErr}
+use Rattle.std.specs.Prelude.{◌≡◌, ℕ, ◌+◌, ◌-◌, true, false, List, ◌∷◌, [], ◌++◌, Option, Some, None, Result, Ok, Err, IfOk, IfErr}
 use Rattle.std.proofs.Common.{sym, ◌∙◌, ap, subst, inr, arith}
 use Rattle.std.proofs.lemmas.List.{append_assoc}
 use Rattle.office_values.specs.declared.refusal.Refusal.{Refusal}
@@ -11,9 +11,10 @@ use Rattle.office_base.specs.declared.puts.Put.TheVariants.{Release, Compiled}
 use Rattle.office_base.specs.declared.records.ReleaseRow.{ReleaseRow}
 use Rattle.office_machine.specs.Counted.{releases_in}
 use Rattle.office_commands.specs.Commands.{IsCommand}
+use Rattle.office_machine.specs.Lacking.{is_lacking}
 use Rattle.office_machine.specs.Machine.{Given, effect, publication, publication_puts, refusal_of}
 use Rattle.office_machine.specs.OfficeMeans.{office_readings}
-use Rattle.office_publications.specs.Keeping.{CanBeFollowed, FollowsReleases, KeepsItsReleases, ReadsBack, has_last_release, kept_puts, merge_puts, merged_row}
+use Rattle.office_publications.specs.Keeping.{CanBeFollowed, FollowsReleases, KeepsItsReleases, ReadsBack, has_last_release, has_release, kept_puts, merge_puts, merged_row}
 use Rattle.office_publications.specs.Merges.{AreSoMany, HasMerge}
 use Rattle.office_publications.specs.Publishing.{publishing}
 use Rattle.office_publications.specs.declared.publication.Publication.{Publication}
@@ -28,14 +29,15 @@ before_next seq n next = omega (arith, next)
 
 -- The release comes after the last one of its notice, and it joins the merge.
 pub follows : (publisher : Publisher) (x : Given) (r : Released) → IsReleased publisher x r → has_last_release r.notice (r.seq - 1) x.before ≡ true
-    → HasMerge r.notice x.before → AreSoMany r.notice (r.seq - 1) x.before → FollowsReleases x
-follows publisher x r released there merge many notice is =
+    → has_release r.notice r.seq x.before ≡ false → HasMerge r.notice x.before → AreSoMany r.notice (r.seq - 1) x.before → FollowsReleases x
+follows publisher x r released there new merge many notice is =
     let found : Some r.notice ≡ Some notice = sym released.for_notice ∙ is in
     let same : r.notice ≡ notice = cc in
     let number = before_next r.seq (releases_in (notice_at r.notice x.before)) released.next in
     let last = ap (λ k. has_last_release r.notice k x.before) (sym number) ∙ there in
+    let next = ap (λ k. has_release r.notice k x.before) (sym released.next) ∙ new in
     let counted = subst (λ (k : ℕ). AreSoMany r.notice k x.before) number many in
-    subst (λ (n : List ℕ). CanBeFollowed n x.before) same (record { last = last; merge = merge; counted = counted })
+    subst (λ (n : List ℕ). CanBeFollowed n x.before) same (record { last = last; next = next; merge = merge; counted = counted })
 
 module _ (publisher : Publisher) (x : Given) (r : Released) (p : Publication) (released : IsReleased publisher x r) where
   abbrev puts_with : Option ReleaseRow → List Put
@@ -61,15 +63,16 @@ module _ (publisher : Publisher) (x : Given) (r : Released) (p : Publication) (r
       subst (ReadsBack x.before) (kept.release ∙ same) kept.reads
 
   -- The plan has both puts, or it is `Unavailable` because there is too little memory.
-  pub is_planned : IsCommand x.command → refusal_of x ≡ None → FollowsReleases x → (puts : List Put) (text : List ℕ) → puts ≡ effect office_readings x
+  pub is_planned : IsCommand x.command → refusal_of x ≡ None → is_lacking x ≡ false → FollowsReleases x → (puts : List Put) (text : List ℕ) → puts ≡ effect office_readings x
       → text ≡ reply_text (accepted_reply x) → (KeepsItsReleases x → IsKept x.before r p) → (result : Result Plan Refusal)
       → IfOk result (λ (q : Plan). q.puts ≡ puts ++ both) → IfOk result (λ (q : Plan). q.reply ≡ text) → IfErr result (λ why. why ≡ Unavailable)
       → IsPlanned publisher x result
-  is_planned given allowed follows puts text is told kept (Ok q) are reply none = record {
+  is_planned given allowed whole follows puts text is told kept (Ok q) are reply none = record {
     given = given;
     allowed = allowed;
+    whole = whole;
     follows = follows;
     put = λ keeps. record { puts = all_put puts q.puts is are (kept keeps); reads = reads_back (kept keeps) };
     reply = reply ∙ told;
   }
-  is_planned given allowed follows puts text is told kept (Err why) are reply none = inr none
+  is_planned given allowed whole follows puts text is told kept (Err why) are reply none = inr none

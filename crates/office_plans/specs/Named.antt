@@ -1,10 +1,10 @@
 -- The budget lines that a command names. Each is looked up once, in the order in which the command names them.
-use Rattle.std.specs.Prelude.{ℕ, cond, List, [], ◌∷◌, Option, is_some, IsSome, option_map, map, filter}
+use Rattle.std.specs.Prelude.{ℕ, Bool, not, ◌&&◌, cond, List, [], ◌∷◌, Option, is_some, IsSome, option_map, map, filter}
 use Rattle.office_commands.specs.declared.budget.BudgetRow.{BudgetRow}
 use Rattle.office_commands.specs.declared.lot.NewLot.{NewLot}
 use Rattle.office_values.specs.Ids.{id_cmp}
-use Rattle.office_base.specs.Tables.{Tables, find_line, line_at, line_key, notice_at, lots_of_notice}
-use Rattle.office_base.specs.Standings.{columns_of_row, find_standing, put_standing}
+use Rattle.office_base.specs.Tables.{Tables, find_line, line_at, line_key, notice_at, lots_of_line, lots_of_notice}
+use Rattle.office_base.specs.Standings.{columns_at, columns_of_row, find_standing, put_standing}
 use Rattle.office_base.specs.declared.records.LineRow.{LineRow}
 use Rattle.office_base.specs.declared.records.LotRow.{LotRow}
 use Rattle.office_base.specs.declared.standing.Standing.{Standing}
@@ -13,6 +13,7 @@ use Rattle.tender_core.specs.Rules.Cancel.{is_open_lot, cancel_rows}
 use Rattle.tender_core.specs.declared.cancel.CancelRows.{CancelRows}
 use Rattle.tender_core.specs.declared.import.ImportRows.{ImportRows}
 use Rattle.tender_core.specs.declared.publish.PublishRows.{PublishRows}
+use Rattle.office_machine.specs.Orphans.{has_rows}
 use Rattle.office_plans.specs.LookedUp.{with_row}
 
 -- The budget line that a new lot, a stored lot or a row of a budget file names.
@@ -58,6 +59,10 @@ with_standings s m (name ∷ names) = with_standings s (with_standing s m name) 
 -- The standings of the lines with these names.
 abbrev pub standings_named : Tables → List (List ℕ) → List Standing
 standings_named s names = with_standings s [] names
+
+-- These lines don't have the line of a row, and a lot of it exists.
+abbrev pub is_of_lost_line : Tables → List Standing → BudgetRow → Bool
+is_of_lost_line s m row = not (is_some (columns_at m row.line)) && has_rows (lots_of_line row.line s)
 
 -- Every line that had a standing still has one.
 abbrev pub StillThere : List Standing → List Standing → Type 0

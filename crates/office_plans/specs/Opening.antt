@@ -1,11 +1,11 @@
 -- The sealed tenders of a notice, each with the reading of its bytes.
-use Rattle.std.specs.Prelude.{ℕ, Bool, ◌&&◌, cond, List, is_some, map, filter}
-use Rattle.office_base.specs.Tables.{Tables, lot_cmp, lot_key, find_lot, lot_at, seal_at, envelopes_of_notice}
+use Rattle.std.specs.Prelude.{ℕ, cond, List, is_some, map}
+use Rattle.office_base.specs.Tables.{Tables, lot_cmp, lot_key, find_lot, lot_at}
 use Rattle.office_base.specs.declared.records.EnvelopeRow.{EnvelopeRow}
 use Rattle.office_base.specs.declared.records.LotRow.{LotRow}
-use Rattle.tender_core.specs.Rules.Open.{is_sealed_envelope, with_reading}
+use Rattle.tender_core.specs.Rules.Open.{with_reading}
 use Rattle.tender_core.specs.declared.opening.OpenedTender.{OpenedTender}
-use Rattle.office_machine.specs.Rule.{sealed_tender}
+use Rattle.office_machine.specs.Rule.{sealed_of_notice, sealed_tender}
 use Rattle.office_machine.specs.OfficeMeans.{office_readings}
 use Rattle.office_plans.specs.LookedUp.{IsAsIn, with_row}
 
@@ -17,17 +17,9 @@ with_lot s lots key = cond (is_some (find_lot lots key)) lots (with_row lot_cmp 
 abbrev pub HasLotOf : Tables → List LotRow → EnvelopeRow → Type 0
 HasLotOf s lots e = IsAsIn lot_cmp lot_key s.lots lots (e.notice, e.lot)
 
--- The office has the seal of this tender and its lot.
-abbrev pub has_seal_and_lot : Tables → EnvelopeRow → Bool
-has_seal_and_lot s e = is_some (seal_at e.receipt s) && is_some (lot_at (e.notice, e.lot) s)
-
 -- The tender with the reading of its sealed bytes.
 abbrev pub tender_read : Tables → EnvelopeRow → OpenedTender
 tender_read s e = with_reading office_readings.read (sealed_tender s e)
-
--- The sealed tenders of a notice. An opening opens no others.
-abbrev pub sealed_of_notice : List ℕ → Tables → List EnvelopeRow
-sealed_of_notice notice s = filter is_sealed_envelope (envelopes_of_notice notice s)
 
 -- All sealed tenders of a notice, each read.
 abbrev pub tenders_read : List ℕ → Tables → List OpenedTender

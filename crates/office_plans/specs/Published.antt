@@ -9,6 +9,7 @@ use Rattle.office_base.specs.Faults.{HasRisen}
 use Rattle.office_base.specs.Shelves.{Meaning}
 use Rattle.office_base.specs.Tables.{Tables}
 use Rattle.office_commands.specs.Commands.{IsCommand}
+use Rattle.office_machine.specs.Lacking.{is_lacking}
 use Rattle.office_machine.specs.Machine.{Given, done, refusal_of, reply_for, time_of}
 use Rattle.office_machine.specs.OfficeMeans.{office_readings}
 use Rattle.office_machine.specs.Replies.{Reply}
@@ -25,11 +26,12 @@ pub record IsPut (publisher : Publisher) (x : Given) (planned : Plan) : Type 0 w
   pub puts : planned.puts ≡ kept_puts publisher x
   pub reads : PublicationReadsBack publisher x
 
--- This is the plan of an accepted command. Its form is allowed, its release follows the last one of its notice, and its reply is the specification's. If the
+-- This is the plan of an accepted command. Its form is allowed, no row that it needs is missing, its release follows the last one of its notice, and its reply is the specification's. If the
 -- notice keeps its releases, the planned changes are the specification's too.
 pub record IsPlan (publisher : Publisher) (x : Given) (planned : Plan) : Type 0 where
   pub given : IsCommand x.command
   pub allowed : refusal_of x ≡ None
+  pub whole : is_lacking x ≡ false
   pub follows : FollowsReleases x
   pub put : KeepsItsReleases x → IsPut publisher x planned
   pub reply : planned.reply ≡ reply_text (accepted_reply x)

@@ -10,6 +10,7 @@ mod looked_up;
 pub mod objects;
 mod of_lot;
 mod opened;
+mod orphans;
 mod outstanding;
 mod parents;
 pub mod planned;

@@ -1,8 +1,11 @@
 //! The sealed tenders of a notice, looked up and read.
-ghost use Rattle.std.specs.Prelude.{◌≡◌, true, IfOk, IfErr, OnOk, map};
+ghost use Rattle.std.specs.Prelude.{◌≡◌, true, false, not, IfOk, IfErr, OnOk, map};
+ghost use Rattle.std.specs.List.{list_any};
 ghost use Rattle.office_values.specs.declared.refusal.Refusal.TheVariants.{Unavailable};
 ghost use Rattle.office_base.specs.Shelves.{Looks};
-ghost use Rattle.office_plans.specs.Opening.{HasLotOf, has_seal_and_lot, tender_read, tenders_read, with_lot};
+ghost use Rattle.office_machine.specs.Commands.Open.{lacks_tender};
+ghost use Rattle.office_machine.specs.Rule.{has_seal_and_lot};
+ghost use Rattle.office_plans.specs.Opening.{HasLotOf, tender_read, tenders_read, with_lot};
 
 use crate::looked_up::put_found;
 use keyed_table::table::Table;
@@ -61,6 +64,7 @@ fn load_each<H: Lookups>(
     envelopes: Vec<EnvelopeRow>,
 ) -> Result<Vec<OpenedTender>, Refusal>
     ensures looks { Looks H.meaning shelf.old shelf.new (λ s. IfOk result (λ tenders. tenders.items ≡ map (tender_read s) envelopes.items)) }
+    ensures whole { Looks H.meaning shelf.old shelf.new (λ s. OnOk result (list_any (λ e. not (has_seal_and_lot s e)) envelopes.items ≡ false)) }
     ensures fault { IfErr result (λ e. e ≡ Unavailable) }
 {
     looks_follow::<H>();
@@ -82,6 +86,7 @@ pub fn load_tenders<H: Lookups>(
     notice: &Id,
 ) -> Result<Rows<OpenedTender>, Refusal>
     ensures looks { Looks H.meaning shelf.old shelf.new (λ s. IfOk result (λ tenders. tenders ≡ tenders_read notice.now s)) }
+    ensures whole { Looks H.meaning shelf.old shelf.new (λ s. OnOk result (lacks_tender notice.now s ≡ false)) }
     ensures fault { IfErr result (λ e. e ≡ Unavailable) }
 {
     let mut envelopes = shelf.list_envelopes_of_notice(notice)?;

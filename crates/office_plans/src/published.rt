@@ -1,5 +1,5 @@
 //! The plan of a command that publishes: its release joins its changes and the merge of its notice's releases.
-ghost use Rattle.std.specs.Prelude.{◌≡◌, ℕ, List, ◌+◌, ◌++◌, ◌-◌, ◌∷◌, [], None, Some, true, IfOk, IfErr, IfSome, IfNone, OnOk};
+ghost use Rattle.std.specs.Prelude.{◌≡◌, ℕ, List, ◌+◌, ◌++◌, ◌-◌, ◌∷◌, [], None, Some, true, false, IfOk, IfErr, IfSome, IfNone, OnOk};
 ghost use Rattle.serde_json.specs.View.{view};
 ghost use Rattle.ocds_merge.specs.Stored.{IsStorable};
 ghost use Rattle.office_base.specs.Transitions.{has_all_releases};
@@ -8,6 +8,7 @@ ghost use Rattle.office_base.specs.Tables.{Tables, notice_at};
 ghost use Rattle.office_base.specs.declared.puts.Put.TheVariants.{Compiled, Release};
 ghost use Rattle.office_machine.specs.Counted.{releases_in};
 ghost use Rattle.office_commands.specs.Commands.{IsCommand};
+ghost use Rattle.office_machine.specs.Lacking.{is_lacking};
 ghost use Rattle.office_machine.specs.Machine.{Given, effect, refusal_of, time_of};
 ghost use Rattle.office_machine.specs.OfficeMeans.{office_readings};
 ghost use Rattle.office_machine.specs.Publications.{published_for};
@@ -15,7 +16,7 @@ ghost use Rattle.office_plans.specs.Published.{IsPlan, IsPlanned, accepted_reply
 ghost use Rattle.office_plans.specs.Released.{IsKept, IsReleased};
 ghost use Rattle.office_plans.specs.Replies.{reply_text};
 ghost use Rattle.office_publications.specs.Events.{event_of};
-ghost use Rattle.office_publications.specs.Keeping.{KeepsReleasesOf, has_last_release};
+ghost use Rattle.office_publications.specs.Keeping.{KeepsReleasesOf, has_last_release, has_release};
 ghost use Rattle.office_publications.specs.Merges.{AreSoMany, HasMerge, IsKeptOf};
 ghost use Rattle.office_values.specs.declared.refusal.Refusal.TheVariants.{Unavailable};
 ghost use Rattle.office_values.specs.declared.settings.Publisher.{Publisher as PublisherOf};
@@ -103,6 +104,13 @@ fn follows_another<H: Lookups>(
     }
 }
 
+// Whether a release of the notice has this number.
+fn has_release<H: Lookups>(shelf: &mut H, notice: &Id, seq: Sequence) -> Result<bool, ShelfFault>
+    ensures { LooksUp H.meaning shelf.old shelf.new result (λ s found. found ≡ has_release notice.now seq s) }
+{
+    Ok(shelf.get_release(notice, seq)?.is_some())
+}
+
 // Whether a merge is stored, or else whether the notice has as many releases as the numbers before this one.
 fn is_whole(kept: &Kept, seq: Sequence) -> bool
     ensures { result ≡ true → (notice : List ℕ) (s : Tables) → IsKeptOf notice s kept.now → AreSoMany notice (seq - 1) s }
@@ -113,9 +121,9 @@ fn is_whole(kept: &Kept, seq: Sequence) -> bool
     }
 }
 
-// The release as it is stored, and the merge that it joins. Reads the notice's merge, or all its releases if no merge is stored. `Unavailable` if the previous
-// release is missing or the stored merge isn't an object. If no merge is stored, `Unavailable` also if a release is missing or isn't an object. So nothing is
-// published after a gap.
+// The release as it is stored, and the merge that it joins. Reads the notice's merge, or all its releases if no merge is stored. `Unavailable` if a release
+// has its number, the previous one is missing or the stored merge isn't an object. If no merge is stored, `Unavailable` also if a release is missing or isn't an object. So nothing is
+// published over a release or after a gap.
 fn keep<H: Lookups>(
     alloc: Global,
     shelf: &mut H,
@@ -123,11 +131,16 @@ fn keep<H: Lookups>(
 ) -> Result<Publication, Refusal>
     ensures kept { Looks H.meaning shelf.old shelf.new (λ s. IsStorable (view released.release) → KeepsReleasesOf released.notice s → IfOk result (IsKept s released)) }
     ensures follows { Looks H.meaning shelf.old shelf.new (λ s. OnOk result (has_last_release released.notice (released.seq - 1) s ≡ true)) }
+    ensures next { Looks H.meaning shelf.old shelf.new (λ s. OnOk result (has_release released.notice released.seq s ≡ false)) }
     ensures goes_on { Looks H.meaning shelf.old shelf.new (λ s. OnOk result (HasMerge released.notice s)) }
     ensures counted { Looks H.meaning shelf.old shelf.new (λ s. OnOk result (AreSoMany released.notice (released.seq - 1) s)) }
     ensures none { IfErr result (λ why. why ≡ Unavailable) }
 {
     looks_follow::<H>();
+    let taken = has_release(shelf, &released.notice, released.seq)?;
+    if taken {
+        return Err(Refusal::Unavailable);
+    }
     let follows = follows_another(shelf, &released.notice, released.seq)?;
     if !follows {
         return Err(Refusal::Unavailable);
@@ -163,7 +176,7 @@ fn with_publication(
 }
 
 /// The plan of an accepted command that publishes: its changes, the release, the merge that this joins, and the reply's text. `Unavailable` also if the
-/// notice's last release is missing, or if its stored merge isn't an object. If no merge is stored, `Unavailable` also if a release is missing or isn't an
+/// notice's last release is missing, if a release has the next number, or if its stored merge isn't an object. If no merge is stored, `Unavailable` also if a release is missing or isn't an
 /// object. None of this can happen in a reached office.
 pub(crate) fn published<H: Lookups>(
     alloc: Global,
@@ -173,7 +186,7 @@ pub(crate) fn published<H: Lookups>(
     released: Released,
 ) -> Result<Planned, Refusal>
     ensures { Looks H.meaning shelf.old shelf.new (λ s. (publisher : PublisherOf) (x : Given) → x.before ≡ s → IsCommand x.command → refusal_of x ≡ None
-        → puts.items ≡ effect office_readings x → text.items ≡ reply_text (accepted_reply x) → IsReleased publisher x released
+        → is_lacking x ≡ false → puts.items ≡ effect office_readings x → text.items ≡ reply_text (accepted_reply x) → IsReleased publisher x released
         → IsPlanned publisher x result) }
 {
     let publication = keep(alloc, shelf, released)?;
@@ -182,7 +195,7 @@ pub(crate) fn published<H: Lookups>(
 
 /// The plan of an accepted command that publishes nothing: its changes and the reply's text. Takes no memory.
 pub(crate) fn silent(puts: Vec<Put>, text: Vec<u8>) -> Planned
-    ensures { (publisher : PublisherOf) (x : Given) → IsCommand x.command → refusal_of x ≡ None → event_of x.before x.command ≡ None → published_for x.before x.command ≡ None
+    ensures { (publisher : PublisherOf) (x : Given) → IsCommand x.command → refusal_of x ≡ None → is_lacking x ≡ false → event_of x.before x.command ≡ None → published_for x.before x.command ≡ None
         → puts.items ≡ effect office_readings x → text.items ≡ reply_text (accepted_reply x) → IsPlan publisher x result }
 {
     keeping();

@@ -1,5 +1,5 @@
 -- The changes that an accepted command makes in an office that publishes: those of the specification, and the merge that its release joins.
-use Rattle.std.specs.Prelude.{◌≡◌, ℕ, Bool, true, ◌||◌, nat_eq, List, ◌∷◌, [], ◌++◌, Option, Some, None, is_some}
+use Rattle.std.specs.Prelude.{◌≡◌, ℕ, ◌+◌, Bool, true, false, ◌||◌, nat_eq, List, ◌∷◌, [], ◌++◌, Option, Some, None, is_some}
 use Rattle.serde_json.specs.Written.{compact_text}
 use Rattle.ocds_merge.specs.Merge.{merge_or_null}
 use Rattle.ocds_merge.specs.Stored.{KeepsMerge}
@@ -53,10 +53,15 @@ KeepsItsReleases x = (notice : List ℕ) → published_for x.before x.command �
 abbrev pub has_last_release : List ℕ → ℕ → Tables → Bool
 has_last_release notice releases t = nat_eq releases 0 || is_some (release_at (notice, releases) t)
 
--- A new release can follow in this notice. Its last release exists, and its merge, if stored, is an object. If no merge is stored, all counted releases exist
+-- A release of this notice has this number.
+abbrev pub has_release : List ℕ → ℕ → Tables → Bool
+has_release notice number t = is_some (release_at (notice, number) t)
+
+-- A new release can follow in this notice. Its last release exists, none has the next number, and its merge, if stored, is an object. If no merge is stored, all counted releases exist
 -- and are objects.
 pub record CanBeFollowed (notice : List ℕ) (t : Tables) : Type 0 where
   pub last : has_last_release notice (releases_in (notice_at notice t)) t ≡ true
+  pub next : has_release notice (releases_in (notice_at notice t) + 1) t ≡ false
   pub merge : HasMerge notice t
   pub counted : AreSoMany notice (releases_in (notice_at notice t)) t
 

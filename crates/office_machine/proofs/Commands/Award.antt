@@ -3,7 +3,7 @@ pub mod Accounts
 pub mod Fates
 pub mod Winners
 use Rattle.std.specs.Prelude.{max, IsSome}
-use Rattle.std.proofs.Common.{arith, ◌≡◌, ℕ, false, List, [], ◌∷◌, Option, Some, None, refl, ◌∙◌, ap, Bool, filter, is_some, subst, sym, not}
+use Rattle.std.proofs.Common.{arith, ◌≡◌, ℕ, false, List, [], ◌∷◌, Option, Some, None, refl, ◌∙◌, ap, Bool, filter, is_some, subst, sym, not, ◌||◌}
 use Rattle.std.specs.List.{AllByRecursion}
 use Rattle.office_commands.specs.declared.commands.Command.TheVariants.{Award}
 use Rattle.office_base.specs.declared.records.EnvelopeRow.{EnvelopeRow}
@@ -22,6 +22,7 @@ use Rattle.award_core.specs.Rules.Award.{winner, decision_puts, award_rows, awar
 use Rattle.office_machine.specs.Worlds.{ChosenTender, Pairs}
 use Rattle.office_machine.specs.Parents.{HaveParents}
 use Rattle.office_machine.proofs.Worlds.WorldsPut.{Alike, AlikeOptions, plain-map, IsPlain, PutPair, blind-option, plain_pairs}
+use Rattle.office_machine.proofs.Parents.NoOrphans.{award_is_new}
 use Rattle.office_machine.proofs.Parents.ParentsPut.{Grows, AllParents, lot_still, all-filter}
 use Rattle.office_machine.proofs.Worlds.WorldsRows.{pairs-winner, lot_pairs}
 use Rattle.office_machine.proofs.Parents.RowsHave.{lot_securities}
@@ -111,7 +112,8 @@ award notice lot = record {
       moved refl (λ i. award_puts (record { notice = n.1 i; lot = l.1 i; line = line i; envelopes = envelopes_of_lot notice lot s; securities = securities_of_lot notice lot s; clock = s.clock }) now)
       (decided s now notice lot n.0 l.0 w.0 n.1 tests.1.1.1.1.1.1.1.0 (winner (Some n.0) (envelopes_of_lot notice lot s)));
   parents = λ readings s moment caller order have registered may allowed u grown later. parents_of s u have grown order s.clock _ notice lot (notice_at notice s) (lot_at (notice, lot) s) (line_of_lot (lot_at (notice, lot) s) s) refl;
-  lacks = λ xs s moment caller whole allowed. none_lacking s whole.parents notice lot (lot_at (notice, lot) s) refl;
+  lacks = λ xs s moment caller whole allowed.
+      λ i. none_lacking s whole.parents notice lot (lot_at (notice, lot) s) refl i || award_is_new xs s whole.accounts notice lot i;
   alike = λ th W s es' ss' all seals readings t caller quiet.
       pairs th W s.clock t (notice_at notice s) (lot_at (notice, lot) s) (line_of_lot (lot_at (notice, lot) s) s) (envelopes_of_lot notice lot s) (envelopes_of_lot notice lot (record s { envelopes = es' })) (securities_of_lot notice lot s) (lot_pairs th W s es' all notice lot);
 }

@@ -2,7 +2,7 @@
 pub mod Accounts
 pub mod Columns
 use Rattle.std.proofs.Common.{[], ◌∷◌, refl, arith}
-use Rattle.std.specs.Prelude.{ℕ, List, map}
+use Rattle.std.specs.Prelude.{ℕ, ◌||◌, List, map}
 use Rattle.office_commands.specs.declared.commands.Command.TheVariants.{Import}
 use Rattle.office_commands.specs.declared.budget.BudgetRow.{BudgetRow}
 use Rattle.office_base.specs.Standings.{standings}
@@ -17,6 +17,7 @@ use Rattle.office_machine.proofs.Commands.Footprint.{Lines, Others}
 use Rattle.office_machine.proofs.FateLaws.QuietFates.{kept_after, one_more, all_append, all_of_map}
 use Rattle.office_machine.proofs.FateLaws.Seen.{seen, IsQuiet}
 use Rattle.office_machine.proofs.FateLaws.FatesHold.{Keeps}
+use Rattle.office_machine.proofs.Parents.NoOrphans.{no_lost_lines}
 use Rattle.office_machine.proofs.Parents.ParentsPut.{parents-append, parents-map}
 use Rattle.office_machine.proofs.Passed.{none_holds}
 use Rattle.office_machine.proofs.Commands.Tail.{front, front_map, quiet}
@@ -38,7 +39,9 @@ import_budget batch rows = record {
       front_map (imported_line_put (after_rows (standings s) rows)) rows (λ _. refl) (front (puts.Batch _ ∷ []) (refl, tt) (quiet _ [] tt refl (omega arith)));
   parents = λ readings s moment caller order have registered may allowed u grown later.
       parents-append u (map (imported_line_put (after_rows (standings s) rows)) rows) _ (parents-map u (imported_line_put (after_rows (standings s) rows)) rows (λ _. tt)) (tt, (tt, tt));
-  lacks = λ xs s moment caller whole allowed. none_below (standings s) rows (covered xs s whole.accounts whole.order) (none_holds (import_tests (import_rows s batch rows)) allowed).1.1.0;
+  lacks = λ xs s moment caller whole allowed.
+      let tests = none_holds (import_tests (import_rows s batch rows)) allowed in
+      λ i. none_below (standings s) rows (covered xs s whole.accounts whole.order) tests.1.1.0 i || no_lost_lines s whole.parents whole.order rows i;
   alike = λ th W s es' ss' all seals readings t caller quiet.
       plain_pairs th W (import_puts (import_rows s batch rows) t batch)
       (plain-append (map (imported_line_put (after_rows (standings s) rows)) rows) _ (plain-map (imported_line_put (after_rows (standings s) rows)) rows (λ _. tt)) (tt, (tt, tt)));

@@ -17,6 +17,7 @@ use Rattle.office_machine.specs.Rule.{sealed_tenders, sealed_tender, bytes_in, i
 use Rattle.office_machine.specs.Worlds.{ChosenTender, Pairs}
 use Rattle.office_machine.specs.Parents.{HaveParents, EnvelopeHas}
 use Rattle.office_machine.proofs.Worlds.WorldsPut.{TwoEnvelopes, Alike, PutPair, Plain, receipt_is, pairs-filter, blind, pairs-append}
+use Rattle.office_machine.proofs.Parents.NoOrphans.{no_tender_lost}
 use Rattle.office_machine.proofs.Parents.ParentsPut.{Grows, AllParents, envelope_still, parents-append, all-filter, all-table}
 use Rattle.office_machine.proofs.Worlds.WorldsRows.{notice_pairs}
 use Rattle.office_machine.proofs.Worlds.WorldsStep.{SealsAlike}
@@ -85,6 +86,6 @@ open_tenders notice = record {
       (front_map (opened_put readings.read) (sealed_tenders notice s) (λ _. refl)
       (loud notice n.0 (opened_notice now n.0) _ [] n.1 tests.1.1.1.1.0 refl refl refl tt refl (omega arith)));
   parents = λ readings s moment caller order have registered may allowed u grown later. parents_of s u have grown order readings.read s.clock _ notice (notice_at notice s);
-  lacks = λ xs s moment caller whole allowed. refl;
+  lacks = λ xs s moment caller whole allowed. no_tender_lost xs s whole notice;
   alike = λ th W s es' ss' all seals readings t caller quiet. pairs th W s es' ss' all readings.read s.clock t notice (notice_at notice s) quiet;
 }

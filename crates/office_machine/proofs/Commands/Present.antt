@@ -19,6 +19,7 @@ use Rattle.office_machine.specs.Machine.{command_tests, IsRegistered}
 use Rattle.office_machine.proofs.Commands.Tail.{HasTail, front, quiet}
 use Rattle.office_machine.proofs.Commands.Footprint.{Envelopes, Seals, Securities}
 use Rattle.office_machine.proofs.Worlds.WorldsPut.{TwoEnvelopes, TwoSeals, plain-if, PutPair, Plain, plain_pairs, pairs-append}
+use Rattle.office_machine.proofs.Parents.NoOrphans.{receipt_is_new}
 use Rattle.office_machine.proofs.Parents.ParentsPut.{Grows, AllParents, parents-append, parents-if}
 use Rattle.office_machine.proofs.Passed.{none_holds, not_false}
 use Rattle.office_machine.proofs.Commands.Lawful.{Lawful, Idle, given}
@@ -109,6 +110,6 @@ present notice lot security bytes = record {
       let lot_there = not_false (is_some (lot_at (notice, lot) s)) passes.1.0 in
       parents_of s u grown readings.digest s.clock _ caller notice lot security bytes _ there lot_there (presenter caller s may registered)
       (λ named. later.securities (s.clock.receipts + 1) (security_put_there readings.digest s.clock _ caller notice lot security bytes _ s named));
-  lacks = λ xs s moment caller whole allowed. refl;
+  lacks = λ xs s moment caller whole allowed. receipt_is_new xs s whole;
   alike = λ th W s es' ss' all seals readings t caller quiet. absurd quiet;
 }

@@ -19,6 +19,7 @@ use Rattle.tender_core.specs.Rules.Publish.{publish_tests, publish_rows, publish
 use Rattle.office_machine.specs.Machine.{command_tests, time_of}
 use Rattle.office_machine.specs.Counted.{releases_in}
 use Rattle.office_machine.proofs.Commands.Tail.{AsksAsBefore, HasTail, is_own, front, back, counted}
+use Rattle.office_machine.proofs.Parents.NoOrphans.{no_rows_of_notice}
 use Rattle.office_machine.proofs.Parents.ParentsPut.{Grows, Parents, AllParents, parents-append, parents-map, parents-all}
 use Rattle.office_machine.proofs.Worlds.WorldsPut.{plain-map, plain-append, IsPlain, plain_pairs}
 use Rattle.office_machine.proofs.Accounts.Aside.{after-append}
@@ -106,6 +107,8 @@ publish notice content = record {
       (later.notices notice
       (subst (λ u. IsSome (notice_at notice u)) (sym (after-append (publish_parts s.clock (time_of (given s moment caller (Publish notice content))) notice s.lines content) (late_puts notice content.late_withdrawal) s))
       (late_leaves content.late_withdrawal notice notice _ (notice_put_there (map (reserving_line_put s.lines content.lots) content.lots ++ map (new_lot_put notice) content.lots) _ _ s))));
-  lacks = λ xs s moment caller whole allowed. refl;
+  lacks = λ xs s moment caller whole allowed.
+      let passes = none_holds (publish_tests (publish_rows s notice) (max moment s.clock.moment) content) allowed in
+      no_rows_of_notice s whole.parents whole.order notice (absent (notice_at notice s) passes.1.0);
   alike = λ th W s es' ss' all seals readings t caller quiet. plain_pairs th W (publish_puts (record { notice = None; lines = s.lines; clock = s.clock }) t notice content) (plain s t notice content);
 }

@@ -21,6 +21,7 @@ use Rattle.award_core.specs.Rules.Sign.{sign_tests, sign_rows, sign_puts, sign_p
 use Rattle.office_machine.specs.Worlds.{ChosenTender, Pairs}
 use Rattle.office_machine.specs.Parents.{HaveParents}
 use Rattle.office_machine.proofs.Worlds.WorldsPut.{Alike, plain-map, plain-append, plain-if, IsPlain, PutPair, blind-option, plain_pairs}
+use Rattle.office_machine.proofs.Parents.NoOrphans.{contract_is_new}
 use Rattle.office_machine.proofs.Parents.ParentsPut.{Grows, grows-puts, AllParents, envelope_still, award_still, parents-append, parents-if}
 use Rattle.office_machine.proofs.Worlds.WorldsRows.{awarded_pair}
 use Rattle.office_machine.proofs.Parents.RowsHave.{lot_securities, lot_of}
@@ -112,6 +113,8 @@ sign award named = record {
       (front (puts.Award _ ∷ puts.Lot _ ∷ puts.Contract _ ∷ []) (refl, (refl, (refl, tt)))
       (loud of.w.notice of.n (with_next_release of.n) _ _ of.notice_is (ap has_all_releases (of.notice_is ∙ sym of.notice) ∙ tests.1.1.1.1.1.1.1.0) refl refl refl (returned_own (Awards ∷ Lots ∷ Contracts ∷ Securities ∷ []) refl securities) refl (omega arith)))));
   parents = λ readings s moment caller order have registered may allowed u grown later. parents_of s u have grown order s.clock _ award named (award_at award s) (notice_of_award (award_at award s) s) (lot_of_award (award_at award s) s) refl refl later;
-  lacks = λ xs s moment caller whole allowed. none_lacking s whole.parents award (award_at award s) refl;
+  lacks = λ xs s moment caller whole allowed.
+      let tests = none_holds (sign_tests (sign_rows s award) (max moment s.clock.moment) named) allowed in
+      λ i. none_lacking s whole.parents award (award_at award s) refl i || contract_is_new xs s whole.accounts award tests.1.1.1.1.0 i;
   alike = λ th W s es' ss' all seals readings t caller quiet. alike th W s es' all t award named;
 }

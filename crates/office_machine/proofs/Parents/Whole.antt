@@ -1,12 +1,13 @@
 -- In a reached office, the rows that its rows refer to exist, and no more went from a contract than came.
-use Rattle.std.specs.Prelude.{◌≡◌, ℕ, ◌≤◌, ◌<◌, Bool, true, false, not, ◌&&◌, List, filter, Option, Some, None, IsSome, is_some, nat_lt, option_and_then}
+use Rattle.std.specs.Prelude.{◌≡◌, ℕ, ◌+◌, ◌≤◌, ◌<◌, Bool, true, false, not, ◌&&◌, List, filter, Option, Some, None, IsSome, is_some, nat_lt, option_and_then}
 use Rattle.std.proofs.Common.{refl, ap, subst, arith}
 use Rattle.std.proofs.lemmas.Bool.Decides.{nat_tests}
 use Rattle.office_base.specs.EntryKinds.{is_raise, is_less}
 use Rattle.office_base.specs.Joined.{is_overdrawn, minus, plus}
 use Rattle.office_base.specs.Parents.{line_of_lot, security_of_envelope}
 use Rattle.office_base.specs.Transitions.{lacks_security}
-use Rattle.office_base.specs.Tables.{IsSorted, Tables, contract_at, entries_of_contract, lot_at, same_number, security_at}
+use Rattle.office_base.specs.States.{is_sealed}
+use Rattle.office_base.specs.Tables.{IsSorted, Tables, contract_at, entries_of_contract, envelope_at, lot_at, same_number, seal_at, security_at}
 use Rattle.office_base.specs.declared.records.ContractRow.{ContractRow}
 use Rattle.office_base.specs.declared.records.EntryRow.{EntryRow}
 use Rattle.office_base.specs.declared.records.EnvelopeRow.{EnvelopeRow}
@@ -23,6 +24,9 @@ pub record IsWhole (xs : List Given) (s : Tables) : Type 0 where
   pub performances : HavePerformances s
   pub accounts : AccountsStand xs s
   pub order : IsSorted s
+  -- No tender has the next receipt, and each that is still sealed has its seal.
+  pub unused : envelope_at (s.clock.receipts + 1) s ≡ None
+  pub seals : (n : ℕ) (e : EnvelopeRow) → envelope_at n s ≡ Some e → is_sealed e.state ≡ true → IsSome (seal_at n s)
 
 pub not_less : (a b : ℕ) → b ≤ a → nat_lt a b ≡ false
 not_less a b h = grind (arith, nat_tests, h)

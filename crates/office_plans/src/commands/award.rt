@@ -17,6 +17,7 @@ ghost use Rattle.office_values.specs.declared.refusal.Refusal.TheVariants.{Unava
 use crate::events::{party_of, status_with};
 use crate::objects::{Plain, object_text};
 use crate::of_lot::{envelopes_of_lot, securities_of_lot};
+use crate::orphans::award_is_taken;
 use crate::parents::line_of_lot;
 use crate::planned::Planned;
 use crate::published::{Released, make_release, published};
@@ -222,7 +223,7 @@ fn release<H: Lookups>(
     }
 }
 
-/// Plans the award of a lot. A refusal needs no memory except for the rows.
+/// Plans the award of a lot. A refusal needs no memory except for the rows. `Unavailable` also if another award has the next number.
 pub fn plan<H: Lookups>(
     alloc: Global,
     shelf: &mut H,
@@ -241,6 +242,10 @@ pub fn plan<H: Lookups>(
     let best = best_tender(&rows);
     if let Some(why) = refusal(t, &rows, best) {
         return Err(why);
+    }
+    let taken = award_is_taken(shelf, &rows.clock, best)?;
+    if taken {
+        return Err(Refusal::Unavailable);
     }
     let text = reply(alloc, asking, &rows, lot, best)?;
     let release = release(alloc, shelf, publisher, asking, &rows, notice, lot, best)?;

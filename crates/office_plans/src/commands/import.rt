@@ -1,21 +1,23 @@
 //! The plan for the import of a budget file: its reply and its changes.
-ghost use Rattle.std.specs.Prelude.{◌≡◌, IfOk, true};
+ghost use Rattle.std.specs.Prelude.{◌≡◌, IfOk, false, true};
+ghost use Rattle.std.specs.List.{list_any};
 ghost use Rattle.office_commands.specs.Rights.{may};
 ghost use Rattle.office_commands.specs.declared.command.CommandKind.TheVariants as kinds;
 ghost use Rattle.office_commands.specs.declared.commands.Command.TheVariants.{Import};
 ghost use Rattle.office_base.specs.Shelves.{Looks};
 ghost use Rattle.office_machine.specs.Replies.{Imported};
 ghost use Rattle.office_plans.specs.Asking.{given_by};
-ghost use Rattle.office_plans.specs.Named.{import_named};
+ghost use Rattle.office_plans.specs.Named.{import_named, is_of_lost_line};
 ghost use Rattle.office_plans.specs.Published.{IsPlanned};
 ghost use Rattle.office_plans.specs.Replies.{reply_text};
 ghost use Rattle.office_values.specs.declared.settings.Publisher.{Publisher};
 
 use crate::objects::{Plain, object_text};
+use crate::orphans::find_no_lost_line;
 use crate::planned::Planned;
 use crate::published::silent;
 use crate::standings::load_standings;
-use office_base::laws::rows_are_kept;
+use office_base::laws::{looks_follow, rows_are_kept};
 use office_base::shelf::{Lookups, ShelfFault};
 use office_base::standing::Standing;
 use office_commands::budget::BudgetRows;
@@ -29,18 +31,21 @@ use tender_core::import::{ImportRows, decide_import};
 use tender_core::laws::imports_agree;
 
 // Loads the rows by which the command is decided. Of the budget lines these are those that the file names, and the decision is the same as with all lines of
-// the office.
+// the office. Fails if a lot of a new line exists.
 fn load<H: Lookups>(
     alloc: Global,
     shelf: &mut H,
     batch: &Id,
     rows: BudgetRows,
 ) -> Result<ImportRows, ShelfFault>
-    ensures { Looks H.meaning shelf.old shelf.new (λ s. IfOk result (λ loaded. loaded ≡ import_named s batch.now rows)) }
+    ensures looks { Looks H.meaning shelf.old shelf.new (λ s. IfOk result (λ loaded. loaded ≡ import_named s batch.now rows)) }
+    ensures whole { Looks H.meaning shelf.old shelf.new (λ s. IfOk result (λ loaded. list_any (is_of_lost_line s loaded.file.lines) rows ≡ false)) }
 {
+    looks_follow::<H>();
     let clock = shelf.get_clock()?;
     let row = shelf.get_batch(batch)?;
     let lines = load_standings(alloc, shelf, rows.as_slice())?;
+    find_no_lost_line(shelf, &lines, rows.as_slice())?;
     Ok(ImportRows {
         batch: row,
         file: BudgetFile::of(lines, rows),

@@ -18,9 +18,11 @@ ghost use Rattle.office_values.specs.declared.settings.Publisher.{Publisher};
 ghost use Rattle.tender_core.specs.Rules.Present.{received};
 
 use crate::of_lot::own_envelopes;
+use crate::orphans::receipt_is_taken;
 use crate::planned::Planned;
 use crate::published::silent;
 use crate::replies::received_text;
+use office_base::laws::looks_follow;
 use office_base::records::EnvelopeState;
 use office_base::shelf::{Lookups, ShelfFault};
 use office_commands::command::Caller;
@@ -93,6 +95,7 @@ fn reply(
 }
 
 /// Plans a submission. A tender gets a receipt whether it comes in time or late. A refusal needs no memory except for the rows.
+/// `Unavailable` also if another tender has the next receipt.
 pub fn plan<H: Lookups>(
     alloc: Global,
     shelf: &mut H,
@@ -107,10 +110,15 @@ pub fn plan<H: Lookups>(
         IsPlanned publisher (given_by asking.now s (Present notice lot security sealed.entry)) result) }
     ensures tells { TellsRefusal H.meaning shelf.old shelf.new (λ s. given_by asking.now s (Present notice lot security sealed.entry)) result }
 {
+    looks_follow::<H>();
     let rows = load(alloc, shelf, asking.caller, &notice, &lot)?;
     let t = asking.time(&rows.clock);
     if let Some(why) = refusal(t, asking.caller, &rows, &security) {
         return Err(why);
+    }
+    let taken = receipt_is_taken(shelf, &rows.clock)?;
+    if taken {
+        return Err(Refusal::Unavailable);
     }
     let text = reply(alloc, t, &rows, &security, &sealed)?;
     let puts = puts(

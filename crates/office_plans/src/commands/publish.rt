@@ -12,6 +12,7 @@ ghost use Rattle.office_plans.specs.Released.{IsReleased};
 ghost use Rattle.office_values.specs.declared.refusal.Refusal.TheVariants.{Unavailable};
 
 use crate::lines::load_line;
+use crate::orphans::has_rows_of_notice;
 use crate::planned::Planned;
 use crate::published::{Released, make_release, published};
 use crate::replies::notice_reply;
@@ -93,7 +94,7 @@ fn release(
 }
 
 /// Plans the publication of a notice. A refusal needs no memory except for the rows. These include a table of the lots' budget lines, so a notice may be
-/// `Unavailable` instead of refused although no look-up failed.
+/// `Unavailable` instead of refused although no look-up failed. `Unavailable` also if a lot, a tender or a release of the notice exists.
 pub fn plan<H: Lookups>(
     alloc: Global,
     shelf: &mut H,
@@ -112,6 +113,10 @@ pub fn plan<H: Lookups>(
     let t = asking.time(&rows.clock);
     if let Some(why) = refusal(t, &rows, &content) {
         return Err(why);
+    }
+    let found = has_rows_of_notice(shelf, &notice)?;
+    if found {
+        return Err(Refusal::Unavailable);
     }
     let text = notice_reply(alloc, asking, notice, &rows.notice, &rows.clock)?;
     let release = release(alloc, publisher, asking, &rows, notice, &content)?;

@@ -17,6 +17,7 @@ ghost use Rattle.office_values.specs.declared.refusal.Refusal.TheVariants.{Unava
 use crate::events::status_with;
 use crate::objects::{Plain, object_text};
 use crate::of_lot::securities_of_award;
+use crate::orphans::contract_is_taken;
 use crate::parents::{envelope_of_award, lot_of_award, notice_of_award};
 use crate::planned::Planned;
 use crate::published::{Released, make_release, published};
@@ -119,6 +120,7 @@ fn release<H: Lookups>(
 }
 
 /// Plans the signing of a contract, with a performance security if one is named. A refusal needs no memory except for the rows.
+/// `Unavailable` also if a contract has the award's number.
 pub fn plan<H: Lookups>(
     alloc: Global,
     shelf: &mut H,
@@ -136,6 +138,10 @@ pub fn plan<H: Lookups>(
     let t = asking.time(&rows.clock);
     if let Some(why) = refusal(t, &rows, &security) {
         return Err(why);
+    }
+    let taken = contract_is_taken(shelf, award)?;
+    if taken {
+        return Err(Refusal::Unavailable);
     }
     let text = reply(alloc, asking, &rows, award)?;
     let row = rows.award.as_ref().unwrap();

@@ -246,9 +246,6 @@ fn load_compiled<H: Lookups>(
 {
     let kept = load_kept(shelf, notice)?;
     let merge = merge_kept(alloc, &kept)?;
-    if !merge.is_object() {
-        return Err(Refusal::Unavailable);
-    }
     compiled(alloc, publisher, notice, last, merge)
 }
 

@@ -23,7 +23,9 @@ returns-in-Ok-commit-clause-answered g c honest s held stands can =
     (c.in-Ok-commit.ensures.alters.stop_all honest s (looks.0.same before s held))
 
 pub returns-in-Ok-commit-clause-changes : goal.returns-in-Ok-commit-clause-changes
-returns-in-Ok-commit-clause-changes g c honest s held = inr (tt, (_, c.built.ensures ∙ c.in-Ok-accepted_response.ensures))
+returns-in-Ok-commit-clause-changes g c honest s held =
+    let plan = c.in-Ok.ensures.looks.1 (c.in-Ok-commit.ensures.alters.before honest) s held in
+    inr (plan.whole, (_, c.built.ensures ∙ c.in-Ok-accepted_response.ensures))
 
 pub returns-in-Err-commit-clause-answered : goal.returns-in-Err-commit-clause-answered
 returns-in-Err-commit-clause-answered g c honest s held stands can =

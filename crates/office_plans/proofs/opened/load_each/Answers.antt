@@ -1,10 +1,12 @@
-use Rattle.std.proofs.Common.{◌≡◌, List, sym, subst, arith}
+use Rattle.std.proofs.Common.{◌≡◌, List, not, ap, sym, subst, arith}
+use Rattle.std.specs.List.{list_any}
 use Rattle.office_base.specs.Tables.{lot_cmp, lot_key}
 use Rattle.office_base.specs.declared.records.LotRow.{LotRow}
 use Rattle.office_plans.specs.LookedUp.{AreFrom}
+use Rattle.office_machine.specs.Rule.{has_seal_and_lot}
 use Rattle.office_plans.specs.Opening.{HasLotOf, tender_read, with_lot}
 use Rattle.office_plans.proofs.LookedUp.{exact_lots, here, from_one, none_from}
-use Rattle.office_plans.proofs.ReadTenders.{next_read}
+use Rattle.office_plans.proofs.ReadTenders.{next_read, rest_whole}
 use Rattle.office_plans.proofs.opened.load_each.Goals as goal
 
 pub loop-envelope-init : goal.loop-envelope-init
@@ -14,7 +16,7 @@ loop-envelope-init g c =
       record { before = λ h. h; same = λ h t held. held; stop = λ h u left. left; sound = λ h was. was },
       λ honest s held. (
         subst (λ (rows : List LotRow). AreFrom lot_cmp lot_key s.lots rows) (sym c.new-lots.ensures) (none_from lot_cmp lot_key s.lots),
-        grind (arith, made, given),
+        (grind (arith, made, given), ap (list_any (λ e. not (has_seal_and_lot s e))) given),
       ),
     )
 
@@ -37,7 +39,11 @@ loop-envelope-preserved g c =
           let has : HasLotOf s c.load_lot.new.lots e =
           subst (λ (rows : List LotRow). HasLotOf s rows e) (sym lots) (here laws exact_lots s.lots old (e.notice, e.lot) so_far.0) in (
             subst (λ (rows : List LotRow). AreFrom lot_cmp lot_key s.lots rows) (sym lots) (from_one laws exact_lots s.lots old (e.notice, e.lot) so_far.0),
-            next_read (tender_read s) c.loop-envelope.tenders.items c.push.new.self.items c.in_ok-tender.tender e c.loop-envelope.envelope-iterator.rest.items
-                c.next.new.self.rest.items _ c.in_ok-push.ensures.items (step.looks.1 honest s (found.0.same second s at_start) has) c.in-Some.ensures.steps.0 so_far.1,
+            (
+              next_read (tender_read s) c.loop-envelope.tenders.items c.push.new.self.items c.in_ok-tender.tender e c.loop-envelope.envelope-iterator.rest.items
+                  c.next.new.self.rest.items _ c.in_ok-push.ensures.items (step.looks.1 honest s (found.0.same second s at_start) has) c.in-Some.ensures.steps.0 so_far.1.0,
+              rest_whole (λ e. not (has_seal_and_lot s e)) e c.loop-envelope.envelope-iterator.rest.items c.next.new.self.rest.items _
+                  (ap not (step.whole.1 honest s (found.0.same second s at_start) has)) c.in-Some.ensures.steps.0 so_far.1.1,
+            ),
           ),
     )

@@ -1,7 +1,7 @@
 use Rattle.std.specs.Prelude.{◌-◌}
 use Rattle.std.proofs.Common.{sym, subst, ap, ◌∙◌}
 use Rattle.office_base.specs.Tables.{Tables}
-use Rattle.office_publications.specs.Keeping.{KeepsReleasesOf, has_last_release}
+use Rattle.office_publications.specs.Keeping.{KeepsReleasesOf, has_last_release, has_release}
 use Rattle.office_publications.specs.Merges.{AreSoMany, HasMerge}
 use Rattle.office_plans.specs.Released.{IsKept}
 use Rattle.office_plans.proofs.ReleaseJoins.{follows, is_planned}
@@ -13,12 +13,13 @@ returns g c =
     let p = c.in_ok-publication.publication in
     let kept = c.in_ok-publication.ensures.kept in (
       kept.0,
-      λ honest s held publisher x at given allowed is told released.
+      λ honest s held publisher x at given allowed whole is told released.
           let behind = c.in_ok-publication.ensures.follows.1 honest s held in
+          let new = c.in_ok-publication.ensures.next.1 honest s held in
           let onto = c.in_ok-publication.ensures.goes_on.1 honest s held in
           let many = c.in_ok-publication.ensures.counted.1 honest s held in
-          is_planned publisher x r p released given allowed
-          (follows publisher x r released (ap (λ (u : Tables). has_last_release r.notice (r.seq - 1) u) at ∙ behind) (subst (λ (u : Tables). HasMerge r.notice u) (sym at) onto)
+          is_planned publisher x r p released given allowed whole
+          (follows publisher x r released (ap (λ (u : Tables). has_last_release r.notice (r.seq - 1) u) at ∙ behind) (ap (λ (u : Tables). has_release r.notice r.seq u) at ∙ new) (subst (λ (u : Tables). HasMerge r.notice u) (sym at) onto)
           (subst (λ (u : Tables). AreSoMany r.notice (r.seq - 1) u) (sym at) many)) c.args.puts.items c.args.text.items is told
           (λ keeps. subst (λ (u : Tables). IsKept u r p) (sym at)
           (kept.1 honest s held released.storable (subst (KeepsReleasesOf r.notice) at (keeps r.notice released.for_notice))))

@@ -3,9 +3,10 @@ use Rattle.office_plans.proofs.Silent.{nothing_published}
 use Rattle.office_plans.proofs.published.silent.Goals as goal
 
 pub returns : goal.returns
-returns c publisher x given allowed event notice is told = record {
+returns c publisher x given allowed whole event notice is told = record {
   given = given;
   allowed = allowed;
+  whole = whole;
   follows = λ n for. nothing_published notice for;
   put = λ keeps. record {
     puts = c.new.ensures.puts ∙ is ∙ sym (c.keeping.ensures.unpublished publisher x event);

@@ -1,11 +1,11 @@
 use Rattle.std.specs.Prelude.{List, ℕ}
 use Rattle.std.proofs.Common.{◌∙◌, ap, refl, sym}
-use Rattle.award_core.specs.Rules.AmendContract.{amend_contract_puts, amend_contract_rows, amend_contract_tests}
+use Rattle.award_core.specs.Rules.AmendContract.{amend_contract_lacks, amend_contract_puts, amend_contract_rows, amend_contract_tests}
 use Rattle.award_core.specs.declared.amend_contract.AmendContractRows.{AmendContractRows}
 use Rattle.office_commands.specs.declared.commands.Command.TheVariants.{AmendContract}
 use Rattle.office_commands.specs.declared.contract.ChangeKind.{ChangeKind}
 use Rattle.office_base.specs.Tables.{Tables}
-use Rattle.office_plans.proofs.Publishing.{IsTested, not_planned, puts_on, refused_on, two_looks}
+use Rattle.office_plans.proofs.Publishing.{IsTested, not_planned, puts_on, refused_on, two_looks, whole_on}
 use Rattle.office_plans.proofs.Telling.{fault_told, none_to_tell, refusal_told}
 use Rattle.office_plans.proofs.commands.amend_contract.plan.Goals as goal
 use Rattle.office_plans.specs.Asking.{given_by}
@@ -30,9 +30,10 @@ returns-clause-looks g c =
     two_looks _ c.looks_follow.ensures _ _ _ _ _ _ c.in_ok-rows.ensures.0 c.published.ensures
     (λ s are joined.
     let allowed = refused_on ruled _ _ moment _ c.requires c.refusal.ensures s are ∙ c.in_default.is in
+    let whole = whole_on ruled _ _ moment (λ (rows : AmendContractRows). amend_contract_lacks rows) c.in_ok-puts.ensures.whole s are refl in
     let puts = puts_on ruled _ _ moment (λ (rows : AmendContractRows) (t : ℕ). amend_contract_puts rows t a.entry a.kind a.amount a.rationale) _ c.in_ok-puts.ensures.puts s are refl in
     let row = sym c.as_ref.ensures.value ∙ ap option_copied c.unwrap-row.ensures in
-    joined a.publisher.now (given_by a.asking.now s (AmendContract a.contract a.entry a.kind a.amount a.rationale)) refl tt allowed puts (c.in_ok-text.ensures.told s a.entry a.rationale are allowed) (c.in_ok-release.ensures.release s a.contract are row))
+    joined a.publisher.now (given_by a.asking.now s (AmendContract a.contract a.entry a.kind a.amount a.rationale)) refl tt allowed whole puts (c.in_ok-text.ensures.told s a.entry a.rationale are allowed) (c.in_ok-release.ensures.release s a.contract are row))
 
 pub returns-in_err-rows-clause-tells : goal.returns-in_err-rows-clause-tells
 returns-in_err-rows-clause-tells g c =

@@ -29,7 +29,7 @@ returns-clause-looks g c =
     (λ s are joined.
     let allowed = refused_on ruled _ _ moment _ c.requires c.refusal.ensures s are ∙ c.in_default.is in
     let puts = puts_on ruled _ _ moment (λ (rows : AmendNoticeRows) (t : ℕ). amend_notice_puts rows t a.deadline) _ c.in_ok-puts.ensures.puts s are refl in
-    joined a.publisher.now (given_by a.asking.now s (AmendNotice a.notice a.deadline a.rationale)) refl tt allowed puts (c.in_ok-text.ensures s (ap (λ (rows : AmendNoticeRows). rows.notice) are) (ap (λ (rows : AmendNoticeRows). rows.clock) are)) (c.in_ok-release.ensures.release s are))
+    joined a.publisher.now (given_by a.asking.now s (AmendNotice a.notice a.deadline a.rationale)) refl tt allowed refl puts (c.in_ok-text.ensures s (ap (λ (rows : AmendNoticeRows). rows.notice) are) (ap (λ (rows : AmendNoticeRows). rows.clock) are)) (c.in_ok-release.ensures.release s are))
 
 pub returns-in_err-rows-clause-tells : goal.returns-in_err-rows-clause-tells
 returns-in_err-rows-clause-tells g c =

@@ -4,13 +4,13 @@ use Rattle.office_commands.specs.declared.commands.Command.TheVariants.{Cancel}
 use Rattle.office_base.specs.Tables.{Tables, lots_of_notice}
 use Rattle.office_machine.specs.Machine.{time_of}
 use Rattle.office_plans.proofs.NamedLines.{lines_agree}
-use Rattle.office_plans.proofs.Publishing.{IsTested, not_planned, puts_on, refused_on, three_looks}
+use Rattle.office_plans.proofs.Publishing.{IsTested, not_planned, puts_on, refused_on, three_looks, whole_on}
 use Rattle.office_plans.proofs.Telling.{fault_told, none_to_tell, refusal_told}
 use Rattle.office_plans.proofs.commands.cancel.plan.Goals as goal
 use Rattle.office_plans.specs.Asking.{given_by}
 use Rattle.office_plans.specs.Named.{cancel_named, line_of_lot, lines_named}
 use Rattle.tender_core.specs.Agreeing.{cancel_on}
-use Rattle.tender_core.specs.Rules.Cancel.{cancel_puts, cancel_rows, cancel_tests, is_open_lot}
+use Rattle.tender_core.specs.Rules.Cancel.{cancel_lacks, cancel_puts, cancel_rows, cancel_tests, is_open_lot}
 use Rattle.tender_core.specs.declared.asking.Asking.{Asking}
 use Rattle.tender_core.specs.declared.cancel.CancelRows.{CancelRows}
 
@@ -40,10 +40,13 @@ returns-clause-looks g c =
     let lines : CancelRows → CancelRows = λ rows. cancel_on (lines_named s (map line_of_lot (filter is_open_lot rows.lots))) rows in
     let named = filled ∙ ap lines are in
     let later = moment ∙ ap (λ (rows : CancelRows). max a.asking.now.moment rows.clock.moment) (sym filled) in
+    let whole = whole_on (decided a.asking.now a.notice a.rationale) _ _ later (λ (rows : CancelRows). cancel_lacks rows) c.in_ok-puts.ensures.whole s named
+    (sym (c.cancels_agree.ensures.lacks (lines_named s (map line_of_lot (filter is_open_lot (lots_of_notice a.notice s)))) s.lines (cancel_rows s a.notice)
+    (lines_agree c.rows_are_kept.ensures s line_of_lot (filter is_open_lot (lots_of_notice a.notice s))))) in
     let puts = puts_on (decided a.asking.now a.notice a.rationale) _ _ later (λ (rows : CancelRows) (t : ℕ). cancel_puts rows t) _ c.in_ok-puts.ensures.puts s named
     (sym (c.cancels_agree.ensures.puts (lines_named s (map line_of_lot (filter is_open_lot (lots_of_notice a.notice s)))) s.lines (cancel_rows s a.notice)
     (time_of (given_by a.asking.now s (Cancel a.notice a.rationale))) (lines_agree c.rows_are_kept.ensures s line_of_lot (filter is_open_lot (lots_of_notice a.notice s))))) in
-    joined a.publisher.now (given_by a.asking.now s (Cancel a.notice a.rationale)) refl tt allowed puts
+    joined a.publisher.now (given_by a.asking.now s (Cancel a.notice a.rationale)) refl tt allowed whole puts
     (c.in_ok-text.ensures s (ap (λ (rows : CancelRows). rows.notice) named) (ap (λ (rows : CancelRows). rows.clock) named)) (c.in_ok-release.ensures.release s named))
 
 pub returns-in_err-found-clause-tells : goal.returns-in_err-found-clause-tells

@@ -1,11 +1,11 @@
 use Rattle.std.specs.Prelude.{Bool, Option, ℕ}
 use Rattle.std.proofs.Common.{◌∙◌, ap, refl}
-use Rattle.award_core.specs.Rules.Examine.{examine_puts, examine_rows, examine_tests}
+use Rattle.award_core.specs.Rules.Examine.{examine_lacks, examine_puts, examine_rows, examine_tests}
 use Rattle.award_core.specs.declared.examine.ExamineRows.{ExamineRows}
 use Rattle.office_commands.specs.declared.commands.Command.TheVariants.{Examine}
 use Rattle.office_base.specs.Tables.{Tables}
 use Rattle.office_machine.specs.Replies.{Examined}
-use Rattle.office_plans.proofs.Publishing.{IsTested, not_planned, puts_on, refused_on, time_is}
+use Rattle.office_plans.proofs.Publishing.{IsTested, not_planned, puts_on, refused_on, time_is, whole_on}
 use Rattle.office_plans.proofs.Telling.{fault_told, none_to_tell, refusal_told}
 use Rattle.office_plans.proofs.commands.examine.plan.Goals as goal
 use Rattle.office_plans.specs.Asking.{given_by}
@@ -31,9 +31,10 @@ returns-clause-looks g c publisher =
       λ honest s held.
           let are = c.in_ok-rows.ensures.0.1 honest s held in
           let allowed = refused_on ruled _ _ moment _ c.requires c.refusal.ensures s are ∙ c.in_default.is in
+          let whole = whole_on ruled _ _ moment (λ (rows : ExamineRows). examine_lacks rows) c.in_ok-puts.ensures.whole s are refl in
           let puts = puts_on ruled _ _ moment (λ (rows : ExamineRows) (t : ℕ). examine_puts rows t a.responsive a.quality) _ c.in_ok-puts.ensures.puts s are refl in
           let told = c.in_ok-text.ensures ∙ ap (λ t. reply_text (Examined a.receipt a.responsive t)) (time_is ruled _ _ moment s are) in
-          c.silent.ensures publisher (given_by a.asking.now s (Examine a.receipt a.responsive a.quality)) tt allowed refl refl puts told,
+          c.silent.ensures publisher (given_by a.asking.now s (Examine a.receipt a.responsive a.quality)) tt allowed whole refl refl puts told,
     )
 
 pub returns-in_err-rows-clause-tells : goal.returns-in_err-rows-clause-tells

@@ -1,10 +1,10 @@
 use Rattle.std.specs.Prelude.{ℕ}
 use Rattle.std.proofs.Common.{◌∙◌, ap, refl, sym}
-use Rattle.award_core.specs.Rules.Fail.{fail_puts, fail_rows, fail_tests}
+use Rattle.award_core.specs.Rules.Fail.{fail_lacks, fail_puts, fail_rows, fail_tests}
 use Rattle.award_core.specs.declared.fail.FailRows.{FailRows}
 use Rattle.office_commands.specs.declared.commands.Command.TheVariants.{Fail}
 use Rattle.office_base.specs.Tables.{Tables}
-use Rattle.office_plans.proofs.Publishing.{IsTested, not_planned, puts_on, refused_on, two_looks}
+use Rattle.office_plans.proofs.Publishing.{IsTested, not_planned, puts_on, refused_on, two_looks, whole_on}
 use Rattle.office_plans.proofs.Telling.{fault_told, none_to_tell, refusal_told}
 use Rattle.office_plans.proofs.commands.fail.plan.Goals as goal
 use Rattle.office_plans.specs.Asking.{given_by}
@@ -29,9 +29,10 @@ returns-clause-looks g c =
     two_looks _ c.looks_follow.ensures _ _ _ _ _ _ c.in_ok-rows.ensures.0 c.published.ensures
     (λ s are joined.
     let allowed = refused_on ruled _ _ moment _ c.requires c.refusal.ensures s are ∙ c.in_default.is in
+    let whole = whole_on ruled _ _ moment (λ (rows : FailRows). fail_lacks rows) c.in_ok-puts.ensures.whole s are refl in
     let puts = puts_on ruled _ _ moment (λ (rows : FailRows) (t : ℕ). fail_puts rows t) _ c.in_ok-puts.ensures.puts s are refl in
     let row = sym c.as_ref.ensures.value ∙ ap option_copied c.unwrap-row.ensures in
-    joined a.publisher.now (given_by a.asking.now s (Fail a.award)) refl tt allowed puts (c.in_ok-text.ensures s are) (c.in_ok-release.ensures.release s a.award are row))
+    joined a.publisher.now (given_by a.asking.now s (Fail a.award)) refl tt allowed whole puts (c.in_ok-text.ensures s are) (c.in_ok-release.ensures.release s a.award are row))
 
 pub returns-in_err-rows-clause-tells : goal.returns-in_err-rows-clause-tells
 returns-in_err-rows-clause-tells g c =

@@ -6,14 +6,14 @@ use Rattle.office_base.specs.declared.records.EnvelopeRow.{EnvelopeRow}
 use Rattle.office_machine.specs.Machine.{time_of}
 use Rattle.office_machine.specs.OfficeMeans.{office_readings}
 use Rattle.office_machine.specs.Replies.{modify_reply}
-use Rattle.office_plans.proofs.Publishing.{IsTested, not_planned, on_rows, puts_on, refused_on}
+use Rattle.office_plans.proofs.Publishing.{IsTested, not_planned, on_rows, puts_on, refused_on, whole_on}
 use Rattle.office_plans.proofs.Telling.{fault_told, none_to_tell, refusal_told}
 use Rattle.office_plans.proofs.commands.modify.plan.Goals as goal
 use Rattle.office_plans.specs.Asking.{given_by}
 use Rattle.office_plans.specs.Replies.{reply_text}
 use Rattle.sha2.specs.Sha256.{sha256}
 use Rattle.std.specs.Option.{option_copied}
-use Rattle.tender_core.specs.Rules.Modify.{modify_puts, modify_rows, modify_tests}
+use Rattle.tender_core.specs.Rules.Modify.{modify_lacks, modify_puts, modify_rows, modify_tests}
 use Rattle.tender_core.specs.declared.asking.Asking.{Asking}
 use Rattle.tender_core.specs.declared.modify.ModifyRows.{ModifyRows}
 
@@ -36,6 +36,7 @@ returns-clause-looks g c publisher =
       λ honest s held.
           let are = c.in_ok-rows.ensures.0.1 honest s held in
           let allowed = refused_on ruled _ _ moment _ c.requires c.refusal.ensures s are ∙ c.in_default.is in
+          let whole = whole_on ruled _ _ moment (λ (rows : ModifyRows). modify_lacks rows) c.in_ok-puts.ensures.whole s are refl in
           let puts = puts_on ruled _ _ moment (λ (rows : ModifyRows) (t : ℕ). modify_puts sha256 rows t a.sealed) _ c.in_ok-puts.ensures.puts s are refl in
           let there : Some c.unwrap-row.result.now ≡ envelope_at a.receipt s =
           sym (sym c.as_ref.ensures.value ∙ ap option_copied c.unwrap-row.ensures) ∙ ap (λ (rows : ModifyRows). rows.envelope) are in
@@ -43,7 +44,7 @@ returns-clause-looks g c publisher =
           let told =
           c.in_ok-text.ensures ∙ on_rows ruled _ _ moment (reply (Some c.unwrap-row.result.now)) s are
           ∙ ap (λ tender. reply tender (modify_rows s a.receipt) (time_of (given_by a.asking.now s (Modify a.receipt a.sealed)))) there in
-          c.silent.ensures publisher (given_by a.asking.now s (Modify a.receipt a.sealed)) tt allowed refl refl puts told,
+          c.silent.ensures publisher (given_by a.asking.now s (Modify a.receipt a.sealed)) tt allowed whole refl refl puts told,
     )
 
 pub returns-in_err-rows-clause-tells : goal.returns-in_err-rows-clause-tells

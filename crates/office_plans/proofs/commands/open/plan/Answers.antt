@@ -5,7 +5,7 @@ use Rattle.office_base.specs.Tables.{Tables, notice_at}
 use Rattle.office_machine.specs.Machine.{time_of}
 use Rattle.office_machine.specs.OfficeMeans.{office_readings}
 use Rattle.office_machine.specs.Rule.{sealed_tenders}
-use Rattle.office_plans.proofs.Publishing.{IsTested, four_looks, not_planned, puts_on, refused_on}
+use Rattle.office_plans.proofs.Publishing.{IsTested, both_looks, four_looks, not_planned, puts_on, refused_on}
 use Rattle.office_plans.proofs.ReadTenders.{tenders_are}
 use Rattle.office_plans.proofs.Telling.{fault_told, none_to_tell, refusal_told}
 use Rattle.office_plans.proofs.commands.open.plan.Goals as goal
@@ -30,15 +30,15 @@ returns-clause-looks g c =
     let a = c.args in
     let ruled = rule a.asking.now a.notice in
     let moment = c.time-t.ensures in
-    four_looks _ c.looks_follow.ensures _ _ _ _ _ _ _ _ _ _ c.in_ok-rows.ensures.0 c.in_ok-tenders.ensures.looks c.in_ok-release.ensures.looks c.published.ensures
+    four_looks _ c.looks_follow.ensures _ _ _ _ _ _ _ _ _ _ c.in_ok-rows.ensures.0 (both_looks _ _ _ _ _ c.in_ok-tenders.ensures.looks c.in_ok-tenders.ensures.whole) c.in_ok-release.ensures.looks c.published.ensures
     (λ s are read released joined.
     let allowed = refused_on ruled _ _ moment _ c.requires c.refusal.ensures s are ∙ c.in_default.is in
     let time = time_of (given_by a.asking.now s (Open a.notice)) in
     let puts =
     puts_on ruled _ _ moment (λ (rows : OpenRows) (t : ℕ). opened_with rows.clock t rows.notice c.in_ok-tenders.tenders) _ c.in_ok-puts.ensures.puts s are
     (c.readings_are_put.ensures office_readings.read (open_rows s a.notice) time (sealed_tenders a.notice s)
-    ∙ ap (λ (ts : List OpenedTender). opened_with s.clock time (notice_at a.notice s) ts) (sym (read ∙ tenders_are a.notice s))) in
-    joined a.publisher.now (given_by a.asking.now s (Open a.notice)) refl tt allowed puts (c.in_ok-text.ensures s are (c.as_slice.ensures ∙ read)) (released are (c.as_slice-2.ensures ∙ read)))
+    ∙ ap (λ (ts : List OpenedTender). opened_with s.clock time (notice_at a.notice s) ts) (sym (read.0 ∙ tenders_are a.notice s))) in
+    joined a.publisher.now (given_by a.asking.now s (Open a.notice)) refl tt allowed read.1 puts (c.in_ok-text.ensures s are (c.as_slice.ensures ∙ read.0)) (released are (c.as_slice-2.ensures ∙ read.0)))
 
 pub returns-in_err-rows-clause-tells : goal.returns-in_err-rows-clause-tells
 returns-in_err-rows-clause-tells g c =

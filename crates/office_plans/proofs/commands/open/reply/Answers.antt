@@ -3,7 +3,8 @@ use Rattle.std.proofs.Common.{◌∙◌, ap}
 use Rattle.std.proofs.lemmas.List.{length-map}
 use Rattle.office_machine.specs.Counted.{releases_in}
 use Rattle.office_machine.specs.Replies.{OpenedAll}
-use Rattle.office_plans.specs.Opening.{sealed_of_notice, tender_read}
+use Rattle.office_machine.specs.Rule.{sealed_of_notice}
+use Rattle.office_plans.specs.Opening.{tender_read}
 use Rattle.office_plans.specs.Replies.{reply_text}
 use Rattle.office_plans.proofs.Maybe.{if_ok}
 use Rattle.office_plans.proofs.commands.open.reply.Goals as goal

@@ -1,14 +1,14 @@
-use Rattle.std.specs.Prelude.{List, Option, ℕ}
-use Rattle.std.proofs.Common.{◌∙◌, refl, sym}
+use Rattle.std.specs.Prelude.{List, Option, is_some, ℕ, ◌+◌}
+use Rattle.std.proofs.Common.{◌∙◌, ap, refl, sym}
 use Rattle.office_commands.specs.declared.commands.Command.TheVariants.{Present}
 use Rattle.office_commands.specs.declared.tender.NamedSecurity.{NamedSecurity}
 use Rattle.office_base.specs.Rows.{holds_of}
 use Rattle.office_base.specs.Transitions.{is_in_time}
-use Rattle.office_base.specs.Tables.{Tables}
+use Rattle.office_base.specs.Tables.{Tables, envelope_at}
 use Rattle.office_machine.specs.Machine.{time_of}
 use Rattle.office_machine.specs.Replies.{received_reply}
 use Rattle.office_plans.proofs.OwnTenders.{own_tests}
-use Rattle.office_plans.proofs.Publishing.{IsTested, not_planned, on_rows, puts_on, refused_on}
+use Rattle.office_plans.proofs.Publishing.{IsTested, not_planned, on_rows, puts_on, refused_on, two_looks}
 use Rattle.office_plans.proofs.Telling.{fault_told, none_to_tell, refusal_told}
 use Rattle.office_plans.proofs.commands.present.plan.Goals as goal
 use Rattle.office_plans.specs.Asking.{given_by}
@@ -33,17 +33,16 @@ pub returns-clause-looks : goal.returns-clause-looks
 returns-clause-looks g c publisher =
     let a = c.args in
     let ruled = rule a.asking.now a.notice a.lot a.security a.sealed in
-    let moment = c.time-t.ensures in (
-      c.in_ok-rows.ensures.0.0,
-      λ honest s held.
-          let are = c.in_ok-rows.ensures.0.1 honest s held in
-          let allowed = refused_on ruled _ _ moment _ c.requires c.refusal.ensures s are ∙ c.in_default.is in
-          let puts = puts_on ruled _ _ moment (λ (rows : PresentRows) (t : ℕ). present_puts sha256 rows t a.asking.now.caller.now a.notice a.lot a.security a.sealed) _ c.in_ok-puts.ensures.puts s are refl in
-          let reply = λ (rows : PresentRows) (t : ℕ).
-          reply_text (received_reply (received sha256 rows.clock t a.asking.now.caller.now a.notice a.lot a.security a.sealed (holds_of (is_in_time t) rows.notice))) in
-          let told = c.in_ok-text.ensures a.asking.now.caller.now a.notice a.lot ∙ on_rows ruled _ _ moment reply s are in
-          c.silent.ensures publisher (given_by a.asking.now s (Present a.notice a.lot a.security a.sealed)) tt allowed refl refl puts told,
-    )
+    let moment = c.time-t.ensures in
+    two_looks _ c.looks_follow.ensures _ _ _ _ _ _ c.in_ok-rows.ensures.0 c.in_ok-taken.ensures.0
+    (λ s are taken.
+    let allowed = refused_on ruled _ _ moment _ c.requires c.refusal.ensures s are ∙ c.in_default.is in
+    let new = sym (taken ∙ ap (λ (rows : PresentRows). is_some (envelope_at (rows.clock.receipts + 1) s)) are) ∙ c.if-taken.false in
+    let puts = puts_on ruled _ _ moment (λ (rows : PresentRows) (t : ℕ). present_puts sha256 rows t a.asking.now.caller.now a.notice a.lot a.security a.sealed) _ c.in_ok-puts.ensures.puts s are refl in
+    let reply = λ (rows : PresentRows) (t : ℕ).
+    reply_text (received_reply (received sha256 rows.clock t a.asking.now.caller.now a.notice a.lot a.security a.sealed (holds_of (is_in_time t) rows.notice))) in
+    let told = c.in_ok-text.ensures a.asking.now.caller.now a.notice a.lot ∙ on_rows ruled _ _ moment reply s are in
+    c.silent.ensures publisher (given_by a.asking.now s (Present a.notice a.lot a.security a.sealed)) tt allowed new refl refl puts told)
 
 pub returns-in_err-rows-clause-tells : goal.returns-in_err-rows-clause-tells
 returns-in_err-rows-clause-tells g c =
@@ -55,20 +54,32 @@ returns-in-Some-clause-tells g c =
     let a = c.args in
     refusal_told (rule a.asking.now a.notice a.lot a.security a.sealed) _ _ c.time-t.ensures _ _ _ c.in_ok-rows.ensures.0 c.requires _ c.refusal.ensures _ c.in-Some.is
 
+pub returns-in_err-taken-clause-tells : goal.returns-in_err-taken-clause-tells
+returns-in_err-taken-clause-tells g c =
+    let a = c.args in
+    none_to_tell (rule a.asking.now a.notice a.lot a.security a.sealed) _ _ c.time-t.ensures _ _ _ c.in_ok-rows.ensures.0 c.requires _ c.refusal.ensures _ _
+    c.in_err-taken.ensures.0.0.before c.in_default.is
+
+pub returns-then-taken-clause-tells : goal.returns-then-taken-clause-tells
+returns-then-taken-clause-tells g c =
+    let a = c.args in
+    none_to_tell (rule a.asking.now a.notice a.lot a.security a.sealed) _ _ c.time-t.ensures _ _ _ c.in_ok-rows.ensures.0 c.requires _ c.refusal.ensures _ _
+    c.in_ok-taken.ensures.0.0.before c.in_default.is
+
 pub returns-in_err-text-clause-tells : goal.returns-in_err-text-clause-tells
 returns-in_err-text-clause-tells g c =
     let a = c.args in
     none_to_tell (rule a.asking.now a.notice a.lot a.security a.sealed) _ _ c.time-t.ensures _ _ _ c.in_ok-rows.ensures.0 c.requires _ c.refusal.ensures _ _
-    (λ honest. honest) c.in_default.is
+    c.in_ok-taken.ensures.0.0.before c.in_default.is
 
 pub returns-in_err-puts-clause-tells : goal.returns-in_err-puts-clause-tells
 returns-in_err-puts-clause-tells g c =
     let a = c.args in
     none_to_tell (rule a.asking.now a.notice a.lot a.security a.sealed) _ _ c.time-t.ensures _ _ _ c.in_ok-rows.ensures.0 c.requires _ c.refusal.ensures _ _
-    (λ honest. honest) c.in_default.is
+    c.in_ok-taken.ensures.0.0.before c.in_default.is
 
 pub returns-clause-tells : goal.returns-clause-tells
 returns-clause-tells g c =
     let a = c.args in
     none_to_tell (rule a.asking.now a.notice a.lot a.security a.sealed) _ _ c.time-t.ensures _ _ _ c.in_ok-rows.ensures.0 c.requires _ c.refusal.ensures _ _
-    (λ honest. honest) c.in_default.is
+    c.in_ok-taken.ensures.0.0.before c.in_default.is

@@ -8,7 +8,7 @@ use Rattle.office_base.specs.Shelves.{Looks, Meaning}
 use Rattle.office_base.specs.Tables.{Tables, line_key}
 use Rattle.office_machine.specs.Machine.{time_of}
 use Rattle.office_plans.proofs.NamedLines.{lines_agree}
-use Rattle.office_plans.proofs.Publishing.{IsTested, not_planned, puts_on, refused_on, two_looks}
+use Rattle.office_plans.proofs.Publishing.{IsTested, not_planned, puts_on, refused_on, three_looks}
 use Rattle.office_plans.proofs.commands.publish.plan.Goals as goal
 use Rattle.office_plans.specs.Asking.{given_by}
 use Rattle.office_plans.specs.Named.{line_of_new, lines_named, publish_named}
@@ -45,10 +45,10 @@ returns g c =
     let ruled = rule c.rows_are_kept.ensures c.publishes_agree.ensures a.asking.now a.notice a.content in
     let moment = c.time-t.ensures in
     let looked = loaded _ _ _ _ a.notice _ a.content.lots c.as_slice.ensures.value c.in_ok-rows.ensures in
-    two_looks _ c.looks_follow.ensures _ _ _ _ _ _ looked c.published.ensures
-    (λ s are joined.
+    three_looks _ c.looks_follow.ensures _ _ _ _ _ _ _ _ looked c.in_ok-found.ensures.0 c.published.ensures
+    (λ s are found joined.
     let allowed = refused_on ruled _ _ moment _ c.requires c.refusal.ensures s are ∙ c.in_default.is in
     let puts = puts_on ruled _ _ moment (λ (rows : PublishRows) (t : ℕ). publish_puts rows t a.notice a.content) _ c.in_ok-puts.ensures.puts s are
     (sym (c.publishes_agree.ensures.puts (lines_named s (map line_of_new a.content.lots)) s.lines (publish_rows s a.notice)
     (time_of (given_by a.asking.now s (Publish a.notice a.content))) a.notice a.content (lines_agree c.rows_are_kept.ensures s line_of_new a.content.lots))) in
-    joined a.publisher.now (given_by a.asking.now s (Publish a.notice a.content)) refl c.as_slice.ensures.differ allowed puts (c.in_ok-text.ensures s (ap (λ (rows : PublishRows). rows.notice) are) (ap (λ (rows : PublishRows). rows.clock) are)) (c.in_ok-release.ensures.release s are))
+    joined a.publisher.now (given_by a.asking.now s (Publish a.notice a.content)) refl c.as_slice.ensures.differ allowed (sym found ∙ c.if-found.false) puts (c.in_ok-text.ensures s (ap (λ (rows : PublishRows). rows.notice) are) (ap (λ (rows : PublishRows). rows.clock) are)) (c.in_ok-release.ensures.release s are))

@@ -33,7 +33,7 @@ returns-clause-looks g c publisher =
           let allowed = refused_on ruled _ _ moment _ c.requires c.refusal.ensures s are ∙ c.in_default.is in
           let puts = puts_on ruled _ _ moment (λ (rows : RegisterRows) (t : ℕ). register_puts rows t a.tenderer a.name a.address a.key) _ c.in_ok-puts.ensures.puts s are refl in
           let told = c.in_ok-text.ensures ∙ ap (λ t. reply_text (Enrolled a.tenderer t)) (time_is ruled _ _ moment s are) in
-          c.silent.ensures publisher (given_by a.asking.now s (Register a.tenderer a.name a.address a.key)) tt allowed refl refl puts told,
+          c.silent.ensures publisher (given_by a.asking.now s (Register a.tenderer a.name a.address a.key)) tt allowed refl refl refl puts told,
     )
 
 pub returns-in_err-rows-clause-tells : goal.returns-in_err-rows-clause-tells

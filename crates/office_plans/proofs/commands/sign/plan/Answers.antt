@@ -1,11 +1,11 @@
-use Rattle.std.specs.Prelude.{Option, ℕ}
+use Rattle.std.specs.Prelude.{Option, ℕ, ◌||◌}
 use Rattle.std.proofs.Common.{◌∙◌, ap, refl, sym}
-use Rattle.award_core.specs.Rules.Sign.{sign_puts, sign_rows, sign_tests}
+use Rattle.award_core.specs.Rules.Sign.{sign_lacks, sign_puts, sign_rows, sign_tests}
 use Rattle.award_core.specs.declared.sign.SignRows.{SignRows}
 use Rattle.office_commands.specs.declared.commands.Command.TheVariants.{Sign}
 use Rattle.office_commands.specs.declared.tender.NamedSecurity.{NamedSecurity}
 use Rattle.office_base.specs.Tables.{Tables}
-use Rattle.office_plans.proofs.Publishing.{IsTested, not_planned, puts_on, refused_on, three_looks}
+use Rattle.office_plans.proofs.Publishing.{IsTested, four_looks, not_planned, puts_on, refused_on}
 use Rattle.office_plans.proofs.Telling.{fault_told, none_to_tell, refusal_told}
 use Rattle.office_plans.proofs.commands.sign.plan.Goals as goal
 use Rattle.office_plans.specs.Asking.{given_by}
@@ -27,12 +27,15 @@ returns-clause-looks g c =
     let a = c.args in
     let ruled = rule a.asking.now a.award a.security in
     let moment = c.time-t.ensures in
-    three_looks _ c.looks_follow.ensures _ _ _ _ _ _ _ _ c.in_ok-rows.ensures.0 c.in_ok-release.ensures.looks c.published.ensures
-    (λ s are released joined.
+    four_looks _ c.looks_follow.ensures _ _ _ _ _ _ _ _ _ _ c.in_ok-rows.ensures.0 c.in_ok-taken.ensures.0 c.in_ok-release.ensures.looks c.published.ensures
+    (λ s are taken released joined.
     let allowed = refused_on ruled _ _ moment _ c.requires c.refusal.ensures s are ∙ c.in_default.is in
+    let there = sym (ap sign_lacks are) ∙ c.in_ok-puts.ensures.whole in
+    let new = sym taken ∙ c.if-taken.false in
+    let whole = λ i. there i || new i in
     let puts = puts_on ruled _ _ moment (λ (rows : SignRows) (t : ℕ). sign_puts rows t a.security) _ c.in_ok-puts.ensures.puts s are refl in
     let row = sym c.as_ref.ensures.value ∙ ap option_copied c.unwrap-row.ensures in
-    joined a.publisher.now (given_by a.asking.now s (Sign a.award a.security)) refl tt allowed puts (c.in_ok-text.ensures s a.security are) (released a.award a.security are row))
+    joined a.publisher.now (given_by a.asking.now s (Sign a.award a.security)) refl tt allowed whole puts (c.in_ok-text.ensures s a.security are) (released a.award a.security are row))
 
 pub returns-in_err-rows-clause-tells : goal.returns-in_err-rows-clause-tells
 returns-in_err-rows-clause-tells g c =
@@ -44,26 +47,38 @@ returns-in-Some-clause-tells g c =
     let a = c.args in
     refusal_told (rule a.asking.now a.award a.security) _ _ c.time-t.ensures _ _ _ c.in_ok-rows.ensures.0 c.requires _ c.refusal.ensures _ c.in-Some.is
 
+pub returns-in_err-taken-clause-tells : goal.returns-in_err-taken-clause-tells
+returns-in_err-taken-clause-tells g c =
+    let a = c.args in
+    none_to_tell (rule a.asking.now a.award a.security) _ _ c.time-t.ensures _ _ _ c.in_ok-rows.ensures.0 c.requires _ c.refusal.ensures _ _
+    c.in_err-taken.ensures.0.0.before c.in_default.is
+
+pub returns-then-taken-clause-tells : goal.returns-then-taken-clause-tells
+returns-then-taken-clause-tells g c =
+    let a = c.args in
+    none_to_tell (rule a.asking.now a.award a.security) _ _ c.time-t.ensures _ _ _ c.in_ok-rows.ensures.0 c.requires _ c.refusal.ensures _ _
+    c.in_ok-taken.ensures.0.0.before c.in_default.is
+
 pub returns-in_err-text-clause-tells : goal.returns-in_err-text-clause-tells
 returns-in_err-text-clause-tells g c =
     let a = c.args in
     none_to_tell (rule a.asking.now a.award a.security) _ _ c.time-t.ensures _ _ _ c.in_ok-rows.ensures.0 c.requires _ c.refusal.ensures _ _
-    (λ honest. honest) c.in_default.is
+    c.in_ok-taken.ensures.0.0.before c.in_default.is
 
 pub returns-in_err-release-clause-tells : goal.returns-in_err-release-clause-tells
 returns-in_err-release-clause-tells g c =
     let a = c.args in
     none_to_tell (rule a.asking.now a.award a.security) _ _ c.time-t.ensures _ _ _ c.in_ok-rows.ensures.0 c.requires _ c.refusal.ensures _ _
-    c.in_err-release.ensures.looks.0.before c.in_default.is
+    (λ honest. c.in_ok-taken.ensures.0.0.before (c.in_err-release.ensures.looks.0.before honest)) c.in_default.is
 
 pub returns-in_err-puts-clause-tells : goal.returns-in_err-puts-clause-tells
 returns-in_err-puts-clause-tells g c =
     let a = c.args in
     none_to_tell (rule a.asking.now a.award a.security) _ _ c.time-t.ensures _ _ _ c.in_ok-rows.ensures.0 c.requires _ c.refusal.ensures _ _
-    c.in_ok-release.ensures.looks.0.before c.in_default.is
+    (λ honest. c.in_ok-taken.ensures.0.0.before (c.in_ok-release.ensures.looks.0.before honest)) c.in_default.is
 
 pub returns-clause-tells : goal.returns-clause-tells
 returns-clause-tells g c =
     let a = c.args in
     none_to_tell (rule a.asking.now a.award a.security) _ _ c.time-t.ensures _ _ _ c.in_ok-rows.ensures.0 c.requires _ c.refusal.ensures _ _
-    (λ honest. c.in_ok-release.ensures.looks.0.before (c.published.ensures.0.before honest)) c.in_default.is
+    (λ honest. c.in_ok-taken.ensures.0.0.before (c.in_ok-release.ensures.looks.0.before (c.published.ensures.0.before honest))) c.in_default.is

@@ -4,12 +4,12 @@ use Rattle.office_commands.specs.declared.commands.Command.TheVariants.{Withdraw
 use Rattle.office_base.specs.Transitions.{is_late}
 use Rattle.office_base.specs.Tables.{Tables}
 use Rattle.office_machine.specs.Replies.{Withdrew, state_after}
-use Rattle.office_plans.proofs.Publishing.{IsTested, not_planned, on_rows, puts_on, refused_on}
+use Rattle.office_plans.proofs.Publishing.{IsTested, not_planned, on_rows, puts_on, refused_on, whole_on}
 use Rattle.office_plans.proofs.Telling.{fault_told, none_to_tell, refusal_told}
 use Rattle.office_plans.proofs.commands.withdraw.plan.Goals as goal
 use Rattle.office_plans.specs.Asking.{given_by}
 use Rattle.office_plans.specs.Replies.{reply_text}
-use Rattle.tender_core.specs.Rules.Withdraw.{withdraw_puts, withdraw_rows, withdraw_tests}
+use Rattle.tender_core.specs.Rules.Withdraw.{withdraw_lacks, withdraw_puts, withdraw_rows, withdraw_tests}
 use Rattle.tender_core.specs.declared.asking.Asking.{Asking}
 use Rattle.tender_core.specs.declared.withdraw.WithdrawRows.{WithdrawRows}
 
@@ -32,10 +32,11 @@ returns-clause-looks g c publisher =
       λ honest s held.
           let are = c.in_ok-rows.ensures.0.1 honest s held in
           let allowed = refused_on ruled _ _ moment _ c.requires c.refusal.ensures s are ∙ c.in_default.is in
+          let whole = whole_on ruled _ _ moment (λ (rows : WithdrawRows). withdraw_lacks rows) c.in_ok-puts.ensures.whole s are refl in
           let puts = puts_on ruled _ _ moment (λ (rows : WithdrawRows) (t : ℕ). withdraw_puts rows t) _ c.in_ok-puts.ensures.puts s are refl in
           let reply = λ (rows : WithdrawRows) (t : ℕ). reply_text (Withdrew a.receipt (state_after (is_late rows.late t rows.notice) rows.envelope) t) in
           let told = c.in_ok-text.ensures ∙ on_rows ruled _ _ moment reply s are in
-          c.silent.ensures publisher (given_by a.asking.now s (Withdraw a.receipt)) tt allowed refl refl puts told,
+          c.silent.ensures publisher (given_by a.asking.now s (Withdraw a.receipt)) tt allowed whole refl refl puts told,
     )
 
 pub returns-in_err-rows-clause-tells : goal.returns-in_err-rows-clause-tells
