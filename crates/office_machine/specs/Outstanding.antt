@@ -11,6 +11,8 @@ use Rattle.office_base.specs.declared.records.LineRow.{LineRow}
 use Rattle.office_base.specs.declared.records.NoticeRow.{NoticeRow}
 use Rattle.office_base.specs.declared.records.ContractRow.{ContractRow}
 use Rattle.office_base.specs.declared.records.EntryRow.{EntryRow}
+use Rattle.award_core.specs.Rules.Pay.{pay_rows, pay_found}
+use Rattle.award_core.specs.declared.pay.PayFound.{PayFound}
 use Rattle.office_machine.specs.Readings.{Readings}
 use Rattle.office_machine.specs.Machine.{Means, Given, Reaches, refusal_of, done}
 use Rattle.office_machine.specs.Replies.{left_of}
@@ -18,11 +20,6 @@ use Rattle.office_machine.specs.Replies.{left_of}
 -- The outstanding amount after so much more came and so much more went.
 abbrev pub left_with : List EntryRow → ContractRow → ℕ → ℕ → ℕ
 left_with entries c came gone = (plus entries c + came) - (minus entries c + gone)
-
--- A payment takes its amount off. If the contract or its notice is missing, which no reached office allows, nothing changes.
-abbrev pub left_by_payment : Option ContractRow → List EntryRow → Option NoticeRow → ℕ → ℕ
-left_by_payment (Some c) entries (Some n) amount = left_with entries c 0 amount
-left_by_payment contract entries notice amount = left_of contract entries
 
 -- A raise adds its amount, and a cut takes it off.
 abbrev pub left_changed : ChangeKind → List EntryRow → ContractRow → ℕ → ℕ
@@ -61,7 +58,7 @@ IsLeft readings x s (AmendContract contract entry kind amount rationale) =
     left_after readings x contract
     ≡ left_by_change kind (contract_at contract s) (entries_of_contract contract s) (notice_under contract s) (line_under contract s) amount
 IsLeft readings x s (Pay contract entry amount) =
-    left_after readings x contract ≡ left_by_payment (contract_at contract s) (entries_of_contract contract s) (notice_under contract s) amount
+    (f : PayFound) → pay_found (pay_rows s contract) ≡ Some f → left_after readings x contract ≡ left_with f.entries f.contract 0 amount
 IsLeft readings x s (End contract how) =
     left_after readings x contract ≡ left_by_end (contract_at contract s) (entries_of_contract contract s) (notice_under contract s) (line_under contract s)
 IsLeft readings x s command = Unit {0}

@@ -1,4 +1,5 @@
 pub mod Decided
+pub mod Found
 pub mod KeptObjects
 pub mod LookedUp
 pub mod Maybe

@@ -1,20 +1,19 @@
 //! The outstanding amount of a contract after a command. `Unavailable` exactly if it is 2^64 or more. In a reached office it is at most 10^15.
 ghost use Rattle.std.specs.Prelude.{◌≡◌, ◌≤◌, ◌^◌, IfOk, IfErr};
-ghost use Rattle.office_machine.specs.Outstanding.{left_by_change, left_by_end, left_by_payment, left_changed};
+ghost use Rattle.office_machine.specs.Outstanding.{left_by_change, left_by_end, left_changed};
 ghost use Rattle.office_machine.specs.Replies.{left_of};
 ghost use Rattle.office_values.specs.declared.refusal.Refusal.TheVariants.{Unavailable};
 
 use award_core::amend_contract::AmendContractRows;
 use award_core::end::EndRows;
 use award_core::entries::{left_with, outstanding};
-use award_core::pay::PayRows;
 use office_base::records::{ContractRow, EntryRow};
 use office_commands::amounts::EntryAmount;
 use office_commands::contract::ChangeKind;
 use office_values::refusal::Refusal;
 
-// The amount in 64 bits.
-fn within(left: u128) -> Result<u64, Refusal>
+/// The amount in 64 bits.
+pub(crate) fn within(left: u128) -> Result<u64, Refusal>
     ensures sum { IfOk result (λ sum. sum ≡ left) }
     ensures none { IfErr result (λ why. (why ≡ Unavailable) × (2 ^ 64 ≤ left)) }
 {
@@ -42,18 +41,6 @@ pub fn left_by_end(rows: &EndRows) -> Result<u64, Refusal>
             let released = outstanding(entries, contract);
             within(left_with(entries, contract, contract.released.units(), released))
         }
-        _ => within(left_of(&rows.contract, entries)),
-    }
-}
-
-/// The outstanding amount after a payment of this amount.
-pub fn left_by_payment(rows: &PayRows, amount: EntryAmount) -> Result<u64, Refusal>
-    ensures left { IfOk result (λ left. left ≡ left_by_payment rows.now.contract rows.now.entries rows.now.notice amount) }
-    ensures none { IfErr result (λ why. (why ≡ Unavailable) × (2 ^ 64 ≤ left_by_payment rows.now.contract rows.now.entries rows.now.notice amount)) }
-{
-    let entries = rows.entries.as_slice();
-    match (&rows.contract, &rows.notice) {
-        (Some(contract), Some(_)) => within(left_with(entries, contract, 0, amount.get() as u128)),
         _ => within(left_of(&rows.contract, entries)),
     }
 }

@@ -49,14 +49,48 @@ pub(crate) struct Released {
     pub(crate) release: Value,
 }
 
+/// The number of the next release of a notice. None exactly if it has all its releases.
+pub(crate) fn next_sequence(notice: &NoticeRow) -> Option<Sequence>
+    ensures next { IfSome result (λ seq. seq ≡ notice.now.releases + 1) }
+    ensures none { IfNone result (has_all_releases (Some notice.now) ≡ true) }
+{
+    Sequence::read(notice.releases.get() + 1)
+}
+
 // The number of the next release of a notice, or 1 if the notice doesn't exist. None exactly if the notice has all its releases.
 fn next_number(row: &Option<NoticeRow>) -> Option<Sequence>
     ensures next { IfSome result (λ seq. seq ≡ releases_in row.now + 1) }
     ensures none { IfNone result (has_all_releases row.now ≡ true) }
 {
     match row {
-        Some(notice) => Sequence::read(notice.releases.get() + 1),
+        Some(notice) => next_sequence(notice),
         None => Sequence::read(1),
+    }
+}
+
+/// The release of a command's event at the command's moment, with this number of this notice.
+pub(crate) fn make_numbered<'a>(
+    alloc: Global,
+    publisher: &'a Publisher,
+    notice: Id,
+    seq: Sequence,
+    t: Moment,
+    event: &'a Event<'a>,
+) -> Result<Released, Refusal>
+    ensures release { IfOk result (λ r. (x : Given) → event_of x.before x.command ≡ Some event.now → published_for x.before x.command ≡ Some notice
+        → seq ≡ releases_in (notice_at notice x.before) + 1 → t ≡ time_of x → IsReleased publisher.now x r) }
+    ensures none { IfErr result (λ why. why ≡ Unavailable) }
+{
+    keeping();
+    releases_can_be_kept();
+    match release_of_event(alloc, publisher, seq, t, event) {
+        Ok(release) => Ok(Released {
+            notice,
+            seq,
+            moment: t,
+            release,
+        }),
+        Err(_) => Err(Refusal::Unavailable),
     }
 }
 
@@ -74,20 +108,8 @@ pub(crate) fn make_release<'a>(
         → row.now ≡ notice_at notice x.before → t ≡ time_of x → IsReleased publisher.now x r) }
     ensures none { IfErr result (λ why. why ≡ Unavailable) }
 {
-    keeping();
-    releases_can_be_kept();
-    let Some(seq) = next_number(row) else {
-        return Err(Refusal::Unavailable);
-    };
-    match release_of_event(alloc, publisher, seq, t, event) {
-        Ok(release) => Ok(Released {
-            notice,
-            seq,
-            moment: t,
-            release,
-        }),
-        Err(_) => Err(Refusal::Unavailable),
-    }
+    let seq = next_number(row).ok_or(Refusal::Unavailable)?;
+    make_numbered(alloc, publisher, notice, seq, t, event)
 }
 
 // Whether the release before this number exists. True for the first number, because no release comes before it.

@@ -14,6 +14,7 @@ use Rattle.office_base.specs.EntryKinds.{is_raise, is_less}
 use Rattle.office_base.specs.Joined.{entry_sum, plus, minus, outstanding}
 use Rattle.office_base.specs.Parents.{notice_of_contract, lot_of_contract, line_of_lot}
 use Rattle.office_base.specs.Rows.{holds_of}
+use Rattle.office_base.specs.Transitions.{puts_if}
 use Rattle.office_base.specs.Tables.{Tables, same_number, line_at, notice_at, lot_at, contract_at, find_contract, put_contract, find_entry, put_entry, entries_of_contract, after_puts, performance_at}
 use Rattle.office_base.specs.declared.records.EntryKind.{EntryKind}
 use Rattle.office_base.specs.declared.records.LineRow.{LineRow}
@@ -22,13 +23,16 @@ use Rattle.office_base.specs.declared.records.LotRow.{LotRow}
 use Rattle.office_base.specs.declared.records.ContractRow.{ContractRow}
 use Rattle.office_base.specs.declared.records.EntryRow.{EntryRow}
 use Rattle.award_core.specs.Rules.AmendContract.{is_taken, has_ended, is_beyond, change_row, amend_contract_puts}
-use Rattle.award_core.specs.Rules.Pay.{payment_row, pay_puts}
+use Rattle.award_core.specs.Rules.Pay.{payment_row, pay_rows, pay_found, pay_puts}
+use Rattle.award_core.specs.declared.pay.PayRows.{PayRows}
+use Rattle.award_core.specs.declared.pay.PayFound.{PayFound}
 use Rattle.award_core.specs.Rules.End.{ended_contract, end_puts}
 use Rattle.office_machine.specs.Readings.{Readings}
 use Rattle.office_machine.specs.Machine.{Means, Given, Reaches, time_of, command_tests}
-use Rattle.office_machine.specs.Outstanding.{left_with, left_by_payment, left_by_change, left_by_end, left_before, notice_under, line_under, IsLeft, LeftIsKnown, OutstandingIsKept, LeftIsBooked}
+use Rattle.office_machine.specs.Outstanding.{left_with, left_by_change, left_by_end, left_before, notice_under, line_under, IsLeft, LeftIsKnown, OutstandingIsKept, LeftIsBooked}
 use Rattle.office_machine.specs.Replies.{left_of}
 use Rattle.office_machine.proofs.Accounts.Entered.{not_taken}
+use Rattle.office_machine.proofs.Commands.Pay.{found_is, rows_found}
 use Rattle.office_machine.proofs.Accounts.Joins.{entry_sum-new, entry_sum-own, outstanding-own}
 use Rattle.office_machine.proofs.Rows.Keyed.{found_put}
 use Rattle.office_base.proofs.RowLaws.Keyed.{found_key, own_key}
@@ -88,11 +92,13 @@ module _ (s : Tables) (c : ℕ) where
     left_after_entry = ap (λ o. left_of o entered) is ∙ left_entered
 
   module _ (t : ℕ) (entry : List ℕ) (amount : ℕ) (new : list_any (is_taken entry) own ≡ false) where
-    left_paid : (o : Option ContractRow) (n : Option NoticeRow) → contract_at c s ≡ o
-        → left_at c (after_puts (pay_puts (record { contract = o; entries = []; notice = n; clock = s.clock }) t entry amount) s) ≡ left_by_payment o own n amount
-    left_paid None n is = untouched None is
-    left_paid (Some r) None is = untouched (Some r) is
-    left_paid (Some r) (Some n) is = left_after_entry r is (payment_row t r entry amount) refl new
+    left_paid : (f : PayFound) → pay_found (pay_rows s c) ≡ Some f
+        → left_at c (after_puts (puts_if (λ (f : PayFound). pay_puts f t entry amount) (pay_found (pay_rows s c))) s) ≡ left_with f.entries f.contract 0 amount
+    left_paid f is =
+        let are = rows_found (pay_rows s c) f is in
+        ap (λ o. left_at c (after_puts (puts_if (λ (f : PayFound). pay_puts f t entry amount) o) s)) is
+        ∙ left_after_entry f.contract (ap (λ (rows : PayRows). rows.contract) are) (payment_row t f.contract entry amount) refl new
+        ∙ ap (λ (rows : PayRows). left_with rows.entries f.contract 0 amount) are
 
     left_amended : (kind : ChangeKind) (rationale : List ℕ) (o : Option ContractRow) (n : Option NoticeRow) (w : Option LineRow)
         → contract_at c s ≡ o
@@ -137,7 +143,7 @@ known readings s moment caller (AmendContract c entry kind amount rationale) pas
     left_amended s c (time_of x) entry amount passes.1.0 kind rationale (contract_at c s) (notice_under c s) (line_under c s) refl
 known readings s moment caller (Pay c entry amount) passes =
     let x = given s moment caller (Pay c entry amount) in
-    left_paid s c (time_of x) entry amount passes.1.0 (contract_at c s) (notice_under c s) refl
+    left_paid s c (time_of x) entry amount passes.1.0
 known readings s moment caller (End c how) passes =
     let x = given s moment caller (End c how) in
     left_ended s c (time_of x) how (contract_at c s) (notice_under c s) (line_under c s) (performance_at c s) refl
@@ -190,10 +196,8 @@ module _ (means : Means) (xs : List Given) (s : Tables) (reached : Reaches means
     enough amount beyond = at_least _ _ (not_both _ _ (test_of (is_beyond (own s c) amount) (contract_at c s) r is false beyond) running)
 
     booked_payment : (amount left : ℕ) → holds_of (is_beyond (own s c) amount) (contract_at c s) ≡ false
-        → left ≡ left_by_payment (contract_at c s) (own s c) (notice_under c s) amount → left + amount ≡ left_before s c
-    booked_payment amount left beyond known =
-        let at : left ≡ left_with (own s c) r 0 amount = known ∙ (λ i. left_by_payment (is i) (own s c) (notice_is i) amount) in
-        omega (arith, at, before, enough amount beyond)
+        → ((f : PayFound) → pay_found (pay_rows s c) ≡ Some f → left ≡ left_with f.entries f.contract 0 amount) → left + amount ≡ left_before s c
+    booked_payment amount left beyond known = omega (arith, known _ (found_is s c r notice.0 is notice_is), before, enough amount beyond)
 
     booked_cut : (amount left : ℕ) → holds_of (is_beyond (own s c) amount) (contract_at c s) ≡ false
         → left ≡ left_by_change change_kinds.Cut (contract_at c s) (own s c) (notice_under c s) (line_under c s) amount → left + amount ≡ left_before s c

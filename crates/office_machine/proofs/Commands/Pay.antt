@@ -1,6 +1,6 @@
 -- A payment keeps the laws of the office.
 use Rattle.std.specs.Prelude.{max, Option}
-use Rattle.std.proofs.Common.{◌≡◌, ℕ, ◌+◌, ◌≤◌, Bool, true, false, cond, List, [], ◌∷◌, Some, None, is_some, refl, sym, ◌∙◌, ap, subst, arith, not}
+use Rattle.std.proofs.Common.{◌≡◌, ℕ, ◌+◌, ◌≤◌, Bool, true, false, cond, List, [], ◌∷◌, Some, None, is_some, refl, sym, ◌∙◌, ap, subst, arith}
 use Rattle.std.specs.List.{AllByRecursion}
 use Rattle.office_values.specs.Ids.{same_id}
 use Rattle.office_values.specs.declared.refusal.Refusal.{Refusal}
@@ -9,24 +9,25 @@ use Rattle.office_commands.specs.declared.commands.Command.TheVariants.{Pay}
 use Rattle.office_commands.specs.declared.commands.Command.TheVariants as commands
 use Rattle.office_base.specs.Tables.{IsSorted, same_number, Tables, notice_at, lot_at, contract_at, find_entry, put_entry, entries_of_contract, after_puts, of_notice}
 use Rattle.office_base.specs.Rules.{first_of}
-use Rattle.office_base.specs.Transitions.{with_next_release, clock_put, has_all_releases}
+use Rattle.office_base.specs.Transitions.{with_next_release, clock_put, has_all_releases, puts_if}
+use Rattle.std.specs.Option.{is_none, option_map_or}
 use Rattle.office_base.specs.declared.records.NoticeRow.{NoticeRow}
 use Rattle.office_base.specs.declared.records.LotRow.{LotRow}
 use Rattle.office_base.specs.declared.records.ContractRow.{ContractRow}
 use Rattle.office_base.specs.declared.records.EntryRow.{EntryRow}
 use Rattle.office_base.specs.Joined.{plus, minus, outstanding}
 use Rattle.office_base.specs.Parents.{notice_of_contract, lot_of_contract}
-use Rattle.office_base.specs.declared.records.ClockRow.{ClockRow}
 use Rattle.office_base.specs.declared.puts.Put.TheVariants as puts
 use Rattle.award_core.specs.Rules.AmendContract.{is_beyond, has_ended}
-use Rattle.award_core.specs.Rules.Pay.{payment_row, pay_rows, pay_tests, pay_puts, pay_lacks}
-use Rattle.office_machine.specs.Parents.{HaveParents}
+use Rattle.award_core.specs.Rules.Pay.{payment_row, pay_rows, pay_found, pay_tests, pay_puts}
+use Rattle.award_core.specs.declared.pay.PayRows.{PayRows}
+use Rattle.award_core.specs.declared.pay.PayFound.{PayFound}
 use Rattle.office_machine.specs.Machine.{Given, time_of, command_tests, effect}
 use Rattle.office_machine.specs.Readings.{Readings}
 use Rattle.office_machine.specs.Moves.{moves, line_in}
-use Rattle.office_machine.proofs.Parents.ParentsPut.{Grows, AllParents}
+use Rattle.office_machine.proofs.Parents.ParentsPut.{Grows, Parents}
 use Rattle.office_machine.proofs.Commands.Tail.{on_contract, moved, front}
-use Rattle.office_machine.proofs.FateLaws.QuietFates.{Stands, contract_notice, kept_after, one_more}
+use Rattle.office_machine.proofs.FateLaws.QuietFates.{all_found, contract_notice, kept_after, one_more}
 use Rattle.office_machine.proofs.Parents.RowsHave.{entry_has}
 use Rattle.office_machine.proofs.Accounts.Aside.{kept_aside}
 use Rattle.office_base.proofs.RowLaws.Keyed.{found_key}
@@ -37,11 +38,31 @@ use Rattle.office_machine.proofs.Accounts.Entered.{not_taken, contracts_are, no_
 use Rattle.office_machine.proofs.Commands.Footprint.{Entries}
 use Rattle.office_machine.proofs.Commands.Lawful.{Lawful, Moving}
 use Rattle.office_machine.proofs.Parents.SpokenOf.{of_contract}
-use Rattle.office_machine.proofs.FateLaws.Views.{View}
 use Rattle.office_machine.proofs.FateLaws.Seen.{seen, IsQuiet}
 use Rattle.office_machine.proofs.FateLaws.FatesHold.{Keeps, given}
 use Rattle.office_machine.proofs.Worlds.WorldsPut.{IsPlain, plain_pairs}
 use Rattle.office_machine.proofs.Rows.Keyed as keyed
+
+-- its puts, if its rows were found
+abbrev paid : ℕ → List ℕ → ℕ → Option PayFound → List Put
+paid t entry amount = puts_if (λ (f : PayFound). pay_puts f t entry amount)
+
+-- rows that exist are found
+pub found_is : (s : Tables) (contract : ℕ) (c : ContractRow) (n : NoticeRow) → contract_at contract s ≡ Some c → notice_of_contract (contract_at contract s) s ≡ Some n
+    → pay_found (pay_rows s contract) ≡ Some (record { contract = c; entries = entries_of_contract contract s; notice = n; clock = s.clock })
+found_is s contract c n is notice = λ i. pay_found (record { contract = is i; entries = entries_of_contract contract s; notice = notice i; clock = s.clock })
+
+-- and those that were found are the rows
+abbrev pub rows_of : PayFound → PayRows
+rows_of f = record { contract = Some f.contract; entries = f.entries; notice = Some f.notice; clock = f.clock }
+
+pub rows_found : (rows : PayRows) (f : PayFound) → pay_found rows ≡ Some f → rows ≡ rows_of f
+rows_found rows f = by rows.contract rows.notice
+  where
+    by : (c : Option ContractRow) (n : Option NoticeRow) → pay_found (record rows { contract = c; notice = n }) ≡ Some f → record rows { contract = c; notice = n } ≡ rows_of f
+    by (Some c) (Some n) is = ap (λ (o : Option PayFound). option_map_or rows_of o rows) is
+    by (Some c) None is = cc
+    by None n is = cc
 
 -- a payment keeps the accounts
 module _ (readings : Readings) (xs : List Given) (s : Tables) (moment : ℕ) (caller : Caller) (c : ℕ) (entry : List ℕ) (amount : ℕ) (kept : AccountsStand xs s) (order : IsSorted s) where
@@ -103,11 +124,8 @@ module _ (readings : Readings) (xs : List Given) (s : Tables) (moment : ℕ) (ca
       no_contract = no_contract_are x xs s kept order c r l row is lot number new_here (λ n. zero_at (same_number c n)) (λ n. refl) within s';
     }
 
-    effect_is : pay_puts (record { contract = Some r; entries = []; notice = Some n; clock = s.clock }) (time_of x) entry amount ≡ effect readings x
-    effect_is = λ i. pay_puts (record { contract = sym is i; entries = []; notice = (sym (ap (λ o. notice_of_contract o s) is ∙ notice) i); clock = s.clock }) (time_of x) entry amount
-
     keeps : AccountsStand (x ∷ xs) (after_puts (effect readings x) s)
-    keeps = subst (λ ps. AccountsStand (x ∷ xs) (after_puts ps s)) effect_is
+    keeps = subst (λ ps. AccountsStand (x ∷ xs) (after_puts ps s)) (ap (paid (time_of x) entry amount) (sym (found_is s c r n is (ap (λ o. notice_of_contract o s) is ∙ notice))))
         (kept_aside (x ∷ xs) (puts.Notice (with_next_release n) ∷ clock_put s.clock (time_of x) ∷ []) s' (tt, (omega arith, tt)) entered_keeps)
 
   module _ (allowed : first_of (command_tests x) ≡ None) where
@@ -129,37 +147,14 @@ module _ (readings : Readings) (xs : List Given) (s : Tables) (moment : ℕ) (ca
         let left = at_least _ _ beyond in
         keeps r lot.0 notice.0 is lot.1 notice.1 (not_taken s.entries c entry passes.1.0) (omega (arith, left, own))
 
--- the puts touch no tender and no security
-quiet_puts : (V : View) (clock : ClockRow) (t : ℕ) (c : Option ContractRow) (n : Option NoticeRow) (entry : List ℕ) (amount : ℕ) → Stands V n
-    → AllByRecursion (IsQuiet V clock.receipts) (pay_puts (record { contract = c; entries = []; notice = n; clock = clock }) t entry amount)
-quiet_puts V clock t (Some c) (Some n) entry amount h = (tt, (h n refl, (refl, tt)))
-quiet_puts V clock t None _ entry amount h = tt
-quiet_puts V clock t (Some c) None entry amount h = tt
-
--- the command takes no tender in, and decides no tender and no security
+-- the command takes no tender in, decides no tender and no security, and its puts touch none
 fates_kept : (readings : Readings) (contract : ℕ) (entry : List ℕ) (amount : ℕ) → Keeps readings (Pay contract entry amount)
 fates_kept readings contract entry amount xs t m caller kept own allowed =
     kept_after readings (given t m caller (Pay contract entry amount) ∷ xs) _ t
-    (quiet_puts (seen t) t.clock (max m t.clock.moment) (contract_at contract t) (notice_of_contract (contract_at contract t) t) entry amount (λ n found. contract_notice t (contract_at contract t) n found))
+    (all_found (IsQuiet (seen t) t.clock.receipts) (λ f. pay_puts f (max m t.clock.moment) entry amount) (pay_found (pay_rows t contract)) (λ f is.
+    let are = rows_found (pay_rows t contract) f is in
+    (tt, (contract_notice t (contract_at contract t) f.notice (ap (λ (rows : PayRows). rows.notice) are), (ap (λ (rows : PayRows). rows.clock.receipts) (sym are), tt)))))
     (one_more readings xs (given t m caller (Pay contract entry amount)) t kept refl (λ r. refl) (λ s. refl))
-
-module _ (s u : Tables) (have : HaveParents s s) (g : Grows s u) where
-  -- the rows that its rows refer to exist
-  parents_of : (clock : ClockRow) (t contract : ℕ) (c : Option ContractRow) (n : Option NoticeRow) (entry : List ℕ) (amount : ℕ) → contract_at contract s ≡ c → AllParents u (pay_puts (record { contract = c; entries = []; notice = n; clock = clock }) t entry amount)
-  parents_of clock t contract (Some c) (Some n) entry amount is = (record { contract = entry_has s u have g contract c is }, (tt, (tt, tt)))
-  parents_of clock t contract None n entry amount is = tt
-  parents_of clock t contract (Some c) None entry amount is = tt
-
--- in both worlds the puts are the same
-plain : (clock : ClockRow) (t : ℕ) (c : Option ContractRow) (n : Option NoticeRow) (entry : List ℕ) (amount : ℕ) → AllByRecursion IsPlain (pay_puts (record { contract = c; entries = []; notice = n; clock = clock }) t entry amount)
-plain clock t (Some c) (Some n) entry amount = (tt, (tt, (tt, tt)))
-plain clock t None n entry amount = tt
-plain clock t (Some c) None entry amount = tt
-
--- the contract's notice exists
-none_lacking : (s : Tables) → HaveParents s s → (contract : ℕ) (o : Option ContractRow) → contract_at contract s ≡ o → pay_lacks (record { contract = o; entries = []; notice = notice_of_contract o s; clock = s.clock }) ≡ false
-none_lacking s have contract None is = refl
-none_lacking s have contract (Some c) is = ap not (have.contracts contract c is).notice
 
 pub pay : (contract : ℕ) (entry : List ℕ) (amount : ℕ) → Lawful (Pay contract entry amount)
 pay contract entry amount = record {
@@ -170,11 +165,15 @@ pay contract entry amount = record {
   tail = λ readings s moment caller have allowed.
       let tests = none_holds (pay_tests (pay_rows s contract) entry amount) allowed in
       let of = of_contract s have contract (not_false _ tests.0) in
-      moved refl (λ i. pay_puts (record { contract = of.is i; entries = []; notice = of.notice i; clock = s.clock }) (max moment s.clock.moment) entry amount)
+      moved refl (ap (paid (max moment s.clock.moment) entry amount) (found_is s contract of.c of.n of.is of.notice))
       (front (puts.Entry _ ∷ []) (refl, tt)
       (on_contract contract of (neither _ (has_all_releases (notice_of_contract (contract_at contract s) s)) tests.1.1.1.1.0).1));
-  parents = λ readings s moment caller order have registered may allowed u grown later. parents_of s u have grown s.clock _ contract (contract_at contract s) (notice_of_contract (contract_at contract s) s) entry amount refl;
-  lacks = λ xs s moment caller whole allowed. none_lacking s whole.parents contract (contract_at contract s) refl;
+  parents = λ readings s moment caller order have registered may allowed u grown later.
+      all_found (Parents u) (λ f. pay_puts f (max moment s.clock.moment) entry amount) (pay_found (pay_rows s contract)) (λ f is.
+      (record { contract = entry_has s u have grown contract f.contract (ap (λ (rows : PayRows). rows.contract) (rows_found (pay_rows s contract) f is)) }, (tt, (tt, tt))));
+  lacks = λ xs s moment caller whole allowed.
+      let of = of_contract s whole.parents contract (not_false _ (none_holds (pay_tests (pay_rows s contract) entry amount) allowed).0) in
+      ap is_none (found_is s contract of.c of.n of.is of.notice);
   alike = λ th W s es' ss' all seals readings t caller quiet.
-      plain_pairs th W (pay_puts (record { contract = contract_at contract s; entries = []; notice = (notice_of_contract (contract_at contract s) s); clock = s.clock }) t entry amount) (plain s.clock t (contract_at contract s) (notice_of_contract (contract_at contract s) s) entry amount);
+      plain_pairs th W _ (all_found IsPlain (λ f. pay_puts f t entry amount) (pay_found (pay_rows s contract)) (λ f is. (tt, (tt, (tt, tt)))));
 }

@@ -12,6 +12,7 @@ use Rattle.office_base.specs.declared.puts.Put.{Put}
 use Rattle.office_base.specs.Tables.{Tables, notice_at, envelope_at, seal_at, security_at, find_seal, after_puts}
 use Rattle.office_base.specs.declared.records.ReleaseRow.{ReleaseRow}
 use Rattle.office_base.specs.Parents.{notice_of_contract}
+use Rattle.office_base.specs.Transitions.{puts_if}
 use Rattle.office_base.specs.declared.records.EnvelopeState.TheVariants as envelope
 use Rattle.office_base.specs.declared.records.SecurityState.TheVariants as security
 use Rattle.office_base.specs.declared.puts.Put.TheVariants as puts
@@ -71,6 +72,11 @@ all_append P (x ∷ xs) ys h k = (h.0, all_append P xs ys h.1 k)
 pub all_of_map : {X Y : Type 0} (P : Y → Type 0) (f : X → Y) (xs : List X) → ((x : X) → P (f x)) → AllByRecursion P (map f xs)
 all_of_map P f [] h = tt
 all_of_map P f (x ∷ xs) h = (h x, all_of_map P f xs h)
+
+-- what is true of the puts over any rows that were found is true if none were
+pub all_found : {X : Type 0} (P : Put → Type 0) (make : X → List Put) (o : Option X) → ((f : X) → o ≡ Some f → AllByRecursion P (make f)) → AllByRecursion P (puts_if make o)
+all_found P make None h = tt
+all_found P make (Some f) h = h f refl
 
 -- the state of a found notice is the one that the fates see
 pub notice_stands : (t : Tables) (k : List ℕ) (n : NoticeRow) → notice_at k t ≡ Some n → (seen t).notice_at n.notice ≡ Some n.state

@@ -11,19 +11,18 @@ ghost use Rattle.office_plans.specs.Asking.{given_by};
 ghost use Rattle.office_plans.specs.Published.{IsPlanned, TellsRefusal, accepted_reply};
 ghost use Rattle.office_plans.specs.Released.{IsReleased};
 ghost use Rattle.office_plans.specs.Replies.{reply_text};
-ghost use Rattle.award_core.specs.Rules.Pay.{pay_rows};
+ghost use Rattle.award_core.specs.Rules.Pay.{pay_found, pay_rows};
 
-use crate::contract_release::contract_release;
 use crate::events::party_of;
-use crate::outstanding::left_by_payment;
+use crate::outstanding::within;
 use crate::parents::notice_of_contract;
 use crate::planned::Planned;
-use crate::published::{Released, make_release, published};
+use crate::published::{Released, make_numbered, next_sequence, published};
 use crate::replies::contract_text;
-use award_core::pay::{PayRows, puts, refusal};
+use award_core::entries::left_with;
+use award_core::pay::{PayFound, PayRows, found, puts};
 use ocds_release::event::{Event, Paid};
 use office_base::laws::looks_follow;
-use office_base::records::ContractRow;
 use office_base::rows::Rows;
 use office_base::shelf::{Lookups, ShelfFault};
 use office_commands::amounts::EntryAmount;
@@ -55,19 +54,20 @@ fn load<H: Lookups>(shelf: &mut H, contract: AskedNumber) -> Result<PayRows, She
 fn reply(
     alloc: Global,
     asking: &Asking,
-    rows: &PayRows,
+    found: &PayFound,
     contract: AskedNumber,
     amount: EntryAmount,
 ) -> Result<Vec<u8>, Refusal>
-    ensures told { IfOk result (λ text. (s : Tables) (entry : List ℕ) → rows.now ≡ pay_rows s contract
+    ensures told { IfOk result (λ text. (s : Tables) (entry : List ℕ) → pay_found (pay_rows s contract) ≡ Some found.now
         → refusal_of (given_by asking.now s (Pay contract entry amount)) ≡ None
         → text.items ≡ reply_text (accepted_reply (given_by asking.now s (Pay contract entry amount)))) }
     ensures none { IfErr result (λ why. why ≡ Unavailable) }
 {
     laws::outstanding();
-    let left = left_by_payment(rows, amount)?;
-    let release = contract_release(&rows.contract, &rows.notice);
-    let t = asking.time(&rows.clock);
+    let less = amount.get() as u128;
+    let left = within(left_with(found.entries.as_slice(), &found.contract, 0, less))?;
+    let release = found.notice.releases.get() + 1;
+    let t = asking.time(&found.clock);
     let text = contract_text(alloc, contract, left, release, t)?;
     Ok(text)
 }
@@ -79,15 +79,16 @@ fn release<H: Lookups>(
     shelf: &mut H,
     publisher: &Publisher,
     asking: &Asking,
-    rows: &PayRows,
-    contract: &ContractRow,
+    found: &PayFound,
     entry: Id,
     amount: EntryAmount,
 ) -> Result<Released, Refusal>
-    ensures looks { Looks H.meaning shelf.old shelf.new (λ s. IfOk result (λ release. (number : ℕ) → rows.now ≡ pay_rows s number
-        → rows.now.contract ≡ Some contract.now → IsReleased publisher.now (given_by asking.now s (Pay number entry amount)) release)) }
+    ensures looks { Looks H.meaning shelf.old shelf.new (λ s. IfOk result (λ release. (number : ℕ) → pay_found (pay_rows s number) ≡ Some found.now
+        → IsReleased publisher.now (given_by asking.now s (Pay number entry amount)) release)) }
     ensures none { IfErr result (λ why. why ≡ Unavailable) }
 {
+    let seq = next_sequence(&found.notice).ok_or(Refusal::Unavailable)?;
+    let contract = &found.contract;
     let tenderer = shelf.get_tenderer(&contract.tenderer)?;
     let Some(payee) = party_of(contract.tenderer, &tenderer) else {
         return Err(Refusal::Unavailable);
@@ -99,8 +100,8 @@ fn release<H: Lookups>(
         amount,
         payee,
     });
-    let t = asking.time(&rows.clock);
-    make_release(alloc, publisher, contract.notice, &rows.notice, t, &event)
+    let t = asking.time(&found.clock);
+    make_numbered(alloc, publisher, contract.notice, seq, t, &event)
 }
 
 /// Plans a payment under a contract. A refusal needs no memory except for the rows.
@@ -120,12 +121,9 @@ pub fn plan<H: Lookups>(
     looks_follow::<H>();
     let rows = load(shelf, contract)?;
     let t = asking.time(&rows.clock);
-    if let Some(why) = refusal(&rows, &entry, amount) {
-        return Err(why);
-    }
-    let text = reply(alloc, asking, &rows, contract, amount)?;
-    let row = rows.contract.as_ref().unwrap();
-    let release = release(alloc, shelf, publisher, asking, &rows, row, entry, amount)?;
-    let puts = puts(alloc, t, rows, entry, amount)?;
+    let found = found(rows, &entry, amount)?;
+    let text = reply(alloc, asking, &found, contract, amount)?;
+    let release = release(alloc, shelf, publisher, asking, &found, entry, amount)?;
+    let puts = puts(alloc, t, found, entry, amount)?;
     published(alloc, shelf, puts, text, release)
 }

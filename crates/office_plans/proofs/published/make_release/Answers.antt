@@ -1,21 +1,9 @@
-use Rattle.std.proofs.Common.{◌≡◌, ◌+◌, ◌∙◌, ap, subst, sym}
-use Rattle.serde_json.specs.View.{view}
-use Rattle.ocds_merge.specs.Stored.{IsStorable}
-use Rattle.office_base.specs.Tables.{notice_at}
+use Rattle.std.proofs.Common.{◌+◌, ◌∙◌, ap}
 use Rattle.office_machine.specs.Counted.{releases_in}
-use Rattle.office_plans.proofs.NextRelease.{is_published}
+use Rattle.office_plans.proofs.Maybe.{if_ok}
 use Rattle.office_plans.proofs.published.make_release.Goals as goal
 
-pub returns-in-Ok-clause-release : goal.returns-in-Ok-clause-release
-returns-in-Ok-clause-release c = λ x is for_notice row time.
-    let a = c.args in
-    let seq = c.in-Some.seq in
-    let made = c.in-Ok.ensures in
-    let number : seq ≡ releases_in (notice_at a.notice x.before) + 1 =
-    c.in-Some.ensures.next ∙ ap (λ r. releases_in r + 1) row in
-    record {
-      is = is_published c.keeping.ensures.released a.publisher.now x a.event.now a.notice is for_notice seq a.t (view c.in-Ok.release) number time made;
-      for_notice = for_notice;
-      next = number;
-      storable = subst IsStorable (sym made) (c.releases_can_be_kept.ensures.storable a.publisher.now seq a.t a.event.now);
-    }
+pub returns-clause-release : goal.returns-clause-release
+returns-clause-release c =
+    if_ok c.make_numbered.result c.make_numbered.ensures.release
+    (λ made holds x is for_notice row time. holds x is for_notice (c.in_ok-seq.ensures.next ∙ ap (λ r. releases_in r + 1) row) time)
