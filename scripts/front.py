@@ -8,7 +8,8 @@ import subprocess
 from collections.abc import Iterable, Mapping
 from typing import NamedTuple
 
-from common import FIELDS, HOST, ROOT, Caller, connect, fail, free_port, need
+from common import FIELDS, HOST, ROOT, Caller, connect, free_port, need
+from front_clerks import Change, Signing, adapted, of_deploy
 
 # An address of this machine from which, by the adapted file, no clerk asks.
 OUTSIDE = "127.0.0.2"
@@ -44,34 +45,29 @@ class Answer(NamedTuple):
     body: bytes
 
 
-def adapted(text: str, changes: Iterable[tuple[str, int, str]]) -> str:
-    """The text with each old part replaced by a new one; it must occur as often as is given."""
-    for old, count, new in changes:
-        if text.count(old) != count:
-            fail(f"deploy/nginx.conf: {old!r} stands there {text.count(old)} times, and not {count}")
-        text = text.replace(old, new)
-    return text
-
-
 class Front:
-    """nginx over the office at a port, with a certificate that it signed itself; it ends after its `with`. More of its file may be changed."""
+    """nginx over the office at a port, with a certificate that it signed itself; it ends after its `with`. More of its file may be changed. Clerks may sign in
+    by name; otherwise they come with the office's key."""
 
-    def __init__(self, folder: str, office: int, more: Iterable[tuple[str, int, str]] = ()) -> None:
+    def __init__(self, folder: str, office: int, more: Iterable[Change] = (), signing: Signing | None = None) -> None:
         self.folder, self.office, self.port, self.plain_port, self.ways = folder, office, free_port(), free_port(), free_port()
+        self.signing, self.clerks = signing, os.path.join(folder if signing else os.path.join(ROOT, "deploy"), "clerks.conf")
         self.key, self.certificate = os.path.join(folder, "key.pem"), os.path.join(folder, "certificate.pem")
         subprocess.run([need("openssl", "openssl"), "req", "-x509", "-newkey", "ec", "-pkeyopt", "ec_paramgen_curve:prime256v1", "-nodes", "-days", "2",
                         "-subj", "/CN=office", "-addext", f"subjectAltName=IP:{HOST}", "-keyout", self.key, "-out", self.certificate],
                        check=True, capture_output=True)
         self.context = ssl.create_default_context(cafile=self.certificate)
-        with open(os.path.join(ROOT, "deploy", "nginx.conf")) as file:
-            text = adapted(adapted(file.read(), more), self.changes(office))
+        if signing:
+            signing.put(folder)
+        ways = signing.changes() if signing else []
+        text = adapted("nginx.conf", adapted("nginx.conf", of_deploy("nginx.conf"), more), [*ways, *self.changes(office)])
         for name, content in (("procure.conf", text), ("nginx.conf", MAIN.format(folder=folder) + ("user root;\n" if os.geteuid() == 0 else ""))):
             with open(os.path.join(folder, name), "w") as file:
                 file.write(content)
         words = [need("nginx", "nginx"), "-p", folder, "-e", f"{folder}/errors.log", "-c", f"{folder}/nginx.conf"]
         self.process = subprocess.Popen(words, stdin=subprocess.DEVNULL)
 
-    def changes(self, office: int) -> list[tuple[str, int, str]]:
+    def changes(self, office: int) -> list[Change]:
         """The changes of the file. (Not every machine has IPv6.)"""
         return [("listen [::]:80;", 1, ""), ("listen [::]:443 ssl", 1, "# "), ("listen 80;", 1, f"listen {HOST}:{self.plain_port};"),
                 ("listen 443 ssl", 1, f"listen {HOST}:{self.port} ssl"), ("server_name office.example;", 2, f"server_name {HOST};"),
@@ -79,6 +75,7 @@ class Front:
                 ("server 127.0.0.1:8081 ", 16, f"server {HOST}:{self.ways} "), ("listen 127.0.0.1:8081;", 1, f"listen {HOST}:{self.ways};"),
                 ("127.0.0.0/8 1;", 1, f"{HOST} 1; {CLERKS} 1;"),
                 ("/usr/share/procure/web;", 1, f"{ROOT}/web;"), ("/usr/share/procure;", 1, f"{ROOT}/docs;"),
+                ("include /etc/procure/clerks.conf;", 1, f"include {self.clerks};"), ("/etc/nginx/procure/clerks.passwords;", 4, f"{self.folder}/passwords;"),
                 ("/etc/nginx/procure;", 1, f"{self.folder}/city;"), ("/var/lib/procure-mirror;", 2, f"{self.folder}/mirror;"),
                 ("/etc/procure/tls/certificate.pem;", 1, f"{self.certificate};"), ("/etc/procure/tls/key.pem;", 1, f"{self.key};"),
                 ("/var/cache/nginx/procure ", 1, f"{self.folder}/answers "), ("/var/cache/nginx/procure-wrong ", 1, f"{self.folder}/wrong "),
@@ -96,13 +93,22 @@ class Front:
     def address(self, rest: str = "") -> str:
         return f"https://{HOST}:{self.port}/{rest}"
 
-    def connection(self, source: str = HOST) -> http.client.HTTPSConnection:
-        return http.client.HTTPSConnection(HOST, self.port, context=self.context, source_address=(source, 0), timeout=PATIENCE)
+    def connection(self, source: str = HOST, name: str = "") -> http.client.HTTPSConnection:
+        return http.client.HTTPSConnection(HOST, self.port, context=self.context_of(name), source_address=(source, 0), timeout=PATIENCE)
 
-    def ask(self, method: str, target: str, body: bytes = b"", caller: Caller | None = None, source: str = HOST, **fields: str) -> Answer:
-        """The answer to a request by TLS. A caller is a name and a key; further fields are named with `_` for `-`."""
-        with contextlib.closing(self.connection(source)) as connection:
-            return exchange(connection, method, target, body, caller, {name.replace("_", "-"): value for name, value in fields.items()})
+    def context_of(self, name: str) -> ssl.SSLContext:
+        """That of everybody, or of a clerk by name, with the clerk's certificate if the front asks for one."""
+        context = self.context
+        if self.signing and name:
+            context = ssl.create_default_context(cafile=self.certificate)
+            self.signing.present_to(context, name)
+        return context
+
+    def ask(self, method: str, target: str, body: bytes = b"", caller: Caller | None = None, source: str = HOST, name: str = "", **fields: str) -> Answer:
+        """The answer to a request by TLS. A caller is a name and a key; further fields are named with `_` for `-`. A clerk may sign in, by name."""
+        signed = self.signing.fields(name) if self.signing else {}
+        with contextlib.closing(self.connection(source, name)) as connection:
+            return exchange(connection, method, target, body, caller, signed | {field.replace("_", "-"): value for field, value in fields.items()})
 
     def logged(self, name: str) -> str:
         with open(os.path.join(self.folder, name), encoding="utf-8", errors="replace") as file:

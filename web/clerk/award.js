@@ -8,8 +8,9 @@ import { line, officeNow } from "../common/office.js";
 import { say, sayParts } from "../common/texts.js";
 import { ofRelease, own } from "./fate.js";
 import { momentAndSpan } from "./load.js";
+import { forRole } from "./roles.js";
 import { jsonBody, sendThen } from "./send.js";
-import { caller } from "./session.js";
+import { caller, may } from "./session.js";
 import { outlookOf } from "./stage.js";
 import { MOST, digitsOf, wholeNumber } from "./values.js";
 
@@ -40,7 +41,7 @@ function undecided(notice, lot, again) {
     tellLacking(lot, outlook.tender.corrected - lot.reserved, currency, award, lacking).catch(() => {});
   }
   return element("div", { class: "award" }, element("h4", {}, say("step.award")), element("p", {}, outlookText(lot, outlook, currency)),
-    isOver ? element("p", { class: "wrong" }, say("award.expired")) : null, lacking, steps(award));
+    isOver ? element("p", { class: "wrong" }, say("award.expired")) : null, lacking, forRole("evaluation", () => steps(award)));
 }
 
 /** If the price is above the lot's reserved money, the budget line must have the difference free. Otherwise
@@ -83,7 +84,7 @@ function awarded(notice, lot, again) {
     element("p", {}, sayParts("award.to", { ...ofAward(active, notice.currency), award: active.id })),
     lot.hasStandstill ? element("p", {}, sayParts(isRunning ? "standstill.until" : "standstill.over", { until: told })) : null,
     element("p", {}, letters(notice, lot)), notice.stage.isExpired ? note("bad", say("award.expired")) : null,
-    signing(notice, lot, again, isRunning), passing(notice, lot, again, isRunning));
+    forRole("contracts", () => signing(notice, lot, again, isRunning)), may("evaluation") ? passing(notice, lot, again, isRunning) : null);
 }
 
 /** The values for the titles of windows about a lot's award. */

@@ -13,6 +13,7 @@ import { converted } from "./convert.js";
 import { ofBudget } from "./fate.js";
 import { isUsed } from "./journal.js";
 import { growingTable, searched } from "./many.js";
+import { forRole } from "./roles.js";
 import { sendThen } from "./send.js";
 import { caller, journal } from "./session.js";
 import { MOST, isAskable } from "./values.js";
@@ -42,7 +43,7 @@ export async function drawBudget(again) {
     place.querySelector("h3")?.focus();
   };
   return { title: say("page.budget"), content: [title(say("page.budget")), element("p", { class: "intro" }, say("budget.intro")),
-    section(say("budget.file"), drop(say("budget.drop"), formHint(), take, { accept: ".csv,text/csv" }), place),
+    section(say("budget.file"), forRole("budget", () => [drop(say("budget.drop"), formHint(), take, { accept: ".csv,text/csv" }), place])),
     section(say("budget.lines"), lineTable(lines))] };
 }
 

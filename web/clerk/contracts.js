@@ -8,6 +8,7 @@ import { money } from "../common/money.js";
 import { line } from "../common/office.js";
 import { say } from "../common/texts.js";
 import { ofRelease, own } from "./fate.js";
+import { forRole } from "./roles.js";
 import { jsonBody, sendThen } from "./send.js";
 import { caller } from "./session.js";
 import { MOST, digitsOf, wholeNumber } from "./values.js";
@@ -23,7 +24,7 @@ export function contractPart(notice, contract, behind) {
   // The values for the texts and the orders of this contract.
   const contracted = { notice, lot, contract, worth, outstanding: worth - paidOf(contract), again: behind(lot),
     amount: (units) => money(units, notice.currency) };
-  return [payPart(contracted), changePart(contracted), endPart(contracted)];
+  return forRole("contracts", () => [payPart(contracted), changePart(contracted), endPart(contracted)]);
 }
 
 function idField() {

@@ -7,8 +7,9 @@ import { officeNow, registerText, securities, sentenceOf } from "../common/offic
 import { say } from "../common/texts.js";
 import { ofOpening, ofRelease, own } from "./fate.js";
 import { momentAndSpan } from "./load.js";
+import { forRole } from "./roles.js";
 import { jsonBody, sendThen } from "./send.js";
-import { caller } from "./session.js";
+import { caller, way } from "./session.js";
 import { localMilliseconds, localText, momentText, oddHour } from "./values.js";
 
 // Seconds between two queries for the register.
@@ -87,13 +88,13 @@ export function openingPart({ name, stage, terms }, again) {
   // (one second later the office's own clock has passed the deadline too)
   const told = isDue ? [say("open.now"), " ", ...momentAndSpan(stage.deadline)]
     : [say("see.deadline"), ": ", clock(terms.deadline, () => setTimeout(again, 1000))];
-  return section(say("step.opening"), element("p", {}, say("open.what")), element("p", {}, told), steps(open));
+  return section(say("step.opening"), element("p", {}, say("open.what")), element("p", {}, told), forRole("evaluation", () => steps(open)));
 }
 
 /** The register and the securities, fetched again while they are shown and can grow. */
 export function registerPart({ name, currency, stage }) {
   if (caller() === null) {
-    return section(say("register.title"), element("p", {}, say("register.key"), " ", link(say("key.give"), "#key")));
+    return section(say("register.title"), element("p", {}, say("register.key"), " ", way() === "key" ? link(say("key.give"), "#key") : ""));
   }
   const [place, looked] = [element("div", {}), element("p", { class: "quiet" })];
   let shown = "";

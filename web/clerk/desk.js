@@ -1,15 +1,16 @@
 // Chooses the screen by the address, and shows whether this tab holds the key.
-import { element, link } from "../common/draw.js";
-import { button } from "../common/forms.js";
+import { element, link, title } from "../common/draw.js";
+import { button, note } from "../common/forms.js";
 import { drawAround, showViews, words } from "../common/frame.js";
 import { addTexts, say } from "../common/texts.js";
 import { span } from "../common/money.js";
 import { touch, watch } from "./idle.js";
 import { drawKey } from "./key.js";
-import { caller, forgetKey, keepPlace, who } from "./session.js";
+import { forRole, ownRoles } from "./roles.js";
+import { caller, forgetKey, keepPlace, may, signIn, way, who } from "./session.js";
 import { drawToday } from "./today.js";
 
-await addTexts({ en: () => import("./en.js"), de: () => import("./de.js") });
+await Promise.all([addTexts({ en: () => import("./en.js"), de: () => import("./de.js") }), signIn()]);
 const MENU = ["today", "budget", "tenderers", "new", "journal"];
 // Screens that are loaded on demand, each with the function that draws it.
 const LATER = { budget: [() => import("./budgets.js"), "drawBudget"], tenderers: [() => import("./tenderers.js"), "drawTenderers"],
@@ -17,8 +18,10 @@ const LATER = { budget: [() => import("./budgets.js"), "drawBudget"], tenderers:
   journal: [() => import("./journals.js"), "drawJournal"], notice: [() => import("./procurement.js"), "drawProcurement"],
   minutes: [() => import("./printed.js"), "drawMinutes"], letter: [() => import("./letters.js"), "drawLetter"] };
 // The screens by the first word of the address. The other words are their arguments.
-const SCREENS = { today: drawToday, key: drawKey,
+const SCREENS = { today: drawToday, key: () => (way() === "key" ? drawKey() : drawSigned()),
   ...Object.fromEntries(Object.entries(LATER).map(([page, [load, name]]) => [page, async (...asked) => (await load())[name](...asked)])) };
+// Screens for one role alone.
+const FOR_ROLE = { new: "notices", preview: "notices" };
 // Seconds until all other screens are loaded too. The first screen is drawn by then, and a lost connection
 // later takes no screen away.
 const BEHIND = 1;
@@ -39,7 +42,7 @@ function place() {
 
 function around([page]) {
   drawAround({ site: say("site"), foot: say("foot"), current: `#${page}`,
-    pages: [...MENU.map((name) => [`#${name}`, say(`page.${name}`)]), ["/", say("frame.public")]] });
+    pages: [...MENU.filter((name) => !FOR_ROLE[name] || may(FOR_ROLE[name])).map((name) => [`#${name}`, say(`page.${name}`)]), ["/", say("frame.public")]] });
   document.getElementById("menu-name").textContent = say("menu");
   if (page !== "key") {
     keepPlace(location.hash);
@@ -47,9 +50,21 @@ function around([page]) {
   drawBar();
 }
 
-/** The bar below the menu: whether this tab holds the key. `state` and `left` are those of idle.js. */
+/** The screen of a clerk who needs no key. */
+function drawSigned() {
+  const head = say(way() === "name" ? "signed.in" : "signed.nobody", { who: who(), roles: ownRoles() });
+  return { title: say("signed.title"), content: [title(say("signed.title")), note(way() === "name" ? "good" : "bad", head, say("signed.leave"))] };
+}
+
+/** The bar below the menu: who has signed in, or whether this tab holds the key. `state` and `left` are those of idle.js. */
 function drawBar(state = "held", left = 0) {
   const bar = document.getElementById("who");
+  if (way() !== "key") {
+    const isIn = way() === "name";
+    bar.setAttribute("aria-label", say("signed.title"));
+    bar.replaceChildren(element("span", { class: isIn ? "right" : "wrong" }, say(isIn ? "signed.in" : "signed.nobody", { who: who(), roles: ownRoles() })));
+    return;
+  }
   const isHeld = caller() !== null;
   const forget = button(say("key.forget"), () => {
     forgetKey();
@@ -69,7 +84,8 @@ function drawBar(state = "held", left = 0) {
 
 function view([page, ...rest], again) {
   redraw = again;
-  return SCREENS[page](again, ...rest);
+  const role = FOR_ROLE[page];
+  return role && !may(role) ? { title: say(`page.${page === "new" ? "new" : "today"}`), content: forRole(role) } : SCREENS[page](again, ...rest);
 }
 
 watch(drawBar);

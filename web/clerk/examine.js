@@ -5,6 +5,7 @@ import { money, number } from "../common/money.js";
 import { say } from "../common/texts.js";
 import { ofExamination } from "./fate.js";
 import { jsonBody, send } from "./send.js";
+import { forRole } from "./roles.js";
 import { isWaiting } from "./stage.js";
 import { wholeNumber } from "./values.js";
 
@@ -18,6 +19,11 @@ export function examinations(notice, lot, again) {
   if (lot.state !== "undecided" || waiting.length === 0) {
     return null;
   }
+  return element("div", {}, element("h4", {}, say("examine.title", { count: waiting.length })),
+    forRole("evaluation", () => answersOf(notice, lot, waiting, again)));
+}
+
+function answersOf(notice, lot, waiting, again) {
   const parts = waiting.map((one) => examination(notice, one));
   const none = element("p", { class: "wrong", role: "status" });
   const run = async () => {
@@ -29,8 +35,7 @@ export function examinations(notice, lot, again) {
       again();
     }
   };
-  return element("div", {}, element("h4", {}, say("examine.title", { count: waiting.length })), element("p", {}, say("examine.what")),
-    parts.map(({ made }) => made), none, steps(button(say("examine.send"), run)));
+  return [element("p", {}, say("examine.what")), parts.map(({ made }) => made), none, steps(button(say("examine.send"), run))];
 }
 
 /** A tender with its answers, and with the points for quality if points decide. */

@@ -1,5 +1,6 @@
-// Forgets the key if nobody uses the tab for some minutes, and warns before. The draft and the journal stay.
-import { caller, forgetKey } from "./session.js";
+// Forgets the key if nobody uses the tab for some minutes, and warns before. The draft and the journal stay. (If a clerk has
+// signed in by name, there is no key. The tab can't make the browser forget a password.)
+import { caller, forgetKey, way } from "./session.js";
 
 // Seconds without a hand until the warning, and until the key is forgotten.
 export const LIMITS = { warn: 540, forget: 600 };
@@ -20,7 +21,7 @@ export function watch(tell) {
   let state = "held";
   setInterval(() => {
     const idle = (Date.now() - last) / 1000;
-    const next = caller() === null ? "held" : idle >= LIMITS.forget ? "forgotten" : idle >= LIMITS.warn ? "warned" : "held";
+    const next = caller() === null || way() !== "key" ? "held" : idle >= LIMITS.forget ? "forgotten" : idle >= LIMITS.warn ? "warned" : "held";
     if (next === "forgotten") {
       forgetKey();
     }

@@ -9,6 +9,7 @@ import { contractPart } from "./contracts.js";
 import { cancelPart, movePart, openingPart, registerPart } from "./deadline.js";
 import { examinations } from "./examine.js";
 import { loadNotice, tasks } from "./load.js";
+import { may } from "./session.js";
 import { STEPS, stepOf } from "./stage.js";
 
 export async function drawProcurement(again, name) {
@@ -24,7 +25,7 @@ export async function drawProcurement(again, name) {
   const ofContract = (one) => ({ ...notice.contracts.get(one.id), more: contractPart(notice, one, behind) });
   const isPressing = (lot) => isOpened && ["undecided", "awarded"].includes(lotOf(lot).state);
   const content = drawProcess({ ...notice, above: [path(stage), doing(stage), parts(notice, again)], firstOfLot, ofLot, ofContract, isPressing });
-  return { title: `${name}: ${compiled.tender.title}`, content: [content, stage.canCancel ? cancelPart(notice, again) : null] };
+  return { title: `${name}: ${compiled.tender.title}`, content: [content, stage.canCancel && may("notices") ? cancelPart(notice, again) : null] };
 }
 
 /** The steps, with the current one marked. */
@@ -41,7 +42,7 @@ function doing(stage) {
 }
 
 function parts(notice, again) {
-  const of = { receiving: [movePart, openingPart, registerPart], due: [openingPart, registerPart], opened: [minutesPart, registerPart],
+  const of = { receiving: [...(may("notices") ? [movePart] : []), openingPart, registerPart], due: [openingPart, registerPart], opened: [minutesPart, registerPart],
     cancelled: [lettersPart, registerPart] };
   return of[notice.stage.kind].map((part) => part(notice, again));
 }

@@ -9,7 +9,7 @@ import { hasText, say } from "../common/texts.js";
 import { addEntry } from "./journal.js";
 import { touch } from "./idle.js";
 import { forgetStages } from "./load.js";
-import { caller, journal, who } from "./session.js";
+import { caller, journal, way, who } from "./session.js";
 import { momentText, textOf } from "./values.js";
 
 const LONGEST_SHOWN = 6000;
@@ -40,7 +40,7 @@ export function send(order) {
 /** Says that this tab holds no key, if so. */
 function hasNoKey(state) {
   if (caller() === null) {
-    draw(state, note("bad", say("order.nokey"), say("order.nokey.do")), [closing(state)]);
+    draw(state, note("bad", ...(way() === "key" ? [say("order.nokey"), say("order.nokey.do")] : [say("signed.nobody")])), [closing(state)]);
   }
   return caller() === null;
 }
@@ -99,7 +99,7 @@ async function requestShown(order) {
   const bytes = order.body ?? new Uint8Array();
   const digest = await sha256(bytes);
   const text = textOf(bytes) ?? say("order.notext");
-  const head = `POST ${order.path}\nOffice-Caller: clerk\nOffice-Key: ••••••\nContent-Length: ${bytes.length}`;
+  const head = `POST ${order.path}\nOffice-Caller: clerk\n${way() === "key" ? "Office-Key: ••••••\n" : ""}Content-Length: ${bytes.length}`;
   const body = text.length > LONGEST_SHOWN ? `${text.slice(0, LONGEST_SHOWN)}\n${say("order.more", { count: text.length - LONGEST_SHOWN })}` : text;
   const whole = bytes.length > 0 ? `${head}\n\n${body}` : head;
   return folded(say("order.request"), whole, element("p", { class: "quiet" }, say("order.digest"), " ", element("span", { class: "code" }, inGroups(digest))));

@@ -1,9 +1,9 @@
 // The data that only this tab has: the key, the clerk's name, the journal and a draft. Nothing of it is
 // stored. Only the draft is also in this tab's history, so that a reload keeps it.
-import { Refused, registerText } from "../common/office.js";
+import { Refused, lookJson, registerText } from "../common/office.js";
 import { newJournal } from "./journal.js";
 
-const session = { caller: null, who: "", journal: newJournal(globalThis.location?.origin ?? null), draft: null, isUnsaved: false, former: null,
+const session = { caller: null, who: "", way: "key", roles: [], journal: newJournal(globalThis.location?.origin ?? null), draft: null, isUnsaved: false, former: null,
   place: "" };
 
 export function journal() {
@@ -36,6 +36,31 @@ export async function holdKey(key, name) {
   }
   session.caller = asked;
   session.who = name;
+}
+
+/** Asks nginx who has signed in by name, if clerks do. Then the tab needs no key. */
+export async function signIn() {
+  const known = { caller: "clerk", key: null };
+  try {
+    const { name, roles: own } = await lookJson("/front/who", known);
+    Object.assign(session, { caller: known, who: name, way: "name", roles: own.split(" ") });
+  } catch (fault) {
+    session.way = fault.status === 401 || fault.status === 403 ? "nobody" : "key";
+  }
+}
+
+/** How clerks come: with the `key`, by `name`, or as `nobody`, if clerks sign in and this one hasn't, or has no role. */
+export function way() {
+  return session.way;
+}
+
+export function roles() {
+  return session.roles;
+}
+
+/** Whether this clerk may give the commands of a role. The key is for all of them. */
+export function may(role) {
+  return session.way !== "name" || session.roles.includes(role) || session.roles.includes("all");
 }
 
 export function forgetKey() {

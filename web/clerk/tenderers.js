@@ -6,6 +6,7 @@ import { tenderers } from "../common/office.js";
 import { say } from "../common/texts.js";
 import { ofRegistration } from "./fate.js";
 import { growingTable, searched } from "./many.js";
+import { forRole } from "./roles.js";
 import { jsonBody, sendThen } from "./send.js";
 import { caller } from "./session.js";
 import { isAskable, textOf } from "./values.js";
@@ -41,8 +42,8 @@ export async function drawTenderers(again) {
     fields.tenderer.input.focus();
   };
   return { title: say("page.tenderers"), content: [title(say("page.tenderers")), element("p", { class: "intro" }, say("tenderer.intro")),
-    drop(say("tenderer.drop"), say("tenderer.drop.hint"), take, { accept: ".json,application/json" }), place,
-    form(say("tenderer.register"), Object.values(fields).map((one) => one.made), say("tenderer.register"), () => register(fields, list ?? [], again)),
+    forRole("notices", () => [drop(say("tenderer.drop"), say("tenderer.drop.hint"), take, { accept: ".json,application/json" }), place,
+      form(say("tenderer.register"), Object.values(fields).map((one) => one.made), say("tenderer.register"), () => register(fields, list ?? [], again))]),
     section(say("tenderer.list"), list === null ? element("p", {}, say("register.key")) : listed(list))] };
 }
 

@@ -60,12 +60,15 @@ function refusalOf(answer, text) {
     wait: Number(answer.headers.get("retry-after") ?? 0), text });
 }
 
-/** The text of an answer. A caller is `{ caller, key }`, or nothing for the public. */
+/** The text of an answer. A caller is `{ caller, key }`, or nothing for the public. Without a key it is somebody whom
+ * nginx knows: the browser then sends the name and the password, or the certificate. */
 async function send(path, { method = "GET", caller = null, body = undefined, cache = "no-store" } = {}) {
-  const headers = caller ? { "Office-Caller": caller.caller, "Office-Key": caller.key } : {};
+  const isKnown = caller !== null && caller.key === null;
+  const headers = caller ? { "Office-Caller": caller.caller, ...(isKnown ? {} : { "Office-Key": caller.key }) } : {};
+  const credentials = isKnown ? "same-origin" : "omit";
   let answer, text;
   try {
-    answer = await fetch(path, { method, headers, body, credentials: "omit", cache, redirect: "error", signal: AbortSignal.timeout(LONGEST) });
+    answer = await fetch(path, { method, headers, body, credentials, cache, redirect: "error", signal: AbortSignal.timeout(LONGEST) });
     text = await answer.text();
   } catch {
     throw new Refused({ kind: "away" });
