@@ -85,10 +85,10 @@ CREATE TEMP VIEW offers AS SELECT * FROM envelopes WHERE state = 'opened' AND re
 # The rules, by the things to which they apply. The file. The releases of a notice, and those that the file keeps. An office's answers on a notice. With the
 # file: its minutes, its terms and its evaluation, the list of notices, contracts, and the ledger. A notice of the file that isn't answered. All answers
 # together, without the file. An earlier copy of the file. Answers on a notice that may be earlier, and those that are. Answers with a number (receipts,
-# securities, contracts). An earlier ledger.
+# securities, contracts). An earlier ledger. The log of clerks who sign in at the front.
 RULES: dict[str, list[Check]] = {it: [] for it in (
     "file", "releases", "kept", "answers", "minutes", "looks", "list", "contracts", "ledger", "lacking", "outside", "copies", "witness", "saved", "held",
-    "ledgers")}
+    "ledgers", "front")}
 
 
 class Unreadable(Exception):
