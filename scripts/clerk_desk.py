@@ -52,12 +52,15 @@ HANDS = """(() => {
 
 
 class Desk:
-    """The desk in a page of its own, used as by hand."""
+    """The desk in a page of its own, used as by hand. A clerk may sign in first, with a name and a password."""
 
-    def __init__(self, scene: Scene, width: int = 1280, place: str = "", language: str = "en", zone: str = "Europe/Berlin") -> None:
+    def __init__(self, scene: Scene, width: int = 1280, place: str = "", language: str = "en", zone: str = "Europe/Berlin", sign: str = "") -> None:
         self.scene, self.page, self.language = scene, Page(scene.browser, width), language
         self.page.ask("Emulation.setTimezoneOverride", timezoneId=zone)
         self.page.ask("Emulation.setUserAgentOverride", userAgent="a browser", acceptLanguage=language)
+        if sign:
+            # (as if typed: from now on the browser has them)
+            self.page.go(scene.front.address("clerk/").replace("https://", f"https://{sign}@"))
         self.page.go(scene.front.address(f"clerk/{place}"))
         self.page.run(HANDS)
 
