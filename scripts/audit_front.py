@@ -21,7 +21,7 @@ APART, WHOLE = 2, 1
 
 
 class Line(NamedTuple):
-    """A line of the log: its place, the seconds between which the office answered, and what it says."""
+    """A line of the log: its place, the seconds between which the office answered, and its members."""
 
     place: str
     first: int
@@ -36,8 +36,8 @@ class Line(NamedTuple):
 
 
 class Command(NamedTuple):
-    """A command that the office accepted: the row that it left, its route, its moment if the file has it, the identifier of its entry if it makes one, and what
-    its body must say."""
+    """A command that the office accepted: the row that it left, its route, and its moment if the file has it. Of a payment or a change also the identifier. The
+    body must say the last members."""
 
     row: str
     route: str
@@ -120,7 +120,7 @@ class Log:
         self.left = [line for line in self.lines if line.status == ACCEPTED and line in free[line.route]]
 
     def who(self) -> Iterator[str]:
-        """Who gave each command, in the order of the log: moment, name, route, SHA-256 of the body, row."""
+        """A line for each command, in the order of the log: moment, name, route, SHA-256 of the body, row."""
         order = {line: at for at, line in enumerate(self.lines)}
         for command, line in sorted(self.pairs, key=lambda pair: order[pair[1]]):
             moment = text_of(line.last if command.moment is None else command.moment)
@@ -234,7 +234,7 @@ def differences(line: Line, command: Command) -> list[tuple[str, Any, Any]]:
 
 
 def said_by(line: Line, due: Json) -> Json:
-    """What a line's body says of these things."""
+    """The same things as a line's body says them."""
     if "rows" in due:
         text = line.body.decode("utf-8-sig", "surrogateescape")
         return {"rows": max(0, sum(1 for row in csv.reader(io.StringIO(text, newline="")) if row) - 1)}

@@ -1,4 +1,5 @@
-"""What `tests/clerk` asks of a desk whose clerks sign in at the front by name: it needs no key, and each clerk finds what the roles allow, and nothing else."""
+"""The questions of `tests/clerk` to a desk whose clerks sign in at the front by name. It needs no key. Each clerk finds the steps of the own roles, and no other
+ones."""
 import json
 import os
 import tempfile

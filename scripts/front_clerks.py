@@ -79,7 +79,7 @@ class Signing:
         return [(f"    # include /etc/procure/{name};", 1, f"    include {self.folder}/{name};")]
 
     def certify(self, name: str, by: str | None, subject: str = "") -> None:
-        """Makes a key and a certificate, signed by another one's or by itself."""
+        """Makes a key and a certificate, signed by another one's or by its own."""
         place, openssl = f"{self.folder}/{name}", need("openssl", "openssl")
         words = [openssl, "req", "-newkey", "ec", "-pkeyopt", "ec_paramgen_curve:prime256v1", "-nodes", "-subj", subject or f"/CN={name}",
                  "-keyout", f"{place}.key"]

@@ -1,4 +1,4 @@
-"""The life of an office whose clerks sign in at the front by name, and what `tools/audit` finds in its log and file, for `tests/clerks`."""
+"""The life of an office whose clerks sign in at the front by name, for `tests/clerks`. `tools/audit` compares its file with the log of the front."""
 import json
 import os
 import re

@@ -1,5 +1,5 @@
-"""The log that a front would write of an office's life, for `tests/audit`, and the faults that are planted in it: the rule and the row by which `tools/audit` must
-find each. (`tests/clerks` has a real front write such a log.)"""
+"""The log that a front would write of an office's life, for `tests/audit`, with the faults that are planted in it. Each has the rule and the row by which
+`tools/audit` must find it. (`tests/clerks` has a real front write such a log.)"""
 import json
 import re
 import time
@@ -10,7 +10,7 @@ from audit_office import Json
 from client import Answer, Port
 from common import HOST, Caller
 
-# Who gives each command.
+# The clerks by their names, with their roles and the routes of their commands.
 NAMES = (("anna", "notices", "/(tenderers/[^/]+|notices/[^/]+(/amend|/cancel)?)"), ("bert", "budget", "/budget/.*"), ("dora", "contracts", ".*/(sign|amend|pay|end)"),
          ("cora", "evaluation", ".*"))
 
@@ -86,7 +86,7 @@ def faults_of_lines(life: AuditedLife, lines: list[Json]) -> list[tuple[str, str
         ("commands_have_a_line", f"envelopes {cheap}", lambda own: gone(own, f"/tenders/{cheap}/examine")),
         ("commands_have_a_line", "tenderers T3", lambda own: gone(own, "/tenderers/T3")),
         ("commands_have_a_line", "releases N1/2", lambda own: gone(own, "/notices/N1/amend")),
-        # An accepted line is shown as refused, or as of another moment, or of another route or payment.
+        # An accepted line is shown as refused, or with another moment, route or payment.
         ("commands_have_a_line", "releases N7/3", lambda own: put(own, award, status=403)),
         ("commands_have_a_line", "releases N7/3", lambda own: late(own, award)),
         ("commands_have_a_line", "releases N7/3", lambda own: put(own, award, route="POST /notices/N7/lots/L2/award")),

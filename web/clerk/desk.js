@@ -85,7 +85,7 @@ function drawBar(state = "held", left = 0) {
 function view([page, ...rest], again) {
   redraw = again;
   const role = FOR_ROLE[page];
-  return role && !may(role) ? { title: say(`page.${page === "new" ? "new" : "today"}`), content: forRole(role) } : SCREENS[page](again, ...rest);
+  return role && !may(role) ? { title: say("page.new"), content: [title(say("page.new")), forRole(role)] } : SCREENS[page](again, ...rest);
 }
 
 watch(drawBar);

@@ -1,4 +1,4 @@
-// What a clerk who has signed in by name may do. nginx decides it; the desk only doesn't show the rest.
+// The parts of the screens that are for some roles only. nginx refuses the commands of other roles; the desk only hides them.
 import { element } from "../common/draw.js";
 import { say } from "../common/texts.js";
 import { may, roles } from "./session.js";
