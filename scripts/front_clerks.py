@@ -1,5 +1,5 @@
-"""Clerks who sign in at a front by name, for tests: their roles, and their passwords or certificates. The files are those of deploy/, adapted as their heads and
-OPERATING.md say."""
+"""Clerks who sign in at a front by name, for tests: their roles, and their passwords or certificates. The files are those of deploy/, adapted as their heads
+and OPERATING.md say."""
 import base64
 import ctypes
 import os

@@ -11,8 +11,8 @@ from client import Answer, Port
 from common import HOST, Caller
 
 # The clerks by their names, with their roles and the routes of their commands.
-NAMES = (("anna", "notices", "/(tenderers/[^/]+|notices/[^/]+(/amend|/cancel)?)"), ("bert", "budget", "/budget/.*"), ("dora", "contracts", ".*/(sign|amend|pay|end)"),
-         ("cora", "evaluation", ".*"))
+NAMES = (("anna", "notices", "/(tenderers/[^/]+|notices/[^/]+(/amend|/cancel)?)"), ("bert", "budget", "/budget/.*"),
+         ("dora", "contracts", ".*/(sign|amend|pay|end)"), ("cora", "evaluation", ".*"))
 
 
 class Logged(Port):
