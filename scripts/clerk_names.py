@@ -1,5 +1,5 @@
-"""The questions of `tests/clerk` to a desk whose clerks sign in at the front by name. It needs no key. Each clerk finds the steps of the own roles, and no other
-ones."""
+"""The questions of `tests/clerk` to a desk whose clerks sign in at the front by name. It needs no key. Each clerk finds the steps of the own roles, and no
+other ones."""
 import json
 import os
 import tempfile
@@ -69,7 +69,8 @@ def finds_own(desk: Desk, name: str) -> None:
             may = role in roles or "all" in roles
             check(f"{name}: {screen} has {text}: {text in texts}", (text in texts) == may)
             hidden = text in ("Move the deadline", "Cancel the notice", "Pass over the winner …")
-            check(f"{name}: {screen} doesn't say that {role} is needed", may or hidden or f"Only clerks with the role “{TITLES[role]}” can do this." in desk.told())
+            says = f"Only clerks with the role “{TITLES[role]}” can do this." in desk.told()
+            check(f"{name}: {screen} doesn't say that {role} is needed", may or hidden or says)
         check(f"{name}: the menu of {screen}", ("New notice" in texts) == ("notices" in roles or "all" in roles))
     check("the desk asks for a key", "key" not in desk.page.run("document.getElementById('who').innerText").lower())
     page_checks.is_quiet(desk.page)
