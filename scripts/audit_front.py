@@ -120,9 +120,9 @@ class Log:
         self.left = [line for line in self.lines if line.status == ACCEPTED and line in free[line.route]]
 
     def who(self) -> Iterator[str]:
-        """A line for each command, in the order of the log: moment, name, route, SHA-256 of the body, row."""
+        """A line for each command, in the order of their answers: moment, name, route, SHA-256 of the body, row."""
         order = {line: at for at, line in enumerate(self.lines)}
-        for command, line in sorted(self.pairs, key=lambda pair: order[pair[1]]):
+        for command, line in sorted(self.pairs, key=lambda pair: (pair[1].last, order[pair[1]])):
             moment = text_of(line.last if command.moment is None else command.moment)
             yield "\t".join([str(moment), line.name, line.route, hashlib.sha256(line.body).hexdigest(), command.row])
 
@@ -273,7 +273,7 @@ def commands_have_a_line(office: Office, log: Log) -> Found:
         others = [line.told() for line in log.lines if line.route == command.route and line.place not in of_commands]
         hint = f"; there is {', '.join(others[:2])}" if others else ""
         at = "" if command.moment is None else f" at {text_of(command.moment)}"
-        yield command.row, f"{command.route} was accepted{at}, and no line of the front's log has it: somebody gave it past the front, or the line is gone{hint}"
+        yield command.row, f"{command.route} was accepted{at}, and the front's log has no line of it: somebody gave it past the front, or the line is gone{hint}"
 
 
 @rule("front")
