@@ -12,7 +12,7 @@ import { changesOf, readBudget, repeatsOf } from "./budget.js";
 import { converted } from "./convert.js";
 import { ofBudget } from "./fate.js";
 import { isUsed } from "./journal.js";
-import { growingTable, searched } from "./many.js";
+import { growingTable, searched } from "../common/many.js";
 import { sendThen } from "./send.js";
 import { caller, journal } from "./session.js";
 import { MOST, isAskable } from "./values.js";

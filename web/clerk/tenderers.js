@@ -5,7 +5,7 @@ import { ID, areRight, drop, field, form, lineText, note } from "../common/forms
 import { tenderers } from "../common/office.js";
 import { say } from "../common/texts.js";
 import { ofRegistration } from "./fate.js";
-import { growingTable, searched } from "./many.js";
+import { growingTable, searched } from "../common/many.js";
 import { jsonBody, sendThen } from "./send.js";
 import { caller } from "./session.js";
 import { isAskable, textOf } from "./values.js";
