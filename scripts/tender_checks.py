@@ -6,6 +6,7 @@ import time
 from collections.abc import Callable
 from typing import Any
 
+import large_checks
 from client import text_of, wait_until
 from common import check
 from page_checks import is_quiet, keeps_nothing, refusals
@@ -179,7 +180,7 @@ def changes(scene: Scene) -> None:
     desk.at("tenders", "My tenders")
     desk.says(f"replaced by {new}")
     check("own tenders aren't found", desk.page.run("document.querySelectorAll('tbody tr').length") >= 4)
-    check("a notice wasn't looked into", not desk.can_press("Search all notices"))
+    desk.says("All notices that aren't opened yet are searched.")
     is_quiet(desk.page)
 
 
@@ -341,4 +342,11 @@ def results(scene: Scene) -> None:
     is_quiet(desk.page)
 
 
-CHECKS: list[Callable[[Scene], Any]] = [key, offer, files, changes, lost, stopped, each_refusal, late, results]
+def large(scene: Scene) -> None:
+    """In an office of 400 notices the tender whose deadline is next is shown first and at once, and open notices are found (`large_checks.py`)."""
+    with large_checks.large_office(scene) as office:
+        large_checks.tenderer(office)
+        large_checks.desk_plants(office)
+
+
+CHECKS: list[Callable[[Scene], Any]] = [key, offer, files, changes, lost, stopped, each_refusal, late, results, large]

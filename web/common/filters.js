@@ -34,7 +34,7 @@ export function searchable(text) {
   return one === other ? one : `${one}\n${other}`;
 }
 
-/** A function that tells whether a searchable text has all words of a question. */
+/** A function that returns whether a searchable text has all words of a question. */
 export function finder(asked) {
   const words = asked.split(/\s+/).filter(Boolean).map((word) => [plain(word), spelled(word)]);
   return (text) => words.every((ways) => ways.some((way) => text.includes(way)));
@@ -55,7 +55,7 @@ export function stateOf(row, known, now, isAwarded) {
 }
 
 /** All that is known of each notice, open ones first and newest first: its row, state, budget lines, firms,
- * winners, and the words by which it is found, among them what is bought. */
+ * winners, and the words by which it is found. Items are among these. */
 export function entriesOf(list, data, now) {
   const known = new Map((data?.notices ?? []).map((row) => [row.notice, row]));
   const titles = new Map((data?.budget ?? []).map((row) => [row.line, row.title]));
@@ -90,8 +90,8 @@ function newest(one, other) {
   return one.published < other.published ? 1 : one.published > other.published ? -1 : one.notice < other.notice ? -1 : 1;
 }
 
-/** The entries in an order, those first that are open for tenders: by deadline, of which the nearest comes
- * first while tenders are taken, and the latest afterwards; by publication; or by amount. */
+/** The entries in an order; open ones come first. By deadline, the nearest one is the first of the open ones,
+ * and the latest one the first of the others. */
 export function ordered(entries, order) {
   const sign = (one, other) => (one < other ? -1 : one > other ? 1 : 0);
   const by = { published: newest, amount: (one, other) => sign(other.known?.estimate ?? -1, one.known?.estimate ?? -1) }[order]

@@ -69,8 +69,8 @@ export function refused(fault, back = null, again = null) {
 }
 
 /** Shows the view of the address, and again when the address changes. `around(place)` draws what surrounds
- * it, and `view(place, redraw)` returns `{ title, content, told, isSheet, part }`: `told` is read out, a
- * sheet is printed alone, and `part` is the identifier of the part that the address means, if it is one. `redraw(sentence, isWrong, focus)` draws the view again, if the address still asks for
+ * it, and `view(place, redraw)` returns `{ title, content, told, isSheet, part }`: `told` is read out, and a
+ * sheet is printed alone. `part` is the identifier of an element, if the address means a part of the view. `redraw(sentence, isWrong, focus)` draws the view again, if the address still asks for
  * it, and announces the sentence. The focus goes to the element with the identifier `focus`, else to the
  * heading. `back` makes the link for a view that couldn't be fetched. */
 export function showViews({ place, around, view, site, back = () => null }) {

@@ -145,8 +145,8 @@ function noItem(line, name, fields, items) {
   return tax ? fault(line, "tax", { found: cut(tax) }) : name === "" ? fault(line, "nameless", { ids }) : fault(line, "unknown", { found: cut(name), ids });
 }
 
-/** The only readings that agree with what is certain: the notice's quantity; the unit price by which the
- * quantity makes the total; the product. */
+/** For each figure a test for the only reading that agrees with certain ones: the notice's quantity, the total
+ * as a product with the unit price, the product itself. */
 function readingsOf(fields, columns, { quantity }, currency) {
   const total = figureOf(fields[columns.total] ?? "", currency);
   return { quantity: (value) => value === quantity, unit: (value) => value * quantity === total.value, total: (value, right) => value === right };

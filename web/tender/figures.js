@@ -23,8 +23,8 @@ function whole(digits) {
   return bare.length > MOST_DIGITS ? { why: "great" } : { value: Number(bare) };
 }
 
-/** Digits before and after a point or comma: only whole units, and no cents. If the sign may also separate
- * groups, `grouped` is what it means then. (Otherwise the number is no whole one.) */
+/** Digits before and after a point or comma: only whole units, and no cents. If the sign can also separate
+ * groups, `grouped` is the number with such groups; the other reading isn't a whole number. */
 function parted(front, behind, isSure) {
   if (!isSure && behind.length === 3 && /^[1-9]\d{0,2}$/.test(front)) {
     return { why: "ambiguous", grouped: Number(front + behind) };
@@ -48,8 +48,8 @@ function read(text) {
 }
 
 /** The whole number in a field, and whether the field had to be changed; or `why` it isn't one, as the name
- * of a text (`number.NAME`, `number.ambiguous`). `isRight` tells whether a reading is the only one that agrees
- * with what is known otherwise: then a figure with two readings is no guess. */
+ * of a text (`number.NAME`, `number.ambiguous`). `isRight` returns whether only this reading agrees with other
+ * figures. Then a figure with two readings is no guess. */
 export function figureOf(field, currency = "", isRight = () => false) {
   const got = read(bareOf(field, currency));
   if (got.why === "ambiguous" && isRight(got.grouped)) {

@@ -15,7 +15,7 @@ import { keep, keptOf, noticeOf, session } from "./session.js";
 
 const KINDS = { sealed: "open", opened: "ended", withdrawn: "stopped", returned: "stopped" };
 // So many tenders are shown at first.
-const ROWS = 25;
+const ROWS = 10;
 
 /** The receipt of the tender that replaced this one, if it is known: this tab submitted it, or it took over
  * the security. */
@@ -31,9 +31,10 @@ function stateBadge(one) {
     : badge(KINDS[state] ?? "running", hasText(`state.${state}`) ? say(`state.${state}`) : state);
 }
 
-/** A sealed tender's time to the deadline, or when any other one came. */
+/** The deadline, with a clock while a tender is sealed; and when it came, which the tables don't know. */
 function whenOf({ state, moment: came, deadline }) {
-  return state === "sealed" ? [clock(deadline), below(say("see.deadline"), " ", moment(deadline))] : came === null ? "–" : moment(came);
+  return [state === "sealed" ? clock(deadline) : null, below(moment(deadline)),
+    came === null ? null : below(say("receipt.moment"), " ", moment(came))];
 }
 
 function rowOf({ receipt, state, deadline, ...one }) {
@@ -48,7 +49,7 @@ function listOf(all, isWhole) {
   if (all.length === 0) {
     return [element("p", {}, say(isWhole ? "tenders.none" : "tenders.none.yet"))];
   }
-  const heads = ["receipt.number", "tenders.what", "tenders.when", "see.state", "tenders.do"].map((name) => say(name));
+  const heads = ["receipt.number", "tenders.what", "see.deadline", "see.state", "tenders.do"].map((name) => say(name));
   return growingTable(say("tenders.caption", { count: all.length }), heads, all, rowOf, { first: ROWS });
 }
 
@@ -68,7 +69,7 @@ function withoutKey() {
   return { title: say("tenders.title"), content: [title(say("tenders.title")), note("bad", say("who.none"), link(say("key.title"), "#key"))] };
 }
 
-/** The view of all tenders: after the first queries, and then with what further ones find while it is shown. */
+/** The view of all tenders. It is shown after the first queries, and grows with the results of the others. */
 export async function drawTenders({ redraw }) {
   if (!session.caller) {
     return withoutKey();
@@ -97,7 +98,7 @@ export async function drawTenders({ redraw }) {
     // (once the view is shown)
     setTimeout(() => search(plan.order));
   }
-  return { title: say("tenders.title"), content: [title(say("tenders.title")), shown, told, ask()] };
+  return { title: say("tenders.title"), content: [title(say("tenders.title")), told, shown, ask()] };
 }
 
 /** The notices that were opened or cancelled: only tenders that were withdrawn or returned can be missing. */
