@@ -66,6 +66,8 @@ def offers(desks: dict[str, tender_page.Desk], scene: Scene) -> None:
     desks["T1"].prices("N1", "L1", 150, 12)
     secure(desks["T1"], "G1")
     first = hand_in(desks["T1"])
+    sheet = desks["T1"].page.run("document.querySelector('.sheet').innerText")
+    check(f"the receipt's sheet says {sheet!r}", all(text in sheet for text in ("Alpha & Söhne\nT1", "Road repair\nN1", "This sheet has your price.")))
     desks["T1"].prices("N1", "L2", 290)
     hand_in(desks["T1"])
     desks["T2"].at("offer/N1/L1", "Tender for")
@@ -167,7 +169,8 @@ def life(scene: Scene) -> None:
     red = desks["T1"].page.run("document.querySelector('.contract .badge.stopped')?.innerText")
     check(f"a default isn't red: {red}", str(red).endswith("Ended by default"))
     check("a default is green", not desks["T1"].page.run("document.querySelector('main .badge.done') !== null"))
-    page = page_checks.page_of(scene, "#notice/N1")
+    page = page_checks.page_of(scene, "#notice/N1/L2")
+    check("the address of a lot leads elsewhere", page.run("document.activeElement.id") == "lot-L2")
     for text in ("Its price wasn't the lowest.", "540 EUR", "All contracts ended", "Returned", "Contract 2 ended: 0 EUR of 290 EUR was paid."):
         check(f"the public sees {page.text()}", text in page.text())
     for one in (clerk.page, *(desk.page for desk in desks.values())):

@@ -56,7 +56,7 @@ def mirror(large: Scene) -> None:
 
 def timed(page: Page, place: str, wanted: str) -> None:
     """A view is drawn in time. What the reader came for, an expression that finds an element, is there and isn't far down."""
-    start = page.run(f"performance.clearMarks('shown') ?? (location.hash = {json.dumps('#' + place)}) && performance.now()")
+    start = page.run(f"(performance.clearMarks('shown'), location.hash = {json.dumps('#' + place)}, performance.now())")
     page.wait("performance.getEntriesByName('shown').length > 0 && document.querySelector('main').getAttribute('aria-busy') === 'false'")
     seconds = (page.run("performance.getEntriesByName('shown').at(-1).startTime") - start) / 1000
     check(f"{place} is drawn after {seconds:.1f} s", seconds < SECONDS)

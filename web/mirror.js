@@ -37,10 +37,12 @@ async function ofLine(name) {
 /** The text that the office gave for a path, or null. */
 export async function fromMirror(path) {
   const state = JSON.parse((await read("mirror.json")) ?? "null");
-  if (state === null) {
-    return null;
-  }
-  asked = state.moment;
+  const text = state === null ? null : await answerOf(path, state);
+  asked = text === null ? asked : state.moment;
+  return text;
+}
+
+async function answerOf(path, state) {
   const [, notice, kind] = /^\/notices\/([^/?]+)\/([a-z]+)$/.exec(path) ?? [];
   const [, line] = /^\/lines\/([^/]+)$/.exec(path) ?? [];
   return path === "/ledger" ? read("ledger.txt") : line ? ofLine(line) : notice ? ofNotice(notice, kind)

@@ -32,7 +32,7 @@ export function drawAround({ site, foot, pages, current }) {
   byId("site").textContent = site;
   byId("foot").replaceChildren(foot, " ", link(say("frame.imprint"), "/#about"));
   byId("menu-name").textContent = say("frame.menu");
-  byId("pages").setAttribute("aria-label", say("frame.pages"));
+  byId("pages").closest("nav").setAttribute("aria-label", say("frame.pages"));
   byId("pages").replaceChildren(...pages.map(([href, name]) => {
     const made = link(name, href);
     href === current && made.setAttribute("aria-current", "page");

@@ -143,7 +143,8 @@ async function take(sent, where, redraw) {
       where.replaceChildren(...openPart(other, settle));
     }
   };
-  where.replaceChildren(element("p", {}, say("withdraw.going")));
+  // (The button shows it.)
+  where.replaceChildren(element("p", { class: "unseen" }, say("withdraw.going")));
   try {
     const { value } = await withdraw(sent.receipt, session.caller);
     session.seen.delete(sent.notice);
