@@ -10,6 +10,7 @@ LINES, FIRMS, OPENED, OVERDUE, SOON, LATER = 125, 60, 20, 180, 7, 193
 TENDERS = 24
 DAY = 86_400
 WARES = ["Clay tiles", "Paving stones", "School desks", "Street lamps", "Playground swings", "Trees for avenues", "Fire hoses", "Library books"]
+KINDS = ["oak", "granite", "copper", "slate", "birch", "zinc", "cedar"]
 
 
 def key_of(firm: str) -> str:
@@ -26,7 +27,7 @@ def name_of(number: int) -> str:
 
 def publish(office: Client[Answer], number: int, deadline: float) -> None:
     ware = WARES[number % len(WARES)]
-    lots = [lot("L1", line_of(number % LINES), 5000, 0, (f"{ware}, quality {number % 7}", 100), title=f"{ware} for district {number}")]
+    lots = [lot("L1", line_of(number % LINES), 5000, 0, (f"{ware}, {KINDS[number % 7]}", 100), title=f"{ware} for district {number}")]
     if number == 2:
         lots.append(lot("L2", line_of(3), 4000, 50, ("Gravel", 100), title="Gravel for district 2"))
     if number == 390:

@@ -10,7 +10,7 @@ from collections.abc import Callable, Iterator
 import clerk_large
 import scene
 from browser import Page
-from client import Client, Port, tender
+from client import AHEAD, Client, Port, tender
 from common import ROOT, check, fail, free_port
 from front import Front
 from page_checks import is_quiet
@@ -18,7 +18,7 @@ from tender_office import Scene, serving
 from tender_page import Desk
 
 # A view is drawn within so many seconds, and what the reader came for isn't further down than so many pixels.
-SECONDS, PIXELS = 2, 3000
+SECONDS, PIXELS = 2 * max(1.0, AHEAD / 4), 3000
 PHONE, DESKTOP = 390, 1280
 # The most pixels of a phone's window above a view.
 MOST_HEAD = {"en": 150, "de": 170}
@@ -111,7 +111,7 @@ def portal(large: Scene) -> None:
 
 def portal_list(page: Page) -> None:
     """The nearest deadline comes first. A button leads to those that are no longer open."""
-    timed(page, "list", with_text("h2", "No longer open for tenders (200)"))
+    timed(page, "list", with_text("h2", "No longer open for tenders (201)"))
     nearest_first(page)
     page.run(f"{with_text('.jumps button', 'No longer open')}.click()")
     page.wait("document.activeElement.tagName === 'H2' && Math.abs(document.activeElement.getBoundingClientRect().top) < 5")
@@ -125,13 +125,18 @@ def nearest_first(page: Page) -> None:
 
 def portal_search(page: Page) -> None:
     """What is bought and what pays for it are found, in each order."""
-    for words, wanted in {"quality 3": range(3, 401, 7), "2117": (117, 242, 367), "upkeep district 117": (117, 242, 367), "gravel": (2,)}.items():
+    for words, wanted in {"slate": range(3, 401, 7), "2117": (117, 242, 367), "upkeep district 117": (117, 242, 367), "gravel": (2,)}.items():
         timed(page, f"list?words={words.replace(' ', '+')}", "document.querySelector('.count')")
         told, found = page.run("document.querySelector('.count').textContent"), {int(title.rsplit(" ", 1)[1]) for title in page.run(FOUND)}
         check(f"{words} finds {told}: {found}", told == f"{len(wanted)} of 400 procurements" and found <= set(wanted))
-    for order, number in {"deadline": NEXT, "published": 400, "amount": 390}.items():
+    for order, number in {"deadline": NEXT, "amount": 390}.items():
         timed(page, f"list?order={order}", "document.querySelector('.entry-of-list')")
         check(f"by {order} the first one is {page.run(FOUND)[0]}", page.run(FOUND)[0].endswith(f", purchase {number}"))
+    # (Several were published in the last second.)
+    timed(page, "list?order=published&state=open", "document.querySelector('.entry-of-list')")
+    moments = {row["title"]: row["published"] for row in page.run("import('/common/office.js').then(({ notices }) => notices())")}
+    shown = [moments[title] for title in page.run(FOUND)]
+    check(f"by publication the moments are {shown}", shown == sorted(shown, reverse=True) and shown[0] == max(moments.values()))
 
 
 def portal_lot(page: Page) -> None:
@@ -205,7 +210,7 @@ def own_tenders(desk: Desk, far: int, near: int) -> None:
     rows = "document.querySelectorAll('main tbody tr').length"
     desk.press("Show more")
     check(f"{desk.page.run(rows)} tenders are shown", desk.page.run(rows) == 21)
-    desk.says("Searching further, the nearest deadline first: 24 of 3")
+    desk.says("of 379 notices are searched. Your tenders appear below.")
     desk.page.wait(f"{with_text('a', f'Change or withdraw {far}')}")
     order = desk.page.run("[...document.querySelectorAll('main tbody th')].map((at) => Number(at.textContent))")
     check(f"the tenders are {order}", order[:2] == [near, far] and order[2:] == sorted(order[2:], reverse=True))
@@ -231,7 +236,7 @@ def open_notices(desk: Desk) -> None:
     heads = "[...document.querySelectorAll('main li h2')].map((at) => at.textContent)"
     timed(desk.page, "offer", "document.querySelector('main li')")
     check(f"first are {desk.page.run(heads)[:3]}", desk.page.run(heads)[0].endswith(f"purchase {NEXT}"))
-    desk.fill("offer-notice", "quality 3 desks")
+    desk.fill("offer-notice", "slate desks")
     desk.page.wait(f"{heads}.length > 0 && {heads}.every((it) => it.startsWith('School desks') && Number(it.split(' ').at(-1)) % 7 === 3)")
     desk.fill("offer-notice", "2117")
     desk.page.wait(f"{heads}.length === 2")
@@ -253,7 +258,7 @@ PLANTS: list[tuple[str, str, str, Callable[[Page], None]]] = [
 # The same for the tenderer's desk.
 PLANTS_OF_DESK: list[tuple[str, str, str, Callable[[Desk], None]]] = [
     ("/tender/search.js", "of(isOpen, 1)", "of(isOpen, -1)", lambda desk: next_first(desk, receipt_of(desk))),
-    ("/tender/search.js", "FIRST = 24", "FIRST = 240", lambda desk: next_first(desk, receipt_of(desk))),
+    ("/tender/search.js", "FIRST = 12, AT_ONCE = 6", "FIRST = 240, AT_ONCE = 240", lambda desk: next_first(desk, receipt_of(desk))),
     ("/tender/open.js", "FIRST = 20", "FIRST = 20, LATE = await new Promise((done) => { setTimeout(done, 2100); })", open_notices),
 ]
 

@@ -113,7 +113,7 @@ def finds_notice(desk: Desk) -> None:
     desk.shows("Road repair", "offer/N1")
     desk.press("Prepare a tender for lot L1")
     desk.shows("Tender for lot L1")
-    for unit, text in (("12.5", "no point"), ("1000000001", "too much"), ("x", "digits only")):
+    for unit, text in (("12.5", "no point and no comma. Round it, or ask the clerk for a larger unit"), ("1000000001", "too much"), ("x", "digits only")):
         desk.fill("unit-1", unit)
         check(f"{unit}: {desk.page.text()}", text in desk.page.text() and not desk.can_press("Check before submitting"))
 
@@ -287,7 +287,8 @@ def stopped(scene: Scene) -> None:
     desk.shows("Check before submitting")
     scene.office.send_signal(signal.SIGSTOP)
     desk.press("Submit the tender")
-    desk.page.expect("the tender is on its way", lambda: desk.has("look", "The tender is being sent …") and not desk.can_press("The tender is being sent …"))
+    going = "The tender is being sent …"
+    desk.page.expect("the tender is on its way", lambda: desk.has("look", going) and not desk.can_press(going))
     scene.stop()
     desk.says("The office may or may not have done this.")
     desk.press("Ask the office")
@@ -297,8 +298,8 @@ def stopped(scene: Scene) -> None:
     desk.says("So far the office hasn't received it.")
     scene.office.send_signal(signal.SIGSTOP)
     desk.press("Submit the tender")
-    desk.says("The tender is being sent …")
-    check(f"what was said before stays: {desk.page.text()}", "So far" not in desk.page.text() and not desk.can_press("The tender is being sent …"))
+    desk.says(going)
+    check(f"what was said before stays: {desk.page.text()}", "So far" not in desk.page.text() and not desk.can_press(going))
     scene.office.send_signal(signal.SIGCONT)
     receipt = desk.receipt()
     check("it isn't there", scene.client.tender("T1", receipt)["state"] == "sealed")

@@ -103,6 +103,7 @@ export default {
   "table.total": "Gesamtpreis",
   "table.sum": "Summe",
   "table.most": "Höchstens {most}.",
+  "table.cents": "Runden Sie, oder bitten Sie die Vergabestelle um eine größere Einheit, etwa 10 m.",
   "table.above": "Die Summe liegt über {most}. Das nimmt die Vergabestelle nicht an.",
   "table.left": ["{count} Preis fehlt.", "{count} Preise fehlen."],
   "change.title": "Angebot ändern",

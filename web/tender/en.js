@@ -103,6 +103,7 @@ export default {
   "table.total": "Total",
   "table.sum": "Sum",
   "table.most": "At most {most}.",
+  "table.cents": "Round it, or ask the clerk for a larger unit, such as 10 m.",
   "table.above": "The sum is above {most}, which the office doesn't accept.",
   "table.left": ["{count} price is missing.", "{count} prices are missing."],
   "change.title": "Change the tender",

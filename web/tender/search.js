@@ -4,9 +4,10 @@
 import { officeNow, ownTenders } from "../common/office.js";
 import { session } from "./session.js";
 
-// So many notices are searched before the view is shown. Then so many in each pause, in milliseconds: some of
-// the forty queries are always left, for example for a withdrawal.
-const FIRST = 24, TOGETHER = 4, PAUSE = 2000;
+// So many notices are searched before the view is shown, so many at a time, because nginx has eight places for
+// such queries. Then so many in each pause, in milliseconds: some of the forty queries are always left, for
+// example for a withdrawal.
+const FIRST = 12, AT_ONCE = 6, TOGETHER = 4, PAUSE = 2000;
 // A result is this many milliseconds old before the notice is searched again.
 const FRESH = 300_000;
 
@@ -53,7 +54,10 @@ export function left(rows) {
 export async function lookFirst({ order }) {
   const own = new Set(session.tenders.map(({ notice }) => notice));
   const again = order.filter((row) => own.has(row.notice));
-  await lookInto([...new Set([...again, ...left(order)])].slice(0, FIRST));
+  const rows = [...new Set([...again, ...left(order)])].slice(0, FIRST);
+  for (let at = 0; at < rows.length; at += AT_ONCE) {
+    await lookInto(rows.slice(at, at + AT_ONCE));
+  }
 }
 
 /** Searches the other notices, as long as `goes` says so. `tell` is called after each step. */
