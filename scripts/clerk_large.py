@@ -1,5 +1,6 @@
 """The office that the checks of a large office use: 400 notices, 125 budget lines, 60 firms. Of the notices 180 are past their deadline and not opened, 20 are
 opened, 7 close within a week, and 193 later. The opened ones are examined, awarded, signed, awarded to nobody or cancelled; N001 has a lot with 24 tenders.
+N390 has five lots. The items have words that no title has.
 """
 import time
 
@@ -9,6 +10,7 @@ LINES, FIRMS, OPENED, OVERDUE, SOON, LATER = 125, 60, 20, 180, 7, 193
 TENDERS = 24
 DAY = 86_400
 WARES = ["Clay tiles", "Paving stones", "School desks", "Street lamps", "Playground swings", "Trees for avenues", "Fire hoses", "Library books"]
+KINDS = ["oak", "granite", "copper", "slate", "birch", "zinc", "cedar"]
 
 
 def key_of(firm: str) -> str:
@@ -25,9 +27,11 @@ def name_of(number: int) -> str:
 
 def publish(office: Client[Answer], number: int, deadline: float) -> None:
     ware = WARES[number % len(WARES)]
-    lots = [lot("L1", line_of(number % LINES), 5000, 0, (ware, 100), title=f"{ware} for district {number}")]
+    lots = [lot("L1", line_of(number % LINES), 5000, 0, (f"{ware}, {KINDS[number % 7]}", 100), title=f"{ware} for district {number}")]
     if number == 2:
         lots.append(lot("L2", line_of(3), 4000, 50, ("Gravel", 100), title="Gravel for district 2"))
+    if number == 390:
+        lots += [lot(f"L{at}", line_of(5), 4000, 0, ("Sand", 100), title=f"Sand, part {at}") for at in range(2, 6)]
     office.publish(name_of(number), notice(text_of(deadline), *lots, title=f"{ware}, purchase {number}", standstill=0))
 
 

@@ -12,6 +12,7 @@ COLUMNS = {
                 "standstill_days", "late_withdrawal", "performance", "currency", "estimate", "lots", "tenderers", "running", "amendments", "releases"],
     "lots": ["notice", "lot", "title", "line", "currency", "estimate", "security", "status", "items", "tenders", "winner", "winner_name", "price", "contract",
              "contract_status", "worth", "paid"],
+    "items": ["notice", "lot", "item", "title", "quantity"],
     "tenders": ["notice", "lot", "receipt", "tenderer", "name", "address", "currency", "reading", "stated", "corrected", "corrections", "answer", "quality",
                 "points", "standing"],
     "awards": ["award", "notice", "lot", "tenderer", "name", "date", "currency", "price", "status"],
@@ -114,6 +115,12 @@ def lot_rows(notice: Notice) -> Iterator[Json]:
                "paid": contract.get("paid")}
 
 
+def item_rows(notice: Notice) -> Iterator[Json]:
+    for lot in notice.terms["lots"]:
+        for item in lot["items"]:
+            yield {"notice": notice.name, "lot": lot["id"], "item": item["id"], "title": item["title"], "quantity": item["quantity"]}
+
+
 def notice_rows(notice: Notice) -> Iterator[Json]:
     compiled, terms = notice.compiled, notice.terms
     tender = compiled["tender"]
@@ -125,7 +132,7 @@ def notice_rows(notice: Notice) -> Iterator[Json]:
            "running": running, "amendments": notice.row["amendments"], "releases": len(notice.releases)}
 
 
-ROWS: dict[str, Any] = {"notices": notice_rows, "lots": lot_rows, "tenders": tender_rows, "awards": award_rows, "contracts": contract_rows,
+ROWS: dict[str, Any] = {"notices": notice_rows, "lots": lot_rows, "items": item_rows, "tenders": tender_rows, "awards": award_rows, "contracts": contract_rows,
                         "payments": payment_rows}
 
 

@@ -202,7 +202,7 @@ def tab(page: Page, count: int) -> list[Any]:
 
 # The elements to which tabs lead from the top of the list: links by their texts, fields and buttons by their names.
 ORDER = ["skip", "Procurements", "Budget", "Firms", "Figures", "About", "For tenderers", "English", "Deutsch", "by-words", "Filters",
-         "by-state", "by-year", "by-line", "by-firm", "by-from", "by-to", "Search", "A footbridge over the river"]
+         "by-state", "by-year", "by-line", "by-firm", "by-from", "by-to", "by-order", "Search", "A footbridge over the river"]
 
 
 def keyboard(scene: Scene) -> None:
@@ -398,7 +398,7 @@ def office_away(scene: Scene) -> None:
         time.sleep(int(answer.head["Retry-After"]))
     check(f"a query without an office: {answer}", answer.status == 502 and b"front" in answer.body)
     said = page_of(scene, "#notice/N78").text()
-    check(f"the page says {said!r}", said == "Not shown\nThe office isn't answering at the moment. Try again in a few minutes.\nProcurements\n")
+    check(f"the page says {said!r}", said == "Not shown\nThe office isn't answering at the moment. Try again in a few minutes.\nTry again\nProcurements\n")
 
 
 def too_often(scene: Scene) -> None:

@@ -9,11 +9,13 @@ import time
 from typing import Any
 
 import client
+import large_checks
 from browser import Page
 from common import ROOT, check, connect, free_port, running, serve_words
 from front import PATIENCE, Front
 from mirror_tables import table
 from page_checks import NARROWEST, VIEWS, has_contrast, is_quiet, is_within, page_of
+from page_office import SCRIPT
 from scene import Scene
 
 WIDEST = 1920
@@ -98,15 +100,20 @@ def search(scene: Scene) -> None:
     """The search finds words without accents, firms, lines, states and amounts; the address keeps what was asked; a clock runs."""
     page = page_of(scene, "")
     check("open ones come first", page.run(FOUND)[0] == "A footbridge over the river")
-    for address, wanted in {"words=bridge+FOOT": {"A footbridge over the river"}, "words=sohne": 3, "state=cancelled": 2, "line=1800": {"Playgrounds"},
+    page.go(scene.front.address("#list?order=amount"))
+    found = page.run("[...document.querySelectorAll('section:last-of-type .entry-of-list h3')].map((at) => at.textContent)")
+    check(f"by amount those that aren't open are {found}", found[:2] == ["Road repair in the north", SCRIPT] and found[-1] == "Playgrounds")
+    for address, wanted in {"words=kerbs": {"Road repair in the north"}, "words=soehne": 3, "words=footbridge+2400": 0, "words=1800": {"Playgrounds"},
+                            "words=street+lighting+poles": {"Street lamps"}, "order=amount&words=lamps+lights": {"A footbridge over the river"},
+                            "words=bridge+FOOT": {"A footbridge over the river"}, "words=sohne": 3, "state=cancelled": 2, "line=1800": {"Playgrounds"},
                             "firm=gamma": 2, "from=600000&to=700000": {"Road repair in the north"}, "year=1999": 0, "words=n6": {"Street lamps"},
                             "words=lamps&line=1500&state=opened": {"Street lamps"}}.items():
         page.go(scene.front.address(f"#list?{address}"))
         found = page.run(FOUND)
         check(f"{address} finds {found}", len(found) == wanted if isinstance(wanted, int) else set(found) == wanted)
     page.go(scene.front.address())
-    type_words(page, "street")
-    check("the address keeps what is typed", page.run("location.hash") == "#list?words=street" and page.run(FOUND) == ["Street lamps"])
+    type_words(page, "poles")
+    check("the address keeps what is typed", page.run("location.hash") == "#list?words=poles" and page.run(FOUND) == ["Street lamps"])
     page.go(scene.front.address())
     before = page.run("document.querySelector('.clock').textContent")
     page.wait(f"document.querySelector('.clock').textContent !== '{before}'")
@@ -156,7 +163,7 @@ def with_tables(data: str) -> None:
 
 
 def many(scene: Scene) -> None:
-    """Five hundred notices are shown within a second of the page's work, newest first and those that take tenders above, and searched as one types."""
+    """Five hundred notices are shown within a second of the page's work, those that take tenders above, and searched as one types."""
     with tempfile.TemporaryDirectory() as folder:
         port = free_port()
         with_tables(os.path.join(folder, "mirror", "data"))
@@ -165,10 +172,11 @@ def many(scene: Scene) -> None:
             titles = publish_many(port)
             page = Page(scene.browser, 1280)
             page.ask("Performance.enable", timeDomain="threadTicks")
-            page.go(front.address())
+            page.go(front.address("#list?order=published"))
             took = {it["name"]: it["value"] for it in page.ask("Performance.getMetrics")["metrics"]}["TaskDuration"]
             check(f"{MANY} notices take {took:.2f} s", took < LONGEST)
             check("all are told of", page.run("document.querySelector('.count').textContent") == f"{MANY} procurements")
+            page.run("document.querySelector('.more').click()")
             check("open ones come first, and newest first", page.run(FOUND)[:MANY // 10] == titles[:MANY // 10])
             type_words(page, "m012")
             check("ten are found", page.run(f"{FOUND}.length") == 10)
@@ -268,4 +276,12 @@ def failing_scripts(scene: Scene) -> None:
     page.browser.paused.clear()
 
 
-CHECKS = [german, open_data, search, many, city, on_paper, failing_scripts, without_mirror]
+def large(scene: Scene) -> None:
+    """In an office of 400 notices each view comes at once, and everything in it can be found (`large_checks.py`); also while the office is away."""
+    with large_checks.large_office(scene) as office:
+        large_checks.portal(office)
+        large_checks.portal_plants(office)
+        large_checks.away(office)
+
+
+CHECKS = [german, open_data, search, many, large, city, on_paper, failing_scripts, without_mirror]

@@ -6,11 +6,15 @@ import time
 from collections.abc import Callable
 from typing import Any
 
-from client import text_of, wait_until
+import large_checks
+from client import AHEAD, text_of, wait_until
 from common import check
 from page_checks import is_quiet, keeps_nothing, refusals
 from tender_office import Scene
 from tender_page import MADE, RIGHT, SHEET, Desk, digest_of
+
+
+CITY = {"letterhead": {"en": ["City Hall", "1 Town Square"]}, "remedy": {"en": ["Write to the review chamber."]}}
 
 
 def key(scene: Scene) -> None:
@@ -55,11 +59,14 @@ def offer(scene: Scene) -> None:
     desk.prices("N1", "L1", 150, 12)
     check(f"the sums are {desk.page.text()}", all(text in desk.page.text() for text in ("450", "120", "570 EUR")))
     names_security(desk)
+    city(scene, CITY)
     shown = desk.page.run("document.querySelector('pre').textContent"), desk.page.run("document.getElementById('digest').textContent").replace(" ", "")
     check(f"what will be sent is {shown}", shown == (RIGHT.decode(), digest_of(RIGHT)))
     desk.press("Submit the tender")
     receipt = desk.receipt()
     check(f"the receipt is {desk.page.text()}", desk.has("good", "The office received exactly what you submitted.") and not desk.has("bad", ""))
+    names_all(desk)
+    city(scene, None)
     found = scene.client.tender("T1", receipt)
     check(f"the office has {found.body!r}", (found["digest"], found["security"], found["lot"]) == (digest_of(RIGHT), receipt, "L1"))
     desk.press("Save the receipt")
@@ -70,20 +77,43 @@ def offer(scene: Scene) -> None:
     is_quiet(desk.page)
 
 
+def city(scene: Scene, words: dict[str, dict[str, list[str]]] | None) -> None:
+    """The city's own words, or none."""
+    path = os.path.join(scene.front.folder, "city", "city.json")
+    os.makedirs(os.path.dirname(path), exist_ok=True)
+    if words is None:
+        os.remove(path)
+    else:
+        with open(path, "w") as file:
+            json.dump(words, file)
+
+
+def names_all(desk: Desk) -> None:
+    """The sheet of a receipt has the letterhead, the firm, the notice, the lot, the buyer, the price with a warning, and how to object."""
+    desk.fill("receipt-firm", "Alpha & Söhne")
+    sheet = desk.page.run("document.querySelector('.sheet').innerText")
+    wanted = ["City Hall\n1 Town Square\n", "This sheet has your price.", "Alpha & Söhne\nT1", "Road repair\nN1", "Buyer\nCity", "570 EUR",
+              "G1, 50 EUR", "How to object\n\nWrite to the review chamber."]
+    missing = [text for text in wanted if text not in sheet]
+    check(f"the sheet says {sheet!r}, and not {missing}", not missing)
+
+
 def finds_notice(desk: Desk) -> None:
     """The desk lists open notices, finds one by its number, and reports unit prices that are out of range."""
     desk.at("offer", "Prepare a tender")
     desk.says("are open for tenders")
     check(f"open notices are listed: {desk.page.text()}", all(text in desk.page.text() for text in ("Road repair", "Things of all kinds", "closes in")))
-    desk.fill("offer-notice", "N 1")
+    desk.fill("offer-notice", "N 9")
     desk.press("Show")
-    desk.says("This is not a valid number.")
+    desk.says("Nothing matches these words.")
+    desk.fill("offer-notice", "road")
+    check("another notice is found", "Things of all kinds" not in desk.page.text() and "1 found" in desk.page.text())
     desk.fill("offer-notice", "n1")
     desk.press("Show")
     desk.shows("Road repair", "offer/N1")
     desk.press("Prepare a tender for lot L1")
     desk.shows("Tender for lot L1")
-    for unit, text in (("12.5", "no point"), ("1000000001", "too much"), ("x", "digits only")):
+    for unit, text in (("12.5", "no point and no comma. Round it, or ask the clerk for a larger unit"), ("1000000001", "too much"), ("x", "digits only")):
         desk.fill("unit-1", unit)
         check(f"{unit}: {desk.page.text()}", text in desk.page.text() and not desk.can_press("Check before submitting"))
 
@@ -124,7 +154,7 @@ def files(scene: Scene) -> None:
     desk = Desk(scene, "T1")
     desk.at("offer/N1/L2", "Tender for")
     desk.press("Use a file")
-    desk.page.choose("offer-file", scene.put("bad.csv", b"item;quantity;unit;total\nI1;1;1.500;1500\nI7;1;5;5\nTOTAL;;;1505\n"))
+    desk.page.choose("offer-file", scene.put("bad.csv", b"item;quantity;unit;total\nI1;1;1.500;1.500\nI7;1;5;5\nTOTAL;;;1505\n"))
     desk.says("bad.csv can't be used")
     for text in ("could mean two things", "no item “I7”"):
         check(f"the refusal says {desk.page.text()}", desk.has("bad", text))
@@ -179,7 +209,7 @@ def changes(scene: Scene) -> None:
     desk.at("tenders", "My tenders")
     desk.says(f"replaced by {new}")
     check("own tenders aren't found", desk.page.run("document.querySelectorAll('tbody tr').length") >= 4)
-    check("a notice wasn't looked into", not desk.can_press("Search all notices"))
+    desk.says("All notices that aren't opened yet are searched.")
     is_quiet(desk.page)
 
 
@@ -257,7 +287,8 @@ def stopped(scene: Scene) -> None:
     desk.shows("Check before submitting")
     scene.office.send_signal(signal.SIGSTOP)
     desk.press("Submit the tender")
-    desk.page.expect("the tender is on its way", lambda: not desk.can_press("Submit the tender"))
+    going = "The tender is being sent …"
+    desk.page.expect("the tender is on its way", lambda: desk.has("look", going) and not desk.can_press(going))
     scene.stop()
     desk.says("The office may or may not have done this.")
     desk.press("Ask the office")
@@ -265,8 +296,28 @@ def stopped(scene: Scene) -> None:
     scene.start()
     desk.press("Ask the office")
     desk.says("So far the office hasn't received it.")
+    scene.office.send_signal(signal.SIGSTOP)
     desk.press("Submit the tender")
-    check("it isn't there", scene.client.tender("T1", desk.receipt())["state"] == "sealed")
+    desk.says(going)
+    check(f"what was said before stays: {desk.page.text()}", "So far" not in desk.page.text() and not desk.can_press(going))
+    scene.office.send_signal(signal.SIGCONT)
+    receipt = desk.receipt()
+    check("it isn't there", scene.client.tender("T1", receipt)["state"] == "sealed")
+    withdrawal_is_told(scene, desk, receipt)
+
+
+def withdrawal_is_told(scene: Scene, desk: Desk, receipt: int) -> None:
+    """While a withdrawal is sent, the button says so and can't be pressed. The new state is shown as soon as the office answers."""
+    desk.at(f"tender/{receipt}", "Tender with")
+    desk.tick("withdraw-sure")
+    scene.office.send_signal(signal.SIGSTOP)
+    desk.press("Withdraw the tender")
+    desk.says("The withdrawal is being sent …")
+    check("it can be pressed again", not desk.can_press("The withdrawal is being sent …") and not desk.can_press("Withdraw the tender"))
+    scene.office.send_signal(signal.SIGCONT)
+    begun = time.monotonic()
+    desk.says("The tender is withdrawn.")
+    check(f"the new state is shown after {time.monotonic() - begun:.1f} s", time.monotonic() - begun < AHEAD)
 
 
 def each_refusal(scene: Scene) -> None:
@@ -341,4 +392,11 @@ def results(scene: Scene) -> None:
     is_quiet(desk.page)
 
 
-CHECKS: list[Callable[[Scene], Any]] = [key, offer, files, changes, lost, stopped, each_refusal, late, results]
+def large(scene: Scene) -> None:
+    """In an office of 400 notices the tender whose deadline is next is shown first and at once, and open notices are found (`large_checks.py`)."""
+    with large_checks.large_office(scene) as office:
+        large_checks.tenderer(office)
+        large_checks.desk_plants(office)
+
+
+CHECKS: list[Callable[[Scene], Any]] = [key, offer, files, changes, lost, stopped, each_refusal, late, results, large]

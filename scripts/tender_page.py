@@ -21,9 +21,13 @@ class Desk:
         self.page.keep_in(scene.folder)
         self.page.go(scene.front.address(f"tender/?language={language}"))
         if who:
-            self.at("key", "")
-            self.page.choose("key-file", scene.path(f"{who}.key"))
-            self.page.wait(f"document.getElementById('who').textContent.includes('{who}')")
+            self.give_key(who)
+
+    def give_key(self, who: str) -> None:
+        """Chooses the file of somebody's key."""
+        self.at("key", "")
+        self.page.choose("key-file", self.scene.path(f"{who}.key"))
+        self.page.wait(f"document.getElementById('who').textContent.includes('{who}')")
 
     def at(self, place: str, head: str) -> None:
         """Goes to a place, until a view with this heading is shown."""

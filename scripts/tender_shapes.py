@@ -125,7 +125,7 @@ def with_file(scene: Scene, desk: Desk, language: str) -> None:
     desk.page.wait("document.getElementById('source-file') && document.querySelector('main').getAttribute('aria-busy') === 'false'")
     desk.page.run("document.getElementById('source-file').click()")
     desk.page.wait("document.getElementById('offer-file')")
-    for name, content in (("refused-file", b"item;quantity;unit;total\nI1;1;1.500;1500\nI7;1;5;5\n"), ("converted-file", SHEET.encode())):
+    for name, content in (("refused-file", b"item;quantity;unit;total\nI1;1;1.500;1.500\nI7;1;5;5\n"), ("converted-file", SHEET.encode())):
         desk.page.choose("offer-file", scene.put(f"{name}.csv", content))
         desk.page.wait(f"document.querySelector('main').innerText.includes('{name}.csv')")
         looked_at(scene, desk, name, language)

@@ -1,7 +1,7 @@
 // Firms: the tenders, awards and payments of each, from the mirror's tables.
 import { grouped, sum, tables, worthNow } from "./common/data.js";
 import { badge, below, element, facts, given, link, placeOf, title } from "./common/draw.js";
-import { plain } from "./common/filters.js";
+import { finder, searchable } from "./common/filters.js";
 import { kindOfSigned } from "./common/findings.js";
 import { field, table } from "./common/forms.js";
 import { day, number } from "./common/money.js";
@@ -44,7 +44,10 @@ export async function drawFirms(text) {
   const firms = firmsOf(data);
   const currency = data.contracts[0]?.currency ?? "";
   const { made, input, value } = field(say("see.firms.search"), { id: "by-name", kind: "search", value: new URLSearchParams(text).get("name") ?? "" });
-  const chosen = () => firmTable(firms.filter(({ name, tenderer }) => plain(`${name} ${tenderer}`).includes(plain(value()))), currency);
+  const chosen = () => {
+    const isFound = finder(value());
+    return firmTable(firms.filter(({ name, tenderer }) => isFound(searchable(`${name} ${tenderer}`))), currency);
+  };
   const found = element("div", {}, chosen());
   input.addEventListener("input", () => {
     history.replaceState(history.state, "", value() ? `#firms?${new URLSearchParams({ name: value() })}` : "#firms");

@@ -2,7 +2,7 @@
 // its procurements.
 import { grouped, rows, sum, tables, worthNow } from "./common/data.js";
 import { bar, element, given, key, link, placeOf, section, title } from "./common/draw.js";
-import { entriesOf, plain } from "./common/filters.js";
+import { entriesOf, finder, searchable } from "./common/filters.js";
 import { field, growing, table } from "./common/forms.js";
 import { number } from "./common/money.js";
 import { ledger, line as lookAtLine, notices, officeNow, part } from "./common/office.js";
@@ -39,8 +39,8 @@ function search(lines, titles, counts) {
   const { made, input, value } = field(say("see.budget.search"), { id: "by-line", kind: "search" });
   const found = element("div", {}, shown(lines));
   input.addEventListener("input", () => {
-    const asked = plain(value());
-    found.replaceChildren(...shown(lines.filter(({ line }) => plain(`${line} ${titles.get(line) ?? ""}`).includes(asked))));
+    const isFound = finder(value());
+    found.replaceChildren(...shown(lines.filter(({ line }) => isFound(searchable(`${line} ${titles.get(line) ?? ""}`)))));
   });
   return [lines.length > AT_ONCE ? made : null, found];
 }

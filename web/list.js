@@ -1,15 +1,16 @@
-// The list of all procurements: open ones first, with a clock to the deadline, then newest first. The address
-// holds the filters.
+// The list of all procurements: open ones first, with a clock to the deadline. The address holds the filters
+// and the order.
 import { tables } from "./common/data.js";
 import { element, fresh, given, link, placeOf, title } from "./common/draw.js";
-import { NAMES, STATES, addressOf, chosen, entriesOf, filtersOf, noticeOf } from "./common/filters.js";
-import { field, form, growing } from "./common/forms.js";
+import { NAMES, ORDERS, STATES, addressOf, chosen, entriesOf, filtersOf, noticeOf, ordered } from "./common/filters.js";
+import { field, form, growing, jumpTo } from "./common/forms.js";
 import { clock, day, money, moment } from "./common/money.js";
 import { notices, officeNow } from "./common/office.js";
 import { stateBadge } from "./common/states.js";
 import { say } from "./common/texts.js";
 
-const AT_ONCE = 100;
+// So many of each part are shown at first, so that the next part isn't far down; and with each press of its button.
+const FIRST = 12, AT_ONCE = 100;
 
 function entry(one) {
   const { known } = one;
@@ -23,18 +24,20 @@ function entry(one) {
 }
 
 function part(name, entries) {
-  if (entries.length === 0) {
-    return null;
-  }
-  const [id, heading] = [fresh("part"), say(`see.list.${name}`, { count: entries.length })];
-  return element("section", { "aria-labelledby": id }, element("h2", { id }, heading),
-    growing(element("ol", { class: "list", "aria-label": heading }), entries, entry, AT_ONCE));
+  const text = say(`see.list.${name}`, { count: entries.length });
+  const head = element("h2", { id: fresh("part"), tabindex: "-1" }, text);
+  return { jump: jumpTo(head, text), made: element("section", { "aria-labelledby": head.id }, head,
+    growing(element("ol", { class: "list", "aria-label": text }), entries, entry, AT_ONCE, FIRST)) };
 }
 
 function drawFound(entries, all) {
   const count = entries.length === all ? say("see.list.all", { count: all }) : say("see.list.some", { some: entries.length, count: all });
-  return [element("p", { class: "count", "aria-live": "polite" }, count), part("open", entries.filter(({ state }) => state === "open")),
-    part("rest", entries.filter(({ state }) => state !== "open")), entries.length === 0 ? element("p", {}, say("see.list.none")) : null].filter(Boolean);
+  const [open, rest] = [entries.filter(({ state }) => state === "open"), entries.filter(({ state }) => state !== "open")];
+  const parts = [["open", open], ["rest", rest]].filter(([, some]) => some.length > 0).map(([name, some]) => part(name, some));
+  const jumps = open.length > FIRST && parts.length > 1
+    ? element("div", { class: "jumps", role: "group", "aria-label": say("see.list.parts") }, parts.map(({ jump }) => jump)) : null;
+  return [element("p", { class: "count", "aria-live": "polite" }, count), jumps, ...parts.map(({ made }) => made),
+    entries.length === 0 ? element("p", {}, say("see.list.none")) : null].filter(Boolean);
 }
 
 /** The filter fields. Those that need the mirror's tables are left out without it. */
@@ -45,9 +48,11 @@ function fieldsOf(filters, entries, data) {
   const years = [...new Set(entries.map(({ year }) => year))].sort().reverse();
   const fields = { words: made("words", { kind: "search" }), state: chosenOf("state", STATES.map((state) => [state, say(`see.state.${state}`)])),
     year: chosenOf("year", years.map((year) => [year, year])) };
+  const orders = ORDERS.filter((name) => data || name !== "amount").map((name, at) => [at === 0 ? "" : name, say(`see.order.${name}`)]);
+  const order = made("order", { kind: "choice", options: orders });
   return data ? { ...fields, line: chosenOf("line", data.budget.map(({ line, title: text }) => [line, `${line} ${text}`])),
     firm: made("firm", { kind: "search" }), from: made("from", { kind: "number", min: "0", inputmode: "numeric" }),
-    to: made("to", { kind: "number", min: "0", inputmode: "numeric" }) } : fields;
+    to: made("to", { kind: "number", min: "0", inputmode: "numeric" }), order } : { ...fields, order };
 }
 
 /** The search field, which finds while one types. If a notice number was typed, Enter goes to the notice, in
@@ -59,9 +64,10 @@ function search(filters, entries, data) {
     const asked = Object.fromEntries(NAMES.map((name) => [name, fields[name]?.value() ?? ""]));
     const address = addressOf(asked);
     history.replaceState(history.state, "", address ? `#list?${address}` : "#list");
-    found.replaceChildren(...drawFound(chosen(entries, asked), entries.length));
+    draw(asked);
   };
-  found.append(...drawFound(chosen(entries, filters), entries.length));
+  const draw = (asked) => found.replaceChildren(...drawFound(ordered(chosen(entries, asked), asked.order), entries.length));
+  draw(filters);
   const { words, ...others } = fields;
   const isOpen = Object.keys(others).some((name) => filters[name]) || matchMedia("(min-width: 64rem)").matches;
   const more = element("details", isOpen ? { open: "" } : {}, element("summary", {}, say("see.filters")),
@@ -81,7 +87,7 @@ function search(filters, entries, data) {
 
 /** The view of the list. `text` is the part of the address with the filters. */
 export async function drawList(text) {
-  const [list, data] = await Promise.all([notices(), tables("notices", "lots", "tenders", "budget")]);
+  const [list, data] = await Promise.all([notices(), tables("notices", "lots", "items", "tenders", "budget")]);
   const entries = entriesOf(list, data, officeNow());
   return { title: "", told: say("see.list.all", { count: list.length }), content: [title(say("see.page.list")),
     element("p", { class: "intro" }, say("see.list.intro")), data ? null : element("p", { class: "note" }, say("see.nodata")),

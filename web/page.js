@@ -1,6 +1,7 @@
 // Chooses the portal's view by the address, in the spoken language.
 import { decoded, drawAround, refused, showViews } from "./common/frame.js";
-import { link } from "./common/draw.js";
+import { link, placeOf } from "./common/draw.js";
+import { standIn } from "./common/office.js";
 import { drawNotice } from "./common/process.js";
 import { addTexts, say } from "./common/texts.js";
 import { drawAbout, siteName } from "./about.js";
@@ -8,6 +9,7 @@ import { drawFigures } from "./figures.js";
 import { drawFirm, drawFirms } from "./firms.js";
 import { drawBudget, drawLine } from "./ledger.js";
 import { drawList, meant } from "./list.js";
+import { fromMirror, ofItsMoment } from "./mirror.js";
 
 await addTexts({ en: () => import("./en.js"), de: () => import("./de.js") });
 // The views by the first word of the address, each with its page in the menu. The other words are their
@@ -17,10 +19,10 @@ const VIEWS = { list: [drawList, "list"], notice: [drawNotice, "list"], ledger: 
 const PAGES = ["list", "ledger", "firms", "figures", "about"];
 let site = "";
 
-/** The address as a view and its arguments: `#notice/N1`, `#list?words=road`. */
+/** The address as a view and its arguments: `#notice/N1`, `#notice/N1/L1`, `#list?words=road`. */
 function place() {
-  const [, word, name, query] = /^#?([a-z]*)(?:\/([^?]*))?(?:\?(.*))?$/s.exec(location.hash) ?? [];
-  return Object.hasOwn(VIEWS, word ?? "") ? [word, name === undefined ? query ?? "" : decoded(name)] : ["list", ""];
+  const [, word, names, query] = /^#?([a-z]*)(?:\/([^?]*))?(?:\?(.*))?$/s.exec(location.hash) ?? [];
+  return Object.hasOwn(VIEWS, word ?? "") ? [word, ...(names === undefined ? [query ?? ""] : names.split("/").map(decoded))] : ["list", ""];
 }
 
 async function around([word]) {
@@ -30,16 +32,17 @@ async function around([word]) {
 }
 
 /** The requested view. A notice number works in whatever case. */
-async function view([word, text]) {
+async function viewOf([word, ...names], again) {
   try {
-    return await VIEWS[word][0](text);
+    return await VIEWS[word][0](...names);
   } catch (fault) {
+    const [text, ...rest] = names;
     const notice = word === "notice" && fault.name === "NoSuch" ? await meant(text).catch(() => null) : null;
     if (notice === null || notice === text) {
-      return refused(fault, back());
+      return refused(fault, back(), again);
     }
-    history.replaceState(history.state, "", `#notice/${notice}`);
-    return drawNotice(notice);
+    history.replaceState(history.state, "", placeOf("notice", notice, ...rest));
+    return drawNotice(notice, ...rest);
   }
 }
 
@@ -47,4 +50,5 @@ function back() {
   return link(say("see.page.list"), "#list");
 }
 
-showViews({ place, around, view, site: () => site, back });
+standIn(fromMirror);
+showViews({ place, around, view: (asked, again) => ofItsMoment(() => viewOf(asked, again), again), site: () => site, back });

@@ -27,14 +27,6 @@ const FOR_ROLE = { new: "notices", preview: "notices" };
 const BEHIND = 1;
 let redraw = () => {};
 
-// On a phone the menu is folded, and folded again when somebody chose a page.
-const menu = document.getElementById("menu");
-const narrow = matchMedia("(max-width: 40rem)");
-const fold = () => { menu.open = !narrow.matches; };
-narrow.addEventListener("change", fold);
-addEventListener("hashchange", fold);
-fold();
-
 function place() {
   const [page, ...rest] = words();
   return Object.hasOwn(SCREENS, page) ? [page, ...rest] : ["today"];
@@ -43,7 +35,6 @@ function place() {
 function around([page]) {
   drawAround({ site: say("site"), foot: say("foot"), current: `#${page}`,
     pages: [...MENU.filter((name) => !FOR_ROLE[name] || may(FOR_ROLE[name])).map((name) => [`#${name}`, say(`page.${name}`)]), ["/", say("frame.public")]] });
-  document.getElementById("menu-name").textContent = say("menu");
   if (page !== "key") {
     keepPlace(location.hash);
   }

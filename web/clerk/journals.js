@@ -7,7 +7,7 @@ import { moment } from "../common/money.js";
 import { officeNow } from "../common/office.js";
 import { say } from "../common/texts.js";
 import { fileOf, joined, readFile } from "./journal.js";
-import { FIRST } from "./many.js";
+import { FIRST } from "../common/many.js";
 import { journal, replaceJournal } from "./session.js";
 import { momentText, textOf } from "./values.js";
 

@@ -1,6 +1,6 @@
 // The letters for a lot that was awarded or has ended. The winner learns of the award, and every other
 // tenderer why it didn't win, or that the lot ended without a winner or was cancelled.
-import { cityFile, wordsOf } from "../common/city.js";
+import { cityFile, letterhead, remedyOf } from "../common/city.js";
 import { element, given, title } from "../common/draw.js";
 import { outcomeOf } from "../common/findings.js";
 import { field, note, printButton, sheet, signs, steps } from "../common/forms.js";
@@ -8,7 +8,7 @@ import { day, money, moment } from "../common/money.js";
 import { officeNow, registerText, securities } from "../common/office.js";
 import { say, sayParts } from "../common/texts.js";
 import { stagedOf } from "./load.js";
-import { backTo, letterhead } from "./printed.js";
+import { backTo } from "./printed.js";
 import { caller, who } from "./session.js";
 import { momentText } from "./values.js";
 
@@ -109,10 +109,9 @@ async function openLetter(notice, lot) {
 function letter(notice, lot, one, told, isLoser) {
   const { name, compiled, city } = notice;
   const sender = [compiled.buyer.name, who()].filter(Boolean).join(", ");
-  const [tag, remedy] = wordsOf(city.remedy);
   const subject = sayParts("letter.subject", { notice: name, title: given(compiled.tender.title), lot: lot.id, lottitle: given(lot.title) });
   const address = element("p", { class: "address" }, given(one.name), element("span", { class: "below" }, given(one.address)));
-  const objection = isLoser && remedy.length > 0 ? element("div", { lang: tag }, remedy.map((text) => element("p", {}, given(text)))) : "";
+  const objection = isLoser ? remedyOf(city) : "";
   return [letterhead(city), element("p", {}, sayParts("letter.from", { sender: given(sender) })), address, element("p", {}, day(momentText(officeNow()))),
     element("h2", {}, subject),
     [...told, one.tenderer ? secured(notice, lot, one) : ""].filter((part) => part !== "").map((part) => element("p", {}, part)),

@@ -1,18 +1,12 @@
 // The minutes of an opening, to print and sign. Letters (letters.js) share its parts.
-import { cityFile, wordsOf } from "../common/city.js";
+import { cityFile, letterhead } from "../common/city.js";
 import { bytesOf, inGroups, sha256 } from "../common/digest.js";
 import { below, element, given, link, placeOf, title } from "../common/draw.js";
+import { tendersOf } from "../common/findings.js";
 import { note, printButton, sheet, signs, steps, table } from "../common/forms.js";
 import { money, moment, number } from "../common/money.js";
-import { minutesText, record, tendersOf } from "../common/office.js";
+import { minutesText, record } from "../common/office.js";
 import { say } from "../common/texts.js";
-
-/** The lines of the city's letterhead, if its file has one. */
-export function letterhead(city) {
-  const [tag, lines] = wordsOf(city.letterhead);
-  return lines.length === 0 ? "" : element("p", { class: "letterhead", lang: tag },
-    lines.map((text, at) => element(at === 0 ? "b" : "span", { class: "line" }, given(text))));
-}
 
 export function backTo(name) {
   return element("p", { class: "noprint" }, link(say("back", { notice: name }), placeOf("notice", name)));

@@ -2,10 +2,10 @@
 import { bytesOfFile, inGroups } from "../common/digest.js";
 import { element, given, section, title } from "../common/draw.js";
 import { ID, areRight, drop, field, form, lineText, note } from "../common/forms.js";
+import { growingTable, searched } from "../common/many.js";
 import { tenderers } from "../common/office.js";
 import { say } from "../common/texts.js";
 import { ofRegistration } from "./fate.js";
-import { growingTable, searched } from "./many.js";
 import { forRole } from "./roles.js";
 import { jsonBody, sendThen } from "./send.js";
 import { caller } from "./session.js";

@@ -2,13 +2,13 @@
 // and the terms. Finished notices are left out, if the mirror knows them; the search finds them too.
 import { tables } from "../common/data.js";
 import { below, element, fresh, given, link, placeOf, title } from "../common/draw.js";
-import { entriesOf, noticeOf, plain } from "../common/filters.js";
-import { areRight, button, field, form, note, steps } from "../common/forms.js";
+import { entriesOf, finder, noticeOf } from "../common/filters.js";
+import { areRight, button, field, form, jumpTo, note, steps } from "../common/forms.js";
 import { notices, officeNow, sentenceOf } from "../common/office.js";
 import { stateBadge } from "../common/states.js";
 import { say } from "../common/texts.js";
 import { stageBadge, stageOfOpened, tasks } from "./load.js";
-import { growingTable } from "./many.js";
+import { growingTable } from "../common/many.js";
 import { GROUPS, groupOf, inOrder, stageOfEntry, stepOf } from "./stage.js";
 
 const OVER = ["complete", "unsuccessful", "cancelled"];
@@ -47,9 +47,10 @@ export async function drawToday(again) {
   const none = note("look", say(list.length === 0 ? "see.list.empty" : "task.none"));
   const place = element("div", {}, shown.length > 0 ? groups(shown, []) : none);
   const draw = (words) => {
-    const matching = (some) => some.filter((one) => words.every((word) => one.words.includes(word)));
-    const [some, rest] = words.length > 0 ? [matching(shown), matching(others)] : [shown, []];
-    place.replaceChildren(...(some.length + rest.length > 0 ? groups(some, rest) : [words.length > 0 ? element("p", {}, say("search.none")) : none]));
+    const isFound = finder(words);
+    const matching = (some) => some.filter((one) => isFound(one.words));
+    const [some, rest] = words ? [matching(shown), matching(others)] : [shown, []];
+    place.replaceChildren(...(some.length + rest.length > 0 ? groups(some, rest) : [words ? element("p", {}, say("search.none")) : none]));
     return [...some, ...rest];
   };
   return { title: say("page.today"), content: [title(say("page.today")), element("p", { class: "intro" }, say("today.intro")), list.length > 0
@@ -61,7 +62,7 @@ export async function drawToday(again) {
 function seeking(list, draw) {
   let matching = [];
   const asking = field(say("today.name"), { hint: say("today.name.hint"), kind: "search", maxlength: "200" });
-  asking.input.addEventListener("input", () => { matching = draw(plain(asking.value()).split(/\s+/).filter(Boolean)); });
+  asking.input.addEventListener("input", () => { matching = draw(asking.value()); });
   const made = form(say("today.open"), [asking.made], say("today.show"), () => {
     const found = noticeOf(list, asking.value()) ?? (matching.length === 1 ? matching[0].notice : null);
     if (areRight([[asking, found ? "" : say("refusal.NoSuch.notice")]])) {
@@ -90,9 +91,5 @@ function groupPart(name, entries) {
     entry.stage ? stageBadge(entry.stage) : stateBadge(entry.state), tasksOfEntry(entry, name)];
   const rows = growingTable("", [say("see.notice"), say("see.state"), say("today.next")], entries, rowOf, { kind: "figures tasks", first: ROWS });
   const folded = name === "waiting" ? element("details", {}, element("summary", {}, say("today.fold")), rows) : rows;
-  const jump = button(text, () => {
-    head.scrollIntoView();
-    head.focus({ preventScroll: true });
-  }, "second small");
-  return { jump, made: element("section", { "aria-labelledby": head.id }, head, element("p", { class: "quiet" }, say(`today.what.${name}`)), folded) };
+  return { jump: jumpTo(head, text), made: element("section", { "aria-labelledby": head.id }, head, element("p", { class: "quiet" }, say(`today.what.${name}`)), folded) };
 }

@@ -1,4 +1,5 @@
 // The city's own words from `city.json`: its name, letterhead, imprint and so on.
+import { element, given } from "./draw.js";
 import { file } from "./office.js";
 import { language } from "./texts.js";
 
@@ -20,4 +21,17 @@ export async function cityFile() {
 export function wordsOf(part) {
   const told = Object.entries(part ?? {}).filter(([, words]) => words.length > 0);
   return told.find(([tag]) => tag === language()) ?? told[0] ?? [language(), []];
+}
+
+/** The lines of the city's letterhead, if its file has one. */
+export function letterhead(city) {
+  const [tag, lines] = wordsOf(city.letterhead);
+  return lines.length === 0 ? "" : element("p", { class: "letterhead", lang: tag },
+    lines.map((text, at) => element(at === 0 ? "b" : "span", { class: "line" }, given(text))));
+}
+
+/** How one objects, if the city's file says so. */
+export function remedyOf(city) {
+  const [tag, lines] = wordsOf(city.remedy);
+  return lines.length === 0 ? "" : element("div", { lang: tag }, lines.map((text) => element("p", {}, given(text))));
 }

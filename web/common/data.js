@@ -3,7 +3,7 @@ import { recordsOf } from "./csv.js";
 import { file } from "./office.js";
 
 const FIGURES = new Set(["amount", "appropriation", "amendments", "changes", "contracted", "corrected", "corrections", "estimate", "free", "lots", "paid",
-  "performance", "points", "price", "price_weight", "quality", "releases", "reserved", "security", "standstill_days", "stated", "tenderers", "tenders",
+  "performance", "points", "price", "price_weight", "quality", "quantity", "releases", "reserved", "security", "standstill_days", "stated", "tenderers", "tenders",
   "validity_days", "worth"]);
 
 /** The value of a cell: a number, or null if the cell is empty. (The mirror puts an apostrophe before a text

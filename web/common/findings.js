@@ -160,3 +160,18 @@ export function lowestOf(shown) {
   const prices = [...(shown?.tenders.values() ?? [])].filter(({ standing }) => standing === "admissible").map(({ price }) => price);
   return prices.length === 0 ? null : Math.min(...prices);
 }
+
+/** The opened tenders in the minutes: lines of words separated by tabs, a `lot` followed by its tenders. */
+export function tendersOf(text) {
+  const tenders = [];
+  let lot = "";
+  for (const words of (text ?? "").split("\n").map((line) => line.split("\t"))) {
+    lot = words[0] === "lot" ? words[1] : lot;
+    if (words[0] === "tender") {
+      const [, receipt, tenderer, name, address, reading, stated, corrected, corrections] = words;
+      tenders.push({ lot, receipt: Number(receipt), tenderer, name, address, reading, stated: Number(stated), corrected: Number(corrected),
+        corrections: Number(corrections) });
+    }
+  }
+  return tenders;
+}

@@ -54,14 +54,22 @@ export function tick(text, changed, id = fresh("tick")) {
   return { made: element("label", { class: "tick", for: id }, input, element("span", {}, text)), input };
 }
 
-/** A button. It is off while its action runs. */
-export function button(text, act, kind = "") {
+/** A button. It is off while its action runs, and `going` is its text meanwhile. */
+export function button(text, act, kind = "", going = text) {
   const made = element("button", { type: "button", class: kind }, text);
   made.addEventListener("click", async () => {
-    made.disabled = true;
-    await Promise.resolve(act()).finally(() => { made.disabled = false; });
+    Object.assign(made, { disabled: true, textContent: going });
+    await Promise.resolve(act()).finally(() => Object.assign(made, { disabled: false, textContent: text }));
   });
   return made;
+}
+
+/** A button that leads to a heading of the same view. */
+export function jumpTo(head, text) {
+  return button(text, () => {
+    head.scrollIntoView();
+    head.focus({ preventScroll: true });
+  }, "second small");
 }
 
 export function steps(...content) {
@@ -126,12 +134,12 @@ export function table(caption, heads, rows, { figures = [], foot = null, kind = 
     element("tbody", { role: "rowgroup" }, rows.map(rowOf)), foot ? element("tfoot", { role: "rowgroup" }, rowOf(foot)) : null);
 }
 
-/** A list of entries, and a button that shows more of them. */
-export function growing(list, all, make, many) {
+/** A list of entries, of which so many are shown first, and a button that shows more of them. */
+export function growing(list, all, make, many, first = many) {
   const more = element("button", { type: "button", class: "more second" });
   let shown = 0;
   const grow = () => {
-    const next = all.slice(shown, shown + many).map(make);
+    const next = all.slice(shown, shown + (shown === 0 ? first : many)).map(make);
     list.append(...next);
     shown += next.length;
     more.hidden = shown >= all.length;

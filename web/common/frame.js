@@ -1,6 +1,6 @@
 // The frame of every page: the view that the address asks for, the parts around it, and printing.
 import { element, link, title } from "./draw.js";
-import { note } from "./forms.js";
+import { button, note, steps } from "./forms.js";
 import { sentenceOf } from "./office.js";
 import { chooseLanguage, language, languages, say } from "./texts.js";
 
@@ -31,7 +31,8 @@ export function drawAround({ site, foot, pages, current }) {
   byId("skip").textContent = say("frame.skip");
   byId("site").textContent = site;
   byId("foot").replaceChildren(foot, " ", link(say("frame.imprint"), "/#about"));
-  byId("pages").setAttribute("aria-label", say("frame.pages"));
+  byId("menu-name").textContent = say("frame.menu");
+  byId("pages").closest("nav").setAttribute("aria-label", say("frame.pages"));
   byId("pages").replaceChildren(...pages.map(([href, name]) => {
     const made = link(name, href);
     href === current && made.setAttribute("aria-current", "page");
@@ -53,15 +54,23 @@ export function words() {
   return location.hash.slice(1).split("/").map(decoded);
 }
 
-/** The view for something that couldn't be fetched. */
-export function refused(fault, back = null) {
+// On a phone the menu is folded, and folded again when somebody chose a page.
+const narrow = matchMedia("(max-width: 40rem)");
+const fold = () => { byId("menu").open = !narrow.matches; };
+narrow.addEventListener("change", fold);
+addEventListener("hashchange", fold);
+fold();
+
+/** The view for something that couldn't be fetched. If the office is away, a button tries again. */
+export function refused(fault, back = null, again = null) {
   const told = sentenceOf(fault);
-  return { title: say("frame.refused"), told, content: [title(say("frame.refused")), note("bad", told), back && element("p", {}, back)] };
+  return { title: say("frame.refused"), told, content: [title(say("frame.refused")), note("bad", told),
+    fault.isOpen && again ? steps(button(say("frame.again"), () => again())) : null, back && element("p", {}, back)] };
 }
 
 /** Shows the view of the address, and again when the address changes. `around(place)` draws what surrounds
- * it, and `view(place, redraw)` returns `{ title, content, told, isSheet }`: `told` is read out, and a sheet
- * is printed alone. `redraw(sentence, isWrong, focus)` draws the view again, if the address still asks for
+ * it, and `view(place, redraw)` returns `{ title, content, told, isSheet, part }`: `told` is read out, and a
+ * sheet is printed alone. `part` is the identifier of an element, if the address means a part of the view. `redraw(sentence, isWrong, focus)` draws the view again, if the address still asks for
  * it, and announces the sentence. The focus goes to the element with the identifier `focus`, else to the
  * heading. `back` makes the link for a view that couldn't be fetched. */
 export function showViews({ place, around, view, site, back = () => null }) {
@@ -77,14 +86,16 @@ export function showViews({ place, around, view, site, back = () => null }) {
     byId("status").className = "";
     main.setAttribute("aria-busy", "true");
     const redraw = (told = "", isBad = false, at = "h1") => (location.hash === hash ? show(false, told, isBad, at) : null);
-    const found = await Promise.resolve().then(() => view(where, redraw)).catch((fault) => refused(fault, back()));
+    const found = await Promise.resolve().then(() => view(where, redraw)).catch((fault) => refused(fault, back(), redraw));
     if (turn !== turns) {
       return;
     }
     put(found, sentence, isWrong);
     document.title = [found.title, site()].filter(Boolean).join(" – ");
-    if (focus || isMoved) {
-      (byId(focus) ?? main.querySelector("h1")).focus({ preventScroll: !isMoved });
+    const meant = isMoved || turn === 1 ? byId(found.part ?? "") : null;
+    meant?.scrollIntoView();
+    if (meant || focus || isMoved) {
+      (meant ?? byId(focus) ?? main.querySelector("h1")).focus({ preventScroll: meant !== null || !isMoved });
     }
   };
   byId("skip").addEventListener("click", (event) => {

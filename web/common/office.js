@@ -89,6 +89,16 @@ function pause(seconds) {
 const KEPT = 4100;
 let changed = 0;
 
+// The portal reads the mirror's files if the office is away (mirror.js). The desks show only what the office
+// has now.
+let substitute = async () => null;
+
+/** From now on `find` gives the answers to public queries while the office is away: a text for a path, or
+ * null. */
+export function standIn(find) {
+  substitute = find;
+}
+
 /** A query: repeated as long as nginx answers that queries come too fast. */
 export async function look(path, caller = null) {
   const left = changed + KEPT - Date.now();
@@ -99,6 +109,10 @@ export async function look(path, caller = null) {
     try {
       return await send(path, { caller });
     } catch (fault) {
+      const found = fault.isOpen && caller === null ? await substitute(path) : null;
+      if (found !== null) {
+        return found;
+      }
       if (fault.status !== 429 || turn === TRIES) {
         throw fault;
       }
@@ -122,11 +136,16 @@ function valueOf(text) {
 /** A command: sent once, and never repeated by this code. Returns the office's answer as text and as a value. */
 export async function command(path, caller, body = undefined) {
   try {
-    const text = await send(path, { method: "POST", caller, body });
-    return { text, value: valueOf(text) };
+    return await commandOf(path, caller, body);
   } finally {
     changed = Date.now();
   }
+}
+
+/** A command of a tenderer. Before an opening it changes no public answer, so no query waits for it. */
+async function commandOf(path, caller, body = undefined) {
+  const text = await send(path, { method: "POST", caller, body });
+  return { text, value: valueOf(text) };
 }
 
 /** An identifier as a part of a path. `.` and `..` are refused, because browsers treat them as folders. */
@@ -166,12 +185,12 @@ export function notices() {
 }
 
 /** The terms of a notice. */
-export function terms(notice) {
+export async function terms(notice) {
   return lookJson(`/notices/${part(notice)}/terms`);
 }
 
 /** The evaluation of a notice as the office wrote it, with all lots for the clerk; null before the opening. */
-export function evaluationText(notice, caller = null) {
+export async function evaluationText(notice, caller = null) {
   return ifOpened(`/notices/${part(notice)}/evaluation`, caller);
 }
 
@@ -194,7 +213,7 @@ export async function releases(notice) {
 }
 
 /** The minutes of an opening as the office wrote them; null before the opening. */
-export function minutesText(notice) {
+export async function minutesText(notice) {
   return ifOpened(`/notices/${part(notice)}/minutes`);
 }
 
@@ -209,23 +228,8 @@ async function ifOpened(path, caller = null) {
   }
 }
 
-/** The opened tenders in the minutes: lines of words separated by tabs, a `lot` followed by its tenders. */
-export function tendersOf(text) {
-  const tenders = [];
-  let lot = "";
-  for (const words of (text ?? "").split("\n").map((line) => line.split("\t"))) {
-    lot = words[0] === "lot" ? words[1] : lot;
-    if (words[0] === "tender") {
-      const [, receipt, tenderer, name, address, reading, stated, corrected, corrections] = words;
-      tenders.push({ lot, receipt: Number(receipt), tenderer, name, address, reading, stated: Number(stated), corrected: Number(corrected),
-        corrections: Number(corrections) });
-    }
-  }
-  return tenders;
-}
-
 /** A budget line. For the clerk it is that of now, else it may be some seconds old. */
-export function line(name, caller = null) {
+export async function line(name, caller = null) {
   return lookJson(`/lines/${part(name)}`, caller);
 }
 
@@ -242,7 +246,7 @@ export async function ledger(caller = null) {
 // Queries for the parties concerned.
 
 /** The caller's tender with a receipt. */
-export function tender(receipt, caller) {
+export async function tender(receipt, caller) {
   return lookJson(`/tenders/${Number(receipt)}`, caller);
 }
 
@@ -252,22 +256,22 @@ export async function ownTenders(notice, caller) {
 }
 
 /** A contract, with its payments and changes. */
-export function contract(number, caller) {
+export async function contract(number, caller) {
   return lookJson(`/contracts/${Number(number)}`, caller);
 }
 
 /** A tender's security. */
-export function security(number, caller) {
+export async function security(number, caller) {
   return lookJson(`/securities/${Number(number)}`, caller);
 }
 
 /** The performance security of a contract. */
-export function performance(contract, caller) {
+export async function performance(contract, caller) {
   return lookJson(`/contracts/${Number(contract)}/security`, caller);
 }
 
 /** The register of a notice, as the office wrote it. */
-export function registerText(notice, caller) {
+export async function registerText(notice, caller) {
   return look(`/notices/${part(notice)}/register`, caller);
 }
 
@@ -284,16 +288,16 @@ export function tenderers(caller) {
 // Commands of a tenderer.
 
 /** Submits a tender's bytes for a lot. A security is `{ security, amount }`, or null. */
-export function present(notice, lot, bytes, named, caller) {
+export async function present(notice, lot, bytes, named, caller) {
   const query = named ? `?${new URLSearchParams({ security: named.security, amount: String(named.amount) })}` : "";
-  return command(`/notices/${part(notice)}/lots/${part(lot)}/tenders${query}`, caller, bytes);
+  return commandOf(`/notices/${part(notice)}/lots/${part(lot)}/tenders${query}`, caller, bytes);
 }
 
 /** Replaces the bytes of a sealed tender. */
 export function modify(receipt, bytes, caller) {
-  return command(`/tenders/${Number(receipt)}/modify`, caller, bytes);
+  return commandOf(`/tenders/${Number(receipt)}/modify`, caller, bytes);
 }
 
 export function withdraw(receipt, caller) {
-  return command(`/tenders/${Number(receipt)}/withdraw`, caller);
+  return commandOf(`/tenders/${Number(receipt)}/withdraw`, caller);
 }

@@ -2,7 +2,7 @@
 import { against, contractPart } from "./contract.js";
 import { badge, below, element, facts, given, link, listed, placeOf, section, title } from "./draw.js";
 import { addedTo, awardsOf, contractOf, kindOfSigned, paidOf, passedOver, stateOf, stateOfLot } from "./findings.js";
-import { table } from "./forms.js";
+import { note, table } from "./forms.js";
 import { clock, money, moment, number } from "./money.js";
 import { officeNow } from "./office.js";
 import { seenOf } from "./seen.js";
@@ -54,6 +54,7 @@ function lotPart(notice, lot, folds) {
   const content = [
     facts([[say("see.estimate"), money(lot.value.amount, currency)], [say("see.line"), line], [say("see.security.asked"), asked(own.security, currency)]]),
     items(notice, lot), listed(4, say("see.awards", { count: made.length }), made.map((award) => awardPart(notice, lot, award)), { class: "awards" }),
+    notice.linked ? element("p", { class: "quiet" }, link(say("see.lot.address"), placeOf("notice", notice.name, lot.id))) : null,
     notice.firstOfLot?.(lot), element("h4", {}, say("see.tenders")), tenderPart(notice, lot), notice.ofLot?.(lot),
     contracts.map(([one, award]) => contractPart(one, award, lot, notice, notice.ofContract?.(one)))];
   return element("article", { id: `lot-${lot.id}`, tabindex: "-1", class: "card", "aria-label": say("see.lot", { lot: lot.id }) },
@@ -120,11 +121,24 @@ export function drawProcess(notice) {
   return drawn;
 }
 
-/** The public view of a notice. */
-export async function drawNotice(name) {
+/** The lot that an address means, in whatever case; undefined if there is none. */
+function lotOf({ tender: { lots } }, asked) {
+  const same = lots.filter(({ id }) => id.toLowerCase() === asked.toLowerCase());
+  return lots.find(({ id }) => id === asked) ?? (same.length === 1 ? same[0] : undefined);
+}
+
+/** The public view of a notice, and of one of its lots if the address names it. */
+export async function drawNotice(name, ...rest) {
   const notice = await seenOf(name);
   const { compiled } = notice;
+  const asked = rest.join("/");
+  const lot = lotOf(compiled, asked);
   const [, state] = stateOf(compiled, officeNow());
   const offer = state === "open" ? element("p", {}, link(say("see.offer"), `/tender/#offer/${name}`, "button")) : null;
-  return { title: compiled.tender.title, told: say(`see.is.${state}`), content: drawProcess({ ...notice, linked: true, above: offer }) };
+  const above = [asked && !lot ? note("bad", say("refusal.NoSuch.lot")) : null, offer];
+  if (lot) {
+    unfolded.add(`${name}/${lot.id}`);
+  }
+  return { title: compiled.tender.title, told: say(`see.is.${state}`), content: drawProcess({ ...notice, linked: true, above }),
+    part: lot && `lot-${lot.id}` };
 }

@@ -1,6 +1,6 @@
 // All that there is to see of a procurement, asked of the office.
-import { evaluationOf } from "./findings.js";
-import { evaluationText, minutesText, record, releases, tendersOf, terms } from "./office.js";
+import { evaluationOf, tendersOf } from "./findings.js";
+import { evaluationText, minutesText, record, releases, terms } from "./office.js";
 
 /** The parts of a notice to show. If nothing was opened, its tenders and its evaluation are null. The clerk
  * sees all of them. */

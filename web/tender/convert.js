@@ -21,6 +21,8 @@ const WORDS = {
 const SILENT = ["title", "titel", "description", "name", "text", "bezeichnung", "beschreibung", "leistung", "artikelbezeichnung", "me", "mengeneinheit",
   "einheit", "uom", "unit of measure"];
 const SUMS = ["total", "sum", "grand total", "summe", "gesamt", "gesamtsumme", "endsumme"];
+// The words that name a net or gross sum, a tax or a discount.
+const TAXES = /^((net(to)?|gross|brutto|zwischen)[ -]?(sum|summe|total|betrag|preis)?|sub-?total|vat|tax|mwst|ust|mehrwertsteuer|umsatzsteuer|zzgl|inkl|discount|rabatt|nachlass|skonto)(?![\p{L}])/u;
 
 function fault(line, name, values = {}) {
   return { line, name, values };
@@ -60,8 +62,14 @@ function textIn(bytes) {
 function columnsOf(fields) {
   const words = fields.map(plain);
   const found = Object.fromEntries(HEAD.map((name) => [name, words.findIndex((word) => WORDS[name].includes(word))]));
-  const isOnce = HEAD.every((name) => words.filter((word) => WORDS[name].includes(word)).length <= 1);
-  return isOnce && found.item >= 0 && found.unit >= 0 ? found : null;
+  return found.item >= 0 && found.unit >= 0 ? found : null;
+}
+
+/** The faults of a header in which two columns could be the same one of the four. */
+function twice({ line, fields }) {
+  const own = (name) => fields.filter((field) => WORDS[name].includes(plain(field))).map((field) => cut(field.trim()));
+  return HEAD.map((figure) => [figure, own(figure)]).filter(([, names]) => names.length > 1)
+    .map(([figure, names]) => fault(line, figure === "unit" ? "twoUnits" : "twoColumns", { names: names.join(", ") }));
 }
 
 /** The records, split by the separator with which a header is found, or else the items' rows. */
@@ -90,6 +98,10 @@ function tableIn(found) {
     return { columns: { item: 0, quantity: 1, unit: 2, total: 3 }, body: records.slice(isHeadless ? 0 : 1), changes, width: HEAD.length };
   }
   const head = records[at];
+  const doubled = twice(head);
+  if (doubled.length > 0) {
+    return { faults: doubled };
+  }
   const columns = columnsOf(head.fields);
   const above = records.slice(0, at).filter(({ fields }) => !isBlank(fields));
   changes.push(...above.map(({ line, fields }) => fault(line, "above", { found: cut(fields.join(separator)) })));
@@ -126,29 +138,44 @@ function itemOf(name, items) {
   return named(name) ?? named(bare) ?? (meant.length === 1 ? meant[0] : null);
 }
 
+/** Why a row is none of an item, and what to do with it. */
+function noItem(line, name, fields, items) {
+  const tax = [name, ...(name === "" ? fields : [])].map((field) => field.trim()).find((field) => TAXES.test(plain(field)));
+  const ids = items.map(({ id }) => id).join(", ");
+  return tax ? fault(line, "tax", { found: cut(tax) }) : name === "" ? fault(line, "nameless", { ids }) : fault(line, "unknown", { found: cut(name), ids });
+}
+
+/** For each figure a test for the only reading that agrees with certain ones: the notice's quantity, the total
+ * as a product with the unit price, the product itself. */
+function readingsOf(fields, columns, { quantity }, currency) {
+  const total = figureOf(fields[columns.total] ?? "", currency);
+  return { quantity: (value) => value === quantity, unit: (value) => value * quantity === total.value, total: (value, right) => value === right };
+}
+
 /** An item's row: its item, its unit price, the changes and the faults. */
 function rowOf({ line, fields }, table, items, currency) {
   const { columns, named } = table;
   const name = (fields[columns.item] ?? "").trim();
   const item = itemOf(name, items);
   const known = new Set([...Object.values(columns), ...(named ?? [])]);
+  if (!item) {
+    return { changes: [], faults: [noItem(line, name, fields, items)] };
+  }
   if (fields.some((field, place) => !known.has(place) && field.trim() !== "")) {
     return { changes: [], faults: [fault(line, "moreFields", { count: fields.length })] };
   }
-  if (!item) {
-    return { changes: [], faults: [fault(line, "unknown", { found: cut(name), ids: items.map(({ id }) => id).join(", ") })] };
-  }
   const changes = item.id === (fields[columns.item] ?? "") ? [] : [fault(line, "name", { found: cut(fields[columns.item]), id: item.id })];
   const faults = [];
+  const isRight = readingsOf(fields, columns, item, currency);
   const read = (figure, otherwise) => {
     const field = fields[columns[figure]] ?? "";
-    const got = figureOf(field, currency);
+    const got = figureOf(field, currency, (value) => isRight[figure](value, otherwise));
     if (got.why && otherwise !== undefined && ["empty", "formula"].includes(got.why)) {
       changes.push(fault(line, "filled", { figure, item: item.id, field: cut(field), value: otherwise }));
       return otherwise;
     }
     if (got.why) {
-      faults.push(fault(line, "figure", { figure, item: item.id, field: cut(field), why: got.why }));
+      faults.push(fault(line, figure === "unit" && got.why === "part" ? "cents" : "figure", { figure, item: item.id, field: cut(field), why: got.why }));
       return null;
     }
     if (got.changed) {

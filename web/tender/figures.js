@@ -23,10 +23,11 @@ function whole(digits) {
   return bare.length > MOST_DIGITS ? { why: "great" } : { value: Number(bare) };
 }
 
-/** Digits before and after a point or comma: only whole units, and no cents. */
+/** Digits before and after a point or comma: only whole units, and no cents. If the sign can also separate
+ * groups, `grouped` is the number with such groups; the other reading isn't a whole number. */
 function parted(front, behind, isSure) {
   if (!isSure && behind.length === 3 && /^[1-9]\d{0,2}$/.test(front)) {
-    return { why: "ambiguous" };
+    return { why: "ambiguous", grouped: Number(front + behind) };
   }
   return /^0+$/.test(behind) ? whole(front) : { why: "part" };
 }
@@ -47,8 +48,12 @@ function read(text) {
 }
 
 /** The whole number in a field, and whether the field had to be changed; or `why` it isn't one, as the name
- * of a text (`number.NAME`, `number.ambiguous`). */
-export function figureOf(field, currency = "") {
+ * of a text (`number.NAME`, `number.ambiguous`). `isRight` returns whether only this reading agrees with other
+ * figures. Then a figure with two readings is no guess. */
+export function figureOf(field, currency = "", isRight = () => false) {
   const got = read(bareOf(field, currency));
+  if (got.why === "ambiguous" && isRight(got.grouped)) {
+    return { value: got.grouped, changed: true };
+  }
   return got.why ? got : { ...got, changed: !/^\d{1,16}$/.test(field) };
 }

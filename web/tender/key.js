@@ -33,6 +33,7 @@ async function take(file, { redraw }) {
 
 /** Whether the office knows the key: every answer except `BadKey` shows that. */
 async function ask(where) {
+  where.replaceChildren(note("look", say("key.asking")));
   try {
     await tender(1, session.caller);
   } catch (fault) {
@@ -52,7 +53,7 @@ function ofKey(context) {
   const answer = element("div", { "aria-live": "polite" });
   return [note("good", say("key.there", { name: session.caller.caller }), say("key.there.why")),
     session.registration.isSaved ? element("p", { class: "right" }, say("key.saved")) : null, answer,
-    steps(button(say("key.ask"), () => ask(answer)), button(say("key.away"), () => { putAway(); context.redraw(say("key.away.done")); }, "second"))];
+    steps(button(say("key.ask"), () => ask(answer), "", say("key.asking")), button(say("key.away"), () => { putAway(); context.redraw(say("key.away.done")); }, "second"))];
 }
 
 async function make(fields, context) {

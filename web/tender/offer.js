@@ -1,17 +1,14 @@
-// A new tender: the open notices, a notice's terms and lots, and the prices of a lot, typed or from a file.
+// A new tender: a notice's terms and lots, and the prices of a lot, typed or from a file.
 import { isId } from "../common/csv.js";
 import { badge, element, facts, given, link, placeOf, section, title } from "../common/draw.js";
-import { noticeOf as meant } from "../common/filters.js";
-import { DIGITS, ID, areRight, button, field, form, growing, note, save, steps } from "../common/forms.js";
+import { DIGITS, ID, button, field, note, save, steps } from "../common/forms.js";
 import { clock, money, moment, number, typed } from "../common/money.js";
-import { notices, officeNow } from "../common/office.js";
+import { officeNow } from "../common/office.js";
 import { asked, termList } from "../common/terms.js";
 import { say } from "../common/texts.js";
 import { MOST_PRICE } from "./papers.js";
 import { beginOffer, keptOf, noticeOf, readyOf, session } from "./session.js";
 import { drawTable } from "./table.js";
-
-const AT_ONCE = 50;
 
 /** The deadline, with a clock. */
 export function deadlineOf({ deadline }) {
@@ -24,18 +21,9 @@ function termsOf(one) {
     element("details", {}, element("summary", {}, say("see.terms")), termList(one, one.currency))];
 }
 
-function isTaking({ state, deadline }) {
+/** Whether a notice is open for tenders. */
+export function isTaking({ state, deadline }) {
   return state === "receiving" && Date.parse(deadline) >= officeNow();
-}
-
-/** A field for a notice number, in whatever case, from this list or any other. */
-function ask(list = []) {
-  const notice = field(say("offer.number"), { id: "offer-notice", hint: say("offer.number.hint"), ...ID });
-  return form(say("offer.number"), [notice.made], say("offer.show"), () => {
-    if (areRight([[notice, isId(notice.value()) ? "" : say("kind.id")]])) {
-      location.hash = placeOf("offer", meant(list, notice.value()) ?? notice.value());
-    }
-  });
 }
 
 function lotCard(one, lot) {
@@ -128,7 +116,7 @@ async function drawLot(notice, name, { redraw }) {
   const one = await noticeOf(notice);
   const lot = one.lots.find(({ id }) => id === name);
   if (!lot) {
-    return { title: say("offer.title"), content: [title(say("offer.title")), note("bad", say("refusal.NoSuch.lot")), ask()] };
+    return { title: say("offer.title"), content: [title(say("offer.title")), note("bad", say("refusal.NoSuch.lot")), element("p", {}, link(given(one.title), placeOf("offer", notice)))] };
   }
   const changes = session.changing?.notice === notice && session.changing.lot === name ? session.changing.receipt : null;
   const offer = beginOffer(one, lot, changes);
@@ -146,20 +134,8 @@ async function drawLot(notice, name, { redraw }) {
     element("h2", {}, say("offer.prices")), sources(offer, redraw), prices, changes === null ? securityFields(offer) : null, steps(go, keep)] };
 }
 
-function entry(one) {
-  return element("li", { class: "card" }, element("h2", {}, link(given(one.title), placeOf("offer", one.notice))),
-    element("p", {}, one.notice, " · ", clock(one.deadline)), element("p", { class: "quiet" }, say("see.deadline"), " ", moment(one.deadline)));
-}
-
-/** The notices that are open for tenders, the nearest deadline first. */
-async function drawOpen() {
-  const all = await notices();
-  const open = all.filter(isTaking).sort((one, other) => (one.deadline < other.deadline ? -1 : 1));
-  return { title: say("offer.title"), content: [title(say("offer.title")), element("p", {}, say("offer.why", { count: open.length })),
-    growing(element("ul", { class: "lines" }), open, entry, AT_ONCE), ask(all)] };
-}
-
-/** The view at `#offer`, `#offer/NOTICE` and `#offer/NOTICE/LOT`. */
-export function drawOffer(context, notice, lot) {
-  return notice && lot ? drawLot(notice, lot, context) : notice ? drawNotice(notice) : drawOpen();
+/** The view at `#offer`, `#offer/NOTICE` and `#offer/NOTICE/LOT`. The list of open notices is loaded on
+ * demand. */
+export async function drawOffer(context, notice, lot) {
+  return notice && lot ? drawLot(notice, lot, context) : notice ? drawNotice(notice) : (await import("./open.js")).drawOpen();
 }

@@ -1,8 +1,10 @@
 // Receipts: compared with the digest that this tab computed, printed and saved; and whether a file and a
 // receipt belong together.
+import { cityFile, letterhead, remedyOf } from "../common/city.js";
+import { rows } from "../common/data.js";
 import { bytesOfFile, inGroups, sha256 } from "../common/digest.js";
-import { element, facts, given, link, placeOf, title } from "../common/draw.js";
-import { button, drop, note, printButton, save, sheet, steps } from "../common/forms.js";
+import { below, element, facts, given, link, placeOf, title } from "../common/draw.js";
+import { button, drop, field, note, printButton, save, sheet, steps } from "../common/forms.js";
 import { sourceOf } from "../common/frame.js";
 import { money, moment } from "../common/money.js";
 import { sentenceOf, tender } from "../common/office.js";
@@ -17,12 +19,13 @@ function securityOf(number, { named, currency }) {
     : [named ? [given(named.security), `, ${money(named.amount, currency)}`, element("br")] : null, say("receipt.security", { number: String(number) })];
 }
 
-/** The facts of a receipt. `known` has what else is known: the security (`named`, in a `currency`) and `more`
- * facts. */
+/** The facts of a receipt. `known` has what else is known: the security (`named`, in a `currency`), elements
+ * that name the `firm`, the notice (`titled`) and the lot (`lotTitle`), and `more` facts. */
 export function factsOf(receipt, known = {}) {
   const { tenderer, notice, lot, state, security } = receipt;
-  return facts([[say("receipt.number"), String(receipt.receipt)], tenderer ? [say("see.tenderer"), given(String(tenderer))] : null,
-    notice ? [say("see.notice"), given(String(notice))] : null, lot ? [say("see.lot.short"), given(String(lot))] : null,
+  const named = (id, text) => (text ? [text, below(given(String(id)))] : given(String(id)));
+  return facts([[say("receipt.number"), String(receipt.receipt)], tenderer ? [say("see.tenderer"), named(tenderer, known.firm)] : null,
+    notice ? [say("see.notice"), named(notice, known.titled)] : null, lot ? [say("see.lot.short"), named(lot, known.lotTitle && given(known.lotTitle))] : null,
     [say("receipt.moment"), moment(String(receipt.moment))], [say("see.state"), hasText(`state.${state}`) ? say(`state.${state}`) : String(state)],
     [say("see.security"), securityOf(security, known)], ...(known.more ?? [])].filter(Boolean));
 }
@@ -42,13 +45,41 @@ function fileOf(receipt) {
   return `${JSON.stringify(all)}\n`;
 }
 
+/** The name of this tab's firm: typed when its key was made here, or for the sheet, or that of its opened
+ * tenders. */
+async function nameOfFirm() {
+  const { caller, registration, firm } = session;
+  const opened = async () => (await rows("tenders").catch(() => null))?.findLast(({ tenderer }) => tenderer === caller?.caller)?.name;
+  return firm ?? (registration.tenderer === caller?.caller ? registration.name : await opened() ?? "");
+}
+
+/** The sheet of a receipt, with a letterhead, and a field above it for the firm's name, which no key file
+ * has. */
+async function sheetOf(sent, known) {
+  const { receipt, terms } = sent;
+  const [city, name] = await Promise.all([cityFile(), nameOfFirm()]);
+  const firm = element("bdi", {}, name);
+  const typed = field(say("receipt.firm"), { id: "receipt-firm", hint: say("receipt.firm.hint"), value: name, maxlength: "200", autocapitalize: "words" });
+  typed.input.addEventListener("input", () => {
+    session.firm = typed.value();
+    firm.textContent = session.firm;
+  });
+  const head = element("h2", {}, say("receipt.sheet"));
+  const remedy = remedyOf(city);
+  return [typed.made, sheet(letterhead(city), head, element("p", {}, element("b", {}, say("receipt.secret"))),
+    factsOf({ ...receipt, tenderer: session.caller?.caller }, { ...known, firm, titled: given(terms.title), lotTitle: sent.lotTitle }),
+    element("p", {}, say("receipt.digest")), element("p", { class: "code" }, inGroups(receipt.digest)),
+    element("p", { class: "quiet" }, say("receipt.guess")), remedy ? [element("h3", {}, say("receipt.remedy")), remedy] : null,
+    element("p", { class: "quiet" }, sourceOf()))];
+}
+
 /** The view after a submission. */
-export function drawReceipt(sent) {
+export async function drawReceipt(sent) {
   const { receipt } = sent;
   const isLate = receipt.state === "returned";
   const isSame = sent.digest === receipt.digest;
   const old = sent.replaces === null ? null : String(sent.replaces);
-  const more = [[say("see.price"), money(sent.price, sent.currency)], old && [say("send.replaces"), old]];
+  const more = [[say("see.buyer"), given(sent.terms.buyer)], [say("see.price"), money(sent.price, sent.currency)], old && [say("send.replaces"), old]];
   const nameOf = `${receipt.notice}-${receipt.lot}-receipt-${receipt.receipt}.csv`;
   const head = say("receipt.title", { receipt: String(receipt.receipt) });
   const keep = button(say("receipt.save"), () => {
@@ -60,9 +91,7 @@ export function drawReceipt(sent) {
       : note(isSame ? "good" : "look", say("receipt.sealed"), old && say("receipt.replaced", { receipt: old }),
         isSame ? say("receipt.sealed.what") : null),
     compared(sent.digest, receipt.digest),
-    sheet(element("h2", {}, say("receipt.sheet")), factsOf({ ...receipt, tenderer: session.caller?.caller }, { ...sent, more }),
-      element("p", {}, say("receipt.digest")), element("p", { class: "code" }, inGroups(receipt.digest)),
-      element("p", { class: "quiet" }, say("receipt.secret")), element("p", { class: "quiet" }, sourceOf())),
+    await sheetOf(sent, { ...sent, more }),
     steps(keep, button(say("receipt.saveFile"), () => save(nameOf, sent.bytes, "text/csv")), printButton(),
       sent.lots > 1 ? link(say("receipt.lots"), placeOf("offer", receipt.notice), "button second") : null,
       link(say("tenders.title"), "#tenders", "button second"))] };
@@ -82,6 +111,7 @@ const chosen = { file: null, receipt: null };
 
 /** Asks the office for the tender of the receipt; only its owner may. */
 async function askOffice(where) {
+  where.replaceChildren();
   try {
     const found = await tender(chosen.receipt.value.receipt, session.caller);
     const isSame = found.digest === chosen.receipt.value.digest && found.moment === chosen.receipt.value.moment;
@@ -115,6 +145,6 @@ export function drawCheck({ redraw }) {
   return { title: say("check.title"), content: [title(say("check.title")), element("p", {}, say("check.why")),
     drop(say("check.file.drop"), say("check.file.hint"), takeFile, { id: "check-file" }),
     drop(say("check.receipt.drop"), say("check.receipt.hint"), takeReceipt, { id: "check-receipt" }), outcome(chosen),
-    !chosen.receipt?.value ? null : session.caller ? steps(button(say("check.ask"), () => askOffice(where)))
+    !chosen.receipt?.value ? null : session.caller ? steps(button(say("check.ask"), () => askOffice(where), "", say("frame.asking")))
       : element("p", { class: "quiet" }, say("check.ask.key")), where] };
 }

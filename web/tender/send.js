@@ -56,7 +56,7 @@ async function send(offer, ready, digest) {
   const units = Object.fromEntries(ready.reading.rows.map(({ name, unit }) => [name, String(unit)]));
   const named = offer.changes === null ? securityOf(offer) : keptOf(offer.changes).named;
   const sent = { kind: offer.changes === null ? "present" : "modify", notice, lot: offer.lot.id, receipt: offer.changes, replaces: offer.changes, digest,
-    currency, price: ready.reading.price, length: ready.bytes.length, bytes: ready.bytes, known: offer.known, units, named, lots: offer.terms.lots.length };
+    terms: offer.terms, lotTitle: offer.lot.title, currency, price: ready.reading.price, length: ready.bytes.length, bytes: ready.bytes, known: offer.known, units, named, lots: offer.terms.lots.length };
   session.sent = { ...sent, isOpen: true, isGoing: true };
   try {
     const { value, text } = sent.kind === "present" ? await present(notice, sent.lot, ready.bytes, securityOf(offer), session.caller)
@@ -109,7 +109,7 @@ async function settle(sent, where, redraw) {
     const { kind, tender: found } = await becameOf(sent, session.caller);
     if (kind === "done") {
       await taken(sent, found, JSON.stringify(found));
-      redraw(say("became.done"));
+      await redraw(say("became.done"));
     } else {
       where.replaceChildren(note("look", say(`became.${kind}`), say(`became.${kind}.what`)), again);
     }
@@ -127,7 +127,7 @@ export function openPart(fault, ask) {
  * safe to submit the same again. */
 function sentPart(sent, redraw) {
   if (sent.isGoing || !sent.isOpen) {
-    return sent.isGoing ? note("look", say("send.going")) : refusedPart(sent.fault, "help");
+    return [sent.isGoing ? note("look", say("send.going"), say("send.going.what")) : refusedPart(sent.fault, "help")];
   }
   const where = element("div", {});
   const [told, asks] = openPart(sent.fault, () => settle(sent, where, redraw));
@@ -136,8 +136,8 @@ function sentPart(sent, redraw) {
 }
 
 /** The button that submits. A tender is in time in the second of the deadline, a change only before it. A
- * late tender needs a tick. */
-function sendButton(offer, ready, digest, redraw) {
+ * late tender needs a tick. `where` has what was said of an earlier try, until it is pressed. */
+function sendButton(offer, ready, digest, where, redraw) {
   const isChange = offer.changes !== null;
   const isPast = () => Date.parse(offer.terms.deadline) < officeNow() + (isChange ? 1 : 0);
   const isLate = isPast();
@@ -147,12 +147,13 @@ function sendButton(offer, ready, digest, redraw) {
   const press = button(isChange ? say("send.change", { receipt: String(offer.changes) }) : say("send.send"), async () => {
     if (!isLate && isPast()) {
       // The deadline passed while the view was shown.
-      redraw();
+      await redraw();
       return;
     }
+    where.replaceChildren(note("look", say("send.going"), say("send.going.what")));
     await send(offer, ready, digest);
-    redraw(session.sent.isOpen || session.sent.fault ? "" : say("send.sent"), Boolean(session.sent.fault));
-  });
+    await redraw(session.sent.isOpen || session.sent.fault ? "" : say("send.sent"), Boolean(session.sent.fault));
+  }, "", say("send.going"));
   press.disabled = isLate;
   const sure = isLate ? tick(say("send.late.tick"), (isTicked) => { press.disabled = !isTicked; }, "send-late") : null;
   return [isLate ? note("bad", say("send.late"), sure.made) : null, steps(press, link(say("send.back"), placeOfLot(offer), "button second"))];
@@ -184,9 +185,10 @@ async function drawBefore(offer, { redraw }) {
     offer.changes === null ? [say("see.security"), named ? `${named.security}, ${money(named.amount, offer.terms.currency)}` : say("send.noSecurity")]
       : [say("send.replaces"), String(offer.changes)]]);
   const hindered = hindrances(offer, ready);
-  return { title: say("send.title"), content: [title(say("send.title")), isOf ? sentPart(sent, redraw) : null, what,
+  const where = element("div", { "aria-live": "polite" }, isOf ? sentPart(sent, redraw) : null);
+  return { title: say("send.title"), content: [title(say("send.title")), where, what,
     ready ? readingTable(ready.reading, offer) : null, ready ? bytesPart(ready.bytes, digest) : null,
-    hindered.length > 0 ? hindered : isOf && sent.isGoing ? null : sendButton(offer, ready, digest, redraw)] };
+    hindered.length > 0 ? hindered : isOf && sent.isGoing ? null : sendButton(offer, ready, digest, where, redraw)] };
 }
 
 /** The view at `#send`: before the submission, or the receipt after it. */

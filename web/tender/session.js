@@ -8,19 +8,21 @@ export const session = {
   caller: null,
   // The registration that was typed, and the digest of the key that was made for it.
   registration: { tenderer: "", name: "", address: "", digest: "" },
+  // The firm's name as it was typed for a receipt's sheet.
+  firm: undefined,
   offer: null,
   // The last request, with or without an answer: { kind, notice, lot, receipt, digest, answer }.
   sent: null,
-  // The caller's tenders that were found, and the notices that were searched.
+  // The caller's tenders that were found, and when each notice was searched for them.
   tenders: [],
-  seen: new Set(),
+  seen: new Map(),
   // By receipt: the unit prices that this tab submitted, and the security.
   kept: new Map(),
 };
 
 /** Forgets the key, and everything that was learned with it. */
 export function putAway() {
-  Object.assign(session, { caller: null, offer: null, sent: null, changing: null, tenders: [] });
+  Object.assign(session, { caller: null, offer: null, sent: null, changing: null, firm: undefined, tenders: [] });
   session.seen.clear();
   session.kept.clear();
 }

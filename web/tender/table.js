@@ -20,7 +20,8 @@ function rowOf(offer, item, at, changed) {
   const tell = ({ value, fault }) => {
     const isTold = fault && !(fault === "empty");
     product.textContent = value === undefined ? "–" : number(BigInt(value) * BigInt(item.quantity));
-    wrong.textContent = isTold ? say(`typed.${fault}`) + (fault === "above" ? ` ${say("table.most", { most: MOST_UNIT })}` : "") : "";
+    const more = { above: () => ` ${say("table.most", { most: MOST_UNIT })}`, point: () => ` ${say("table.cents")}` }[fault];
+    wrong.textContent = isTold ? say(`typed.${fault}`) + (more?.() ?? "") : "";
     input.setAttribute("aria-invalid", String(Boolean(isTold)));
   };
   return { tell, cells: [given(item.id), given(item.title), number(item.quantity), [input, wrong], product] };

@@ -1,18 +1,21 @@
-// The caller's tenders, searched notice by notice, each with its state and security; change and withdrawal.
+// The caller's tenders, each with its state and security; change and withdrawal.
+import { tables } from "../common/data.js";
 import { inGroups } from "../common/digest.js";
 import { badge, below, element, facts, given, link, placeOf, section, title } from "../common/draw.js";
-import { button, note, steps, table, tick } from "../common/forms.js";
+import { DIGITS, areRight, button, field, form, note, steps, tick } from "../common/forms.js";
+import { growingTable } from "../common/many.js";
 import { clock, money, moment } from "../common/money.js";
-import { Refused, notices, officeNow, ownTenders, security, sentenceOf, tender, withdraw } from "../common/office.js";
+import { Refused, notices, officeNow, security, sentenceOf, tender, withdraw } from "../common/office.js";
 import { hasText, say } from "../common/texts.js";
 import { factsOf } from "./receipt.js";
 import { drawResults } from "./results.js";
+import { found, left, lookFirst, lookOn, planOf } from "./search.js";
 import { becameOf, openPart, refusedPart } from "./send.js";
 import { keep, keptOf, noticeOf, session } from "./session.js";
 
 const KINDS = { sealed: "open", opened: "ended", withdrawn: "stopped", returned: "stopped" };
-// How many notices are searched at first, and how many at a time.
-const AT_FIRST = 30, TOGETHER = 6;
+// So many tenders are shown at first.
+const ROWS = 10;
 
 /** The receipt of the tender that replaced this one, if it is known: this tab submitted it, or it took over
  * the security. */
@@ -28,60 +31,81 @@ function stateBadge(one) {
     : badge(KINDS[state] ?? "running", hasText(`state.${state}`) ? say(`state.${state}`) : state);
 }
 
-function list() {
-  if (session.tenders.length === 0) {
-    return element("p", {}, say("tenders.none"));
+/** The deadline, with a clock while a tender is sealed; and when it came, which the tables don't know. */
+function whenOf({ state, moment: came, deadline }) {
+  return [state === "sealed" ? clock(deadline) : null, below(moment(deadline)),
+    came === null ? null : below(say("receipt.moment"), " ", moment(came))];
+}
+
+function rowOf({ receipt, state, deadline, ...one }) {
+  const isOpen = state === "sealed" && Date.parse(deadline) > officeNow();
+  return [String(receipt), [given(one.title), below(given(one.notice), ", ", say("see.lot", { lot: one.lot }))], whenOf({ ...one, state, deadline }),
+    stateBadge({ ...one, receipt, state }),
+    link(say(isOpen ? "tenders.do.change" : "tenders.do.look", { receipt: String(receipt) }), placeOf("tender", String(receipt)))];
+}
+
+/** The tenders that are known so far. */
+function listOf(all, isWhole) {
+  if (all.length === 0) {
+    return [element("p", {}, say(isWhole ? "tenders.none" : "tenders.none.yet"))];
   }
-  const heads = ["receipt.number", "tenders.what", "receipt.moment", "see.state", "tenders.do"].map((name) => say(name));
-  return table(say("tenders.caption", { count: session.tenders.length }), heads, session.tenders.map(({ receipt, moment: came, state, isOpen, ...one }) => [
-    String(receipt), [given(one.title), below(given(one.notice), ", ", say("see.lot", { lot: one.lot }))], moment(came), stateBadge({ ...one, receipt, state }),
-    link(say(state === "sealed" && isOpen ? "tenders.do.change" : "tenders.do.look", { receipt: String(receipt) }), placeOf("tender", String(receipt)))]));
+  const heads = ["receipt.number", "tenders.what", "see.deadline", "see.state", "tenders.do"].map((name) => say(name));
+  return growingTable(say("tenders.caption", { count: all.length }), heads, all, rowOf, { first: ROWS });
 }
 
-/** Searches these notices, and keeps the caller's tenders, newest first. */
-async function lookInto(rows) {
-  const found = await Promise.all(rows.map(async ({ notice, title: named, deadline }) =>
-    (await ownTenders(notice, session.caller)).map((one) => ({ ...one, notice, title: named, isOpen: Date.parse(deadline) > officeNow() }))));
-  const names = rows.map(({ notice }) => notice);
-  session.tenders = [...session.tenders.filter(({ notice }) => !names.includes(notice)), ...found.flat()].sort((one, other) => other.receipt - one.receipt);
-  names.forEach((name) => session.seen.add(name));
-}
-
-/** Searches all of these notices, a few at a time, until the end or until it is stopped. */
-async function lookThrough(rows, where, redraw) {
-  let isStopped = false;
-  const line = element("p", { role: "status" });
-  where.replaceChildren(line, steps(button(say("tenders.stop"), () => { isStopped = true; }, "second")));
-  try {
-    for (let at = 0; at < rows.length && !isStopped; at += TOGETHER) {
-      line.textContent = say("tenders.looks", { at, count: rows.length });
-      await lookInto(rows.slice(at, at + TOGETHER));
+/** A field for a receipt's number, which leads to its tender without a search. */
+function ask() {
+  const receipt = field(say("tenders.receipt"), { id: "tenders-receipt", hint: say("tenders.receipt.hint"), ...DIGITS });
+  const made = form(say("tenders.receipt"), [receipt.made], say("offer.show"), () => {
+    if (areRight([[receipt, /^[1-9]\d{0,14}$/.test(receipt.value()) ? "" : say("typed.digits")]])) {
+      location.hash = placeOf("tender", receipt.value());
     }
-    redraw(say("tenders.found", { count: session.tenders.length }));
-  } catch (fault) {
-    where.replaceChildren(note("bad", sentenceOf(fault)));
-  }
+  });
+  made.classList.add("seek");
+  return made;
 }
 
 function withoutKey() {
   return { title: say("tenders.title"), content: [title(say("tenders.title")), note("bad", say("who.none"), link(say("key.title"), "#key"))] };
 }
 
-/** The view of all tenders. Notices that are open for tenders or were opened last are searched at once. */
+/** The view of all tenders. It is shown after the first queries, and grows with the results of the others. */
 export async function drawTenders({ redraw }) {
   if (!session.caller) {
     return withoutKey();
   }
-  const rows = (await notices()).sort((one, other) => (other.state === "receiving") - (one.state === "receiving") || (one.deadline < other.deadline ? 1 : -1));
-  const left = () => rows.filter(({ notice }) => !session.seen.has(notice));
-  const isOwn = (name) => session.tenders.some(({ notice }) => notice === name);
-  const again = rows.filter(({ state, notice }) => session.seen.has(notice) && (state === "receiving" || isOwn(notice)));
-  await lookInto([...again, ...left()].slice(0, AT_FIRST));
-  const where = element("div", {});
-  const others = left();
-  return { title: say("tenders.title"), content: [title(say("tenders.title")), list(), others.length === 0 ? null
-    : [element("p", {}, say("tenders.others", { count: others.length })), where,
-      steps(button(say("tenders.search"), () => lookThrough(others, where, redraw)))]] };
+  const [list, data] = await Promise.all([notices(), tables("notices", "tenders").catch(() => null)]);
+  const plan = planOf(list, data, session.caller.caller, officeNow());
+  await lookFirst(plan);
+  const [shown, told] = [element("div", {}), element("div", {})];
+  const draw = (rows = plan.order) => {
+    const count = left(rows).length;
+    shown.replaceChildren(...listOf(found(plan, list), count === 0));
+    told.replaceChildren(...(count > 0 ? [element("p", { class: "quiet" }, say("tenders.looks", { at: rows.length - count, count: rows.length }))]
+      : othersPart(plan.rest, () => search(plan.rest))));
+  };
+  const search = async (rows) => {
+    draw(rows);
+    try {
+      await lookOn(rows, () => told.isConnected, () => draw(rows));
+      draw();
+    } catch (fault) {
+      told.replaceChildren(note("bad", sentenceOf(fault)), steps(button(say("frame.again"), () => search(rows))));
+    }
+  };
+  draw();
+  if (left(plan.order).length > 0) {
+    // (once the view is shown)
+    setTimeout(() => search(plan.order));
+  }
+  return { title: say("tenders.title"), content: [title(say("tenders.title")), told, shown, ask()] };
+}
+
+/** The notices that were opened or cancelled: only tenders that were withdrawn or returned can be missing. */
+function othersPart(rest, search) {
+  const count = left(rest).length;
+  return [element("p", { class: "quiet", role: "status" }, say("tenders.all")), ...(count === 0 ? []
+    : [element("p", { class: "quiet" }, say("tenders.others", { count })), steps(button(say("tenders.search"), search, "second"))])];
 }
 
 // This many milliseconds before the deadline a request may arrive late: the server's clock is known only to
@@ -111,7 +135,7 @@ async function take(sent, where, redraw) {
     try {
       const { kind } = await becameOf(sent, session.caller);
       if (kind === "done") {
-        redraw(say("withdraw.done"));
+        await redraw(say("withdraw.done"));
       } else {
         where.replaceChildren(note("look", say(`withdraw.became.${kind}`)), steps(button(say("became.ask"), settle)));
       }
@@ -119,10 +143,12 @@ async function take(sent, where, redraw) {
       where.replaceChildren(...openPart(other, settle));
     }
   };
+  // (The button shows it.)
+  where.replaceChildren(element("p", { class: "unseen" }, say("withdraw.going")));
   try {
     const { value } = await withdraw(sent.receipt, session.caller);
     session.seen.delete(sent.notice);
-    redraw(say(value.state === "withdrawn" ? "withdraw.done" : "withdraw.late.done"));
+    await redraw(say(value.state === "withdrawn" ? "withdraw.done" : "withdraw.late.done"));
   } catch (fault) {
     where.replaceChildren(...[fault instanceof Refused && fault.isOpen ? openPart(fault, settle) : refusedPart(fault, "withdraw.help")].flat());
   }
@@ -136,7 +162,7 @@ function withdrawPart(found, one, held, redraw) {
   const where = element("div", { "aria-live": "polite" });
   const sent = { kind: "withdraw", notice: found.notice, receipt: found.receipt, isLate: time !== "free" };
   const press = button(say("withdraw.press", { receipt: String(found.receipt) }),
-    () => (timeOf(one) === time ? take(sent, where, redraw) : redraw(say("withdraw.anew"), true)), "harm");
+    () => (timeOf(one) === time ? take(sent, where, redraw) : redraw(say("withdraw.anew"), true)), "harm", say("withdraw.going"));
   press.disabled = true;
   const sure = tick(say("withdraw.sure"), (isTicked) => { press.disabled = !isTicked; }, "withdraw-sure");
   return section(say("withdraw.title"), note(kind, say("withdraw.price"), sentence, behind), isRefused ? null : [sure.made, steps(press)], where);

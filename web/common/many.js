@@ -1,8 +1,8 @@
 // Long tables: the first rows, a button that shows more of them, and a field that searches them all.
-import { element } from "../common/draw.js";
-import { plain } from "../common/filters.js";
-import { field, table } from "../common/forms.js";
-import { say } from "../common/texts.js";
+import { element } from "./draw.js";
+import { finder, searchable } from "./filters.js";
+import { field, table } from "./forms.js";
+import { say } from "./texts.js";
 
 // So many rows are shown at first, and with each press of the button.
 export const FIRST = 25;
@@ -39,9 +39,9 @@ export function searched(label, all, wordsOf, draw) {
   const asked = field(label, { kind: "search" });
   const told = element("p", { class: "quiet", role: "status" });
   asked.input.addEventListener("input", () => {
-    const words = plain(asked.value()).split(/\s+/).filter(Boolean);
-    const some = all.filter((one) => words.every((word) => plain(wordsOf(one)).includes(word)));
-    told.textContent = words.length === 0 ? "" : some.length === 0 ? say("search.none") : say("search.found", { count: some.length });
+    const isFound = finder(asked.value());
+    const some = all.filter((one) => isFound(searchable(wordsOf(one))));
+    told.textContent = asked.value() === "" ? "" : some.length === 0 ? say("search.none") : say("search.found", { count: some.length });
     found.replaceChildren(...[some.length > 0 ? draw(some) : []].flat(Infinity));
   });
   return [asked.made, told, found];

@@ -1,0 +1,71 @@
+// The search for the caller's tenders. The office lists them notice by notice, and nginx allows two such
+// queries a second after the first forty. So notices are searched in the order in which their deadlines
+// matter, while the results so far are already shown. Opened tenders are in the mirror's tables.
+import { officeNow, ownTenders } from "../common/office.js";
+import { session } from "./session.js";
+
+// So many notices are searched before the view is shown, so many at a time, because nginx has eight places for
+// such queries. Then so many in each pause, in milliseconds: some of the forty queries are always left, for
+// example for a withdrawal.
+const FIRST = 12, AT_ONCE = 6, TOGETHER = 4, PAUSE = 2000;
+// A result is this many milliseconds old before the notice is searched again.
+const FRESH = 300_000;
+
+/** The notices to search, the most urgent first (`order`): those that are open for tenders, by the nearest
+ * deadline; then those that aren't opened yet and those that the tables don't know as opened, by the last
+ * deadline. `rest` has the others. `opened` are the caller's opened tenders by the tables. */
+export function planOf(list, data, caller, now) {
+  const known = new Map((data?.notices ?? []).map((row) => [row.notice, row]));
+  const rows = new Map(list.map((row) => [row.notice, row]));
+  const isListed = ({ notice, state }) => state === "opened" && known.get(notice)?.state === "opened";
+  const of = (test, sign) => list.filter(test).sort((one, other) => sign * (Date.parse(one.deadline) - Date.parse(other.deadline)));
+  const isOpen = ({ state, deadline }) => state === "receiving" && Date.parse(deadline) >= now;
+  const isUnopened = (row) => !isOpen(row) && (row.state === "receiving" || (row.state === "opened" && !isListed(row)));
+  const opened = (data?.tenders ?? []).filter(({ tenderer, notice }) => tenderer === caller && rows.has(notice) && isListed(rows.get(notice)))
+    .map(({ notice, lot, receipt }) => ({ receipt: Number(receipt), notice, lot, state: "opened", moment: null, security: null }));
+  const order = [...of(isOpen, 1), ...of(isUnopened, -1)];
+  return { order, opened, rest: of((row) => !order.includes(row), -1) };
+}
+
+/** The tenders that are known, each with its notice's title and deadline: sealed ones first, the nearest
+ * deadline first; then the newest. */
+export function found({ opened }, list) {
+  const rows = new Map(list.map((row) => [row.notice, row]));
+  const own = new Map([...opened, ...session.tenders].map((one) => [one.receipt, one]));
+  const time = ({ state, deadline }) => (state !== "sealed" ? Infinity : Date.parse(deadline) >= officeNow() ? Date.parse(deadline) : Number.MAX_VALUE);
+  return [...own.values()].map((one) => ({ ...one, title: rows.get(one.notice).title, deadline: rows.get(one.notice).deadline }))
+    .sort((one, other) => (time(one) === time(other) ? other.receipt - one.receipt : time(one) - time(other)));
+}
+
+/** Searches these notices, and keeps the caller's tenders. */
+async function lookInto(rows) {
+  const names = rows.map(({ notice }) => notice);
+  const all = await Promise.all(names.map(async (notice) => (await ownTenders(notice, session.caller)).map((one) => ({ ...one, notice }))));
+  session.tenders = [...session.tenders.filter(({ notice }) => !names.includes(notice)), ...all.flat()];
+  names.forEach((name) => session.seen.set(name, Date.now()));
+}
+
+/** The notices that weren't searched for a while. */
+export function left(rows) {
+  return rows.filter(({ notice }) => !(session.seen.get(notice) > Date.now() - FRESH));
+}
+
+/** Searches the first notices, and again those that have tenders of the caller which may change. */
+export async function lookFirst({ order }) {
+  const own = new Set(session.tenders.map(({ notice }) => notice));
+  const again = order.filter((row) => own.has(row.notice));
+  const rows = [...new Set([...again, ...left(order)])].slice(0, FIRST);
+  for (let at = 0; at < rows.length; at += AT_ONCE) {
+    await lookInto(rows.slice(at, at + AT_ONCE));
+  }
+}
+
+/** Searches the other notices, as long as `goes` says so. `tell` is called after each step. */
+export async function lookOn(rows, goes, tell) {
+  for (let some = left(rows); some.length > 0 && goes(); some = left(rows)) {
+    const begun = Date.now();
+    await lookInto(some.slice(0, TOGETHER));
+    tell();
+    await new Promise((done) => { setTimeout(done, Math.max(0, begun + PAUSE - Date.now())); });
+  }
+}
