@@ -156,7 +156,7 @@ def names_and_keys(scene: Scene) -> None:
 
 
 def without_tls(scene: Scene) -> None:
-    """Without TLS the front only redirects to the page, and refuses a request with a key."""
+    """Without TLS the front only redirects to the pages, and refuses a request with a key."""
     with contextlib.closing(http.client.HTTPConnection(HOST, scene.front.plain_port, timeout=PATIENCE)) as connection:
         answer = exchange(connection, "GET", "/")
         check(f"GET / in the clear: {answer}", answer.status == 301 and answer.head["Location"] == f"https://{HOST}/")
