@@ -17,6 +17,7 @@ pub mod ContractTerms
 pub mod Terms
 pub mod Entries
 pub mod Registered
+pub mod Imports
 pub mod PagesAlong
 pub mod Lacking
 pub mod Releases

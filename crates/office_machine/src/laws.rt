@@ -4,6 +4,7 @@ ghost use Rattle.office_machine.specs.Clock.{ClockIsSet, ClockNeverRunsBack};
 ghost use Rattle.office_machine.specs.ContractTerms.{ContractsAreOfAwards};
 ghost use Rattle.office_machine.specs.Entries.{EntriesAreKept};
 ghost use Rattle.office_machine.specs.Fits.{SumsInRange};
+ghost use Rattle.office_machine.specs.Imports.{ImportsAreKept};
 ghost use Rattle.office_machine.specs.InTime.{NoneInTimeAfterLate};
 ghost use Rattle.office_machine.specs.Lacking.{NothingIsLacking};
 ghost use Rattle.office_machine.specs.Late.{LateRulesAreKept};
@@ -114,6 +115,12 @@ pub fn terms()
     ensures notices { TermsAreKept }
     ensures entries { EntriesAreKept }
     ensures tenderers { TenderersAreKept }
+{}
+
+/// In every reached office, the budget files are the imported ones, each with the moment and the number of rows of its command. The budget lines are those that
+/// the rows of imports name, each with the title of the last row that names it.
+pub fn imports()
+    ensures { ImportsAreKept }
 {}
 
 /// The row of a notice counts the releases that commands published for it, at most `release_limit`. The notice has a release of each number from 1 to this

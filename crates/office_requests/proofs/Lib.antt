@@ -2,6 +2,7 @@ pub mod MomentReads
 pub mod FormSteps
 pub mod FieldSteps
 pub mod ParameterSteps
+pub mod AfterAsked
 pub mod ElementSteps
 pub mod BodySteps
 pub mod SegmentSteps

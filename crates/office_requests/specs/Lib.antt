@@ -6,6 +6,7 @@ pub mod Fields
 pub mod Bodies
 pub mod Publications
 pub mod Parameters
+pub mod AfterAsked
 pub mod Asking
 pub mod WorkedRequests
 pub mod Inside

@@ -1,10 +1,16 @@
 //! A law and worked examples: requests, and the commands and queries that they ask for.
+ghost use Rattle.office_requests.specs.AfterAsked.{AfterAsksForId};
 ghost use Rattle.office_requests.specs.Moments.{MomentsAreTheirTexts};
 ghost use Rattle.office_requests.specs.WorkedRequests.{BodiesAreRefused, LooksAreRefused, PathsAreRefused, PublicationsAreRefused, RoutesAreTaken, TendersAreRefused};
 
 /// Each moment is read from its own text, and from no other.
 pub fn moments()
     ensures { MomentsAreTheirTexts }
+{}
+
+/// The query `after=ID` asks for the page after ID.
+pub fn pages_after()
+    ensures { AfterAsksForId }
 {}
 
 /// A request for each route.

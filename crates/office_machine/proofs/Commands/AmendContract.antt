@@ -252,6 +252,7 @@ pub amend_contract : (contract : ℕ) (entry : List ℕ) (kind : ChangeKind) (am
 amend_contract contract entry kind amount rationale = record {
   touches = Entries ∷ Lines ∷ [];
   alone = (refl, refl, refl);
+  beside = (refl, refl);
   accounts = Moving (λ readings xs s moment caller kept order own allowed. amend_contract_keeps readings xs s moment caller contract entry kind amount rationale kept order allowed);
   fates = λ readings. fates_kept readings contract entry kind amount rationale;
   tail = λ readings s moment caller have allowed.

@@ -37,6 +37,7 @@ pub amend_notice : (notice : List ℕ) (deadline : ℕ) (rationale : List ℕ) �
 amend_notice notice deadline rationale = record {
   touches = [];
   alone = (refl, refl, refl);
+  beside = (refl, refl);
   accounts = Idle refl (λ s moment caller xs. record { moves_none = refl; held = λ _. refl; none_brought = λ _. refl; none_taken = λ _. refl });
   fates = λ readings xs s moment caller kept own allowed.
       let x = given s moment caller (AmendNotice notice deadline rationale) in

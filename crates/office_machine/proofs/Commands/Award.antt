@@ -100,6 +100,7 @@ pub award : (notice lot : List ℕ) → Lawful (Award notice lot)
 award notice lot = record {
   touches = Awards ∷ Lots ∷ Lines ∷ Securities ∷ [];
   alone = (refl, refl, refl);
+  beside = (refl, refl);
   accounts = Moving (λ readings xs s moment caller kept order own allowed. award_keeps readings xs s moment caller notice lot kept allowed);
   fates = λ readings. award_fates.award_keeps readings notice lot;
   tail = λ readings s moment caller have allowed.

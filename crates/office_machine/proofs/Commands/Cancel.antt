@@ -113,6 +113,7 @@ pub cancel : (notice rationale : List ℕ) → Lawful (Cancel notice rationale)
 cancel notice rationale = record {
   touches = Lines ∷ Lots ∷ Awards ∷ Envelopes ∷ Seals ∷ Securities ∷ [];
   alone = (refl, refl, refl);
+  beside = (refl, refl);
   accounts = Moving (λ readings xs s moment caller kept order own allowed. cancel_keeps readings xs s moment caller notice rationale kept order allowed);
   fates = λ readings. cancel_fates.cancel_keeps readings notice rationale;
   tail = λ readings s moment caller have allowed.

@@ -235,6 +235,7 @@ pub end_contract : (contract : ℕ) (how : How) → Lawful (End contract how)
 end_contract contract how = record {
   touches = Contracts ∷ Lines ∷ [];
   alone = (refl, refl, refl);
+  beside = (refl, refl);
   accounts = Moving (λ readings xs s moment caller kept order own allowed. end_keeps readings xs s moment caller contract how kept order allowed);
   fates = λ readings. fates_kept readings contract how;
   tail = λ readings s moment caller have allowed.

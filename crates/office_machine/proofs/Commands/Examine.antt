@@ -120,6 +120,7 @@ pub examine : (receipt : ℕ) (responsive : Bool) (quality : Option ℕ) → Law
 examine receipt responsive quality = record {
   touches = Envelopes ∷ [];
   alone = (refl, refl, refl);
+  beside = (refl, refl);
   accounts = Idle refl (λ s moment caller xs. record { moves_none = refl; held = λ _. refl; none_brought = λ _. refl; none_taken = λ _. refl });
   fates = λ readings. fates_kept readings receipt responsive quality;
   tail = λ readings s moment caller have allowed.

@@ -105,6 +105,7 @@ pub fail : (award : ℕ) → Lawful (Fail award)
 fail award = record {
   touches = Awards ∷ Lots ∷ Envelopes ∷ Securities ∷ [];
   alone = (refl, refl, refl);
+  beside = (refl, refl);
   accounts = Moving (λ readings xs s moment caller kept order own allowed. fail_keeps readings xs s moment caller award kept allowed);
   fates = λ readings. fail_fates.fail_keeps readings award;
   tail = λ readings s moment caller have allowed.

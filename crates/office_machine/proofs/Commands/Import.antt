@@ -33,6 +33,7 @@ pub import_budget : (batch : List ℕ) (rows : List BudgetRow) → Lawful (Impor
 import_budget batch rows = record {
   touches = Lines ∷ Others ∷ [];
   alone = (refl, refl, refl);
+  beside = (refl, refl);
   accounts = Moving (λ readings xs s moment caller kept order own allowed. import_keeps readings xs s moment caller batch rows kept order allowed);
   fates = λ readings. fates_kept readings batch rows;
   tail = λ readings s moment caller have allowed.

@@ -2,7 +2,7 @@
 use Rattle.std.specs.Prelude.{◌≡◌, ℕ, Bool, true, false, max, List, ◌∷◌, None}
 use Rattle.office_commands.specs.declared.command.Caller.{Caller}
 use Rattle.office_commands.specs.declared.commands.Command.{Command}
-use Rattle.office_commands.specs.declared.commands.Command.TheVariants.{Publish, Cancel, Award, Fail, Sign, End}
+use Rattle.office_commands.specs.declared.commands.Command.TheVariants.{Import, Register, Publish, Cancel, Award, Fail, Sign, AmendContract, End}
 use Rattle.office_base.specs.Rules.{first_of}
 use Rattle.office_base.specs.Tables.{Tables, IsSorted, after_puts}
 use Rattle.office_machine.specs.Readings.{Readings}
@@ -12,7 +12,7 @@ use Rattle.office_machine.specs.Parents.{HaveParents}
 use Rattle.office_machine.specs.Publications.{published_for}
 use Rattle.office_machine.specs.Commands.{rule_of}
 use Rattle.office_machine.proofs.Accounts.Aside.{IsIdle}
-use Rattle.office_machine.proofs.Commands.Footprint.{TableName, Awards, Contracts, LateRules, is_in}
+use Rattle.office_machine.proofs.Commands.Footprint.{TableName, Awards, Contracts, LateRules, Lines, Others, is_in}
 use Rattle.office_machine.proofs.Accounts.Idle.{touches_books}
 use Rattle.office_machine.proofs.Accounts.Kept.{AccountsStand}
 use Rattle.office_machine.proofs.FateLaws.FatesHold.{Keeps}
@@ -47,11 +47,28 @@ puts_awards (Fail award) = true
 puts_awards (Sign award named) = true
 puts_awards _ = false
 
+abbrev pub puts_lines : Command → Bool
+puts_lines (Import batch rows) = true
+puts_lines (Publish notice content) = true
+puts_lines (Cancel notice rationale) = true
+puts_lines (Award notice lot) = true
+puts_lines (AmendContract contract entry kind amount rationale) = true
+puts_lines (End contract how) = true
+puts_lines _ = false
+
+-- budget files and tenderers
+abbrev pub puts_names : Command → Bool
+puts_names (Import batch rows) = true
+puts_names (Register tenderer name address key) = true
+puts_names _ = false
+
 pub record Lawful (command : Command) : Type 0 where
   -- the tables of the command's own rows
   pub touches : List TableName
   -- only a signing and an end put contracts, only a publication puts rules on late withdrawals, and only four commands put awards
   pub alone : (is_in touches Contracts ≡ puts_contracts command) × (is_in touches LateRules ≡ puts_late_rules command) × (is_in touches Awards ≡ puts_awards command)
+  -- only six commands put budget lines, and only an import and a registration put budget files or tenderers
+  pub beside : (is_in touches Lines ≡ puts_lines command) × (is_in touches Others ≡ puts_names command)
   -- the command keeps the accounts
   pub accounts : KeepsBooks command touches
   -- the command keeps the fates of tenders and securities

@@ -67,6 +67,7 @@ pub modify : (receipt : ℕ) (bytes : List ℕ) → Lawful (Modify receipt bytes
 modify receipt bytes = record {
   touches = Envelopes ∷ Seals ∷ [];
   alone = (refl, refl, refl);
+  beside = (refl, refl);
   accounts = Idle refl (λ s moment caller xs. record { moves_none = refl; held = λ _. refl; none_brought = λ _. refl; none_taken = λ _. refl });
   fates = λ readings. modify_fates.modify_keeps readings receipt bytes;
   tail = λ readings s moment caller have allowed.

@@ -76,6 +76,7 @@ pub open_tenders : (notice : List ℕ) → Lawful (Open notice)
 open_tenders notice = record {
   touches = Envelopes ∷ [];
   alone = (refl, refl, refl);
+  beside = (refl, refl);
   accounts = Idle refl (λ s moment caller xs. record { moves_none = refl; held = λ _. refl; none_brought = λ _. refl; none_taken = λ _. refl });
   fates = λ readings. open_fates.open_keeps readings notice;
   tail = λ readings s moment caller have allowed.

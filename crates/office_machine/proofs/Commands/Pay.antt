@@ -165,6 +165,7 @@ pub pay : (contract : ℕ) (entry : List ℕ) (amount : ℕ) → Lawful (Pay con
 pay contract entry amount = record {
   touches = Entries ∷ [];
   alone = (refl, refl, refl);
+  beside = (refl, refl);
   accounts = Moving (λ readings xs s moment caller kept order own allowed. pay_keeps readings xs s moment caller contract entry amount kept order allowed);
   fates = λ readings. fates_kept readings contract entry amount;
   tail = λ readings s moment caller have allowed.

@@ -99,6 +99,7 @@ pub present : (notice lot : List ℕ) (security : Option NamedSecurity) (bytes :
 present notice lot security bytes = record {
   touches = Envelopes ∷ Seals ∷ Securities ∷ [];
   alone = (refl, refl, refl);
+  beside = (refl, refl);
   accounts = Idle refl (λ s moment caller xs. record { moves_none = refl; held = λ _. refl; none_brought = λ _. refl; none_taken = λ _. refl });
   fates = λ readings. present_fates.present_keeps readings notice lot security bytes;
   tail = λ readings s moment caller have allowed.

@@ -96,6 +96,7 @@ pub publish : (notice : List ℕ) (content : NewNotice) → Lawful (Publish noti
 publish notice content = record {
   touches = Lines ∷ Lots ∷ LateRules ∷ [];
   alone = (refl, refl, refl);
+  beside = (refl, refl);
   accounts = Moving (λ readings xs s moment caller kept order own allowed. publish_keeps readings xs s moment caller notice content kept order own allowed);
   fates = λ readings. publish_fates.publish_keeps readings notice content;
   tail = λ readings s moment caller have allowed.

@@ -14,6 +14,7 @@ pub register : (tenderer name address key : List ℕ) → Lawful (Register tende
 register tenderer name address key = record {
   touches = Others ∷ [];
   alone = (refl, refl, refl);
+  beside = (refl, refl);
   accounts = Idle refl (λ s moment caller xs. record { moves_none = refl; held = λ _. refl; none_brought = λ _. refl; none_taken = λ _. refl });
   fates = λ readings xs s moment caller kept own allowed.
       let x = given s moment caller (Register tenderer name address key) in

@@ -99,6 +99,7 @@ pub sign : (award : ℕ) (named : Option NamedSecurity) → Lawful (Sign award n
 sign award named = record {
   touches = Awards ∷ Lots ∷ Contracts ∷ Securities ∷ [];
   alone = (refl, refl, refl);
+  beside = (refl, refl);
   accounts = Moving (λ readings xs s moment caller kept order own allowed. sign_keeps readings xs s moment caller award named kept order allowed);
   fates = λ readings. sign_fates.sign_keeps readings award named;
   tail = λ readings s moment caller have allowed.

@@ -96,6 +96,7 @@ pub withdraw : (receipt : ℕ) → Lawful (Withdraw receipt)
 withdraw receipt = record {
   touches = Envelopes ∷ Seals ∷ Securities ∷ [];
   alone = (refl, refl, refl);
+  beside = (refl, refl);
   accounts = Idle refl (λ s moment caller xs. record { moves_none = refl; held = λ _. refl; none_brought = λ _. refl; none_taken = λ _. refl });
   fates = λ readings. withdraw_fates.withdraw_keeps readings receipt;
   tail = λ readings s moment caller have allowed.
