@@ -1,5 +1,5 @@
 -- The texts that a program shows of an office, and prints.
-use Rattle.std.specs.Prelude.{◌≡◌, ℕ, Bool, true, List, Option, Some, None, Result, Ok, Err, Vec}
+use Rattle.std.specs.Prelude.{◌≡◌, ◌⊎◌, ℕ, Bool, true, List, Option, Some, None, Result, Ok, Err, Vec}
 use Rattle.std.specs.Io.KnownBytes.{Appends}
 use Rattle.std.specs.declared.alloc.Global.{Global}
 use Rattle.office_commands.specs.declared.command.Caller.TheVariants.{Public}
@@ -11,11 +11,13 @@ use Rattle.office_values.specs.declared.settings.Settings.{Settings}
 use Rattle.office_base.specs.Tables.{Tables}
 use Rattle.office_desk.specs.Steps.{HasShown, IsSeen}
 use Rattle.office_wire.specs.Sending.{AppendsPart}
-use Rattle.procure_config.specs.Faults.{no_route}
+use Rattle.procure_config.specs.Configuration.{settings_in}
+use Rattle.procure_config.specs.Faults.{no_memory, no_route, of_settings}
 use Rattle.procure_config.specs.Jobs.{Asked, Desk, Evaluation, Ledger, Minutes, Notices, Record, Serve}
 use Rattle.procure_config.specs.declared.fault.ProgramFault.{ProgramFault}
 use Rattle.procure_config.specs.declared.fault.ProgramFault.TheVariants as fault
 use Rattle.procure_config.specs.declared.fault.ProgramFault.TheVariants.{Refused}
+use Rattle.procure_config.specs.declared.settings.SettingsFault.{SettingsFault}
 use Rattle.procure_programs.specs.declared.showing.Printout.{Printout}
 use Rattle.procure_programs.specs.declared.showing.Printout.TheVariants as printouts
 use Rattle.procure_programs.specs.declared.showing.Printout.TheVariants.{Seen}
@@ -70,3 +72,7 @@ abbrev pub IsOfSettings : ProgramFault → Type 0
 IsOfSettings (Refused why) = why ≡ Unavailable
 IsOfSettings (fault.Settings member) = Unit {0}
 IsOfSettings _ = ⊥
+
+-- The text gives no settings, and this is the fault of it. Or memory is too small to read the text.
+abbrev pub IsOfText : List ℕ → ProgramFault → Type 0
+IsOfText text told = (told ≡ no_memory) ⊎ ((why : SettingsFault) × (settings_in text ≡ Err why) × (told ≡ of_settings why))
