@@ -11,6 +11,7 @@ use Rattle.office_values.specs.declared.settings.Settings.{Settings}
 use Rattle.office_base.specs.Tables.{Tables}
 use Rattle.office_desk.specs.Steps.{HasShown, IsSeen}
 use Rattle.office_wire.specs.Sending.{AppendsPart}
+use Rattle.tender_papers.specs.Listing.{listing_text}
 use Rattle.procure_config.specs.Configuration.{settings_in}
 use Rattle.procure_config.specs.Faults.{no_memory, no_route, of_settings}
 use Rattle.procure_config.specs.Jobs.{Asked, Desk, Evaluation, Ledger, Minutes, Notices, Record, Serve}
@@ -51,6 +52,12 @@ IsPrinted settings query s before after (Err fault.Output) =
     (text : List ℕ) × IsSeenWhole settings query s text × AppendsPart before after text
 IsPrinted settings query s before after (Err (Refused why)) = IsSeen settings.publisher Public query s (Err why) × (after ≡ before)
 IsPrinted settings query s before after (Err _) = ⊥
+
+-- The printout of an office was added to the output: the text of a query, or the list of its notices. Of a list that wasn't printed whole nothing is said.
+abbrev pub IsPrintout : Settings → Printout → Tables → Option (List ℕ) → Option (List ℕ) → Result (Unit {0}) ProgramFault → Type 0
+IsPrintout settings (Seen query) s before after result = IsPrinted settings query s before after result
+IsPrintout settings printouts.Notices s before after (Ok done) = Appends before after (listing_text s.notices)
+IsPrintout settings printouts.Notices s before after (Err why) = Unit {0}
 
 -- The words ask for a text about a named notice. The result is `NoRoute` if the name isn't an identifier.
 abbrev pub AsksOfNotice : (List ℕ → Query) → List ℕ → Result (Option Printout) ProgramFault → Type 0
