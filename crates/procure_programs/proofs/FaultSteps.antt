@@ -1,13 +1,14 @@
 -- The program's fault for each fault.
-use Rattle.std.proofs.Common.{◌≡◌, refl, subst, sym}
+use Rattle.std.proofs.Common.{◌≡◌, ◌⊎◌, inl, inr, ℕ, List, Err, refl, subst, sym, ap, ◌∙◌}
 use Rattle.office_store.specs.declared.found.OpenFault.{OpenFault}
 use Rattle.office_store.specs.declared.found.OpenFault.TheVariants as opening
+use Rattle.procure_config.specs.Configuration.{settings_in}
 use Rattle.procure_config.specs.Faults.{no_memory, of_settings}
 use Rattle.procure_config.specs.declared.fault.ProgramFault.{ProgramFault}
 use Rattle.procure_config.specs.declared.settings.SettingsFault.{SettingsFault}
 use Rattle.procure_config.specs.declared.settings.SettingsFault.TheVariants.{NoMemory, NotToml, Member}
 use Rattle.procure_programs.specs.FaultsTold.{IsOfStore, of_opening}
-use Rattle.procure_programs.specs.Showing.{IsOfSettings}
+use Rattle.procure_programs.specs.Showing.{IsOfSettings, IsOfText}
 
 pub memory_is : (told : ProgramFault) → told ≡ no_memory → IsOfStore told
 memory_is told is = subst (λ (t : ProgramFault). IsOfStore t) (sym is) refl
@@ -27,3 +28,8 @@ all_settings (Member member) = tt
 
 pub settings_are : (told : ProgramFault) (f : SettingsFault) → told ≡ of_settings f → IsOfSettings told
 settings_are told f is = subst (λ (t : ProgramFault). IsOfSettings t) (sym is) (all_settings f)
+
+-- The fault of a text that gives no settings.
+pub of_text : (text : List ℕ) (told : ProgramFault) (f : SettingsFault) → told ≡ of_settings f → (f ≡ NoMemory) ⊎ (settings_in text ≡ Err f) → IsOfText text told
+of_text text told f is (inl none) = inl (is ∙ ap of_settings none)
+of_text text told f is (inr wrong) = inr (f, wrong, is)

@@ -1,6 +1,7 @@
 -- An office that was opened in files continues from their content, in every state in which these are found after they are closed.
-use Rattle.std.proofs.Common.{◌≡◌, inl, inr, Result, Ok, Err, IfOk, ℕ, ◌+◌, ◌≤◌, List, [], ◌∷◌, ◌++◌, length, refl, sym, ap, subst, ◌∙◌, arith, length-append}
+use Rattle.std.proofs.Common.{◌≡◌, inl, inr, Option, Result, Ok, Err, IfOk, ℕ, ◌+◌, ◌≤◌, List, [], ◌∷◌, ◌++◌, length, refl, sym, ap, subst, ◌∙◌, arith, length-append}
 use Rattle.std.proofs.Math.Logic.{∥∥₁_elim, ∥∥₁_map}
+use Rattle.std.specs.declared.net.socket_addr.SocketAddrV4.{SocketAddrV4}
 use Rattle.sqlite_disk.specs.declared.Disk.{Ghosts}
 use Rattle.sqlite_disk.specs.declared.Files.{Files}
 use Rattle.sqlite_wal.specs.Recovery.{Image}
@@ -12,8 +13,8 @@ use Rattle.sqlite.specs.Closing.{HoldsAlone, IsCopied}
 use Rattle.sqlite.specs.State.{HasCleanDisk}
 use Rattle.office_values.specs.declared.settings.Publisher.{Publisher}
 use Rattle.office_values.specs.declared.settings.Settings.{Settings}
-use Rattle.office_base.specs.Shelves.{Keeps, Meaning}
-use Rattle.office_base.specs.Tables.{Tables}
+use Rattle.office_base.specs.Shelves.{Keeps, Looks, Meaning}
+use Rattle.office_base.specs.Tables.{Tables, IsSorted}
 use Rattle.office_tables.specs.Steps.{ShowsTables}
 use Rattle.office_publications.specs.Standing.{IsReached}
 use Rattle.office_desk.specs.Desks.{DeskOf}
@@ -21,8 +22,12 @@ use Rattle.office_store.specs.Reopening.{FilesHoldOffice, OpensHeld}
 use Rattle.office_store.specs.SqlMeaning.{LeavesNoOther, LeavesShown, sql_meaning}
 use Rattle.office_wire.specs.Runs.{Step, office_left}
 use Rattle.office_http.specs.Answering.{Held, office_answers}
+use Rattle.procure_config.specs.declared.fault.ProgramFault.{ProgramFault}
+use Rattle.procure_programs.specs.Hosts.{Hosting}
 use Rattle.procure_programs.specs.Placed.{OpensEmpty}
-use Rattle.procure_programs.specs.Serving.{DayIn, DaysFollow, FilesGoOn, HaveOffice, KeysFollow, LedOn, MayBeFound, ServesFiles, ServesOpened, StandsIn, StopsIn, WasServed, under_settings}
+use Rattle.procure_programs.specs.Serving.{DayIn, DaysFollow, FilesGoOn, HaveOffice, KeysFollow, LedOn, MayBeFound, PrintsFiles, ServesFiles, ServesOpened, StandsIn, StopsIn, WasServed, WasServedAt, sql_standing, under_settings}
+use Rattle.procure_programs.specs.Showing.{IsPrintout}
+use Rattle.procure_programs.specs.declared.showing.Printout.{Printout}
 use Rattle.procure_programs.proofs.ServingSteps.{office_on, served_none, served_still}
 
 module _ {D : Type 0} {g : Ghosts D} where
@@ -56,20 +61,25 @@ module _ {D : Type 0} {g : Ghosts D} where
       (steps, few, (in_order, inl (holds_found new.0 files it now found _ shows), left))
 
   -- An office that was opened was served.
-  pub opened_serves : {R E : Type 0} (image : Image) (settings : Settings) (most : ℕ) (opened : Connected (FileStore D g) × ℕ)
-      (result : Result ((Connected (FileStore D g) × ℕ) × R) E) → OpensHeld image opened.0 → OpensEmpty image opened.0
+  pub opened_serves : {E X T R W : Type 0} (binds : X → SocketAddrV4 → Option T → Type 0) (N : Hosting T R W) (network : X) (port : ℕ) (image : Image) (settings : Settings) (count : ℕ)
+      (opened : Connected (FileStore D g) × ℕ) (result : Result ((Connected (FileStore D g) × ℕ) × Result (Unit {0}) ProgramFault) E) → OpensHeld image opened.0 → OpensEmpty image opened.0
       → (HasCleanDisk (file_state opened.0) → LeavesShown (file_state opened.0)) → (HasCleanDisk (file_state opened.0) → LeavesNoOther (file_state opened.0))
-      → IfOk result (λ left. WasServed (sql_meaning over_files) most settings opened left.0) → IfOk result (λ left. ServesOpened image settings most left.0)
-  opened_serves image settings most opened (Ok left) held empty sound alone served =
-      record { opened = opened; held = held; empty = empty; sound = sound; alone = alone; served = served }
-  opened_serves image settings most opened (Err fault) held empty sound alone served = tt
+      → IfOk result (λ left. WasServed (sql_meaning over_files) count settings opened left.0)
+      → IfOk result (λ left. WasServedAt binds N (sql_meaning over_files) (sql_standing over_files) network port count settings opened left.0 left.1)
+      → IfOk result (λ left. ServesOpened binds N network port image settings count left.0 left.1)
+  opened_serves binds N network port image settings count opened (Ok left) held empty sound alone served turns =
+      record { opened = opened; held = held; empty = empty; sound = sound; alone = alone; served = served; turns = turns }
+  opened_serves binds N network port image settings count opened (Err fault) held empty sound alone served turns = tt
 
-  -- If the files are returned, the office was served from them.
-  pub closes_ok : {R E : Type 0} (image : Image) (settings : Settings) (most : ℕ) (old new : Connected (FileStore D g) × ℕ) (result : Result (Files D × R) E)
-      → OpensHeld image old.0 → OpensEmpty image old.0 → WasServed (sql_meaning over_files) most settings old new
-      → IfOk result (λ left. AreClean g left.0.log left.0.db → IsCopied new.0 left.0) → IfOk result (λ left. ServesFiles g image settings most left.0)
-  closes_ok image settings most old new (Ok left) held blank served copied = closes image settings most old new left.0 held blank served copied
-  closes_ok image settings most old new (Err fault) held blank served copied = tt
+  -- The text that was printed of a store is the one of the files from which it was opened.
+  pub prints_files : (image : Image) (settings : Settings) (printout : Printout) (files : Files D) (before after : Option (List ℕ)) (old new : Connected (FileStore D g) × ℕ)
+      (worked result : Result (Unit {0}) ProgramFault) → OpensHeld image old.0 → OpensEmpty image old.0
+      → Looks (sql_meaning over_files) old new (λ s. IsPrintout settings printout s before after worked)
+      → (AreClean g files.log files.db → IsCopied new.0 files) → result ≡ worked → PrintsFiles g image settings printout files before after result
+  prints_files image settings printout files before after old new worked result held blank looks copied same clean t sorted has =
+      let it = copied clean in
+      subst (λ (r : Result (Unit {0}) ProgramFault). IsPrintout settings printout t before after r) (sym same)
+      (looks.1 it.was_clean t (sorted, shows_files image old.0 held blank (looks.0.before it.was_clean) t has))
 
 -- Serving that changes nothing is serving by no step.
 pub kept_served : {S : Type 0} (M : Meaning S) (settings : Settings) (old new : S) → Keeps M old new → WasServed M 0 settings old new

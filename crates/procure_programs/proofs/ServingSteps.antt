@@ -1,14 +1,19 @@
 -- One more connection.
-use Rattle.std.proofs.Common.{◌≡◌, inl, inr, ℕ, ◌+◌, ◌≤◌, Bool, true, false, List, [], ◌∷◌, ◌++◌, length, refl, sym, subst, ◌∙◌, arith, length-append}
+use Rattle.std.proofs.Common.{◌≡◌, inl, inr, ℕ, ◌+◌, ◌≤◌, Bool, true, false, List, [], ◌∷◌, ◌++◌, length, Option, Result, refl, sym, subst, ◌∙◌, arith, length-append}
+use Rattle.std.specs.declared.net.socket_addr.SocketAddrV4.{SocketAddrV4}
 use Rattle.office_values.specs.declared.settings.Settings.{Settings}
 use Rattle.office_base.specs.Shelves.{Keeps, Meaning}
+use Rattle.office_base.specs.Shutting.{Standing}
 use Rattle.office_base.specs.Tables.{Tables}
 use Rattle.office_desk.specs.Desks.{DeskOf}
 use Rattle.office_wire.specs.Runs.{Answers, IsOneAtMost, Step, office_left}
 use Rattle.office_http.specs.Answering.{Held, IsWholeAfter, LeftAfter, StandsAs, is_accepted, meant_in, office_answers}
 use Rattle.office_http.specs.Joined.{StepsAreKept}
 use Rattle.office_http.specs.Stops.{LeftBySteps, StopsBy, StopsOnce}
-use Rattle.procure_programs.specs.Serving.{TurnsKeepCommands, TakesTurns, WasServed}
+use Rattle.procure_config.specs.declared.fault.ProgramFault.{ProgramFault}
+use Rattle.procure_programs.specs.Hosts.{Hosting}
+use Rattle.procure_programs.specs.Serving.{TurnsKeepCommands, TakesTurns, WasServed, WasServedAt}
+use Rattle.procure_programs.specs.Turns.{ServesAt}
 
 -- The office after two lists of steps.
 pub office_on : {S : Type 0} (A : Answers S) (xs ys : List Step) (s : S) → office_left A s (xs ++ ys) ≡ office_left A (office_left A s xs) ys
@@ -105,3 +110,11 @@ pub was_served : {S : Type 0} (M : Meaning S) (most : ℕ) (settings : Settings)
 was_served M most settings shelf left begun ended is out before serves =
     subst (λ (s : _). WasServed M most settings shelf s) (sym out)
     (subst (λ (d : DeskOf _). M.honest ended.shelf → M.honest d.shelf) is before, (ended.settings, subst (λ (d : DeskOf _). TakesTurns M most d ended) is serves))
+
+-- The same of its port and its connections.
+pub was_served_at : {S X T R W : Type 0} (binds : X → SocketAddrV4 → Option T → Type 0) (N : Hosting T R W) (M : Meaning S) (store : Standing S) (network : X) (port count : ℕ)
+    (settings : Settings) (shelf left : S) (result : Result (Unit {0}) ProgramFault) (begun ended : DeskOf S) → begun ≡ record { shelf = shelf; settings = settings } → left ≡ ended.shelf
+    → ServesAt binds N M store network port count begun ended result → WasServedAt binds N M store network port count settings shelf left result
+was_served_at binds N M store network port count settings shelf left result begun ended is out serves =
+    subst (λ (s : _). WasServedAt binds N M store network port count settings shelf s result) (sym out)
+    (ended.settings, subst (λ (d : DeskOf _). ServesAt binds N M store network port count d ended result) is serves)

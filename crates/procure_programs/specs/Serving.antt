@@ -1,5 +1,6 @@
 -- The office that is left after it was served over connections.
-use Rattle.std.specs.Prelude.{◌≡◌, ◌⊎◌, ℕ, ◌+◌, ◌≤◌, List, [], length}
+use Rattle.std.specs.Prelude.{◌≡◌, ◌⊎◌, ℕ, ◌+◌, ◌≤◌, List, [], length, Option, Result}
+use Rattle.std.specs.declared.net.socket_addr.SocketAddrV4.{SocketAddrV4}
 use Rattle.sqlite_disk.specs.declared.Disk.{Ghosts}
 use Rattle.sqlite_disk.specs.declared.Files.{Files}
 use Rattle.sqlite_wal.specs.Files.{outcomes}
@@ -9,11 +10,14 @@ use Rattle.sqlite_store.specs.declared.store.FileStore.{FileStore}
 use Rattle.sqlite_store.specs.FileStore.{recovers, state, view}
 use Rattle.sqlite_trees.specs.Tree.{Trees}
 use Rattle.sqlite_trees.specs.View.{IsClean}
+use Rattle.sqlite_trees.specs.declared.store.Store.{Ghosts as StoreGhosts}
+use Rattle.sqlite.specs.Closing.{IsCopied}
 use Rattle.sqlite.specs.Files.{file_state, image_of, over_files}
-use Rattle.sqlite.specs.Held.{Held as Connected}
+use Rattle.sqlite.specs.Held.{Held as Connected, state as sql_state}
 use Rattle.sqlite.specs.State.{HasCleanDisk}
 use Rattle.office_values.specs.declared.settings.Settings.{Settings}
 use Rattle.office_base.specs.Shelves.{Meaning}
+use Rattle.office_base.specs.Shutting.{Standing}
 use Rattle.office_base.specs.Tables.{Tables, IsSorted, no_tables}
 use Rattle.office_machine.specs.Machine.{Given, Reaches}
 use Rattle.office_publications.specs.Publishing.{publishing}
@@ -26,7 +30,12 @@ use Rattle.office_wire.specs.Runs.{Step, office_left}
 use Rattle.office_http.specs.Answering.{Held, StandsAs, office_answers}
 use Rattle.office_http.specs.Joined.{accepted_steps}
 use Rattle.office_http.specs.Stops.{StopsBy}
+use Rattle.procure_config.specs.declared.fault.ProgramFault.{ProgramFault}
+use Rattle.procure_programs.specs.Hosts.{Hosting}
 use Rattle.procure_programs.specs.Placed.{HoldNothing, OpensEmpty}
+use Rattle.procure_programs.specs.Showing.{IsPrintout}
+use Rattle.procure_programs.specs.Turns.{ServesAt}
+use Rattle.procure_programs.specs.declared.showing.Printout.{Printout}
 
 -- The desk went through at most this many steps. Its office is the one after them, and a stop leaves only what they allow.
 abbrev pub TakesTurns : {S : Type 0} → Meaning S → ℕ → DeskOf S → DeskOf S → Type 0
@@ -40,15 +49,32 @@ WasServed M most settings old new =
     (M.honest new → M.honest old)
     × ((now : Settings) × TakesTurns M most (record { shelf = old; settings = settings }) (record { shelf = new; settings = now }))
 
--- An office was opened in two files with these bytes and served under these settings, and this store is left. After the opening, the store showed exactly what
--- the files had, and a stop could leave only that.
-pub record ServesOpened {D : Type 0} {g : Ghosts D} (image : Image) (settings : Settings) (most : ℕ) (left : Connected (FileStore D g) × ℕ) : Type 0 where
+-- An office in a store was served under these settings at 127.0.0.1 and this port, and this store and this result are left. Each connection was served as
+-- `ServesAt` says.
+abbrev pub WasServedAt : {S X T R W : Type 0} → (X → SocketAddrV4 → Option T → Type 0) → Hosting T R W → Meaning S → Standing S → X → ℕ → ℕ → Settings → S → S → Result (Unit {0}) ProgramFault → Type 0
+WasServedAt binds N M store network port count settings old new result =
+    (now : Settings) × ServesAt binds N M store network port count (record { shelf = old; settings = settings }) (record { shelf = new; settings = now }) result
+
+-- Whether a store in SQL is open, and the faults of its disk.
+abbrev pub sql_standing : {S : Type 0} → StoreGhosts S → Standing (Connected S × ℕ)
+sql_standing g = record { is_open = λ shelf. (sql_state g shelf.0).is_open; disk_faults = λ shelf. (sql_state g shelf.0).faults }
+
+-- An office was opened in two files with these bytes and served under these settings at 127.0.0.1 and this port, and this store and this result are left. After
+-- the opening, the store showed exactly what the files had, and a stop could leave only that.
+pub record ServesOpened {D : Type 0} {g : Ghosts D} {X T R W : Type 0} (binds : X → SocketAddrV4 → Option T → Type 0) (N : Hosting T R W) (network : X) (port : ℕ) (image : Image) (settings : Settings) (count : ℕ) (left : Connected (FileStore D g) × ℕ) (result : Result (Unit {0}) ProgramFault) : Type 0 where
   pub opened : Connected (FileStore D g) × ℕ
   pub held : OpensHeld image opened.0
   pub empty : OpensEmpty image opened.0
   pub sound : HasCleanDisk (file_state opened.0) → LeavesShown (file_state opened.0)
   pub alone : HasCleanDisk (file_state opened.0) → LeavesNoOther (file_state opened.0)
-  pub served : WasServed (sql_meaning over_files) most settings opened left
+  pub served : WasServed (sql_meaning over_files) count settings opened left
+  pub turns : WasServedAt binds N (sql_meaning over_files) (sql_standing over_files) network port count settings opened left result
+
+-- The office of two files was served at this port with this result, and then its store was closed into these files.
+pub record ServesFilesAt {D : Type 0} (g : Ghosts D) {X T R W : Type 0} (binds : X → SocketAddrV4 → Option T → Type 0) (N : Hosting T R W) (network : X) (port : ℕ) (image : Image) (settings : Settings) (count : ℕ) (files : Files D) (result : Result (Unit {0}) ProgramFault) : Type 0 where
+  pub last : Connected (FileStore D g) × ℕ
+  pub served : ServesOpened binds N network port image settings count last result
+  pub closed : AreClean g files.log files.db → IsCopied last.0 files
 
 -- After at most this many steps, all accepted commands are kept, those of the steps included.
 abbrev pub TurnsKeepCommands : {S : Type 0} → Meaning S → ℕ → DeskOf S → DeskOf S → Type 0
@@ -76,6 +102,12 @@ abbrev pub StopsIn : Image → Settings → ℕ → Image → Type 0
 StopsIn first settings most last =
     (h : Held) → h.settings ≡ settings → StandsIn first h
     → ∥ ((steps : List Step) × (length steps ≤ most) × StandsIn last (office_left office_answers h steps)) ∥₁
+
+-- Of the office that two files had this was printed, with this result, and then its store was closed into these files. This holds if the disk returned everything
+-- that was written.
+abbrev pub PrintsFiles : {D : Type 0} → Ghosts D → Image → Settings → Printout → Files D → Option (List ℕ) → Option (List ℕ) → Result (Unit {0}) ProgramFault → Type 0
+PrintsFiles g image settings printout files before after result =
+    AreClean g files.log files.db → (t : Tables) → IsSorted t → HaveOffice image t → IsPrintout settings printout t before after result
 
 -- A day leads from one pair of files to the other, whether these were closed in the end or a stop left them.
 abbrev pub DayIn : Image → Settings → ℕ → Image → Type 0

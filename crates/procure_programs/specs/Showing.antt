@@ -1,5 +1,5 @@
 -- The texts that a program shows of an office, and prints.
-use Rattle.std.specs.Prelude.{◌≡◌, ℕ, Bool, true, List, Option, Some, None, Result, Ok, Err, Vec}
+use Rattle.std.specs.Prelude.{◌≡◌, ◌⊎◌, ℕ, Bool, true, List, Option, Some, None, Result, Ok, Err, Vec}
 use Rattle.std.specs.Io.KnownBytes.{Appends}
 use Rattle.std.specs.declared.alloc.Global.{Global}
 use Rattle.office_commands.specs.declared.command.Caller.TheVariants.{Public}
@@ -11,11 +11,14 @@ use Rattle.office_values.specs.declared.settings.Settings.{Settings}
 use Rattle.office_base.specs.Tables.{Tables}
 use Rattle.office_desk.specs.Steps.{HasShown, IsSeen}
 use Rattle.office_wire.specs.Sending.{AppendsPart}
-use Rattle.procure_config.specs.Faults.{no_route}
+use Rattle.tender_papers.specs.Listing.{listing_text}
+use Rattle.procure_config.specs.Configuration.{settings_in}
+use Rattle.procure_config.specs.Faults.{no_memory, no_route, of_settings}
 use Rattle.procure_config.specs.Jobs.{Asked, Desk, Evaluation, Ledger, Minutes, Notices, Record, Serve}
 use Rattle.procure_config.specs.declared.fault.ProgramFault.{ProgramFault}
 use Rattle.procure_config.specs.declared.fault.ProgramFault.TheVariants as fault
 use Rattle.procure_config.specs.declared.fault.ProgramFault.TheVariants.{Refused}
+use Rattle.procure_config.specs.declared.settings.SettingsFault.{SettingsFault}
 use Rattle.procure_programs.specs.declared.showing.Printout.{Printout}
 use Rattle.procure_programs.specs.declared.showing.Printout.TheVariants as printouts
 use Rattle.procure_programs.specs.declared.showing.Printout.TheVariants.{Seen}
@@ -50,6 +53,12 @@ IsPrinted settings query s before after (Err fault.Output) =
 IsPrinted settings query s before after (Err (Refused why)) = IsSeen settings.publisher Public query s (Err why) × (after ≡ before)
 IsPrinted settings query s before after (Err _) = ⊥
 
+-- The printout of an office was added to the output: the text of a query, or the list of its notices. Of a list that wasn't printed whole nothing is said.
+abbrev pub IsPrintout : Settings → Printout → Tables → Option (List ℕ) → Option (List ℕ) → Result (Unit {0}) ProgramFault → Type 0
+IsPrintout settings (Seen query) s before after result = IsPrinted settings query s before after result
+IsPrintout settings printouts.Notices s before after (Ok done) = Appends before after (listing_text s.notices)
+IsPrintout settings printouts.Notices s before after (Err why) = Unit {0}
+
 -- The words ask for a text about a named notice. The result is `NoRoute` if the name isn't an identifier.
 abbrev pub AsksOfNotice : (List ℕ → Query) → List ℕ → Result (Option Printout) ProgramFault → Type 0
 AsksOfNotice query notice (Ok asked) = IsId notice × (asked ≡ Some (Seen (query notice)))
@@ -70,3 +79,7 @@ abbrev pub IsOfSettings : ProgramFault → Type 0
 IsOfSettings (Refused why) = why ≡ Unavailable
 IsOfSettings (fault.Settings member) = Unit {0}
 IsOfSettings _ = ⊥
+
+-- The text gives no settings, and this is the fault of it. Or memory is too small to read the text.
+abbrev pub IsOfText : List ℕ → ProgramFault → Type 0
+IsOfText text told = (told ≡ no_memory) ⊎ ((why : SettingsFault) × (settings_in text ≡ Err why) × (told ≡ of_settings why))

@@ -1,18 +1,21 @@
 //! The programs over an office in a file. Each of them closes the file in the end, so that the file alone is the office.
-ghost use Rattle.std.specs.Prelude.{IfErr, IfOk, IfSome};
+ghost use Rattle.std.specs.Prelude.{◌≡◌, true, IfErr, IfOk, IfSome, OnOk};
 ghost use Rattle.sqlite_wal.specs.Files.{image_at};
 ghost use Rattle.sqlite_wal.specs.Reads.{AreClean};
 ghost use Rattle.sqlite.specs.Closing.{IsCopied};
 ghost use Rattle.sqlite.specs.Files.{file_state};
 ghost use Rattle.sqlite.specs.State.{HasCleanDisk};
-ghost use Rattle.office_base.specs.Shelves.{Keeps};
+ghost use Rattle.office_base.specs.Shelves.{Looks};
 ghost use Rattle.office_store.specs.Reopening.{IsHalfClosed, OpensHeld};
 ghost use Rattle.office_store.specs.SqlMeaning.{LeavesNoOther, LeavesShown, sql_meaning};
 ghost use Rattle.procure_programs.specs.FaultsTold.{IsOfStore};
+ghost use Rattle.procure_programs.specs.Hosts.{hosting};
 ghost use Rattle.procure_programs.specs.Placed.{OpensEmpty};
-ghost use Rattle.procure_programs.specs.Serving.{HalfClosesFiles, ServesFiles, ServesOpened, StopsFiles, WasServed};
+ghost use Rattle.procure_programs.specs.Serving.{HalfClosesFiles, PrintsFiles, ServesFiles, ServesFilesAt, ServesOpened, StopsFiles, WasServed, WasServedAt, sql_standing};
+ghost use Rattle.procure_programs.specs.Showing.{IsPrintout};
 
 use crate::faults::{of_opening, of_shelf};
+use crate::host::{Computer, Host, Network};
 use crate::kept::{print_office, serve_office};
 use crate::placing::place_empty;
 use crate::room::{page_size_at, room_for};
@@ -21,9 +24,12 @@ use office_machine::laws::order;
 use office_store::opened::{Opened, Origin};
 use office_store::shelf::SqlShelf;
 use office_values::settings::Settings;
+use office_wire::watched::WatchedWriter;
 use procure_config::fault::ProgramFault;
 use sqlite::{Alter, FileFrom, FileStore, Files, Start, Unknown};
 use sqlite_disk::Disk;
+use std::alloc::Global;
+use std::io::{Read, Write};
 
 // Opens the office in a file, or makes a new one if the file holds nothing. If there is no file, the new file has small pages.
 #[tactic(auto, using(crate::proofs::FaultSteps::opening_is))]
@@ -52,6 +58,7 @@ fn close_office<D: Disk + Drop>(
     worked: Result<(), ProgramFault>,
 ) -> Result<(Files<D>, Result<(), ProgramFault>), (ProgramFault, FileStore<D>)>
     ensures closed { IfOk result (λ left. AreClean D.Disk left.0.log left.0.db → IsCopied shelf.0 left.0) }
+    ensures worked { IfOk result (λ left. left.1 ≡ worked) }
     ensures half { IfErr result (λ left. IsHalfClosed shelf.0 left.1) }
 {
     match shelf.close_files() {
@@ -71,51 +78,58 @@ fn let_go<D: Disk + Drop>(store: Option<FileStore<D>>) {
 }
 
 // Generic in the store, not in the disk below it. So the prover doesn't compare the facts about any store again for a store over files.
-fn serve_shelf<A: Alter + Drop>(
-    rt: &HostRuntime,
+fn serve_shelf<N: Network, A: Alter + Drop>(
+    alloc: Global,
+    network: &N,
     settings: Settings,
     shelf: SqlShelf<A>,
     port: u16,
     count: u32,
 ) -> Result<(SqlShelf<A>, Result<(), ProgramFault>), ProgramFault>
     ensures serves { IfOk result (λ left. WasServed (sql_meaning A.Store) count settings shelf left.0) }
+    ensures turns { IfOk result (λ left. WasServedAt N.binds (hosting N.Opened.events N.Opened.Reader.remaining N.Opened.Writer.contents)
+        (sql_meaning A.Store) (sql_standing A.Store) network.now port count settings shelf left.0 left.1) }
     ensures fault { IfErr result IsOfStore }
 {
-    serve_office(rt, settings, shelf, port, count)
+    serve_office(alloc, network, settings, shelf, port, count)
 }
 
 // Generic in the store, not in the disk below it, as `serve_shelf` is.
-fn print_shelf<A: Alter + Drop>(
-    rt: &HostRuntime,
+fn print_shelf<A: Alter + Drop, W: Write>(
+    alloc: Global,
     settings: Settings,
     shelf: SqlShelf<A>,
     printout: Printout,
+    output: &mut WatchedWriter<W>,
 ) -> (SqlShelf<A>, Result<(), ProgramFault>)
-    ensures { Keeps (sql_meaning A.Store) shelf result.0 }
+    ensures looks { Looks (sql_meaning A.Store) shelf result.0 (λ s. IsPrintout settings printout s output.old.contents output.new.contents result.1) }
+    ensures flushed { OnOk result.1 (output.new.is_flushed ≡ true) }
 {
-    print_office(rt, settings, shelf, printout)
+    print_office(alloc, settings, shelf, printout, output)
 }
 
 // Opens the office in a file and serves this many connections from it.
-fn serve_open<S: Start>(
+fn serve_open<N: Network, S: Start>(
     rt: &HostRuntime,
+    network: &N,
     settings: Settings,
     path: &str,
     start: S,
     port: u16,
     count: u32,
 ) -> Result<(SqlShelf<FileStore<FileFrom<S>>>, Result<(), ProgramFault>), ProgramFault>
-    ensures serves { IfOk result (λ left. ServesOpened (image_at S.Start) settings count left.0) }
+    ensures serves { IfOk result (λ left. ServesOpened N.binds (hosting N.Opened.events N.Opened.Reader.remaining N.Opened.Writer.contents) network.now port (image_at S.Start) settings count left.0 left.1) }
     ensures fault { IfErr result IsOfStore }
 {
     let opened = open_office(rt, path, start)?;
-    serve_shelf(rt, settings, opened.shelf, port, count)
+    serve_shelf(rt.alloc(), network, settings, opened.shelf, port, count)
 }
 
 /// The state that a stop of `serve_from` leaves. The stop comes between two connections, or at any write of a command if the disk accepts nothing from some
 /// call on. This function goes as far as that and doesn't close the files. The next day continues from any content that they then have.
-pub fn stop_from<S: Start>(
+pub fn stop_from<N: Network, S: Start>(
     rt: &HostRuntime,
+    network: &N,
     settings: Settings,
     path: &str,
     start: S,
@@ -125,15 +139,16 @@ pub fn stop_from<S: Start>(
     ensures stops { IfOk result (λ left. StopsFiles (image_at S.Start) settings count left.0) }
 {
     order();
-    let (shelf, served) = serve_open(rt, settings, path, start, port, count)?;
+    let (shelf, served) = serve_open(rt, network, settings, path, start, port, count)?;
     Ok((shelf.put_down(), served))
 }
 
-/// Serves this many connections from the office in a file. The type `S` says what its two files held, which may be anything. Returns the files, which are
-/// closed, and the result of serving. If the office couldn't be closed, as when the program is stopped there, the fault comes with its store; if it wasn't
-/// opened, the fault comes alone. `stop_from` says what a stop leaves before the closing.
-pub fn serve_from<S: Start>(
+/// Serves this many connections to 127.0.0.1 and this port, from the office in a file. The type `S` says what its two files held, which may be anything. Returns
+/// the files, which are closed, and the result of serving. If the office couldn't be closed, as when the program is stopped there, the fault comes with its
+/// store; if it wasn't opened, the fault comes alone. `stop_from` says what a stop leaves before the closing.
+pub fn serve_from<N: Network, S: Start>(
     rt: &HostRuntime,
+    network: &N,
     settings: Settings,
     path: &str,
     start: S,
@@ -144,10 +159,12 @@ pub fn serve_from<S: Start>(
     (ProgramFault, Option<FileStore<FileFrom<S>>>),
 >
     ensures serves { IfOk result (λ left. ServesFiles ⟦<FileFrom<S> as Disk>⟧ (image_at S.Start) settings count left.0) }
+    ensures turns { IfOk result (λ left. ServesFilesAt ⟦<FileFrom<S> as Disk>⟧ N.binds (hosting N.Opened.events N.Opened.Reader.remaining N.Opened.Writer.contents)
+        network.now port (image_at S.Start) settings count left.0 left.1) }
     ensures half { IfErr result (λ left. IfSome left.1 (HalfClosesFiles (image_at S.Start) settings count)) }
 {
     order();
-    let (shelf, served) = match serve_open(rt, settings, path, start, port, count) {
+    let (shelf, served) = match serve_open(rt, network, settings, path, start, port, count) {
         Ok(left) => left,
         Err(fault) => return Err((fault, None)),
     };
@@ -170,17 +187,21 @@ fn tell_origin(rt: &HostRuntime, path: &str, origin: Origin) {
 
 /// Prints the text that the public sees of the office in a file, whatever its two files held. Reports on the standard error if the office was made or migrated
 /// there. Nothing else changes. Returns the files and the result, as `serve_from` does.
-pub fn print_from<S: Start>(
+pub fn print_from<S: Start, W: Write>(
     rt: &HostRuntime,
     settings: Settings,
     path: &str,
     start: S,
     printout: Printout,
+    output: &mut WatchedWriter<W>,
 ) -> Result<
     (Files<FileFrom<S>>, Result<(), ProgramFault>),
     (ProgramFault, Option<FileStore<FileFrom<S>>>),
 >
     ensures keeps { IfOk result (λ left. ServesFiles ⟦<FileFrom<S> as Disk>⟧ (image_at S.Start) settings 0 left.0) }
+    ensures printed { IfOk result (λ left. PrintsFiles ⟦<FileFrom<S> as Disk>⟧ (image_at S.Start) settings printout left.0
+        output.old.contents output.new.contents left.1) }
+    ensures flushed { IfOk result (λ left. OnOk left.1 (output.new.is_flushed ≡ true)) }
     ensures half { IfErr result (λ left. IfSome left.1 (HalfClosesFiles (image_at S.Start) settings 0)) }
 {
     order();
@@ -189,15 +210,15 @@ pub fn print_from<S: Start>(
         Err(fault) => return Err((fault, None)),
     };
     tell_origin(rt, path, opened.origin);
-    let (shelf, printed) = print_shelf(rt, settings, opened.shelf, printout);
+    let (shelf, printed) = print_shelf(rt.alloc(), settings, opened.shelf, printout, output);
     match close_office(shelf, printed) {
         Ok(left) => Ok(left),
         Err((fault, store)) => Err((fault, Some(store))),
     }
 }
 
-/// `serve_from` for `main`, with `Unknown`, of which no contract says anything unless the file is empty. The proof is that of `serve_from`, whose code is the
-/// same for every content of the files.
+/// `serve_from` for `main`, over the computer's sockets and clock, with `Unknown`, of which no contract says anything unless the file is empty. The proof is that
+/// of `serve_from`, whose code is the same for every content of the files and for every network.
 pub fn serve_file(
     rt: &HostRuntime,
     settings: Settings,
@@ -205,7 +226,8 @@ pub fn serve_file(
     port: u16,
     count: u32,
 ) -> Result<(), ProgramFault> {
-    match serve_from(rt, settings, path, Unknown, port, count) {
+    let computer = Computer { network: rt };
+    match serve_from(rt, &computer, settings, path, Unknown, port, count) {
         Ok((_files, served)) => served,
         Err((fault, store)) => {
             let_go(store);
@@ -214,14 +236,15 @@ pub fn serve_file(
     }
 }
 
-/// `print_from` for `main`.
+/// `print_from` for `main`, on the standard output.
 pub fn print_file(
     rt: &HostRuntime,
     settings: Settings,
     path: &str,
     printout: Printout,
 ) -> Result<(), ProgramFault> {
-    match print_from(rt, settings, path, Unknown, printout) {
+    let mut output = WatchedWriter::new(rt.stdout());
+    match print_from(rt, settings, path, Unknown, printout, &mut output) {
         Ok((_files, printed)) => printed,
         Err((fault, store)) => {
             let_go(store);
