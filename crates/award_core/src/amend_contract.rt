@@ -1,11 +1,11 @@
 //! The decision on the amendment of a contract.
-ghost use Rattle.std.specs.Prelude.{◌≡◌, ◌&&◌, ◌<◌, IfSome, IfNone, nat_lt, IfOk, IfErr, false};
+ghost use Rattle.std.specs.Prelude.{◌≡◌, ◌+◌, ◌≤◌, ◌&&◌, ◌<◌, [], IfSome, IfNone, nat_lt, IfOk, IfErr, false, vec_len, vec_capacity};
 ghost use Rattle.office_values.specs.Money.{total_limit};
 ghost use Rattle.office_values.specs.declared.refusal.Refusal.TheVariants.{Unavailable};
 ghost use Rattle.office_base.specs.Deciding.{Decides};
 ghost use Rattle.office_base.specs.Joined.{free_in};
 ghost use Rattle.office_base.specs.Rules.{first_of};
-ghost use Rattle.award_core.specs.Rules.AmendContract.{is_running, is_raising, entry_kind, line_after, amend_contract_lacks, amend_contract_tests, amend_contract_puts};
+ghost use Rattle.award_core.specs.Rules.AmendContract.{CantChange, is_running, is_raising, entry_kind, line_after, amend_contract_lacks, amend_contract_tests, amend_contract_puts};
 
 use crate::entries::{has_all_entries, has_entry, is_beyond, is_overdrawn};
 use crate::lines::{free_on, with_free};
@@ -19,7 +19,7 @@ use office_values::id::Id;
 use office_values::moment::Moment;
 use office_values::refusal::{Refusal, Thing};
 use office_values::text::TextLine;
-use std::alloc::Global;
+use std::alloc::{AllocError, Global};
 
 /// The rows that the amendment of a contract reads: the contract, its entries, its notice, its budget line, and the clock.
 #[derive(Drop)]
@@ -96,10 +96,18 @@ pub fn refusal(
     None
 }
 
-/// The changes of the amendment. `Unavailable` if a row is missing, if more was taken from the contract than was added, or if the line would have more than
-/// 10^15 free. It is also the answer if the notice has as many releases as it can have.
+/// An empty list with places for the four changes of an amendment.
+pub fn places(alloc: Global) -> Result<Vec<Put>, AllocError>
+    ensures empty { IfOk result (λ places. places.items ≡ []) }
+    ensures enough { IfOk result (λ places. vec_len places + 4 ≤ vec_capacity places) }
+{
+    Vec::with_capacity(alloc, 4)
+}
+
+/// The changes of the amendment, in these places. It allocates no memory. `Unavailable` if a row is missing, if more was taken from the contract than was added,
+/// or if the line would have more than 10^15 free. It is also the answer if the notice has as many releases as it can have.
 pub fn puts(
-    alloc: Global,
+    places: Vec<Put>,
     t: Moment,
     rows: AmendContractRows,
     entry: Id,
@@ -107,9 +115,11 @@ pub fn puts(
     amount: EntryAmount,
     rationale: TextLine,
 ) -> Result<Vec<Put>, Refusal>
+    requires empty { places.items ≡ [] }
+    requires enough { vec_len places + 4 ≤ vec_capacity places }
     ensures puts { IfOk result (λ made. made.items ≡ amend_contract_puts rows t entry kind amount rationale) }
     ensures whole { IfOk result (λ _. amend_contract_lacks rows ≡ false) }
-    ensures fault { IfErr result (λ e. e ≡ Unavailable) }
+    ensures fault { IfErr result (λ e. (e ≡ Unavailable) × CantChange kind amount rows) }
 {
     let contract = rows.contract.ok_or(Refusal::Unavailable)?;
     let notice = rows.notice.ok_or(Refusal::Unavailable)?;
@@ -119,18 +129,18 @@ pub fn puts(
     }
     let notice = with_next_release(notice).ok_or(Refusal::Unavailable)?;
     let line = line_after(kind, amount, line).ok_or(Refusal::Unavailable)?;
-    let mut made = Vec::with_capacity(alloc, 4)?;
-    made.push(Put::Entry(EntryRow {
+    let mut made = places;
+    made.push_reserved(Put::Entry(EntryRow {
         contract: contract.contract,
         entry,
         kind: entry_kind(kind),
         amount,
         moment: t,
         rationale: Some(rationale),
-    }))?;
-    made.push(Put::Line(line))?;
-    made.push(Put::Notice(notice))?;
-    made.push(Put::Clock(at_moment(rows.clock, t)))?;
+    }));
+    made.push_reserved(Put::Line(line));
+    made.push_reserved(Put::Notice(notice));
+    made.push_reserved(Put::Clock(at_moment(rows.clock, t)));
     Ok(made)
 }
 
@@ -149,6 +159,6 @@ pub fn decide_amend_contract(
 {
     match refusal(&rows, &entry, kind, amount) {
         Some(why) => Err(why),
-        None => puts(alloc, t, rows, entry, kind, amount, rationale),
+        None => puts(places(alloc)?, t, rows, entry, kind, amount, rationale),
     }
 }

@@ -136,16 +136,16 @@ fn lost(
     let notice = with_next_release(notice).ok_or(Refusal::Unavailable)?;
     let nothing = Amount::read(0).unwrap();
     let line = line_after(line, lot.reserved, nothing).ok_or(Refusal::Unavailable)?;
-    let mut made = Vec::with_capacity(alloc, 4)?;
-    made.push(Put::Lot(LotRow {
+    let mut made = Vec::with_capacity(alloc, securities.len() + 4)?;
+    made.push_reserved(Put::Lot(LotRow {
         state: LotState::Unsuccessful,
         reserved: nothing,
         ..lot
-    }))?;
-    made.push(Put::Line(line))?;
-    made.push(Put::Notice(notice))?;
-    made.push(Put::Clock(at_moment(clock, t)))?;
-    push_returned(&mut made, securities)?;
+    }));
+    made.push_reserved(Put::Line(line));
+    made.push_reserved(Put::Notice(notice));
+    made.push_reserved(Put::Clock(at_moment(clock, t)));
+    push_returned(&mut made, securities);
     Ok(made)
 }
 

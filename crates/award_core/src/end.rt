@@ -1,10 +1,10 @@
 //! The decision on the end of a contract.
-ghost use Rattle.std.specs.Prelude.{◌≡◌, ◌++◌, IfSome, OnOk, IfOk, IfErr, false};
+ghost use Rattle.std.specs.Prelude.{◌≡◌, ◌+◌, ◌≤◌, ◌<◌, ◌++◌, [], IfSome, IfOk, IfErr, false, vec_len, vec_capacity};
 ghost use Rattle.office_values.specs.declared.refusal.Refusal.TheVariants.{Unavailable};
 ghost use Rattle.office_base.specs.Deciding.{Decides};
 ghost use Rattle.office_base.specs.Transitions.{performance_settled, put_if};
 ghost use Rattle.office_base.specs.Rules.{first_of};
-ghost use Rattle.award_core.specs.Rules.End.{end_lacks, end_tests, end_puts, ended_contract, ended_state, lacks_performance};
+ghost use Rattle.award_core.specs.Rules.End.{CantEnd, end_lacks, end_tests, end_puts, ended_contract, ended_state, lacks_performance};
 
 use crate::entries::{is_overdrawn, outstanding};
 use crate::lines::with_free;
@@ -50,18 +50,14 @@ fn ended_state(how: How) -> SecurityState
     }
 }
 
-// Appends the change of the performance security, if there is one.
-fn push_settled(
-    made: &mut Vec<Put>,
-    security: Option<PerformanceRow>,
-    state: SecurityState,
-) -> Result<(), AllocError>
-    ensures { OnOk result (made.new.items ≡ made.old.items ++ put_if (performance_settled state) security) }
+// Appends the change of the performance security, if there is one. It allocates no memory.
+fn push_settled(made: &mut Vec<Put>, security: Option<PerformanceRow>, state: SecurityState)
+    requires { vec_len made.old < vec_capacity made.old }
+    ensures { made.new.items ≡ made.old.items ++ put_if (performance_settled state) security }
 {
     if let Some(row) = security {
-        made.push(Put::Performance(settled_performance(row, state)))?;
+        made.push_reserved(Put::Performance(settled_performance(row, state)));
     }
-    Ok(())
 }
 
 /// The refusal of the end, if one of its conditions is true.
@@ -80,12 +76,22 @@ pub fn refusal(rows: &EndRows) -> Option<Refusal>
     None
 }
 
-/// The changes of the end. `Unavailable` if a row is missing, if more was taken from the contract than was added, or if a sum is above its bound. It is also
-/// the answer if the notice has as many releases as it can have.
-pub fn puts(alloc: Global, t: Moment, rows: EndRows, how: How) -> Result<Vec<Put>, Refusal>
+/// An empty list with places for the changes of an end, five at most.
+pub fn places(alloc: Global) -> Result<Vec<Put>, AllocError>
+    ensures empty { IfOk result (λ places. places.items ≡ []) }
+    ensures enough { IfOk result (λ places. vec_len places + 5 ≤ vec_capacity places) }
+{
+    Vec::with_capacity(alloc, 5)
+}
+
+/// The changes of the end, in these places. It allocates no memory. `Unavailable` if a row is missing, if more was taken from the contract than was added, or if
+/// a sum is above its bound. It is also the answer if the notice has as many releases as it can have.
+pub fn puts(places: Vec<Put>, t: Moment, rows: EndRows, how: How) -> Result<Vec<Put>, Refusal>
+    requires empty { places.items ≡ [] }
+    requires enough { vec_len places + 5 ≤ vec_capacity places }
     ensures puts { IfOk result (λ made. made.items ≡ end_puts rows t how) }
     ensures whole { IfOk result (λ _. end_lacks rows ≡ false) }
-    ensures fault { IfErr result (λ e. e ≡ Unavailable) }
+    ensures fault { IfErr result (λ e. (e ≡ Unavailable) × CantEnd rows) }
 {
     let contract = rows.contract.ok_or(Refusal::Unavailable)?;
     let notice = rows.notice.ok_or(Refusal::Unavailable)?;
@@ -106,12 +112,12 @@ pub fn puts(alloc: Global, t: Moment, rows: EndRows, how: How) -> Result<Vec<Put
         released: Total::of_sum(rest).ok_or(Refusal::Unavailable)?,
         ..contract
     };
-    let mut made = Vec::with_capacity(alloc, 5)?;
-    made.push(Put::Contract(contract))?;
-    made.push(Put::Line(line))?;
-    made.push(Put::Notice(notice))?;
-    made.push(Put::Clock(at_moment(rows.clock, t)))?;
-    push_settled(&mut made, rows.performance, ended_state(how))?;
+    let mut made = places;
+    made.push_reserved(Put::Contract(contract));
+    made.push_reserved(Put::Line(line));
+    made.push_reserved(Put::Notice(notice));
+    made.push_reserved(Put::Clock(at_moment(rows.clock, t)));
+    push_settled(&mut made, rows.performance, ended_state(how));
     Ok(made)
 }
 
@@ -123,6 +129,6 @@ pub fn decide_end(alloc: Global, t: Moment, rows: EndRows, how: How) -> Result<V
 {
     match refusal(&rows) {
         Some(why) => Err(why),
-        None => puts(alloc, t, rows, how),
+        None => puts(places(alloc)?, t, rows, how),
     }
 }

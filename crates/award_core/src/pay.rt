@@ -1,9 +1,9 @@
 //! The decision on a payment under a contract.
-ghost use Rattle.std.specs.Prelude.{◌≡◌, IfOk, IfErr, false};
+ghost use Rattle.std.specs.Prelude.{◌≡◌, ◌+◌, ◌≤◌, [], IfOk, IfErr, false, vec_len, vec_capacity};
 ghost use Rattle.office_values.specs.declared.refusal.Refusal.TheVariants.{Unavailable};
 ghost use Rattle.office_base.specs.Deciding.{Decides};
 ghost use Rattle.office_base.specs.Rules.{first_of};
-ghost use Rattle.award_core.specs.Rules.Pay.{pay_lacks, pay_tests, pay_puts};
+ghost use Rattle.award_core.specs.Rules.Pay.{CantPay, pay_lacks, pay_tests, pay_puts};
 
 use crate::entries::{has_all_entries, has_entry, is_beyond};
 use office_base::puts::Put;
@@ -14,7 +14,7 @@ use office_commands::amounts::EntryAmount;
 use office_values::id::Id;
 use office_values::moment::Moment;
 use office_values::refusal::{Refusal, Thing};
-use std::alloc::Global;
+use std::alloc::{AllocError, Global};
 
 /// The rows that a payment reads: the contract, its entries, its notice, and the clock.
 #[derive(Drop)]
@@ -47,32 +47,43 @@ pub fn refusal(rows: &PayRows, entry: &Id, amount: EntryAmount) -> Option<Refusa
     None
 }
 
-/// The changes of the payment. `Unavailable` if the contract or its notice is missing, or if the notice has as many releases as it can have.
+/// An empty list with places for the three changes of a payment.
+pub fn places(alloc: Global) -> Result<Vec<Put>, AllocError>
+    ensures empty { IfOk result (λ places. places.items ≡ []) }
+    ensures enough { IfOk result (λ places. vec_len places + 3 ≤ vec_capacity places) }
+{
+    Vec::with_capacity(alloc, 3)
+}
+
+/// The changes of the payment, in these places. It allocates no memory. `Unavailable` if the contract or its notice is missing, or if the notice has as many
+/// releases as it can have.
 pub fn puts(
-    alloc: Global,
+    places: Vec<Put>,
     t: Moment,
     rows: PayRows,
     entry: Id,
     amount: EntryAmount,
 ) -> Result<Vec<Put>, Refusal>
+    requires empty { places.items ≡ [] }
+    requires enough { vec_len places + 3 ≤ vec_capacity places }
     ensures puts { IfOk result (λ made. made.items ≡ pay_puts rows t entry amount) }
     ensures whole { IfOk result (λ _. pay_lacks rows ≡ false) }
-    ensures fault { IfErr result (λ e. e ≡ Unavailable) }
+    ensures fault { IfErr result (λ e. (e ≡ Unavailable) × CantPay rows) }
 {
     let contract = rows.contract.ok_or(Refusal::Unavailable)?;
     let notice = rows.notice.ok_or(Refusal::Unavailable)?;
     let notice = with_next_release(notice).ok_or(Refusal::Unavailable)?;
-    let mut made = Vec::with_capacity(alloc, 3)?;
-    made.push(Put::Entry(EntryRow {
+    let mut made = places;
+    made.push_reserved(Put::Entry(EntryRow {
         contract: contract.contract,
         entry,
         kind: EntryKind::Payment,
         amount,
         moment: t,
         rationale: None,
-    }))?;
-    made.push(Put::Notice(notice))?;
-    made.push(Put::Clock(at_moment(rows.clock, t)))?;
+    }));
+    made.push_reserved(Put::Notice(notice));
+    made.push_reserved(Put::Clock(at_moment(rows.clock, t)));
     Ok(made)
 }
 
@@ -90,6 +101,6 @@ pub fn decide_pay(
 {
     match refusal(&rows, &entry, amount) {
         Some(why) => Err(why),
-        None => puts(alloc, t, rows, entry, amount),
+        None => puts(places(alloc)?, t, rows, entry, amount),
     }
 }

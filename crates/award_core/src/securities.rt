@@ -1,10 +1,9 @@
 //! Tender securities that are returned.
-ghost use Rattle.std.specs.Prelude.{◌≡◌, ◌++◌, OnOk};
+ghost use Rattle.std.specs.Prelude.{◌≡◌, ◌+◌, ◌≤◌, ◌++◌, length, vec_len, vec_capacity};
 ghost use Rattle.office_base.specs.Transitions.{returned, securities_returned};
 
 use office_base::puts::Put;
 use office_base::records::{SecurityRow, SecurityState};
-use std::alloc::AllocError;
 
 // A copy of the security, returned to its tenderer.
 fn returned_copy(security: &SecurityRow) -> SecurityRow
@@ -21,17 +20,16 @@ fn returned_copy(security: &SecurityRow) -> SecurityRow
     }
 }
 
-// Appends the changes that return those of these securities that are held.
-pub(crate) fn push_returned(
-    made: &mut Vec<Put>,
-    securities: &[SecurityRow],
-) -> Result<(), AllocError>
-    ensures { OnOk result (made.new.items ≡ made.old.items ++ securities_returned securities.now) }
+// Appends the changes that return those of these securities that are held. It allocates no memory.
+pub(crate) fn push_returned(made: &mut Vec<Put>, securities: &[SecurityRow])
+    requires { vec_len made.old + length securities.now ≤ vec_capacity made.old }
+    ensures items { made.new.items ≡ made.old.items ++ securities_returned securities.now }
+    ensures len { vec_len made.new ≤ vec_len made.old + length securities.now }
+    ensures capacity { vec_capacity made.new ≡ vec_capacity made.old }
 {
     for security in securities {
         if security.state == SecurityState::Held {
-            made.push(Put::Security(returned_copy(security)))?;
+            made.push_reserved(Put::Security(returned_copy(security)));
         }
     }
-    Ok(())
 }

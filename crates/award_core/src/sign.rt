@@ -1,10 +1,10 @@
 //! The decision on the signing of a contract.
-ghost use Rattle.std.specs.Prelude.{◌≡◌, ◌++◌, OnOk, IfOk, IfErr, false};
+ghost use Rattle.std.specs.Prelude.{◌≡◌, ◌+◌, ◌≤◌, ◌<◌, ◌++◌, [], IfOk, IfErr, false, length, vec_len, vec_capacity};
 ghost use Rattle.office_values.specs.declared.refusal.Refusal.TheVariants.{Unavailable};
 ghost use Rattle.office_base.specs.Deciding.{Decides};
 ghost use Rattle.office_base.specs.Transitions.{put_if};
 ghost use Rattle.office_base.specs.Rules.{first_of};
-ghost use Rattle.award_core.specs.Rules.Sign.{contract_row, is_missing, performance_is_too_small, isnt_asked, performance_put, performance_row, sign_lacks, sign_tests, sign_puts};
+ghost use Rattle.award_core.specs.Rules.Sign.{CantSign, contract_row, is_missing, performance_is_too_small, isnt_asked, performance_put, performance_row, sign_lacks, sign_tests, sign_puts};
 
 use crate::fail::standing_refusal;
 use crate::securities::push_returned;
@@ -107,30 +107,36 @@ fn performance_row(award: &AwardRow, named: &NamedSecurity) -> PerformanceRow
     }
 }
 
-// Appends the change of the performance security, if one is named.
-fn push_performance(
-    made: &mut Vec<Put>,
-    award: &AwardRow,
-    security: &Option<NamedSecurity>,
-) -> Result<(), AllocError>
-    ensures { OnOk result (made.new.items ≡ made.old.items ++ put_if (performance_put award.now) security.now) }
+// Appends the change of the performance security, if one is named. It allocates no memory.
+fn push_performance(made: &mut Vec<Put>, award: &AwardRow, security: &Option<NamedSecurity>)
+    requires { vec_len made.old < vec_capacity made.old }
+    ensures { made.new.items ≡ made.old.items ++ put_if (performance_put award.now) security.now }
 {
     if let Some(named) = security {
-        made.push(Put::Performance(performance_row(award, named)))?;
+        made.push_reserved(Put::Performance(performance_row(award, named)));
     }
-    Ok(())
 }
 
-/// The changes of the signing. `Unavailable` if a row is missing, or the notice has as many releases as it can have.
+/// An empty list with places for the changes of a signing: six, and one for each tender security of the lot.
+pub fn places(alloc: Global, rows: &SignRows) -> Result<Vec<Put>, AllocError>
+    ensures empty { IfOk result (λ places. places.items ≡ []) }
+    ensures enough { IfOk result (λ places. vec_len places + 6 + length rows.now.securities ≤ vec_capacity places) }
+{
+    Vec::with_capacity(alloc, rows.securities.as_slice().len() + 6)
+}
+
+/// The changes of the signing, in these places. It allocates no memory. `Unavailable` if a row is missing, or the notice has as many releases as it can have.
 pub fn puts(
-    alloc: Global,
+    places: Vec<Put>,
     t: Moment,
     rows: SignRows,
     security: Option<NamedSecurity>,
 ) -> Result<Vec<Put>, Refusal>
+    requires empty { places.items ≡ [] }
+    requires enough { vec_len places + 6 + length rows.securities ≤ vec_capacity places }
     ensures puts { IfOk result (λ made. made.items ≡ sign_puts rows t security) }
     ensures whole { IfOk result (λ _. sign_lacks rows ≡ false) }
-    ensures fault { IfErr result (λ e. e ≡ Unavailable) }
+    ensures fault { IfErr result (λ e. (e ≡ Unavailable) × CantSign rows) }
 {
     let award = rows.award.ok_or(Refusal::Unavailable)?;
     let notice = rows.notice.ok_or(Refusal::Unavailable)?;
@@ -138,21 +144,21 @@ pub fn puts(
     let envelope = rows.envelope.ok_or(Refusal::Unavailable)?;
     let notice = with_next_release(notice).ok_or(Refusal::Unavailable)?;
     let contract = contract_row(t, &award, envelope.tenderer);
-    let mut made = Vec::with_capacity(alloc, 6)?;
-    made.push(Put::Award(AwardRow {
+    let mut made = places;
+    made.push_reserved(Put::Award(AwardRow {
         state: AwardState::Signed,
         ..award
-    }))?;
-    made.push(Put::Lot(LotRow {
+    }));
+    made.push_reserved(Put::Lot(LotRow {
         state: LotState::Contracted,
         reserved: Amount::read(0).unwrap(),
         ..lot
-    }))?;
-    made.push(Put::Contract(contract))?;
-    made.push(Put::Notice(notice))?;
-    made.push(Put::Clock(at_moment(rows.clock, t)))?;
-    push_returned(&mut made, rows.securities.as_slice())?;
-    push_performance(&mut made, &award, &security)?;
+    }));
+    made.push_reserved(Put::Contract(contract));
+    made.push_reserved(Put::Notice(notice));
+    made.push_reserved(Put::Clock(at_moment(rows.clock, t)));
+    push_returned(&mut made, rows.securities.as_slice());
+    push_performance(&mut made, &award, &security);
     Ok(made)
 }
 
@@ -168,6 +174,6 @@ pub fn decide_sign(
 {
     match refusal(t, &rows, &security) {
         Some(why) => Err(why),
-        None => puts(alloc, t, rows, security),
+        None => puts(places(alloc, &rows)?, t, rows, security),
     }
 }

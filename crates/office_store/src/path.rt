@@ -1,5 +1,5 @@
 //! Opens the office in a file of the host.
-ghost use Rattle.std.specs.Prelude.{◌≡◌, true, false, None, IfErr, IfOk, IfSome, IsTrue};
+ghost use Rattle.std.specs.Prelude.{◌≡◌, true, false, None, IfErr, IfOk, IfSome, IsErr, IsOk, IsTrue, OnErr, OnOk};
 ghost use Rattle.sqlite_wal.specs.Files.{image_at};
 ghost use Rattle.sqlite_std_file.specs.File.{file_is_usable, IsFresh};
 ghost use Rattle.sqlite.specs.Files.{file_state};
@@ -13,7 +13,7 @@ use crate::shelf::SqlShelf;
 use sqlite::{FileFrom, FileStore, Files, Leftover, Options, Start};
 use sqlite_std_file::OpenError;
 use std::hash::{BuildHasher, RandomState};
-use std::io::ErrorKind;
+use std::io::{self, ErrorKind};
 use std::rt::HostRuntime;
 
 /// How much of an office's file is kept in memory and in the log.
@@ -48,11 +48,15 @@ fn files_at<S: Start>(
     }
 }
 
-// The options of the store, with a random seed for the salts of its log.
-fn options_for(rt: &HostRuntime, room: Room) -> Result<Options, OpenFault>
-    ensures { IfErr result (λ fault. fault ≡ OpenFault.NotAnOffice → ⊥) }
+// The options of the store, with a seed for the salts of its log from this random state. `Store` exactly if the computer gave none.
+fn options_for(random: io::Result<RandomState>, room: Room) -> Result<Options, OpenFault>
+    ensures pages { IfOk result (λ options. options.cache_pages ≡ room.pages) }
+    ensures frames { IfOk result (λ options. options.checkpoint_frames ≡ room.frames) }
+    ensures fault { IfErr result (λ fault. fault ≡ OpenFault.Store) }
+    ensures cause { OnErr result (IsErr random) }
+    ensures right { OnOk result (IsOk random) }
 {
-    let Ok(state) = RandomState::new(rt) else {
+    let Ok(state) = random else {
         return Err(OpenFault::Store);
     };
     let mut options = Options::new(state.hash_one(&0u8));
@@ -84,7 +88,7 @@ impl<S: Start> SqlShelf<FileStore<FileFrom<S>>> {
             Ok(files) => files,
             Err(fault) => return Err((fault, None)),
         };
-        let options = match options_for(rt, room) {
+        let options = match options_for(RandomState::new(rt), room) {
             Ok(options) => options,
             Err(fault) => return Err((fault, None)),
         };

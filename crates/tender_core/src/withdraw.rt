@@ -1,11 +1,11 @@
 //! The decision on the withdrawal of a tender.
-ghost use Rattle.std.specs.Prelude.{◌≡◌, ◌++◌, IfErr, OnOk, IfOk, Some, None, false};
+ghost use Rattle.std.specs.Prelude.{◌≡◌, ◌+◌, ◌≤◌, ◌<◌, ◌++◌, [], IfErr, IfOk, Some, None, false, vec_len, vec_capacity};
 ghost use Rattle.office_values.specs.declared.refusal.Refusal.TheVariants.{Unavailable};
 ghost use Rattle.office_base.specs.Deciding.{Decides};
 ghost use Rattle.office_base.specs.Rows.{holds_of};
 ghost use Rattle.office_base.specs.Rules.{first_of};
 ghost use Rattle.office_base.specs.Transitions.{is_expired, is_late, put_if, security_settled};
-ghost use Rattle.tender_core.specs.Rules.Withdraw.{cant_be_taken_back, is_decided, taken_back_puts, withdraw_lacks, withdraw_tests, withdraw_puts};
+ghost use Rattle.tender_core.specs.Rules.Withdraw.{CantWithdraw, cant_be_taken_back, is_decided, taken_back_puts, withdraw_lacks, withdraw_tests, withdraw_puts};
 
 use crate::tenders::{is_by, is_late, is_past_deadline, withdrawn};
 use office_base::puts::Put;
@@ -17,7 +17,7 @@ use office_base::transitions::{at_moment, is_expired, lacks_security, passed_ove
 use office_commands::command::Caller;
 use office_values::moment::Moment;
 use office_values::refusal::{Refusal, Thing};
-use std::alloc::Global;
+use std::alloc::{AllocError, Global};
 
 /// The rows that a withdrawal reads: the tender, its notice, its lot, the row that allows late withdrawals, its security, and the clock.
 #[derive(Drop)]
@@ -62,46 +62,42 @@ fn is_over(t: Moment, notice: &Option<NoticeRow>) -> bool
     }
 }
 
-// Appends the change of the tender's security, if it has one: returned or forfeited.
-fn push_settled(
-    made: &mut Vec<Put>,
-    security: Option<SecurityRow>,
-    state: SecurityState,
-) -> Result<(), Refusal>
-    ensures puts { OnOk result (made.new.items ≡ made.old.items ++ put_if (security_settled state) security) }
-    ensures fault { IfErr result (λ e. e ≡ Unavailable) }
+// Appends the change of the tender's security, if it has one: returned or forfeited. It allocates no memory.
+fn push_settled(made: &mut Vec<Put>, security: Option<SecurityRow>, state: SecurityState)
+    requires { vec_len made.old < vec_capacity made.old }
+    ensures { made.new.items ≡ made.old.items ++ put_if (security_settled state) security }
 {
     if let Some(row) = security {
-        made.push(Put::Security(settled(row, state)))?;
+        made.push_reserved(Put::Security(settled(row, state)));
     }
-    Ok(())
 }
 
-// The changes of this tender and this security, before the deadline or from the deadline on.
+// The changes of this tender and this security, before the deadline or from the deadline on, in these places. It allocates no memory, and can't fail.
 fn taken_back(
-    alloc: Global,
+    places: Vec<Put>,
     t: Moment,
     clock: ClockRow,
     row: EnvelopeRow,
     security: Option<SecurityRow>,
     is_late: bool,
-) -> Result<Vec<Put>, Refusal>
-    ensures puts { IfOk result (λ made. made.items ≡ taken_back_puts clock t row security is_late) }
-    ensures fault { IfErr result (λ e. e ≡ Unavailable) }
+) -> Vec<Put>
+    requires empty { places.items ≡ [] }
+    requires enough { vec_len places + 4 ≤ vec_capacity places }
+    ensures puts { result.items ≡ taken_back_puts clock t row security is_late }
 {
-    let mut made = Vec::with_capacity(alloc, 4)?;
+    let mut made = places;
     if is_late {
-        made.push(Put::Envelope(passed_over(row)))?;
-        made.push(Put::Clock(at_moment(clock, t)))?;
-        push_settled(&mut made, security, SecurityState::Forfeited)?;
+        made.push_reserved(Put::Envelope(passed_over(row)));
+        made.push_reserved(Put::Clock(at_moment(clock, t)));
+        push_settled(&mut made, security, SecurityState::Forfeited);
     } else {
         let receipt = row.receipt;
-        made.push(Put::Envelope(withdrawn(row)))?;
-        made.push(Put::DropSeal(receipt))?;
-        made.push(Put::Clock(at_moment(clock, t)))?;
-        push_settled(&mut made, security, SecurityState::Returned)?;
+        made.push_reserved(Put::Envelope(withdrawn(row)));
+        made.push_reserved(Put::DropSeal(receipt));
+        made.push_reserved(Put::Clock(at_moment(clock, t)));
+        push_settled(&mut made, security, SecurityState::Returned);
     }
-    Ok(made)
+    made
 }
 
 /// The refusal of the withdrawal, if one of its conditions is true.
@@ -131,11 +127,22 @@ pub fn refusal(t: Moment, caller: &Caller, rows: &WithdrawRows) -> Option<Refusa
     None
 }
 
-/// The changes of the withdrawal. `Unavailable` if the tender, its notice, its lot or the security that it names doesn't exist.
-pub fn puts(alloc: Global, t: Moment, rows: WithdrawRows) -> Result<Vec<Put>, Refusal>
+/// An empty list with places for the changes of a withdrawal, four at most.
+pub fn places(alloc: Global) -> Result<Vec<Put>, AllocError>
+    ensures empty { IfOk result (λ places. places.items ≡ []) }
+    ensures enough { IfOk result (λ places. vec_len places + 4 ≤ vec_capacity places) }
+{
+    Vec::with_capacity(alloc, 4)
+}
+
+/// The changes of the withdrawal, in these places. It allocates no memory. `Unavailable` exactly if the tender, its notice, its lot or the security that it names
+/// doesn't exist.
+pub fn puts(places: Vec<Put>, t: Moment, rows: WithdrawRows) -> Result<Vec<Put>, Refusal>
+    requires empty { places.items ≡ [] }
+    requires enough { vec_len places + 4 ≤ vec_capacity places }
     ensures puts { IfOk result (λ made. made.items ≡ withdraw_puts rows t) }
     ensures whole { IfOk result (λ _. withdraw_lacks rows ≡ false) }
-    ensures fault { IfErr result (λ e. e ≡ Unavailable) }
+    ensures fault { IfErr result (λ e. (e ≡ Unavailable) × CantWithdraw rows) }
 {
     let late = is_late(&rows.late, t, &rows.notice);
     let envelope = rows.envelope.ok_or(Refusal::Unavailable)?;
@@ -145,7 +152,8 @@ pub fn puts(alloc: Global, t: Moment, rows: WithdrawRows) -> Result<Vec<Put>, Re
     if lacks_security(&envelope, &rows.security) {
         return Err(Refusal::Unavailable);
     }
-    taken_back(alloc, t, rows.clock, envelope, rows.security, late)
+    let made = taken_back(places, t, rows.clock, envelope, rows.security, late);
+    Ok(made)
 }
 
 /// Decides the withdrawal of a tender: the result is its refusal or its changes.
@@ -160,6 +168,6 @@ pub fn decide_withdraw(
 {
     match refusal(t, caller, &rows) {
         Some(why) => Err(why),
-        None => puts(alloc, t, rows),
+        None => puts(places(alloc)?, t, rows),
     }
 }

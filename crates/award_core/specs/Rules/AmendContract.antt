@@ -1,7 +1,8 @@
 -- The rule of a contract's amendment: its value is raised or cut.
-use Rattle.std.specs.Prelude.{ℕ, ◌+◌, ◌-◌, Bool, true, false, not, ◌&&◌, ◌||◌, List, [], ◌∷◌, Some, is_some, nat_lt, nat_le, length}
+use Rattle.std.specs.Prelude.{◌≡◌, ℕ, ◌+◌, ◌-◌, ◌<◌, Bool, true, false, not, ◌&&◌, ◌||◌, List, [], ◌∷◌, Option, Some, None, is_some, nat_lt, nat_le, length}
 use Rattle.std.specs.List.{list_any}
 use Rattle.office_values.specs.Ids.{same_id}
+use Rattle.office_values.specs.Money.{total_limit}
 use Rattle.office_base.specs.Limits.{entry_limit}
 use Rattle.office_commands.specs.declared.contract.ChangeKind.{ChangeKind}
 use Rattle.office_commands.specs.declared.contract.ChangeKind.TheVariants as change_kinds
@@ -97,3 +98,14 @@ amend_contract_puts rows t entry kind amount rationale =
     ∷ clock_put rows.clock t
     ∷ []
     ) rows.line) rows.notice) rows.contract
+
+-- the free money of a line after the change; 0 if the line doesn't exist
+abbrev pub free_changed : ChangeKind → ℕ → Option LineRow → ℕ
+free_changed kind amount None = 0
+free_changed kind amount (Some r) = (line_after kind amount r).free
+
+-- Why an amendment that isn't refused has no changes: a row is missing, or more was taken from the contract than was added (`amend_contract_lacks`). If neither is
+-- so, the line would have more free money than the bound of sums.
+abbrev pub CantChange : ChangeKind → ℕ → AmendContractRows → Type 0
+CantChange kind amount rows =
+    is_some rows.contract ≡ true → has_all_releases rows.notice ≡ false → amend_contract_lacks rows ≡ false → total_limit < free_changed kind amount rows.line

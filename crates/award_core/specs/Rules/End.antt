@@ -1,13 +1,14 @@
 -- The rule of a contract's end: its outstanding amount is free again.
-use Rattle.std.specs.Prelude.{ℕ, ◌+◌, Bool, not, ◌&&◌, ◌||◌, List, [], ◌∷◌, ◌++◌, Option, Some, is_some, nat_lt}
+use Rattle.std.specs.Prelude.{◌≡◌, ℕ, ◌+◌, ◌<◌, Bool, true, false, not, ◌&&◌, ◌||◌, List, [], ◌∷◌, ◌++◌, Option, Some, None, is_some, nat_lt}
 use Rattle.office_commands.specs.declared.contract.How.{How}
 use Rattle.office_commands.specs.declared.contract.How.TheVariants as hows
+use Rattle.office_values.specs.Money.{total_limit}
 use Rattle.office_values.specs.declared.refusal.Thing.TheVariants as things
 use Rattle.office_values.specs.declared.refusal.Refusal.{Refusal}
 use Rattle.office_values.specs.declared.refusal.Refusal.TheVariants.{NoSuch, ContractEnded, LimitReached}
 use Rattle.office_base.specs.Rows.{holds_of}
 use Rattle.office_base.specs.Transitions.{clock_put, with_next_release, has_all_releases, performance_settled, put_if, puts_if}
-use Rattle.office_base.specs.Joined.{is_overdrawn, outstanding}
+use Rattle.office_base.specs.Joined.{free_in, is_overdrawn, outstanding}
 use Rattle.award_core.specs.Rules.AmendContract.{has_ended}
 use Rattle.office_base.specs.declared.records.LineRow.{LineRow}
 use Rattle.office_base.specs.declared.records.NoticeRow.{NoticeRow}
@@ -78,3 +79,15 @@ end_puts rows t how =
     puts_if (λ (c : ContractRow). puts_if (λ (n : NoticeRow). puts_if (λ (r : LineRow).
     end_parts rows.clock t how c rows.entries n r ++ put_if (performance_settled (ended_state how)) rows.performance
     ) rows.line) rows.notice) rows.contract
+
+-- the outstanding amount of a contract; 0 if the contract doesn't exist
+abbrev pub rest_in : List EntryRow → Option ContractRow → ℕ
+rest_in entries None = 0
+rest_in entries (Some c) = outstanding entries c
+
+-- Why an end that isn't refused has no changes: a row is missing, or more was taken from the contract than was added (`end_lacks`). If neither is so, the line
+-- would have more free money than the bound of sums.
+abbrev pub CantEnd : EndRows → Type 0
+CantEnd rows =
+    is_some rows.contract ≡ true → has_all_releases rows.notice ≡ false → end_lacks rows ≡ false
+    → total_limit < free_in rows.line + rest_in rows.entries rows.contract

@@ -1,5 +1,5 @@
 -- The rule of a payment under a contract.
-use Rattle.std.specs.Prelude.{ℕ, Bool, not, ◌&&◌, ◌||◌, List, [], ◌∷◌, None, is_some}
+use Rattle.std.specs.Prelude.{◌≡◌, ℕ, Bool, true, false, not, ◌&&◌, ◌||◌, List, [], ◌∷◌, None, is_some}
 use Rattle.std.specs.List.{list_any}
 use Rattle.office_base.specs.declared.records.EntryKind.TheVariants as entry_kinds
 use Rattle.office_values.specs.declared.refusal.Thing.TheVariants as things
@@ -51,3 +51,7 @@ pay_puts rows t entry amount =
     puts_if (λ (c : ContractRow). puts_if (λ (n : NoticeRow).
     puts.Entry (payment_row t c entry amount) ∷ puts.Notice (with_next_release n) ∷ clock_put rows.clock t ∷ []
     ) rows.notice) rows.contract
+
+-- Why a payment under a contract that exists has no changes: its notice is missing, or has as many releases as it can have.
+abbrev pub CantPay : PayRows → Type 0
+CantPay rows = is_some rows.contract ≡ true → pay_lacks rows ≡ false → has_all_releases rows.notice ≡ true

@@ -1,11 +1,11 @@
 -- The rule of a signing: an award becomes a contract (Model Law, article 22).
-use Rattle.std.specs.Prelude.{ℕ, Bool, not, ◌&&◌, ◌||◌, List, [], ◌∷◌, ◌++◌, Option, Some, None, is_some, nat_lt, nat_eq}
+use Rattle.std.specs.Prelude.{◌≡◌, ℕ, Bool, true, false, not, ◌&&◌, ◌||◌, List, [], ◌∷◌, ◌++◌, Option, Some, None, is_some, nat_lt, nat_eq}
 use Rattle.office_commands.specs.declared.tender.NamedSecurity.{NamedSecurity}
 use Rattle.office_values.specs.declared.refusal.Thing.TheVariants as things
 use Rattle.office_values.specs.declared.refusal.Refusal.{Refusal}
 use Rattle.office_values.specs.declared.refusal.Refusal.TheVariants.{NoSuch, SecurityMissing, SecurityTooSmall, SecurityNotAsked}
 use Rattle.office_base.specs.Rows.{holds_of}
-use Rattle.office_base.specs.Transitions.{clock_put, with_next_release, securities_returned, put_if, puts_if}
+use Rattle.office_base.specs.Transitions.{clock_put, has_all_releases, with_next_release, securities_returned, put_if, puts_if}
 use Rattle.award_core.specs.Rules.Fail.{standing_tests}
 use Rattle.office_base.specs.declared.records.LotState.TheVariants as lot_states
 use Rattle.office_base.specs.declared.records.AwardState.TheVariants as award_states
@@ -110,3 +110,7 @@ sign_puts rows t named =
     puts_if (λ (a : AwardRow). puts_if (λ (n : NoticeRow). puts_if (λ (l : LotRow).
     sign_parts rows.clock t a n l rows.envelope rows.securities ++ put_if (performance_put a) named
     ) rows.lot) rows.notice) rows.award
+
+-- Why a signing of an award that exists has no changes: a row is missing, or the notice has as many releases as it can have.
+abbrev pub CantSign : SignRows → Type 0
+CantSign rows = is_some rows.award ≡ true → sign_lacks rows ≡ false → has_all_releases rows.notice ≡ true

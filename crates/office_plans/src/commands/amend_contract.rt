@@ -19,7 +19,7 @@ use crate::parents::{line_of_lot, lot_of_contract, notice_of_contract};
 use crate::planned::Planned;
 use crate::published::{Released, make_release, published};
 use crate::replies::contract_text;
-use award_core::amend_contract::{AmendContractRows, puts, refusal};
+use award_core::amend_contract::{AmendContractRows, places, puts, refusal};
 use ocds_release::borrowed::BorrowedLine;
 use ocds_release::event::{ContractAmended, Event};
 use office_base::counts::Sequence;
@@ -142,6 +142,7 @@ pub fn plan<H: Lookups>(
         alloc, publisher, asking, &rows, row, entry, kind, amount, &rationale,
     )?;
     let text = reply(alloc, asking, &rows, contract, kind, amount, release.seq)?;
-    let puts = puts(alloc, t, rows, entry, kind, amount, rationale)?;
+    let places = places(alloc)?;
+    let puts = puts(places, t, rows, entry, kind, amount, rationale)?;
     published(alloc, shelf, puts, text, release)
 }

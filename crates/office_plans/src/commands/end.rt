@@ -20,7 +20,7 @@ use crate::parents::{line_of_lot, lot_of_contract, notice_of_contract};
 use crate::planned::Planned;
 use crate::published::{Released, make_release, published};
 use crate::replies::contract_text;
-use award_core::end::{EndRows, puts, refusal};
+use award_core::end::{EndRows, places, puts, refusal};
 use ocds_release::event::{ContractEnded, Event};
 use office_base::counts::Sequence;
 use office_base::laws::looks_follow;
@@ -118,6 +118,7 @@ pub fn plan<H: Lookups>(
     let row = rows.contract.as_ref().unwrap();
     let release = release(alloc, publisher, asking, &rows, row)?;
     let text = reply(alloc, asking, &rows, contract, release.seq)?;
-    let puts = puts(alloc, t, rows, how)?;
+    let places = places(alloc)?;
+    let puts = puts(places, t, rows, how)?;
     published(alloc, shelf, puts, text, release)
 }

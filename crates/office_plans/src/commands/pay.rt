@@ -20,7 +20,7 @@ use crate::parents::notice_of_contract;
 use crate::planned::Planned;
 use crate::published::{Released, make_release, published};
 use crate::replies::contract_text;
-use award_core::pay::{PayRows, puts, refusal};
+use award_core::pay::{PayRows, places, puts, refusal};
 use ocds_release::event::{Event, Paid};
 use office_base::counts::Sequence;
 use office_base::laws::looks_follow;
@@ -127,6 +127,7 @@ pub fn plan<H: Lookups>(
     let row = rows.contract.as_ref().unwrap();
     let release = release(alloc, shelf, publisher, asking, &rows, row, entry, amount)?;
     let text = reply(alloc, asking, &rows, contract, amount, release.seq)?;
-    let puts = puts(alloc, t, rows, entry, amount)?;
+    let places = places(alloc)?;
+    let puts = puts(places, t, rows, entry, amount)?;
     published(alloc, shelf, puts, text, release)
 }

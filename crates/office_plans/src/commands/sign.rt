@@ -22,7 +22,7 @@ use crate::orphans::cant_be_signed;
 use crate::parents::{envelope_of_award, lot_of_award, notice_of_award};
 use crate::planned::Planned;
 use crate::published::{Released, make_release, published};
-use award_core::sign::{SignRows, puts, refusal};
+use award_core::sign::{SignRows, places, puts, refusal};
 use ocds_release::event::{Event, Signed};
 use office_base::counts::Sequence;
 use office_base::laws::looks_follow;
@@ -147,6 +147,7 @@ pub fn plan<H: Lookups>(
     let row = rows.award.as_ref().unwrap();
     let release = release(alloc, shelf, publisher, asking, &rows, row)?;
     let text = reply(alloc, asking, &rows, award, release.seq)?;
-    let puts = puts(alloc, t, rows, security)?;
+    let places = places(alloc, &rows)?;
+    let puts = puts(places, t, rows, security)?;
     published(alloc, shelf, puts, text, release)
 }

@@ -27,7 +27,7 @@ use office_values::refusal::Refusal;
 use std::alloc::{AllocError, Global};
 use tender_core::asking::Asking;
 use tender_core::tenders::is_late;
-use tender_core::withdraw::{WithdrawRows, puts, refusal};
+use tender_core::withdraw::{WithdrawRows, places, puts, refusal};
 
 // Loads the rows by which the command is decided.
 fn load<H: Lookups>(shelf: &mut H, receipt: AskedNumber) -> Result<WithdrawRows, ShelfFault>
@@ -122,6 +122,7 @@ pub fn plan<H: Lookups>(
         return Err(Refusal::Unavailable);
     }
     let text = reply(alloc, t, &rows, receipt)?;
-    let puts = puts(alloc, t, rows)?;
+    let places = places(alloc)?;
+    let puts = puts(places, t, rows)?;
     Ok(silent(puts, text))
 }

@@ -1,6 +1,6 @@
 -- The rule of a withdrawal (Model Law, articles 17 and 41). Before the deadline the tender is withdrawn, and its security is returned. From the deadline on, if
 -- the notice allows it, the tender stays in its state but can't win any more, and its security is forfeited.
-use Rattle.std.specs.Prelude.{ℕ, Bool, true, false, not, cond, ◌&&◌, ◌||◌, List, [], ◌∷◌, Option, is_some}
+use Rattle.std.specs.Prelude.{◌≡◌, ℕ, Bool, true, false, not, cond, ◌&&◌, ◌||◌, List, [], ◌∷◌, Option, is_some}
 use Rattle.office_commands.specs.declared.command.Caller.{Caller}
 use Rattle.office_values.specs.declared.refusal.Thing.TheVariants as things
 use Rattle.office_values.specs.declared.refusal.Refusal.{Refusal}
@@ -69,3 +69,7 @@ withdraw_tests rows t caller =
 abbrev pub withdraw_puts : WithdrawRows → ℕ → List Put
 withdraw_puts rows t =
     puts_if (λ (e : EnvelopeRow). taken_back_puts rows.clock t e rows.security (is_late rows.late t rows.notice)) rows.envelope
+
+-- Why a withdrawal of a tender that exists has no changes: a row is missing.
+abbrev pub CantWithdraw : WithdrawRows → Type 0
+CantWithdraw rows = is_some rows.envelope ≡ true → withdraw_lacks rows ≡ true

@@ -58,6 +58,12 @@ returns-in_err-text-clause-tells g c =
     none_to_tell (rule a.asking.now a.contract a.entry a.amount) _ _ c.time-t.ensures _ _ _ c.in_ok-rows.ensures.0 c.requires _ c.refusal.ensures _ _
     c.in_ok-release.ensures.looks.0.before c.in_default.is
 
+pub returns-in_err-places-clause-tells : goal.returns-in_err-places-clause-tells
+returns-in_err-places-clause-tells g c =
+    let a = c.args in
+    none_to_tell (rule a.asking.now a.contract a.entry a.amount) _ _ c.time-t.ensures _ _ _ c.in_ok-rows.ensures.0 c.requires _ c.refusal.ensures _ _
+    c.in_ok-release.ensures.looks.0.before c.in_default.is
+
 pub returns-in_err-puts-clause-tells : goal.returns-in_err-puts-clause-tells
 returns-in_err-puts-clause-tells g c =
     let a = c.args in
