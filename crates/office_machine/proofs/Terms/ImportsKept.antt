@@ -40,6 +40,7 @@ use Rattle.office_base.proofs.RowLaws.Keyed.{found_key}
 use Rattle.tender_core.specs.Rules.Cancel.{award_put, cancel_puts, cancel_rows, cancelled_lot_put, drop_put, envelope_put, freed_line_put, is_ended_award, is_ended_envelope, is_ended_security, is_open_lot}
 use Rattle.tender_core.specs.Rules.Import.{after_rows, imported_line, import_puts, import_rows}
 use Rattle.tender_core.specs.Rules.Publish.{is_on_no_line, late_puts, line_found, new_lot_put, no_line, publish_parts, publish_puts, publish_rows, publish_tests, reserving_line_put}
+use Rattle.tender_core.specs.Rules.Register.{register_puts, register_rows}
 use Rattle.award_core.specs.Rules.AmendContract.{amend_contract_puts, amend_contract_rows, line_after}
 use Rattle.award_core.specs.Rules.Award.{award_puts, award_rows, decision_puts, winner}
 use Rattle.award_core.specs.Rules.End.{end_puts, end_rows, ended_state}
@@ -251,9 +252,14 @@ module _ (means : Means) (xs : List Given) (s : Tables) (moment : ℕ) (caller :
       let security = (end_rows s contract).performance in
       (tt, (line_kept (lot_of_contract (Some c) s) r is, (tt, (tt, all_if (KeepsImports s) (performance_settled (ended_state how)) security (λ _. tt)))))
 
+  register_kept : (t : ℕ) (tenderer name address key : List ℕ) → AreKept (register_puts (register_rows s tenderer) t tenderer name address key)
+  register_kept t tenderer name address key = (tt, (tt, tt))
+
   one_has : (command : Command) → first_of (command_tests (given command)) ≡ None → HasImports (given command ∷ xs) (after_puts (effect means.readings (given command)) s)
   one_has (commands.Import batch rows) allowed = import_has batch rows
-  one_has (commands.Register tenderer name address key) allowed = kept (given (commands.Register tenderer name address key)) _ (λ q. refl) (λ q. refl) (tt, (tt, tt))
+  one_has (commands.Register tenderer name address key) allowed =
+      let x = given (commands.Register tenderer name address key) in
+      kept x (register_puts (register_rows s tenderer) (time_of x) tenderer name address key) (λ q. refl) (λ q. refl) (register_kept (time_of x) tenderer name address key)
   one_has (commands.Publish notice new) allowed =
       let x = given (commands.Publish notice new) in
       kept x _ (λ q. refl) (λ q. refl) (publish_kept (time_of x) notice new (none_holds (publish_tests (publish_rows s notice) (time_of x) new) allowed).0)
@@ -271,18 +277,18 @@ module _ (means : Means) (xs : List Given) (s : Tables) (moment : ℕ) (caller :
       let o : Option ContractRow = contract_at contract s in
       kept x _ (λ q. refl) (λ q. refl) (end_kept (time_of x) contract how o (notice_of_contract o s) (line_of_lot (lot_of_contract o s) s) refl)
   one_has (commands.AmendNotice notice deadline rationale) allowed =
-      let command = commands.AmendNotice notice deadline rationale in kept (given command) _ (λ q. refl) (λ q. refl) (quiet_kept command refl refl allowed)
-  one_has (commands.Open notice) allowed = let command = commands.Open notice in kept (given command) _ (λ q. refl) (λ q. refl) (quiet_kept command refl refl allowed)
+      let command = commands.AmendNotice notice deadline rationale in kept (given command) (effect means.readings (given command)) (λ q. refl) (λ q. refl) (quiet_kept command refl refl allowed)
+  one_has (commands.Open notice) allowed = let command = commands.Open notice in kept (given command) (effect means.readings (given command)) (λ q. refl) (λ q. refl) (quiet_kept command refl refl allowed)
   one_has (commands.Present notice lot security bytes) allowed =
-      let command = commands.Present notice lot security bytes in kept (given command) _ (λ q. refl) (λ q. refl) (quiet_kept command refl refl allowed)
-  one_has (commands.Modify receipt bytes) allowed = let command = commands.Modify receipt bytes in kept (given command) _ (λ q. refl) (λ q. refl) (quiet_kept command refl refl allowed)
-  one_has (commands.Withdraw receipt) allowed = let command = commands.Withdraw receipt in kept (given command) _ (λ q. refl) (λ q. refl) (quiet_kept command refl refl allowed)
+      let command = commands.Present notice lot security bytes in kept (given command) (effect means.readings (given command)) (λ q. refl) (λ q. refl) (quiet_kept command refl refl allowed)
+  one_has (commands.Modify receipt bytes) allowed = let command = commands.Modify receipt bytes in kept (given command) (effect means.readings (given command)) (λ q. refl) (λ q. refl) (quiet_kept command refl refl allowed)
+  one_has (commands.Withdraw receipt) allowed = let command = commands.Withdraw receipt in kept (given command) (effect means.readings (given command)) (λ q. refl) (λ q. refl) (quiet_kept command refl refl allowed)
   one_has (commands.Examine receipt responsive quality) allowed =
-      let command = commands.Examine receipt responsive quality in kept (given command) _ (λ q. refl) (λ q. refl) (quiet_kept command refl refl allowed)
-  one_has (commands.Fail award) allowed = let command = commands.Fail award in kept (given command) _ (λ q. refl) (λ q. refl) (quiet_kept command refl refl allowed)
-  one_has (commands.Sign award named) allowed = let command = commands.Sign award named in kept (given command) _ (λ q. refl) (λ q. refl) (quiet_kept command refl refl allowed)
+      let command = commands.Examine receipt responsive quality in kept (given command) (effect means.readings (given command)) (λ q. refl) (λ q. refl) (quiet_kept command refl refl allowed)
+  one_has (commands.Fail award) allowed = let command = commands.Fail award in kept (given command) (effect means.readings (given command)) (λ q. refl) (λ q. refl) (quiet_kept command refl refl allowed)
+  one_has (commands.Sign award named) allowed = let command = commands.Sign award named in kept (given command) (effect means.readings (given command)) (λ q. refl) (λ q. refl) (quiet_kept command refl refl allowed)
   one_has (commands.Pay contract entry amount) allowed =
-      let command = commands.Pay contract entry amount in kept (given command) _ (λ q. refl) (λ q. refl) (quiet_kept command refl refl allowed)
+      let command = commands.Pay contract entry amount in kept (given command) (effect means.readings (given command)) (λ q. refl) (λ q. refl) (quiet_kept command refl refl allowed)
 
 -- a release changes none of them
 published_has : (xs : List Given) (t : Tables) (p : Option ReleaseRow) → HasImports xs t → HasImports xs (after_puts (publication_puts p) t)
