@@ -17,11 +17,12 @@ ghost use Rattle.office_plans.specs.Released.{IsKept, IsReleased};
 ghost use Rattle.office_plans.specs.Replies.{reply_text};
 ghost use Rattle.office_publications.specs.Events.{event_of};
 ghost use Rattle.office_publications.specs.Keeping.{KeepsReleasesOf, has_last_release, has_release};
-ghost use Rattle.office_publications.specs.Merges.{AreSoMany, HasMerge, IsKeptOf};
+ghost use Rattle.office_publications.specs.Merges.{AreSoMany, HasMerge};
 ghost use Rattle.office_values.specs.declared.refusal.Refusal.TheVariants.{Unavailable};
 ghost use Rattle.office_values.specs.declared.settings.Publisher.{Publisher as PublisherOf};
 
 use crate::planned::Planned;
+use crate::release_numbers::has_releases_to;
 use ocds_release::event::Event;
 use ocds_release::laws::releases_can_be_kept;
 use ocds_release::release_of::release_of_event;
@@ -31,7 +32,7 @@ use office_base::puts::Put;
 use office_base::records::NoticeRow;
 use office_base::shelf::{Lookups, ShelfFault};
 use office_publications::laws::keeping;
-use office_publications::merges::{Kept, load_kept};
+use office_publications::merges::load_kept;
 use office_publications::publication::{Publication, keep_release};
 use office_values::id::Id;
 use office_values::moment::Moment;
@@ -90,40 +91,9 @@ pub(crate) fn make_release<'a>(
     }
 }
 
-// Whether the release before this number exists. True for the first number, because no release comes before it.
-fn follows_another<H: Lookups>(
-    shelf: &mut H,
-    notice: &Id,
-    seq: Sequence,
-) -> Result<bool, ShelfFault>
-    ensures { LooksUp H.meaning shelf.old shelf.new result (λ s follows. follows ≡ has_last_release notice.now (seq - 1) s) }
-{
-    match Sequence::read(seq.get() - 1) {
-        Some(last) => Ok(shelf.get_release(notice, last)?.is_some()),
-        None => Ok(true),
-    }
-}
-
-// Whether a release of the notice has this number.
-fn has_release<H: Lookups>(shelf: &mut H, notice: &Id, seq: Sequence) -> Result<bool, ShelfFault>
-    ensures { LooksUp H.meaning shelf.old shelf.new result (λ s found. found ≡ has_release notice.now seq s) }
-{
-    Ok(shelf.get_release(notice, seq)?.is_some())
-}
-
-// Whether a merge is stored, or else whether the notice has as many releases as the numbers before this one.
-fn is_whole(kept: &Kept, seq: Sequence) -> bool
-    ensures { result ≡ true → (notice : List ℕ) (s : Tables) → IsKeptOf notice s kept.now → AreSoMany notice (seq - 1) s }
-{
-    match kept {
-        Kept::Merge(_) => true,
-        Kept::Releases(rows) => rows.as_slice().len() as u64 == seq.get() - 1,
-    }
-}
-
-// The release as it is stored, and the merge that it joins. Reads the notice's merge, or all its releases if no merge is stored. `Unavailable` if a release
-// has its number, the previous one is missing or the stored merge isn't an object. If no merge is stored, `Unavailable` also if a release is missing or isn't an object. So nothing is
-// published over a release or after a gap.
+// The release as it is stored, and the merge that it joins. Reads the numbers of the notice's releases and its merge, or all its releases if no merge is stored.
+// `Unavailable` if the releases aren't those before this one, or if the stored merge isn't an object. If no merge is stored, `Unavailable` also if a release isn't
+// an object. So nothing is published over a release or after a gap.
 fn keep<H: Lookups>(
     alloc: Global,
     shelf: &mut H,
@@ -131,24 +101,17 @@ fn keep<H: Lookups>(
 ) -> Result<Publication, Refusal>
     ensures kept { Looks H.meaning shelf.old shelf.new (λ s. IsStorable (view released.release) → KeepsReleasesOf released.notice s → IfOk result (IsKept s released)) }
     ensures follows { Looks H.meaning shelf.old shelf.new (λ s. OnOk result (has_last_release released.notice (released.seq - 1) s ≡ true)) }
-    ensures next { Looks H.meaning shelf.old shelf.new (λ s. OnOk result (has_release released.notice released.seq s ≡ false)) }
+    ensures next { Looks H.meaning shelf.old shelf.new (λ s. OnOk result (has_release released.notice (released.seq - 1 + 1) s ≡ false)) }
     ensures goes_on { Looks H.meaning shelf.old shelf.new (λ s. OnOk result (HasMerge released.notice s)) }
     ensures counted { Looks H.meaning shelf.old shelf.new (λ s. OnOk result (AreSoMany released.notice (released.seq - 1) s)) }
     ensures none { IfErr result (λ why. why ≡ Unavailable) }
 {
     looks_follow::<H>();
-    let taken = has_release(shelf, &released.notice, released.seq)?;
-    if taken {
-        return Err(Refusal::Unavailable);
-    }
-    let follows = follows_another(shelf, &released.notice, released.seq)?;
-    if !follows {
+    let whole = has_releases_to(shelf, &released.notice, released.seq.get() - 1)?;
+    if !whole {
         return Err(Refusal::Unavailable);
     }
     let kept = load_kept(shelf, &released.notice)?;
-    if !is_whole(&kept, released.seq) {
-        return Err(Refusal::Unavailable);
-    }
     keep_release(
         alloc,
         released.notice,
@@ -176,8 +139,8 @@ fn with_publication(
 }
 
 /// The plan of an accepted command that publishes: its changes, the release, the merge that this joins, and the reply's text. `Unavailable` also if the
-/// notice's last release is missing, if a release has the next number, or if its stored merge isn't an object. If no merge is stored, `Unavailable` also if a release is missing or isn't an
-/// object. None of this can happen in a reached office.
+/// notice's releases aren't those that it counts, or if its stored merge isn't an object. If no merge is stored, `Unavailable` also if a release isn't an object.
+/// None of this can happen in a reached office.
 pub(crate) fn published<H: Lookups>(
     alloc: Global,
     shelf: &mut H,
