@@ -21,7 +21,7 @@ use Rattle.office_store.specs.Reopening.{FilesHoldOffice, OpensHeld}
 use Rattle.office_store.specs.SqlMeaning.{LeavesNoOther, LeavesShown, sql_meaning}
 use Rattle.office_wire.specs.Runs.{Step, office_left}
 use Rattle.office_http.specs.Answering.{Held, office_answers}
-use Rattle.procure_programs.specs.Placed.{OpensEmpty}
+use Rattle.procure_programs.specs.Placed.{HadOfficeIfUsed, OpensEmpty}
 use Rattle.procure_programs.specs.Serving.{DayIn, DaysFollow, FilesGoOn, HaveOffice, KeysFollow, LedOn, MayBeFound, ServesFiles, ServesOpened, StandsIn, StopsIn, WasServed, under_settings}
 use Rattle.procure_programs.proofs.ServingSteps.{office_on, served_none, served_still}
 
@@ -59,10 +59,17 @@ module _ {D : Type 0} {g : Ghosts D} where
   pub opened_serves : {R E : Type 0} (image : Image) (settings : Settings) (most : ℕ) (opened : Connected (FileStore D g) × ℕ)
       (result : Result ((Connected (FileStore D g) × ℕ) × R) E) → OpensHeld image opened.0 → OpensEmpty image opened.0
       → (HasCleanDisk (file_state opened.0) → LeavesShown (file_state opened.0)) → (HasCleanDisk (file_state opened.0) → LeavesNoOther (file_state opened.0))
+      → (HasCleanDisk (file_state opened.0) → HadOfficeIfUsed g image)
       → IfOk result (λ left. WasServed (sql_meaning over_files) most settings opened left.0) → IfOk result (λ left. ServesOpened image settings most left.0)
-  opened_serves image settings most opened (Ok left) held empty sound alone served =
-      record { opened = opened; held = held; empty = empty; sound = sound; alone = alone; served = served }
-  opened_serves image settings most opened (Err fault) held empty sound alone served = tt
+  opened_serves image settings most opened (Ok left) held empty sound alone used served =
+      record { opened = opened; held = held; empty = empty; sound = sound; alone = alone; used = used; served = served }
+  opened_serves image settings most opened (Err fault) held empty sound alone used served = tt
+
+  -- The files that the opening found are known from those that the closing leaves.
+  pub closes_used : (image : Image) (settings : Settings) (most : ℕ) (old new : Connected (FileStore D g) × ℕ) (files : Files D)
+      → (HasCleanDisk (file_state old.0) → HadOfficeIfUsed g image) → WasServed (sql_meaning over_files) most settings old new
+      → (AreClean g files.log files.db → IsCopied new.0 files) → AreClean g files.log files.db → HadOfficeIfUsed g image
+  closes_used image settings most old new files used served copied clean = used (served.0 (copied clean).was_clean)
 
   -- If the files are returned, the office was served from them.
   pub closes_ok : {R E : Type 0} (image : Image) (settings : Settings) (most : ℕ) (old new : Connected (FileStore D g) × ℕ) (result : Result (Files D × R) E)

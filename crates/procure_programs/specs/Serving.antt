@@ -26,7 +26,7 @@ use Rattle.office_wire.specs.Runs.{Step, office_left}
 use Rattle.office_http.specs.Answering.{Held, StandsAs, office_answers}
 use Rattle.office_http.specs.Joined.{accepted_steps}
 use Rattle.office_http.specs.Stops.{StopsBy}
-use Rattle.procure_programs.specs.Placed.{HoldNothing, OpensEmpty}
+use Rattle.procure_programs.specs.Placed.{HadOfficeIfUsed, HoldNothing, OpensEmpty}
 
 -- The desk went through at most this many steps. Its office is the one after them, and a stop leaves only what they allow.
 abbrev pub TakesTurns : {S : Type 0} → Meaning S → ℕ → DeskOf S → DeskOf S → Type 0
@@ -41,13 +41,14 @@ WasServed M most settings old new =
     × ((now : Settings) × TakesTurns M most (record { shelf = old; settings = settings }) (record { shelf = new; settings = now }))
 
 -- An office was opened in two files with these bytes and served under these settings, and this store is left. After the opening, the store showed exactly what
--- the files had, and a stop could leave only that.
+-- the files had, and a stop could leave only that. No office was made over a used log.
 pub record ServesOpened {D : Type 0} {g : Ghosts D} (image : Image) (settings : Settings) (most : ℕ) (left : Connected (FileStore D g) × ℕ) : Type 0 where
   pub opened : Connected (FileStore D g) × ℕ
   pub held : OpensHeld image opened.0
   pub empty : OpensEmpty image opened.0
   pub sound : HasCleanDisk (file_state opened.0) → LeavesShown (file_state opened.0)
   pub alone : HasCleanDisk (file_state opened.0) → LeavesNoOther (file_state opened.0)
+  pub used : HasCleanDisk (file_state opened.0) → HadOfficeIfUsed g image
   pub served : WasServed (sql_meaning over_files) most settings opened left
 
 -- After at most this many steps, all accepted commands are kept, those of the steps included.

@@ -5,4 +5,4 @@ use Rattle.procure_programs.proofs.store.serve_open.Goals as goal
 pub returns-clause-serves : goal.returns-clause-serves
 returns-clause-serves g c =
     let it = c.in_ok-opened.ensures in
-    opened_serves (image_at g.S.Start) c.args.settings c.args.count c.in_ok-opened.opened.shelf c.serve_shelf.result it.held it.empty it.sound it.alone c.serve_shelf.ensures.serves
+    opened_serves (image_at g.S.Start) c.args.settings c.args.count c.in_ok-opened.opened.shelf c.serve_shelf.result it.held it.empty it.sound it.alone it.used c.serve_shelf.ensures.serves
