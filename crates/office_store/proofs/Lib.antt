@@ -6,6 +6,7 @@ mod RestKept
 pub mod Founding
 mod Migrating
 mod Reopening
+mod ReadLogs
 mod Paths
 mod Joined
 mod Taking

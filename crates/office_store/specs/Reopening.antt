@@ -26,7 +26,9 @@ use Rattle.office_tables.specs.Steps.{ShowsTables, MayLeave}
 use Rattle.office_store.specs.Founding.{Enters, IsNoOffice, LeavesOffice}
 use Rattle.office_store.specs.SqlMeaning.{LeavesOffices}
 use Rattle.office_store.specs.declared.found.OpenFault.{OpenFault}
+use Rattle.office_store.specs.Logs.{HasCommit, is_unused}
 use Rattle.office_store.specs.declared.opened.Origin.{Origin}
+use Rattle.office_store.specs.declared.opened.Origin.TheVariants as from
 use Rattle.office_store.specs.declared.found.OpenFault.TheVariants as fault
 
 -- the trees of some database that holds an office with this content, of this program or of an earlier one
@@ -67,6 +69,10 @@ AreUsable g files = IsTrue (g.is_usable files.log) × IsTrue (g.is_usable files.
 pub record HoldStill {D : Type 0} (g : Ghosts D) (files : Files D) (db : Trees) : Type 0 where
   pub seen : HoldsAlone (image_of g files) db
   pub left : (image : Image) → outcomes g files.log files.db image → HoldsAlone image db
+
+-- The log was used: then the opening made no office, and recovery takes pages from the log.
+abbrev pub OpensUsed : Image → Origin → Type 0
+OpensUsed image origin = is_unused image.log ≡ false → (origin ≡ from.Made → ⊥) × HasCommit image
 
 -- two files as they were opened: they read as these bytes, and a stop leaves these bytes
 pub record AreAsOpened {D : Type 0} (g : Ghosts D) (image : Image) (files : Files D) : Type 0 where

@@ -32,6 +32,7 @@ pub enum OpenFault {
     /// Too little memory.
     NoMemory,
     /// The store failed, or the file can't be used as it is:
+    /// - its log was used, and nothing can be read from it or it has no office;
     /// - a table of the office is missing, has another form, or has a trigger or a unique index of another program;
     /// - something else has the name of an index of the office or, in an office of an earlier edition, of a table that must be made;
     /// - in an office of an earlier edition, something of another program leads to a table that a migration changes.
@@ -127,7 +128,8 @@ pub(crate) fn still_open<S: Alter>(conn: &mut Connection<S>) -> Result<(), OpenF
 }
 
 fn origin_of(edition: u64) -> Origin
-    ensures { result ≡ origin_of (nat_lt edition this_version) }
+    ensures is { result ≡ origin_of (nat_lt edition this_version) }
+    ensures entered { result ≡ Origin.Made → ⊥ }
 {
     if edition < VERSION {
         Origin::Migrated
@@ -136,9 +138,14 @@ fn origin_of(edition: u64) -> Origin
     }
 }
 
-/// Enters the office in the database, and migrates it if it is of an earlier edition. It makes an office if there is none and no name of its tables is taken.
-/// After success the store is open.
-pub(crate) fn enter<S: Alter>(alloc: Global, conn: &mut Connection<S>) -> Result<Origin, OpenFault>
+/// Enters the office in the database, and migrates it if it is of an earlier edition. If there is none, it makes an office, but only if it may, and if no name of
+/// its tables is taken. After success the store is open.
+pub(crate) fn enter<S: Alter>(
+    alloc: Global,
+    conn: &mut Connection<S>,
+    may_make: bool,
+) -> Result<Origin, OpenFault>
+    ensures made { IfOk result (λ origin. origin ≡ Origin.Made → IsTrue may_make) }
     ensures enters { HasCleanDisk (state S.Store conn.new) → IfOk result (λ origin. Enters S.Store origin conn.old conn.new) }
     ensures none { HasCleanDisk (state S.Store conn.new) → IfErr result (λ e. e ≡ OpenFault.NotAnOffice → IsNoOffice S.Store conn.old) }
     ensures found { HasCleanDisk (state S.Store conn.new) → (t : Tables) → ShowsOffice (state S.Store conn.old) t → OnOk result (ShowsTables (state S.Store conn.new) t) }
@@ -168,6 +175,9 @@ pub(crate) fn enter<S: Alter>(alloc: Global, conn: &mut Connection<S>) -> Result
         Err(Error::SqlInputError(_)) => {
             if taken {
                 return Err(OpenFault::NotAnOffice);
+            }
+            if !may_make {
+                return Err(OpenFault::Store);
             }
             match found(conn) {
                 Ok(()) => Ok(Origin::Made),

@@ -5,6 +5,7 @@ mod forms;
 pub mod found;
 mod joined_rows;
 pub mod ledger_rows;
+mod logs;
 mod migrate;
 pub mod open;
 pub mod opened;

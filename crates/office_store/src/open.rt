@@ -11,10 +11,11 @@ ghost use Rattle.sqlite_trees.specs.View.{IsClean};
 ghost use Rattle.office_base.specs.Faults.{IsFaultOf};
 ghost use Rattle.office_base.specs.Tables.{no_tables};
 ghost use Rattle.office_tables.specs.Steps.{ShowsTables};
-ghost use Rattle.office_store.specs.Reopening.{AreUsable, ClosingFails, EntersFound, IsHalfClosed, IsLeftOf, IsPutDown, IsUsableLeft, OpensAgain, OpensBlank, OpensHeld, RefusesFiles};
+ghost use Rattle.office_store.specs.Reopening.{AreUsable, ClosingFails, EntersFound, IsHalfClosed, IsLeftOf, IsPutDown, IsUsableLeft, OpensAgain, OpensBlank, OpensHeld, OpensUsed, RefusesFiles};
 ghost use Rattle.office_store.specs.SqlMeaning.{LeavesNoOther, LeavesOffices, LeavesShown};
 
 use crate::found::{OpenFault, enter, open_fault};
+use crate::logs::check_log;
 use crate::opened::Opened;
 use crate::shelf::SqlShelf;
 use office_base::shelf::ShelfFault;
@@ -45,7 +46,7 @@ impl SqlShelf<MemStore> {
         let Ok(mut conn) = Connection::open_in_memory(alloc) else {
             return Err(OpenFault::NoMemory);
         };
-        match enter(alloc, &mut conn) {
+        match enter(alloc, &mut conn, true) {
             Ok(_) => Ok(SqlShelf {
                 alloc,
                 conn,
@@ -61,6 +62,7 @@ impl<D: Disk + Drop> SqlShelf<FileStore<D>> {
     /// - It makes a new office if there is none and no name of its tables is taken. Other tables keep their rows.
     /// - It migrates an office of an earlier version, with its content. It refuses if a foreign key or a view of another program leads to a changed table.
     /// - It refuses an office if a table doesn't have its form.
+    /// - It refuses a log that was used and can't be read, before anything is written. It makes no office beside a used log.
     /// - If the store shows an office, a stop leaves an office.
     /// - A refusal returns what is left of the files: they are closed, or it is their store if they can't be closed.
     pub fn open_files(
@@ -77,16 +79,22 @@ impl<D: Disk + Drop> SqlShelf<FileStore<D>> {
         ensures again { IfOk result (λ opened. OpensAgain files opened.shelf.0) }
         ensures blank { IfOk result (λ opened. OpensBlank (image_of D.Disk files) opened.shelf.0) }
         ensures enters { IfOk result (λ opened. HasCleanDisk (file_state opened.shelf.0) → EntersFound (image_of D.Disk files) opened.origin opened.shelf.0) }
+        ensures used { IfOk result (λ opened. HasCleanDisk (file_state opened.shelf.0) → OpensUsed (image_of D.Disk files) opened.origin) }
         ensures count { IfOk result (λ opened. opened.shelf.1 ≡ 0) }
         ensures refused { IfErr result (λ refusal. RefusesFiles files refusal.0 refusal.1) }
         ensures usable { IfErr result (λ refusal. refusal.0 ≡ OpenFault.NotAnOffice → IsUsableLeft refusal.1) }
     {
         trees_tell_one_office();
+        let mut files = files;
+        let is_unused = match check_log(alloc, &mut files) {
+            Ok(is_unused) => is_unused,
+            Err(fault) => return Err((fault, Leftover::Files(files))),
+        };
         let mut conn = match Connection::open_files(alloc, files, options) {
             Ok(conn) => conn,
             Err((error, left)) => return Err((open_fault(error), left)),
         };
-        match enter(alloc, &mut conn) {
+        match enter(alloc, &mut conn, is_unused) {
             Ok(origin) => Ok(Opened {
                 shelf: SqlShelf {
                     alloc,

@@ -10,7 +10,7 @@ pub enum Origin {
     Found,
     /// The file had an office of an earlier program, which was migrated.
     Migrated,
-    /// The file had no office and none of the names of its tables, so an empty office was made.
+    /// The file had no office and none of the names of its tables, and its log wasn't used. So an empty office was made.
     Made,
 }
 

@@ -4,7 +4,7 @@ ghost use Rattle.sqlite_wal.specs.Files.{image_at};
 ghost use Rattle.sqlite_std_file.specs.File.{file_is_usable, IsFresh};
 ghost use Rattle.sqlite.specs.Files.{file_state};
 ghost use Rattle.sqlite.specs.State.{HasCleanDisk};
-ghost use Rattle.office_store.specs.Reopening.{EntersFound, OpensBlank, OpensHeld, RefusesImage};
+ghost use Rattle.office_store.specs.Reopening.{EntersFound, OpensBlank, OpensHeld, OpensUsed, RefusesImage};
 ghost use Rattle.office_store.specs.SqlMeaning.{LeavesNoOther, LeavesShown};
 
 use crate::found::OpenFault;
@@ -81,6 +81,7 @@ impl<S: Start> SqlShelf<FileStore<FileFrom<S>>> {
         ensures held { IfOk result (λ opened. OpensHeld (image_at S.Start) opened.shelf.0) }
         ensures blank { IfOk result (λ opened. OpensBlank (image_at S.Start) opened.shelf.0) }
         ensures enters { IfOk result (λ opened. HasCleanDisk (file_state opened.shelf.0) → EntersFound (image_at S.Start) opened.origin opened.shelf.0) }
+        ensures used { IfOk result (λ opened. HasCleanDisk (file_state opened.shelf.0) → OpensUsed (image_at S.Start) opened.origin) }
         ensures refused { IfErr result (λ refusal. IfSome refusal.1 (λ left. RefusesImage (image_at S.Start) refusal.0 left)) }
         ensures unopened { IfErr result (λ refusal. refusal.1 ≡ None → refusal.0 ≡ OpenFault.NotAnOffice → ⊥) }
     {

@@ -1,5 +1,5 @@
--- An office that is opened in two files that hold nothing has no content.
-use Rattle.std.proofs.Common.{◌≡◌, inl, inr, [], ap, ◌∙◌}
+-- An office that is opened in two files that hold nothing has no content. If the log was used, they held an office.
+use Rattle.std.proofs.Common.{◌≡◌, inl, inr, [], refl, ap, ◌∙◌}
 use Rattle.sqlite_disk.specs.declared.Disk.{Ghosts}
 use Rattle.sqlite_wal.specs.Recovery.{Image}
 use Rattle.sqlite_store.specs.declared.store.FileStore.{FileStore}
@@ -12,10 +12,12 @@ use Rattle.sqlite.specs.Held.{Held}
 use Rattle.sqlite.specs.State.{HasCleanDisk}
 use Rattle.sqlite.specs.Files.{file_state, over_files}
 use Rattle.sqlite.proofs.ListingLemmas.{empty_is_sound}
-use Rattle.office_store.specs.Reopening.{EntersFound, Found, OpensBlank}
+use Rattle.office_tables.specs.Tables.Office.{this_version}
+use Rattle.office_store.specs.Reopening.{EntersFound, Found, OpensBlank, OpensUsed}
 use Rattle.office_store.specs.declared.opened.Origin.{Origin}
+use Rattle.office_store.specs.declared.opened.Origin.TheVariants as from
 use Rattle.office_store.proofs.Founding.{enters_bare, no_schema}
-use Rattle.procure_programs.specs.Placed.{OpensEmpty}
+use Rattle.procure_programs.specs.Placed.{HadOfficeIfUsed, OpensEmpty}
 
 module _ {D : Type 0} {g : Ghosts D} where
   bare_schema : (image : Image) (before : Held (FileStore D g)) → Found image before → (file_state before).committed.trees catalog_tree ≡ [] → before.schema ≡ no_schema
@@ -31,3 +33,13 @@ module _ {D : Type 0} {g : Ghosts D} where
       let (before, found, entered) = enters clean in
       let bare : (file_state before).committed.trees catalog_tree ≡ [] = ap (λ (trees : Trees). trees catalog_tree) (found.finds.holds db held) ∙ empty.1 in
       enters_bare over_files origin before now (bare_schema image before found bare) entered.enters
+
+  pub had_office : (image : Image) (origin : Origin) (now : Held (FileStore D g)) → (HasCleanDisk (file_state now) → OpensUsed image origin)
+      → (HasCleanDisk (file_state now) → EntersFound image origin now) → HasCleanDisk (file_state now) → HadOfficeIfUsed g image
+  had_office image from.Found now used enters clean was =
+      let (before, found, entered) = enters clean in
+      ((used clean was).1, (before, found, this_version, entered.enters.0))
+  had_office image from.Migrated now used enters clean was =
+      let (before, found, entered) = enters clean in
+      ((used clean was).1, (before, found, entered.enters.0, entered.enters.1))
+  had_office image from.Made now used enters clean was = absurd ((used clean was).0 refl)

@@ -24,7 +24,7 @@ use Rattle.office_wire.specs.Runs.{Step, office_left}
 use Rattle.office_http.specs.Answering.{Held, office_answers}
 use Rattle.procure_config.specs.declared.fault.ProgramFault.{ProgramFault}
 use Rattle.procure_programs.specs.Hosts.{Hosting}
-use Rattle.procure_programs.specs.Placed.{OpensEmpty}
+use Rattle.procure_programs.specs.Placed.{HadOfficeIfUsed, OpensEmpty}
 use Rattle.procure_programs.specs.Serving.{DayIn, DaysFollow, FilesGoOn, HaveOffice, KeysFollow, LedOn, MayBeFound, PrintsFiles, ServesFiles, ServesOpened, StandsIn, StopsIn, WasServed, WasServedAt, sql_standing, under_settings}
 use Rattle.procure_programs.specs.Showing.{IsPrintout}
 use Rattle.procure_programs.specs.declared.showing.Printout.{Printout}
@@ -64,12 +64,19 @@ module _ {D : Type 0} {g : Ghosts D} where
   pub opened_serves : {E X T R W : Type 0} (binds : X → SocketAddrV4 → Option T → Type 0) (N : Hosting T R W) (network : X) (port : ℕ) (image : Image) (settings : Settings) (count : ℕ)
       (opened : Connected (FileStore D g) × ℕ) (result : Result ((Connected (FileStore D g) × ℕ) × Result (Unit {0}) ProgramFault) E) → OpensHeld image opened.0 → OpensEmpty image opened.0
       → (HasCleanDisk (file_state opened.0) → LeavesShown (file_state opened.0)) → (HasCleanDisk (file_state opened.0) → LeavesNoOther (file_state opened.0))
+      → (HasCleanDisk (file_state opened.0) → HadOfficeIfUsed g image)
       → IfOk result (λ left. WasServed (sql_meaning over_files) count settings opened left.0)
       → IfOk result (λ left. WasServedAt binds N (sql_meaning over_files) (sql_standing over_files) network port count settings opened left.0 left.1)
       → IfOk result (λ left. ServesOpened binds N network port image settings count left.0 left.1)
-  opened_serves binds N network port image settings count opened (Ok left) held empty sound alone served turns =
-      record { opened = opened; held = held; empty = empty; sound = sound; alone = alone; served = served; turns = turns }
-  opened_serves binds N network port image settings count opened (Err fault) held empty sound alone served turns = tt
+  opened_serves binds N network port image settings count opened (Ok left) held empty sound alone used served turns =
+      record { opened = opened; held = held; empty = empty; sound = sound; alone = alone; used = used; served = served; turns = turns }
+  opened_serves binds N network port image settings count opened (Err fault) held empty sound alone used served turns = tt
+
+  -- The files that the opening found are known from those that the closing leaves.
+  pub closes_used : (image : Image) (settings : Settings) (most : ℕ) (old new : Connected (FileStore D g) × ℕ) (files : Files D)
+      → (HasCleanDisk (file_state old.0) → HadOfficeIfUsed g image) → WasServed (sql_meaning over_files) most settings old new
+      → (AreClean g files.log files.db → IsCopied new.0 files) → AreClean g files.log files.db → HadOfficeIfUsed g image
+  closes_used image settings most old new files used served copied clean = used (served.0 (copied clean).was_clean)
 
   -- The text that was printed of a store is the one of the files from which it was opened.
   pub prints_files : (image : Image) (settings : Settings) (printout : Printout) (files : Files D) (before after : Option (List ℕ)) (old new : Connected (FileStore D g) × ℕ)

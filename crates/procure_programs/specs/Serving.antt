@@ -32,7 +32,7 @@ use Rattle.office_http.specs.Joined.{accepted_steps}
 use Rattle.office_http.specs.Stops.{StopsBy}
 use Rattle.procure_config.specs.declared.fault.ProgramFault.{ProgramFault}
 use Rattle.procure_programs.specs.Hosts.{Hosting}
-use Rattle.procure_programs.specs.Placed.{HoldNothing, OpensEmpty}
+use Rattle.procure_programs.specs.Placed.{HadOfficeIfUsed, HoldNothing, OpensEmpty}
 use Rattle.procure_programs.specs.Showing.{IsPrintout}
 use Rattle.procure_programs.specs.Turns.{ServesAt}
 use Rattle.procure_programs.specs.declared.showing.Printout.{Printout}
@@ -60,13 +60,14 @@ abbrev pub sql_standing : {S : Type 0} → StoreGhosts S → Standing (Connected
 sql_standing g = record { is_open = λ shelf. (sql_state g shelf.0).is_open; disk_faults = λ shelf. (sql_state g shelf.0).faults }
 
 -- An office was opened in two files with these bytes and served under these settings at 127.0.0.1 and this port, and this store and this result are left. After
--- the opening, the store showed exactly what the files had, and a stop could leave only that.
+-- the opening, the store showed exactly what the files had, and a stop could leave only that. No office was made over a used log.
 pub record ServesOpened {D : Type 0} {g : Ghosts D} {X T R W : Type 0} (binds : X → SocketAddrV4 → Option T → Type 0) (N : Hosting T R W) (network : X) (port : ℕ) (image : Image) (settings : Settings) (count : ℕ) (left : Connected (FileStore D g) × ℕ) (result : Result (Unit {0}) ProgramFault) : Type 0 where
   pub opened : Connected (FileStore D g) × ℕ
   pub held : OpensHeld image opened.0
   pub empty : OpensEmpty image opened.0
   pub sound : HasCleanDisk (file_state opened.0) → LeavesShown (file_state opened.0)
   pub alone : HasCleanDisk (file_state opened.0) → LeavesNoOther (file_state opened.0)
+  pub used : HasCleanDisk (file_state opened.0) → HadOfficeIfUsed g image
   pub served : WasServed (sql_meaning over_files) count settings opened left
   pub turns : WasServedAt binds N (sql_meaning over_files) (sql_standing over_files) network port count settings opened left result
 

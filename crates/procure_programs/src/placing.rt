@@ -15,9 +15,12 @@ use std::os::unix::fs::{FileExt, MetadataExt, OpenOptionsExt};
 use std::path::PathBuf;
 use std::string::String;
 
+/// The length of a log that has room for a page: its header has 32 bytes, and a page in it begins with 24.
+const WITH_PAGE: u64 = 56;
+
 /// Puts an empty database at the path if nothing has its name. The file is written and synced under a second name, `PATH-procure-new`, and linked to the path.
-/// Then the second name is removed. The store handles any file that exists, even an empty one. It also handles a path with a log or a journal that isn't empty,
-/// because their pages don't fit the new file.
+/// Then the second name is removed. The store handles any file that exists, even an empty one. It also handles a path with a journal that isn't empty, or with
+/// a log that has no page. A log with pages and no file is refused, because its file is missing.
 pub fn place_empty(rt: &HostRuntime, path: &str) -> Result<(), ProgramFault>
     ensures fault { IfErr result IsOfStore }
 {
@@ -60,20 +63,23 @@ fn leave_one_name(rt: &HostRuntime, real: &str) -> io::Result<()> {
     Ok(())
 }
 
-// Whether there is a log or a journal beside the file that isn't empty.
+// Whether there is a log or a journal beside the path that isn't empty. If the log has room for a page, the file that it belongs to is missing, and this fails.
 fn has_other(rt: &HostRuntime, path: &str) -> io::Result<bool> {
     let log = format!(in rt.alloc(); "{path}-wal")?;
-    if has_bytes(rt, log.as_str())? {
-        return Ok(true);
+    let length = length_at(rt, log.as_str())?;
+    if length >= WITH_PAGE {
+        return Err(ErrorKind::Unsupported.into());
     }
     let journal = format!(in rt.alloc(); "{path}-journal")?;
-    has_bytes(rt, journal.as_str())
+    Ok(length > 0 || length_at(rt, journal.as_str())? > 0)
 }
 
-fn has_bytes(rt: &HostRuntime, path: &str) -> io::Result<bool> {
+// The length of a file, or 0 if nothing has its name. Whatever isn't a file counts as long.
+fn length_at(rt: &HostRuntime, path: &str) -> io::Result<u64> {
     match fs::symlink_metadata(rt, path) {
-        Ok(found) => Ok(!found.is_file() || found.len() > 0),
-        Err(error) if error.kind() == ErrorKind::NotFound => Ok(false),
+        Ok(found) if found.is_file() => Ok(found.len()),
+        Ok(_) => Ok(u64::MAX),
+        Err(error) if error.kind() == ErrorKind::NotFound => Ok(0),
         Err(error) => Err(error),
     }
 }

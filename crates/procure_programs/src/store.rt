@@ -10,7 +10,7 @@ ghost use Rattle.office_store.specs.Reopening.{IsHalfClosed, OpensHeld};
 ghost use Rattle.office_store.specs.SqlMeaning.{LeavesNoOther, LeavesShown, sql_meaning};
 ghost use Rattle.procure_programs.specs.FaultsTold.{IsOfStore};
 ghost use Rattle.procure_programs.specs.Hosts.{hosting};
-ghost use Rattle.procure_programs.specs.Placed.{OpensEmpty};
+ghost use Rattle.procure_programs.specs.Placed.{HadOfficeIfUsed, OpensEmpty};
 ghost use Rattle.procure_programs.specs.Serving.{HalfClosesFiles, PrintsFiles, ServesFiles, ServesFilesAt, ServesOpened, StopsFiles, WasServed, WasServedAt, sql_standing};
 ghost use Rattle.procure_programs.specs.Showing.{IsPrintout};
 
@@ -31,7 +31,19 @@ use sqlite_disk::Disk;
 use std::alloc::Global;
 use std::io::{Read, Write};
 
-// Opens the office in a file, or makes a new one if the file holds nothing. If there is no file, the new file has small pages.
+// Reports on the standard error if an office was made or migrated as the file was opened. If this can't be written, nothing is lost.
+fn tell_origin(rt: &HostRuntime, path: &str, origin: Origin) {
+    let _ = match origin {
+        Origin::Found => Ok(()),
+        Origin::Migrated => eprintln!(rt;
+            "procure: an office of version 1 in {path} was migrated to version 2"
+        ),
+        Origin::Made => eprintln!(rt; "procure: an empty office was made in {path}"),
+    };
+}
+
+// Opens the office in a file, or makes a new one if the file holds nothing and its log was never used. It reports an office that it made or migrated. If there is
+// no file, the new file has small pages.
 #[tactic(auto, using(crate::proofs::FaultSteps::opening_is))]
 fn open_office<S: Start>(
     rt: &HostRuntime,
@@ -42,12 +54,16 @@ fn open_office<S: Start>(
     ensures empty { IfOk result (λ opened. OpensEmpty (image_at S.Start) opened.shelf.0) }
     ensures sound { IfOk result (λ opened. HasCleanDisk (file_state opened.shelf.0) → LeavesShown (file_state opened.shelf.0)) }
     ensures alone { IfOk result (λ opened. HasCleanDisk (file_state opened.shelf.0) → LeavesNoOther (file_state opened.shelf.0)) }
+    ensures used { IfOk result (λ opened. HasCleanDisk (file_state opened.shelf.0) → HadOfficeIfUsed ⟦<FileFrom<S> as Disk>⟧ (image_at S.Start)) }
     ensures fault { IfErr result IsOfStore }
 {
     place_empty(rt, path)?;
     let room = room_for(page_size_at(rt, path));
     match SqlShelf::open_from(rt, path, start, room) {
-        Ok(opened) => Ok(opened),
+        Ok(opened) => {
+            tell_origin(rt, path, opened.origin);
+            Ok(opened)
+        }
         Err((fault, _)) => Err(of_opening(fault)),
     }
 }
@@ -143,9 +159,10 @@ pub fn stop_from<N: Network, S: Start>(
     Ok((shelf.put_down(), served))
 }
 
-/// Serves this many connections to 127.0.0.1 and this port, from the office in a file. The type `S` says what its two files held, which may be anything. Returns
-/// the files, which are closed, and the result of serving. If the office couldn't be closed, as when the program is stopped there, the fault comes with its
-/// store; if it wasn't opened, the fault comes alone. `stop_from` says what a stop leaves before the closing.
+/// Serves this many connections to 127.0.0.1 and this port, from the office in a file. The type `S` says what its two files held, which may be anything. Reports
+/// on the standard error if the office was made or migrated there. Returns the files, which are closed, and the result of serving. If the office couldn't be
+/// closed, as when the program is stopped there, the fault comes with its store; if it wasn't opened, the fault comes alone. `stop_from` says what a stop leaves
+/// before the closing.
 pub fn serve_from<N: Network, S: Start>(
     rt: &HostRuntime,
     network: &N,
@@ -161,6 +178,7 @@ pub fn serve_from<N: Network, S: Start>(
     ensures serves { IfOk result (λ left. ServesFiles ⟦<FileFrom<S> as Disk>⟧ (image_at S.Start) settings count left.0) }
     ensures turns { IfOk result (λ left. ServesFilesAt ⟦<FileFrom<S> as Disk>⟧ N.binds (hosting N.Opened.events N.Opened.Reader.remaining N.Opened.Writer.contents)
         network.now port (image_at S.Start) settings count left.0 left.1) }
+    ensures used { IfOk result (λ left. AreClean ⟦<FileFrom<S> as Disk>⟧ left.0.log left.0.db → HadOfficeIfUsed ⟦<FileFrom<S> as Disk>⟧ (image_at S.Start)) }
     ensures half { IfErr result (λ left. IfSome left.1 (HalfClosesFiles (image_at S.Start) settings count)) }
 {
     order();
@@ -172,17 +190,6 @@ pub fn serve_from<N: Network, S: Start>(
         Ok(left) => Ok(left),
         Err((fault, store)) => Err((fault, Some(store))),
     }
-}
-
-// Reports on the standard error if an office was made or migrated as the file was opened. If this can't be written, nothing is lost.
-fn tell_origin(rt: &HostRuntime, path: &str, origin: Origin) {
-    let _ = match origin {
-        Origin::Found => Ok(()),
-        Origin::Migrated => eprintln!(rt;
-            "procure: an office of version 1 in {path} was migrated to version 2"
-        ),
-        Origin::Made => eprintln!(rt; "procure: an empty office was made in {path}"),
-    };
 }
 
 /// Prints the text that the public sees of the office in a file, whatever its two files held. Reports on the standard error if the office was made or migrated
@@ -202,6 +209,7 @@ pub fn print_from<S: Start, W: Write>(
     ensures printed { IfOk result (λ left. PrintsFiles ⟦<FileFrom<S> as Disk>⟧ (image_at S.Start) settings printout left.0
         output.old.contents output.new.contents left.1) }
     ensures flushed { IfOk result (λ left. OnOk left.1 (output.new.is_flushed ≡ true)) }
+    ensures used { IfOk result (λ left. AreClean ⟦<FileFrom<S> as Disk>⟧ left.0.log left.0.db → HadOfficeIfUsed ⟦<FileFrom<S> as Disk>⟧ (image_at S.Start)) }
     ensures half { IfErr result (λ left. IfSome left.1 (HalfClosesFiles (image_at S.Start) settings 0)) }
 {
     order();
@@ -209,7 +217,6 @@ pub fn print_from<S: Start, W: Write>(
         Ok(opened) => opened,
         Err(fault) => return Err((fault, None)),
     };
-    tell_origin(rt, path, opened.origin);
     let (shelf, printed) = print_shelf(rt.alloc(), settings, opened.shelf, printout, output);
     match close_office(shelf, printed) {
         Ok(left) => Ok(left),

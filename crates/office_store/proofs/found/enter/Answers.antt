@@ -24,7 +24,7 @@ returns-in-Ok-ready-clause-enters g c clean =
     let edition = c.edition_of-edition.result in
     let is : edition_of (version_in c.in-Ok.rows.items) (has_late held.schema) ≡ edition = search rules in
     let readied = readied_after (nat_lt edition this_version) edition old mid end (c.ask_version.ensures.kept early) (c.in-Ok-ready.ensures.readied clean) in
-    subst (λ o. Enters g.S.Store o held c.ready.new.conn) (sym c.origin_of.ensures)
+    subst (λ o. Enters g.S.Store o held c.ready.new.conn) (sym c.origin_of.ensures.is)
     (readied_enters g.S.Store held c.ready.new.conn c.in-Ok.rows.items (c.in-Ok.ensures.asked early) known edition is (nat_lt edition this_version) refl readied)
 
 pub returns-in-Ok-ready-clause-found : goal.returns-in-Ok-ready-clause-found

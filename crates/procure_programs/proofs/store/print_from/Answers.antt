@@ -4,7 +4,7 @@ use Rattle.procure_config.specs.declared.fault.ProgramFault.{ProgramFault}
 use Rattle.sqlite_wal.specs.Files.{image_at}
 use Rattle.sqlite.specs.Files.{over_files}
 use Rattle.office_store.specs.SqlMeaning.{sql_meaning}
-use Rattle.procure_programs.proofs.OpenedFiles.{closes, kept_served, prints_files}
+use Rattle.procure_programs.proofs.OpenedFiles.{closes, closes_used, kept_served, prints_files}
 use Rattle.procure_programs.proofs.StoppedFiles.{closes_half}
 use Rattle.procure_programs.proofs.store.print_from.Goals as goal
 
@@ -13,6 +13,13 @@ returns-in-Ok-close_office-clause-keeps g c =
     let opened = c.in-Ok.opened.shelf in
     let left = c.print_shelf-shelf.result.0 in
     closes (image_at g.S.Start) c.args.settings 0 opened left c.in-Ok-close_office.left.0 c.in-Ok.ensures.held c.in-Ok.ensures.empty
+    (kept_served (sql_meaning over_files) c.args.settings opened left c.print_shelf-shelf.ensures.looks.0) c.in-Ok-close_office.ensures.closed
+
+pub returns-in-Ok-close_office-clause-used : goal.returns-in-Ok-close_office-clause-used
+returns-in-Ok-close_office-clause-used g c =
+    let opened = c.in-Ok.opened.shelf in
+    let left = c.print_shelf-shelf.result.0 in
+    closes_used (image_at g.S.Start) c.args.settings 0 opened left c.in-Ok-close_office.left.0 c.in-Ok.ensures.used
     (kept_served (sql_meaning over_files) c.args.settings opened left c.print_shelf-shelf.ensures.looks.0) c.in-Ok-close_office.ensures.closed
 
 pub returns-in-Err-close_office-clause-half : goal.returns-in-Err-close_office-clause-half

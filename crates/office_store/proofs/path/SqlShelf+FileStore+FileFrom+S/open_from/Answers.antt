@@ -1,7 +1,7 @@
 use Rattle.std.proofs.Common.{ap₂, subst, true, false}
 use Rattle.sqlite.specs.Files.{file_state}
 use Rattle.sqlite.specs.State.{HasCleanDisk}
-use Rattle.office_store.specs.Reopening.{EntersFound, OpensBlank, OpensHeld}
+use Rattle.office_store.specs.Reopening.{EntersFound, OpensBlank, OpensHeld, OpensUsed}
 use Rattle.office_store.proofs.Paths.{image, seen, unchanged}
 use Rattle.office_store.proofs.path.SqlShelf+FileStore+FileFrom+S.open_from.Goals as goal
 
@@ -22,6 +22,12 @@ returns-in-Ok-open_files-clause-enters g c =
     let (log, db) = c.in-Ok.ensures.fresh in
     let same = ap₂ image (ap₂ (seen g.S.Start.log g.S.Start.db) log.0 log.1) (ap₂ (seen g.S.Start.log g.S.Start.db) db.0 db.1) in
     subst (λ i. HasCleanDisk (file_state c.in-Ok-open_files.opened.shelf.0) → EntersFound i c.in-Ok-open_files.opened.origin c.in-Ok-open_files.opened.shelf.0) same c.in-Ok-open_files.ensures.enters
+
+pub returns-in-Ok-open_files-clause-used : goal.returns-in-Ok-open_files-clause-used
+returns-in-Ok-open_files-clause-used g c =
+    let (log, db) = c.in-Ok.ensures.fresh in
+    let same = ap₂ image (ap₂ (seen g.S.Start.log g.S.Start.db) log.0 log.1) (ap₂ (seen g.S.Start.log g.S.Start.db) db.0 db.1) in
+    subst (λ i. HasCleanDisk (file_state c.in-Ok-open_files.opened.shelf.0) → OpensUsed i c.in-Ok-open_files.opened.origin) same c.in-Ok-open_files.ensures.used
 
 pub returns-in-Err-open_files-clause-refused : goal.returns-in-Err-open_files-clause-refused
 returns-in-Err-open_files-clause-refused g c =
