@@ -96,9 +96,9 @@ module _ {S : Type 0} (M : Meaning S) where
         let is : old.settings ≡ here.settings = held.0.0.0 in
         let family : Settings → Type 0 = λ u. IsAnswered M u old.shelf new.shelf b.moment (meant u b.request) text in
         let told : TellsAtSight here.settings b.request text = subst (λ (u : Settings). TellsAtSight u b.request text) is sight in
-        let a = sure M here.settings old.shelf new.shelf here.tables b text (refused_at_sight here.settings b.request) refl told
-        (subst family is answered honest here.tables held.0.0.1 held.0.1) in
-        (a.0, a.1, a.2, step_stands a.0 ((same ∙ is, a.3), a.4) a.5 whole held.1)
+        let (busy, reply, holds, reached, stops) = subst family is answered honest here.tables held.0.0.1 held.0.1 in
+        let a = sure M here.settings old.shelf new.shelf here.tables b text (refused_at_sight here.settings b.request) refl told (busy, (reply, holds, reached, stops)) in
+        (a.0, a.1, a.2.0, step_stands a.0 ((same ∙ is, a.2.1), a.2.2) a.2.3 whole held.1)
 
   -- ---- all steps of a run, from the office that a desk held
 
