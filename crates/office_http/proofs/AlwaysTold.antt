@@ -8,12 +8,14 @@ use Rattle.office_commands.specs.declared.queries.Query.{Query}
 use Rattle.office_values.specs.declared.refusal.Refusal.{Refusal}
 use Rattle.office_values.specs.declared.refusal.Refusal.TheVariants.{Unavailable}
 use Rattle.office_values.specs.declared.settings.Settings.{Settings}
-use Rattle.office_base.specs.Tables.{Tables}
+use Rattle.office_base.specs.Tables.{Tables, after_puts}
+use Rattle.office_base.specs.declared.puts.Put.{Put}
 use Rattle.office_machine.specs.Machine.{Given, refusal_of}
 use Rattle.office_machine.specs.Requests.{reply_by}
 use Rattle.office_machine.specs.Sights.{told}
 use Rattle.office_publications.specs.Packages.{packages}
 use Rattle.office_publications.specs.Publishing.{publishing}
+use Rattle.office_publications.specs.Standing.{office_kept}
 use Rattle.office_plans.specs.Asking.{given}
 use Rattle.office_plans.specs.Plans.{Plan}
 use Rattle.office_plans.specs.Replies.{text_of}
@@ -27,23 +29,26 @@ use Rattle.office_requests.specs.declared.route.Allow.{Allow}
 use Rattle.office_requests.specs.declared.route.Route.{Route}
 use Rattle.office_http.specs.Credentials.{credentials_of}
 use Rattle.office_http.specs.Meaning.{Meant, Refuses, Gives, Sees, meant, meant_asked, meant_at, meant_by, who}
-use Rattle.office_http.specs.Answering.{NeedsMeant, answer_bytes, is_accepted, is_done, reply_to_meant, seen_as, told_as, unavailable_text}
+use Rattle.office_http.specs.Answering.{KeepsMeant, NeedsMeant, answer_bytes, is_accepted, is_done, reply_to_meant, seen_as, tables_after, tables_left, told_as, unavailable_text}
 use Rattle.office_http.specs.Response.{response_of}
 use Rattle.office_http.specs.declared.reply.Reply as replies
 use Rattle.office_http.specs.declared.reply.Reply.TheVariants.{Json, Refused}
 use Rattle.office_http.proofs.ToldSteps.{accepted_as, refused_as, told_seen}
 
-module _ (settings : Settings) (s : Tables) (moment : ℕ) (text : List ℕ) (Holds : Type 0) where
-  -- The answer, and the tables that stay.
+module _ (settings : Settings) (s : Tables) (moment : ℕ) (text : List ℕ) (Holds : Tables → Type 0) where
+  -- The answer, and the tables after it.
   abbrev pub Tells : Meant → Type 0
-  Tells m = (busy : Bool) × (text ≡ answer_bytes settings busy s moment m) × (is_done busy s moment m ≡ false → Holds)
+  Tells m =
+      (busy : Bool) × (text ≡ answer_bytes settings busy s moment m) × (is_done busy s moment m ≡ false → Holds s)
+      × (is_done busy s moment m ≡ true → KeepsMeant s moment m → Holds (tables_left settings busy s moment m))
 
   -- The answer is `Unavailable`, or a reply that leaves the tables as they are.
-  pub tells_unavailable : (m : Meant) → text ≡ unavailable_text → Holds → Tells m
-  tells_unavailable m is held = (true, is, λ none. held)
+  pub tells_unavailable : (m : Meant) → text ≡ unavailable_text → Holds s → Tells m
+  tells_unavailable m is held = (true, is, λ none. held, λ done keeps. held)
 
-  tells_reply : (m : Meant) (reply : replies.Reply) → reply_to_meant settings s moment m ≡ reply → text ≡ response_of reply → Holds → Tells m
-  tells_reply m reply replies is held = (false, is ∙ ap response_of (sym replies), λ none. held)
+  tells_reply : (m : Meant) (reply : replies.Reply) → reply_to_meant settings s moment m ≡ reply → tables_after settings s moment m ≡ s → text ≡ response_of reply → Holds s
+      → Tells m
+  tells_reply m reply replies stays is held = (false, is ∙ ap response_of (sym replies), λ none. held, λ done keeps. subst Holds (sym stays) held)
 
   unavailable_refusal : (why : Refusal) → why ≡ Unavailable → text ≡ response_of (Refused why None) → text ≡ unavailable_text
   unavailable_refusal why is tells = tells ∙ ap (λ (w : Refusal). response_of (Refused w None)) is
@@ -51,46 +56,49 @@ module _ (settings : Settings) (s : Tables) (moment : ℕ) (text : List ℕ) (Ho
   -- ---- a command
 
   pub tells_refused_command : (caller : Caller) (command : Command) (why : Refusal) → (refusal_of (given s moment caller command) ≡ Some why) ⊎ (why ≡ Unavailable)
-      → text ≡ response_of (Refused why None) → Holds → Tells (Gives caller command)
+      → text ≡ response_of (Refused why None) → Holds s → Tells (Gives caller command)
   tells_refused_command caller command why (inl guarded) is held =
       tells_reply (Gives caller command) (Refused why None)
-      (ap (λ (o : Option Refusal). told_as (reply_by o (publishing settings.publisher) (given s moment caller command))) guarded) is held
+      (ap (λ (o : Option Refusal). told_as (reply_by o (publishing settings.publisher) (given s moment caller command))) guarded)
+      (ap (λ (o : Option Refusal). office_kept o settings.publisher (given s moment caller command)) guarded) is held
   tells_refused_command caller command why (inr wanting) is held = tells_unavailable (Gives caller command) (unavailable_refusal why wanting is) held
 
   pub tells_done_command : (caller : Caller) (command : Command) (planned : Plan) → IsPlan settings.publisher (given s moment caller command) planned
-      → text ≡ response_of (Json planned.reply) → Tells (Gives caller command)
-  tells_done_command caller command planned plan is =
+      → text ≡ response_of (Json planned.reply) → Holds (after_puts planned.puts s) → Tells (Gives caller command)
+  tells_done_command caller command planned plan is held =
       let x : Given = given s moment caller command in
       let accepted : is_accepted s moment (Gives caller command) ≡ true = ap (λ (o : Option Refusal). is_none o) plan.allowed in (
         false,
         is ∙ ap response_of (sym (ap (λ (o : Option Refusal). told_as (reply_by o (publishing settings.publisher) x)) plan.allowed ∙ accepted_as x plan.allowed ∙ ap Json (sym plan.reply))),
         λ none. absurd (true≢false (sym (ap (λ (b : Bool). b && not false) accepted) ∙ none)),
+        λ done keeps. subst Holds
+            (ap (λ (ps : List Put). after_puts ps s) (plan.put keeps).puts ∙ ap (λ (o : Option Refusal). office_kept o settings.publisher x) (sym plan.allowed)) held,
       )
 
   -- ---- a query
 
   said_refused : (caller : Caller) (query : Query) (why : Refusal)
       → (let it : Result (List ℕ) Refusal = Err why in (it ≡ text_of (told (packages settings.publisher) s caller query)) ⊎ (it ≡ Err Unavailable))
-      → text ≡ response_of (Refused why None) → Holds → Tells (Sees caller query)
+      → text ≡ response_of (Refused why None) → Holds s → Tells (Sees caller query)
   said_refused caller query why (inl said) is held =
-      tells_reply (Sees caller query) (Refused why None) (refused_as (told (packages settings.publisher) s caller query) why said) is held
+      tells_reply (Sees caller query) (Refused why None) (refused_as (told (packages settings.publisher) s caller query) why said) refl is held
   said_refused caller query why (inr wanting) is held = tells_unavailable (Sees caller query) (unavailable_refusal why (cc wanting) is) held
 
   pub tells_refused_query : (caller : Caller) (query : Query) (why : Refusal) → IsSeen settings.publisher caller query s (Err why)
       → Needs settings.publisher query s
-      → text ≡ response_of (Refused why None) → Holds → Tells (Sees caller query)
+      → text ≡ response_of (Refused why None) → Holds s → Tells (Sees caller query)
   tells_refused_query caller query why seen needs is held = said_refused caller query why (seen needs) is held
 
   said_shown : (caller : Caller) (query : Query) (shown : List ℕ)
       → (let it : Result (List ℕ) Refusal = Ok shown in (it ≡ text_of (told (packages settings.publisher) s caller query)) ⊎ (it ≡ Err Unavailable))
-      → text ≡ response_of (seen_as (query_kind_of query) shown) → Holds → Tells (Sees caller query)
+      → text ≡ response_of (seen_as (query_kind_of query) shown) → Holds s → Tells (Sees caller query)
   said_shown caller query shown (inl said) is held =
-      tells_reply (Sees caller query) (seen_as (query_kind_of query) shown) (told_seen (packages settings.publisher) s caller query shown said) is held
+      tells_reply (Sees caller query) (seen_as (query_kind_of query) shown) (told_seen (packages settings.publisher) s caller query shown said) refl is held
   said_shown caller query shown (inr never) is held = absurd (cc never)
 
   pub tells_shown_query : (caller : Caller) (query : Query) (shown : List ℕ) → IsSeen settings.publisher caller query s (Ok shown)
       → Needs settings.publisher query s
-      → text ≡ response_of (seen_as (query_kind_of query) shown) → Holds → Tells (Sees caller query)
+      → text ≡ response_of (seen_as (query_kind_of query) shown) → Holds s → Tells (Sees caller query)
   tells_shown_query caller query shown seen needs is held = said_shown caller query shown (seen needs) is held
 
   -- ---- the meaning of a request
@@ -105,10 +113,11 @@ module _ (settings : Settings) (s : Tables) (moment : ℕ) (text : List ℕ) (Ho
     abbrev no_caller : Result Caller Refusal
     no_caller = Err Unavailable
 
-    pub tells_refused : (m : Meant) (why : Refusal) (method : Option Allow) → m ≡ Refuses why method → text ≡ response_of (Refused why method) → Holds → Tells m
-    tells_refused m why method means is held = tells_reply m (Refused why method) (ap (λ (n : Meant). reply_to_meant settings s moment n) means) is held
+    pub tells_refused : (m : Meant) (why : Refusal) (method : Option Allow) → m ≡ Refuses why method → text ≡ response_of (Refused why method) → Holds s → Tells m
+    tells_refused m why method means is held =
+        tells_reply m (Refused why method) (ap (λ (n : Meant). reply_to_meant settings s moment n) means) (ap (λ (n : Meant). tables_after settings s moment n) means) is held
 
-    pub tells_no_route : (why : Refusal) (method : Option Allow) → takes ≡ Err (why, method) → text ≡ response_of (Refused why method) → Holds → Tells (meant settings request s)
+    pub tells_no_route : (why : Refusal) (method : Option Allow) → takes ≡ Err (why, method) → text ≡ response_of (Refused why method) → Holds s → Tells (meant settings request s)
     tells_no_route why method at is held =
         tells_refused (meant settings request s) why method (ap (λ (r : Result Route (Refusal × Option Allow)). meant_at settings request s r) at) is held
 
@@ -117,7 +126,7 @@ module _ (settings : Settings) (s : Tables) (moment : ℕ) (text : List ℕ) (Ho
         ap (λ (r : Result Route (Refusal × Option Allow)). meant_at settings request s r) at
         ∙ ap (λ (c : Result Caller Refusal). meant_by route request c) by
 
-    pub tells_nobody : (route : Route) (why : Refusal) → takes ≡ Ok route → (Err why ≡ asker) ⊎ (Err why ≡ no_caller) → text ≡ response_of (Refused why None) → Holds
+    pub tells_nobody : (route : Route) (why : Refusal) → takes ≡ Ok route → (Err why ≡ asker) ⊎ (Err why ≡ no_caller) → text ≡ response_of (Refused why None) → Holds s
         → Tells (meant settings request s)
     tells_nobody route why at (inl by) is held = tells_refused (meant settings request s) why None (means route (Err why) at (sym by)) is held
     tells_nobody route why at (inr wanting) is held = tells_unavailable (meant settings request s) (unavailable_refusal why (cc wanting) is) held
@@ -128,8 +137,8 @@ module _ (settings : Settings) (s : Tables) (moment : ℕ) (text : List ℕ) (Ho
     wanting_asked caller needs tells = from (tells tt)
       where
         from : Tells (meant_asked caller (Err Unavailable)) → Tells (meant settings request s)
-        from (true, is, held) = tells_unavailable (meant settings request s) is (held refl)
-        from (false, is, held) = tells_unavailable (meant settings request s) is (held refl)
+        from (true, is, held, done) = tells_unavailable (meant settings request s) is (held refl)
+        from (false, is, held, done) = tells_unavailable (meant settings request s) is (held refl)
 
     pub tells_asked : (route : Route) (caller : Caller) (read : Result Asked Refusal) → takes ≡ Ok route → (Ok caller ≡ asker) ⊎ (Ok caller ≡ no_caller)
         → (read ≡ asked_by_route caller route request) ⊎ (read ≡ Err Unavailable) → NeedsMeant settings s (meant settings request s)

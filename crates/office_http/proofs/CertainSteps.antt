@@ -15,7 +15,7 @@ use Rattle.office_plans.specs.Published.{gathers_lines}
 use Rattle.office_plans.specs.Replies.{text_of}
 use Rattle.office_desk.specs.Steps.{no_packages}
 use Rattle.office_wire.specs.Request.{RequestView}
-use Rattle.office_requests.specs.Asking.{asked_by, asked_by_route, is_told_by_path, may_ask}
+use Rattle.office_requests.specs.Asking.{asked_by, asked_by_route, is_read_at_once, may_ask}
 use Rattle.office_requests.specs.Parameters.{query_of}
 use Rattle.office_requests.specs.Routing.{routed}
 use Rattle.office_requests.specs.declared.asked.Asked.{Asked}
@@ -116,13 +116,13 @@ module _ (s : Tables) (moment : ℕ) (caller : Caller) (query : Query) where
 
 -- ---- the meaning of a request
 
--- A command or query is read without memory if its path alone says which it is or the caller may not use the route.
+-- A command or query is read without memory, or the caller may not use the route.
 found_read : (request : RequestView) (route : Route) (caller : Caller) (read : Result Asked Refusal)
-    → (is_told_by_path route.endpoint ≡ true → read ≡ asked_by_route caller route request) → (may_ask caller route.endpoint ≡ false → read ≡ Err Forbidden)
-    → (is_told_by_path route.endpoint || not (may_ask caller route.endpoint)) ≡ true → read ≡ asked_by_route caller route request
-found_read request route caller read path forbidden = by (is_told_by_path route.endpoint) (may_ask caller route.endpoint) refl refl
+    → (is_read_at_once route.endpoint request.body ≡ true → read ≡ asked_by_route caller route request) → (may_ask caller route.endpoint ≡ false → read ≡ Err Forbidden)
+    → (is_read_at_once route.endpoint request.body || not (may_ask caller route.endpoint)) ≡ true → read ≡ asked_by_route caller route request
+found_read request route caller read path forbidden = by (is_read_at_once route.endpoint request.body) (may_ask caller route.endpoint) refl refl
   where
-    by : (alone may : Bool) → is_told_by_path route.endpoint ≡ alone → may_ask caller route.endpoint ≡ may → (alone || not may) ≡ true → read ≡ asked_by_route caller route request
+    by : (alone may : Bool) → is_read_at_once route.endpoint request.body ≡ alone → may_ask caller route.endpoint ≡ may → (alone || not may) ≡ true → read ≡ asked_by_route caller route request
     by true may is right found = path is
     by false true is right found = absurd (cc found)
     by false false is right found =
@@ -157,11 +157,11 @@ module _ (settings : Settings) (s : Tables) (moment : ℕ) (text : List ℕ) (Ri
   certain_nobody route refusal at (inr wanting) risen is none why refused = inr (risen wanting)
 
   pub certain_asked : (route : Route) (caller : Caller) (read : Result Asked Refusal) → takes ≡ Ok route → (Ok caller ≡ asker) ⊎ (Ok caller ≡ no_caller)
-      → (is_told_by_path route.endpoint ≡ true → read ≡ asked_by_route caller route request) → (may_ask caller route.endpoint ≡ false → read ≡ Err Forbidden)
-      → is_found takes asker ≡ true → Certain (meant_asked caller read) → Certain (meant settings request s)
+      → (is_read_at_once route.endpoint request.body ≡ true → read ≡ asked_by_route caller route request) → (may_ask caller route.endpoint ≡ false → read ≡ Err Forbidden)
+      → is_found request.body takes asker ≡ true → Certain (meant_asked caller read) → Certain (meant settings request s)
   certain_asked route caller read at (inr never) path forbidden found certain = absurd (cc never)
   certain_asked route caller read at (inl by) path forbidden found certain =
-      let here : is_found takes asker ≡ is_found (Ok route) (Ok caller) =
-      ap (λ (r : Result Route Reason). is_found r asker) at ∙ ap (λ (c : Result Caller Refusal). is_found (Ok route) c) (sym by) in
+      let here : is_found request.body takes asker ≡ is_found request.body (Ok route) (Ok caller) =
+      ap (λ (r : Result Route Reason). is_found request.body r asker) at ∙ ap (λ (c : Result Caller Refusal). is_found request.body (Ok route) c) (sym by) in
       let is : read ≡ asked_by_route caller route request = found_read request route caller read path forbidden (sym here ∙ found) in
       subst (λ (m : Meant). Certain m) (ap (λ (r : Result Asked Refusal). meant_asked caller r) is ∙ sym (means route (Ok caller) at (sym by))) certain

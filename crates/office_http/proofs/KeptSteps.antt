@@ -1,6 +1,5 @@
 -- The commands of requests are accepted one by one, and so they are kept.
-use Rattle.std.proofs.Common.{◌≡◌, ℕ, ◌⊎◌, inl, inr, Bool, true, false, List, [], ◌∷◌, Option, Some, None, Result, Ok, Err, refl, sym, subst}
-use Rattle.std.specs.Prelude.{⊤}
+use Rattle.std.proofs.Common.{◌≡◌, ℕ, Bool, true, false, List, [], ◌∷◌, Option, Some, None, refl}
 use Rattle.office_values.specs.declared.refusal.Refusal.{Refusal}
 use Rattle.office_values.specs.declared.settings.Publisher.{Publisher}
 use Rattle.office_values.specs.declared.settings.Settings.{Settings}
@@ -15,12 +14,10 @@ use Rattle.office_publications.specs.Standing.{office_kept}
 use Rattle.office_plans.specs.Asking.{given}
 use Rattle.office_desk.specs.Steps.{OfficeIsKept}
 use Rattle.office_wire.specs.Request.{RequestView}
-use Rattle.office_wire.specs.Runs.{Step, AnswersOne, RefusesOne, Serves, office_left}
-use Rattle.office_wire.specs.declared.fault.RunFault.{RunFault}
-use Rattle.office_wire.specs.declared.fault.RunFault.TheVariants as ends
+use Rattle.office_wire.specs.Runs.{Step, office_left}
 use Rattle.office_http.specs.Meaning.{Meant, Refuses, Gives, Sees, meant}
 use Rattle.office_http.specs.Answering.{Held, meant_in, office_answers, tables_after, tables_left}
-use Rattle.office_http.specs.Joined.{AreServed, KeepsServing, RequestsAreKept, StepsAreKept, joined_meant, accepted_steps, joined_with}
+use Rattle.office_http.specs.Joined.{RequestsAreKept, StepsAreKept, joined_meant, accepted_steps, joined_with}
 use Rattle.office_requests.specs.Asking.{WhatIsAskedCanBeGiven}
 use Rattle.office_http.specs.Inside.Meant.{CanBeMeant}
 use Rattle.office_http.proofs.MeantSteps.{meant_can}
@@ -84,28 +81,3 @@ steps_reach laws xs h reached (x ∷ steps) =
 
 pub steps_kept : Laws → StepsAreKept
 steps_kept laws xs h reached steps = kept_by laws h.settings.publisher _ _ (steps_reach laws xs h reached steps)
-
--- One request that is served.
-
-module _ (law : StepsAreKept) (input : List ℕ) (now : Option (List ℕ)) (moment : ℕ) (h k : Held) (xs : List Given)
-    (reached : Reaches (publishing h.settings.publisher) xs h.tables) where
-  steps_served : (steps : List Step) → AreServed input now moment steps → k ≡ office_left office_answers h steps → KeepsServing input now moment h k xs
-  steps_served steps are left = record {
-    steps = steps;
-    are = are;
-    left = left;
-    kept = subst (λ (o : Held). OfficeIsKept h.settings.publisher (accepted_steps h steps xs) o.tables) (sym left) (law xs h reached steps);
-  }
-
-  one_served : (text : List ℕ) → AnswersOne office_answers input now moment h k text ⊎ RefusesOne office_answers input h k text
-      → KeepsServing input now moment h k xs
-  one_served text (inl answers) =
-      steps_served (record { busy = answers.busy; block = record { moment = moment; request = answers.request } } ∷ []) (refl, answers.read) answers.left
-  one_served text (inr refuses) = steps_served [] tt refuses.left
-
-  pub served_kept : (result : Result ⊤ RunFault) (told : List ℕ) → Serves office_answers result input now moment h k told → KeepsServing input now moment h k xs
-  served_kept (Ok done) told served = one_served told served
-  served_kept (Err ends.Write) told served = one_served served.0 served.1
-  served_kept (Err ends.Read) told served = steps_served [] tt served.2
-  served_kept (Err ends.BadBlock) told served = absurd served
-  served_kept (Err ends.LostPlace) told served = absurd served

@@ -1,19 +1,22 @@
 -- Refusals at sight.
-use Rattle.std.proofs.Common.{◌≡◌, ℕ, Bool, true, false, List, Option, Some, None, Result, Ok, Err, if◌then◌else◌, refl, sym, ap, ◌∙◌, subst}
+use Rattle.std.proofs.Common.{◌≡◌, ℕ, Bool, true, false, not, ◌||◌, List, Option, Some, None, Result, Ok, Err, if◌then◌else◌, refl, sym, ap, ◌∙◌, subst}
 use Rattle.office_commands.specs.declared.command.Caller.{Caller}
 use Rattle.office_values.specs.declared.refusal.Refusal.{Refusal}
-use Rattle.office_values.specs.declared.refusal.Refusal.TheVariants.{Forbidden}
+use Rattle.office_values.specs.Fields.{is_id}
+use Rattle.office_values.specs.declared.refusal.Refusal.TheVariants.{BadKey, Forbidden}
 use Rattle.office_values.specs.declared.settings.Settings.{Settings}
-use Rattle.office_base.specs.Tables.{Tables, no_tables}
+use Rattle.office_base.specs.Tables.{Tables, no_tables, tenderer_at}
+use Rattle.office_desk.specs.Callers.{caller_of, clerk_with_key, is_clerk_name, names_no_tenderer, tenderer_with_key}
 use Rattle.office_wire.specs.Request.{RequestView}
-use Rattle.office_requests.specs.Asking.{may_ask}
+use Rattle.office_requests.specs.Asking.{asked_by, may_ask}
+use Rattle.office_requests.specs.Parameters.{query_of}
 use Rattle.office_requests.specs.Routing.{routed}
 use Rattle.office_requests.specs.declared.asked.Asked.{Asked}
 use Rattle.office_requests.specs.declared.route.Allow.{Allow}
 use Rattle.office_requests.specs.declared.route.Route.{Route}
 use Rattle.office_http.specs.AtSight.{is_known_at_sight, refused_at_sight, refused_by_route, refused_to}
 use Rattle.office_http.specs.Credentials.{credentials_of}
-use Rattle.office_http.specs.Meaning.{who}
+use Rattle.office_http.specs.Meaning.{Meant, Refuses, meant, meant_asked, meant_at, meant_by, who}
 use Rattle.office_http.specs.Response.{response_of}
 use Rattle.office_http.specs.declared.reply.Reply.TheVariants.{Refused}
 
@@ -69,3 +72,47 @@ module _ (settings : Settings) (request : RequestView) (text : List ℕ) (why : 
       let it = known route at in
       let right = taken_else {A = Reason} (may_ask caller route.endpoint) (Some (Forbidden, None)) why (ap (λ (c : Result Caller Refusal). refused_to route c) (asks it.0 no_tables) ∙ it.1) in
       told_so Forbidden None right.1 (tells Forbidden (forbids right.0))
+
+-- ---- the meaning of a request that is refused at sight
+
+same_name : (clerk id : Bool) (a b c : Result Caller Refusal) → (clerk || not id) ≡ true
+    → ◌≡◌ {A = Result Caller Refusal} (if clerk then a else (if id then b else Err BadKey)) (if clerk then a else (if id then c else Err BadKey))
+same_name true id a b c is = refl
+same_name false false a b c is = refl
+same_name false true a b c is = absurd (cc is)
+
+-- A caller who is known without a look-up is the same to every office.
+same_caller : (settings : Settings) (s : Tables) (name key : Option (List ℕ)) → names_no_tenderer name key ≡ true
+    → caller_of settings s name key ≡ caller_of settings no_tables name key
+same_caller settings s None None is = refl
+same_caller settings s None (Some key) is = refl
+same_caller settings s (Some name) None is = refl
+same_caller settings s (Some name) (Some key) is =
+    same_name (is_clerk_name name) (is_id name) (clerk_with_key settings key) (tenderer_with_key name key (tenderer_at name s)) (tenderer_with_key name key (tenderer_at name no_tables)) is
+
+same_who : (settings : Settings) (s : Tables) (values : Result (Option (List ℕ) × Option (List ℕ)) Refusal) → is_known_at_sight values ≡ true
+    → who settings s values ≡ who settings no_tables values
+same_who settings s (Err why) is = refl
+same_who settings s (Ok values) is = same_caller settings s values.0 values.1 is
+
+asker_meant : (route : Route) (request : RequestView) (caller : Result Caller Refusal) (why : Reason) → refused_to route caller ≡ Some why
+    → meant_by route request caller ≡ Refuses why.0 why.1
+asker_meant route request (Err refusal) why is = let e : (refusal, None) ≡ why = cc is in ap (λ (w : Reason). Refuses w.0 w.1) e
+asker_meant route request (Ok caller) why is =
+    let it = taken_else {A = Reason} (may_ask caller route.endpoint) (Some (Forbidden, None)) why is in
+    let e : (Forbidden, None) ≡ why = cc it.1 in
+    ap (λ (b : Bool). meant_asked caller (if b then asked_by route.endpoint route.place (query_of request.head.target) request.body else Err Forbidden)) it.0
+    ∙ ap (λ (w : Reason). Refuses w.0 w.1) e
+
+route_meant : (settings : Settings) (request : RequestView) (s : Tables) (route : Result Route Reason) (why : Reason) → refused_by_route settings request route ≡ Some why
+    → meant_at settings request s route ≡ Refuses why.0 why.1
+route_meant settings request s (Err refusal) why is = let e : refusal ≡ why = cc is in ap (λ (w : Reason). Refuses w.0 w.1) e
+route_meant settings request s (Ok route) why is =
+    let it = taken_if {A = Reason} (is_known_at_sight (credentials_of request.head.fields)) (refused_to route (who settings no_tables (credentials_of request.head.fields))) why is in
+    ap (λ (c : Result Caller Refusal). meant_by route request c) (same_who settings s (credentials_of request.head.fields) it.0)
+    ∙ asker_meant route request (who settings no_tables (credentials_of request.head.fields)) why it.1
+
+-- To every office it is this refusal.
+pub sight_meant : (settings : Settings) (request : RequestView) (s : Tables) (why : Refusal × Option Allow) → refused_at_sight settings request ≡ Some why
+    → meant settings request s ≡ Refuses why.0 why.1
+sight_meant settings request s why is = route_meant settings request s (routed request.head.method request.head.target) why is

@@ -1,9 +1,10 @@
 -- A run or a request that one office answers is also answered by another office that is a view of it.
-use Rattle.std.proofs.Common.{◌≡◌, ℕ, ◌⊎◌, inl, inr, Bool, List, [], ◌∷◌, ◌++◌, Option, Result, Ok, Err, refl, ap, ◌∙◌, subst}
+use Rattle.std.proofs.Common.{◌≡◌, ℕ, ◌⊎◌, inl, inr, Bool, true, List, [], ◌∷◌, ◌++◌, Option, Result, Ok, Err, refl, sym, ap, ◌∙◌, subst}
+use Rattle.std.proofs.lemmas.Option.{IfSome_then}
 use Rattle.std.specs.Prelude.{⊤}
-use Rattle.office_wire.specs.AnyReader.{CutsAnyRefusal, HasTold, WentThrough}
 use Rattle.office_wire.specs.Blocks.{Block}
-use Rattle.office_wire.specs.Runs.{Answers, AnswersOne, CutsRefusal, CutsReply, Ends, Ran, RefusesOne, Served, Serves, Step, office_left, written}
+use Rattle.office_wire.specs.Counting.{ReaderView}
+use Rattle.office_wire.specs.Runs.{Answers, AreSteps, CutsAnyRefusal, CutsRefusal, CutsReply, Ends, HasTold, IsResponse, Ran, Served, Serves, Step, office_left, written}
 use Rattle.office_wire.specs.Sending.{IsPrefix}
 use Rattle.office_wire.specs.declared.fault.ReadFault.{ReadFault}
 use Rattle.office_wire.specs.declared.fault.RunFault.{RunFault}
@@ -12,6 +13,7 @@ use Rattle.office_wire.specs.declared.fault.RunFault.TheVariants as ends
 module _ {X Y : Type 0} (A : Answers X) (B : Answers Y) (f : X → Y)
     (replies : (busy : Bool) (x : X) (b : Block) → A.reply busy x b ≡ B.reply busy (f x) b)
     (goes : (busy : Bool) (x : X) (b : Block) → f (A.after busy x b) ≡ B.after busy (f x) b)
+    (may : (x : X) (b : Block) → A.may_be_busy x b ≡ B.may_be_busy (f x) b)
     (refuses : (why : ReadFault) → A.refusal why ≡ B.refusal why) where
   written_as : (x : X) (steps : List Step) → written A x steps ≡ written B (f x) steps
   written_as x [] = refl
@@ -23,6 +25,14 @@ module _ {X Y : Type 0} (A : Answers X) (B : Answers Y) (f : X → Y)
   pub left_as : (x : X) (steps : List Step) → f (office_left A x steps) ≡ office_left B (f x) steps
   left_as x [] = refl
   left_as x (y ∷ steps) = left_as (A.after y.busy x y.block) steps ∙ ap (λ (z : Y). office_left B z steps) (goes y.busy x y.block)
+
+  steps_as : (x : X) (steps : List Step) → AreSteps A x steps → AreSteps B (f x) steps
+  steps_as x [] all = tt
+  steps_as x (y ∷ steps) all = (
+    all.0,
+    λ on. sym (may x y.block) ∙ all.1 on,
+    subst (λ (z : Y). AreSteps B z steps) (goes y.busy x y.block) (steps_as (A.after y.busy x y.block) steps all.2),
+  )
 
   -- ---- a run
 
@@ -63,18 +73,6 @@ module _ {X Y : Type 0} (A : Answers X) (B : Answers Y) (f : X → Y)
   ends_as (Err ends.Write) x steps rest now told (inr (inl cut)) = inr (inl (cuts_refusal x steps rest told cut))
   ends_as (Err ends.Write) x steps rest now told (inr (inr is)) = inr (inr (is ∙ written_as x steps))
 
-  pub ran_as : (result : Result ℕ RunFault) (input : List ℕ) (now : Option (List ℕ)) (x : X) (steps : List Step) (before after : Option (List ℕ))
-      → Ran A result input now x steps before after → Ran B result input now (f x) steps before after
-  ran_as result input now x steps before after it = record {
-    rest = it.rest;
-    told = it.told;
-    blocks = it.blocks;
-    sent = it.sent;
-    ends_so = ends_as result x steps it.rest now it.told it.ends_so;
-  }
-
-  -- ---- a run over any reader
-
   cuts_any_refusal : (x : X) (steps : List Step) (told : List ℕ) → CutsAnyRefusal A x steps told → CutsAnyRefusal B (f x) steps told
   cuts_any_refusal x steps told it = record {
     why = it.why;
@@ -99,49 +97,32 @@ module _ {X Y : Type 0} (A : Answers X) (B : Answers Y) (f : X → Y)
   told_as_well (Err ends.Write) x steps told (inr (inl cut)) = inr (inl (cuts_any_refusal x steps told cut))
   told_as_well (Err ends.Write) x steps told (inr (inr is)) = inr (inr (is ∙ written_as x steps))
 
-  pub went_as : (result : Result ℕ RunFault) (reads left : ℕ) (x : X) (steps : List Step) (before after : Option (List ℕ))
-      → WentThrough A result reads left x steps before after → WentThrough B result reads left (f x) steps before after
-  went_as result reads left x steps before after it = record {
-    formed = it.formed;
+  pub ran_as : (result : Result ℕ RunFault) (came rest : ReaderView) (x : X) (steps : List Step) (before after : Option (List ℕ))
+      → Ran A result came rest x steps before after → Ran B result came rest (f x) steps before after
+  ran_as result came rest x steps before after it = record {
+    steps_are = steps_as x steps it.steps_are;
     few = it.few;
     told = it.told;
     sent = it.sent;
     told_so = told_as_well result x steps it.told it.told_so;
+    known = IfSome_then came.remaining it.known (λ input read. (read.0, read.1, ends_as result x steps read.0 rest.remaining it.told read.2));
   }
 
   -- ---- one request
 
-  module _ (input : List ℕ) (now : Option (List ℕ)) (moment : ℕ) (x t : X) where
-    answers_as : (text : List ℕ) → AnswersOne A input now moment x t text → AnswersOne B input now moment (f x) (f t) text
-    answers_as text it = record {
-      request = it.request;
-      read = it.read;
-      busy = it.busy;
-      text_is = it.text_is ∙ replies it.busy x (record { moment = moment; request = it.request });
-      left = ap f it.left ∙ goes it.busy x (record { moment = moment; request = it.request });
-    }
+  module _ (came now : Option (List ℕ)) (x : X) where
+    response_as : (steps : List Step) (text : List ℕ) → IsResponse A came now x steps text → IsResponse B came now (f x) steps text
+    response_as [] text (why, was_read, is, refused) = (why, was_read, is ∙ refuses why, refused)
+    response_as (y ∷ more) text (is, read) = (is ∙ replies y.busy x y.block, read)
 
-    refuses_as : (text : List ℕ) → RefusesOne A input x t text → RefusesOne B input (f x) (f t) text
-    refuses_as text it = record {
-      why = it.why;
-      refused = it.refused;
-      was_read = it.was_read;
-      text_is = it.text_is ∙ refuses it.why;
-      left = ap f it.left;
-    }
+    serves_as : (result : Result ⊤ RunFault) (steps : List Step) (told : List ℕ) → Serves A result came now x steps told → Serves B result came now (f x) steps told
+    serves_as (Ok done) steps told served = response_as steps told served
+    serves_as (Err ends.Write) steps told (text, served, front) = (text, response_as steps text served, front)
+    serves_as (Err ends.Read) steps told served = served
+    serves_as (Err ends.BadBlock) steps told served = absurd served
+    serves_as (Err ends.LostPlace) steps told served = absurd served
 
-    one_as : (text : List ℕ) → AnswersOne A input now moment x t text ⊎ RefusesOne A input x t text
-        → AnswersOne B input now moment (f x) (f t) text ⊎ RefusesOne B input (f x) (f t) text
-    one_as text (inl answers) = inl (answers_as text answers)
-    one_as text (inr refusal) = inr (refuses_as text refusal)
-
-    serves_as : (result : Result ⊤ RunFault) (told : List ℕ) → Serves A result input now moment x t told → Serves B result input now moment (f x) (f t) told
-    serves_as (Ok done) told served = one_as told served
-    serves_as (Err ends.Write) told (text, served, front) = (text, one_as text served, front)
-    serves_as (Err ends.Read) told (cut, none, left) = (cut, none, ap f left)
-    serves_as (Err ends.BadBlock) told served = absurd served
-    serves_as (Err ends.LostPlace) told served = absurd served
-
-    pub served_as : (result : Result ⊤ RunFault) (before after : Option (List ℕ)) → Served A result input now moment x t before after
-        → Served B result input now moment (f x) (f t) before after
-    served_as result before after it = record { told = it.told; sent = it.sent; served = serves_as result it.told it.served }
+    pub served_as : (result : Result ⊤ RunFault) (moment : ℕ) (steps : List Step) (before after : Option (List ℕ)) → Served A result came now moment x steps before after
+        → Served B result came now moment (f x) steps before after
+    served_as result moment steps before after it =
+        record { one = it.one; steps_are = steps_as x steps it.steps_are; told = it.told; sent = it.sent; served = serves_as result steps it.told it.served }

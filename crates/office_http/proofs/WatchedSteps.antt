@@ -1,19 +1,26 @@
 -- The states that a stop may leave, step by step.
-use Rattle.std.proofs.Common.{◌≡◌, ℕ, Bool, List, [], ◌∷◌, ◌++◌, Option, Result, append_assoc, append-nil, refl, sym, ap, ◌∙◌, subst}
-use Rattle.std.specs.Prelude.{⊤}
+use Rattle.std.proofs.Common.{◌≡◌, ℕ, Bool, true, false, List, [], ◌∷◌, ◌++◌, Option, Some, None, Result, append_assoc, append-nil, refl, sym, ap, ◌∙◌, subst}
+use Rattle.std.specs.Prelude.{⊤, is_none}
+use Rattle.office_values.specs.declared.refusal.Refusal.{Refusal}
 use Rattle.office_values.specs.declared.settings.Settings.{Settings}
 use Rattle.office_base.specs.Tables.{Tables}
 use Rattle.office_base.specs.Shelves.{Meaning}
 use Rattle.office_desk.specs.Desks.{DeskOf}
-use Rattle.office_wire.specs.AnyReader.{WentThrough}
+use Rattle.office_publications.specs.Standing.{IsReached}
+use Rattle.office_requests.specs.declared.route.Allow.{Allow}
+use Rattle.office_wire.specs.Counting.{ReaderView}
 use Rattle.office_wire.specs.Blocks.{Block}
 use Rattle.office_wire.specs.Runs.{Ran, Served, Step, office_left}
 use Rattle.office_wire.specs.declared.fault.RunFault.{RunFault}
-use Rattle.office_http.specs.Meaning.{meant}
-use Rattle.office_http.specs.Answering.{Held, IsAnswered, IsWholeAfter, LeftAfter, StandsAs, is_accepted, meant_in, office_answers}
+use Rattle.office_http.specs.AtSight.{TellsAtSight, refused_at_sight}
+use Rattle.office_http.specs.Meaning.{Meant, Refuses, meant}
+use Rattle.office_http.specs.Answering.{Held, IsAnswered, IsWholeAfter, LeftAfter, StandsAs, StopsAfter, answer_bytes, is_accepted, meant_in, office_answers, tables_left}
+use Rattle.office_http.specs.Response.{response_of}
+use Rattle.office_http.specs.declared.reply.Reply.TheVariants.{Refused}
 use Rattle.office_http.specs.Stops.{LeftBySteps, StandsWatched, StopsBy, Watched, office_now, watched_answers}
 use Rattle.office_http.proofs.LeftSteps.{left_weaker}
-use Rattle.office_http.proofs.ViewedAnswers.{ran_as, served_as, went_as}
+use Rattle.office_http.proofs.SightSteps.{sight_meant}
+use Rattle.office_http.proofs.ViewedAnswers.{ran_as, served_as}
 
 -- ---- one more step at the end
 
@@ -31,6 +38,32 @@ left_push : (Before : Tables → Type 0) (h : Held) (steps : List Step) (x : Ste
     → LeftByStep (LeftBySteps Before h steps) (office_left office_answers h steps) x u → LeftBySteps Before h (steps ++ x ∷ []) u
 left_push Before h [] x u left = left
 left_push Before h (y ∷ steps) x u left = left_push (LeftByStep Before h y) (office_answers.after y.busy h y.block) steps x u left
+
+-- ---- a request that is refused at sight is never answered `Unavailable`
+
+module _ {S : Type 0} (M : Meaning S) (settings : Settings) (old new : S) (s : Tables) (b : Block) (text : List ℕ) where
+  -- How the meaning of a request was answered.
+  abbrev AnsweredBy : Bool → Meant → Type 0
+  AnsweredBy busy m =
+      (text ≡ answer_bytes settings busy s b.moment m) × M.holds new (tables_left settings busy s b.moment m)
+      × IsReached settings.publisher (tables_left settings busy s b.moment m) × StopsAfter M settings old new busy s b.moment m
+
+  -- After a refusal it is the same whether the answer was `Unavailable`, but for the text.
+  refused_by : (why : Refusal) (method : Option Allow) → text ≡ response_of (Refused why method) → (busy : Bool) → AnsweredBy busy (Refuses why method)
+      → AnsweredBy false (Refuses why method)
+  refused_by why method told true it = (told, it.1, it.2, it.3)
+  refused_by why method told false it = it
+
+  pub sure : (sight : Option (Refusal × Option Allow)) → refused_at_sight settings b.request ≡ sight → TellsAtSight settings b.request text
+      → (busy : Bool) × AnsweredBy busy (meant settings b.request s)
+      → (busy : Bool) × (busy ≡ true → is_none (refused_at_sight settings b.request) ≡ true) × AnsweredBy busy (meant settings b.request s)
+  sure None is sight a = (a.0, λ on. ap (λ (o : Option (Refusal × Option Allow)). is_none o) is, a.1)
+  sure (Some why) is sight a =
+      let means : meant settings b.request s ≡ Refuses why.0 why.1 = sight_meant settings b.request s why is in (
+        false,
+        λ on. absurd (cc on),
+        subst (λ (m : Meant). AnsweredBy false m) (sym means) (refused_by why.0 why.1 (sight why is) a.0 (subst (λ (m : Meant). AnsweredBy a.0 m) means a.1)),
+      )
 
 module _ {S : Type 0} (M : Meaning S) where
   -- ---- one answer
@@ -57,13 +90,15 @@ module _ {S : Type 0} (M : Meaning S) where
     )
 
     pub answered_step : M.honest new.shelf → new.settings ≡ old.settings → IsAnswered M old.settings old.shelf new.shelf b.moment (meant old.settings b.request) text
-        → (M.leaves_sound old.shelf → M.leaves_sound new.shelf) → StandsWatched M old w
-        → (busy : Bool) × (text ≡ watched_answers.reply busy w b) × StandsWatched M new (next busy)
-    answered_step honest same answered whole held =
+        → TellsAtSight old.settings b.request text → (M.leaves_sound old.shelf → M.leaves_sound new.shelf) → StandsWatched M old w
+        → (busy : Bool) × (busy ≡ true → watched_answers.may_be_busy w b ≡ true) × (text ≡ watched_answers.reply busy w b) × StandsWatched M new (next busy)
+    answered_step honest same answered sight whole held =
         let is : old.settings ≡ here.settings = held.0.0.0 in
         let family : Settings → Type 0 = λ u. IsAnswered M u old.shelf new.shelf b.moment (meant u b.request) text in
-        let a = subst family is answered honest here.tables held.0.0.1 held.0.1 in
-        (a.0, a.1, step_stands a.0 ((same ∙ is, a.2), a.3) a.4 whole held.1)
+        let told : TellsAtSight here.settings b.request text = subst (λ (u : Settings). TellsAtSight u b.request text) is sight in
+        let (busy, reply, holds, reached, stops) = subst family is answered honest here.tables held.0.0.1 held.0.1 in
+        let a = sure M here.settings old.shelf new.shelf here.tables b text (refused_at_sight here.settings b.request) refl told (busy, (reply, holds, reached, stops)) in
+        (a.0, a.1, a.2.0, step_stands a.0 ((same ∙ is, a.2.1), a.2.2) a.2.3 whole held.1)
 
   -- ---- all steps of a run, from the office that a desk held
 
@@ -84,20 +119,14 @@ module _ {S : Type 0} (M : Meaning S) where
         → StandsAs M new (office_left office_answers h steps) × StopsBy M shelf new.shelf h steps
     watched_end steps stands = subst (λ (w : Watched S). StandsWatched M new w) (watched_left (watched_from shelf h) steps) stands
 
-    pub ran_watched : (result : Result ℕ RunFault) (input : List ℕ) (now : Option (List ℕ)) (steps : List Step) (before after : Option (List ℕ))
-        → Ran watched_answers result input now (watched_from shelf h) steps before after → Ran office_answers result input now h steps before after
-    ran_watched result input now steps before after ran =
-        ran_as watched_answers office_answers office_now (λ busy w b. refl) (λ busy w b. office_push w.first w.steps (record { busy = busy; block = b })) (λ why. refl)
-        result input now (watched_from shelf h) steps before after ran
+    pub ran_watched : (result : Result ℕ RunFault) (came rest : ReaderView) (steps : List Step) (before after : Option (List ℕ))
+        → Ran watched_answers result came rest (watched_from shelf h) steps before after → Ran office_answers result came rest h steps before after
+    ran_watched result came rest steps before after ran =
+        ran_as watched_answers office_answers office_now (λ busy w b. refl) (λ busy w b. office_push w.first w.steps (record { busy = busy; block = b })) (λ w b. refl) (λ why. refl)
+        result came rest (watched_from shelf h) steps before after ran
 
-    pub went_watched : (result : Result ℕ RunFault) (reads left : ℕ) (steps : List Step) (before after : Option (List ℕ))
-        → WentThrough watched_answers result reads left (watched_from shelf h) steps before after → WentThrough office_answers result reads left h steps before after
-    went_watched result reads left steps before after went =
-        went_as watched_answers office_answers office_now (λ busy w b. refl) (λ busy w b. office_push w.first w.steps (record { busy = busy; block = b })) (λ why. refl)
-        result reads left (watched_from shelf h) steps before after went
-
-    pub served_watched : (result : Result ⊤ RunFault) (input : List ℕ) (now : Option (List ℕ)) (moment : ℕ) (t : Watched S) (before after : Option (List ℕ))
-        → Served watched_answers result input now moment (watched_from shelf h) t before after → Served office_answers result input now moment h (office_now t) before after
-    served_watched result input now moment t before after served =
-        served_as watched_answers office_answers office_now (λ busy w b. refl) (λ busy w b. office_push w.first w.steps (record { busy = busy; block = b })) (λ why. refl)
-        input now moment (watched_from shelf h) t result before after served
+    pub served_watched : (result : Result ⊤ RunFault) (came now : Option (List ℕ)) (moment : ℕ) (steps : List Step) (before after : Option (List ℕ))
+        → Served watched_answers result came now moment (watched_from shelf h) steps before after → Served office_answers result came now moment h steps before after
+    served_watched result came now moment steps before after served =
+        served_as watched_answers office_answers office_now (λ busy w b. refl) (λ busy w b. office_push w.first w.steps (record { busy = busy; block = b })) (λ w b. refl) (λ why. refl)
+        came now (watched_from shelf h) result moment steps before after served

@@ -12,6 +12,7 @@ use Rattle.office_machine.specs.Machine.{refusal_of}
 use Rattle.office_machine.specs.Replies as machine
 use Rattle.office_machine.specs.Requests.{reply_by}
 use Rattle.office_machine.specs.Sights.{told}
+use Rattle.office_publications.specs.Keeping.{KeepsItsReleases}
 use Rattle.office_publications.specs.Packages.{packages}
 use Rattle.office_publications.specs.Publishing.{publishing}
 use Rattle.office_publications.specs.Standing.{IsReached, office_kept}
@@ -25,7 +26,7 @@ use Rattle.office_wire.specs.Request.{RequestView, IsRequest, IsRefused}
 use Rattle.office_wire.specs.Runs.{Answers}
 use Rattle.office_wire.specs.declared.fault.ReadFault.{ReadFault}
 use Rattle.office_wire.specs.declared.fault.ReadFault.TheVariants as fault
-use Rattle.office_http.specs.AtSight.{TellsAtSight}
+use Rattle.office_http.specs.AtSight.{TellsAtSight, refused_at_sight}
 use Rattle.office_http.specs.Certain.{TellsCertain}
 use Rattle.office_http.specs.Meaning.{Meant, Refuses, Gives, Sees, meant}
 use Rattle.office_http.specs.Response.{response_of}
@@ -123,11 +124,12 @@ held_by desk s = record { settings = desk.settings; tables = s }
 abbrev pub meant_in : Held → Block → Meant
 meant_in h b = meant h.settings b.request h.tables
 
--- How the office answers the blocks of a run, and which office each answer leaves.
+-- How the office answers the blocks of a run, and which office each answer leaves. A request that is refused at sight is never answered `Unavailable`.
 abbrev pub office_answers : Answers Held
 office_answers = record {
   reply = λ busy h b. answer_bytes h.settings busy h.tables b.moment (meant_in h b);
   after = λ busy h b. record h { tables = tables_left h.settings busy h.tables b.moment (meant_in h b) };
+  may_be_busy = λ h b. is_none (refused_at_sight h.settings b.request);
   refusal = fault_text;
 }
 
@@ -165,12 +167,19 @@ NeedsMeant settings s (Refuses why method) = Unit {0}
 NeedsMeant settings s (Gives caller command) = Unit {0}
 NeedsMeant settings s (Sees caller query) = Needs settings.publisher query s
 
--- This text is the answer, perhaps `Unavailable`, and only a command that is done changes the tables. This holds of any tables in the store that have what the
--- query needs, even if no commands lead to them.
+-- If a command is given, the notice for which it publishes keeps its releases.
+abbrev pub KeepsMeant : Tables → ℕ → Meant → Type 0
+KeepsMeant s moment (Refuses why method) = Unit {0}
+KeepsMeant s moment (Gives caller command) = KeepsItsReleases (given s moment caller command)
+KeepsMeant s moment (Sees caller query) = Unit {0}
+
+-- This text is the answer, perhaps `Unavailable`, and only a command that is done changes the tables. They are then those that the specification defines, if the
+-- command's notice keeps its releases. This holds of any tables in the store that have what the query needs, even if no commands lead to them.
 abbrev pub IsTold : {S : Type 0} → Meaning S → Settings → S → S → ℕ → (Tables → Meant) → List ℕ → Type 0
 IsTold M settings old new moment m text =
     M.honest new → (s : Tables) → M.holds old s → NeedsMeant settings s (m s)
     → (busy : Bool) × (text ≡ answer_bytes settings busy s moment (m s)) × (is_done busy s moment (m s) ≡ false → M.holds new s)
+    × (is_done busy s moment (m s) ≡ true → KeepsMeant s moment (m s) → M.holds new (tables_left settings busy s moment (m s)))
 
 -- The text is the response to a refusal.
 abbrev pub IsRefusedText : List ℕ → Type 0

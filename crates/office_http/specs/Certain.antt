@@ -13,7 +13,7 @@ use Rattle.office_plans.specs.Published.{gathers_lines}
 use Rattle.office_plans.specs.Replies.{text_of}
 use Rattle.office_desk.specs.Steps.{no_packages}
 use Rattle.office_wire.specs.Request.{RequestView}
-use Rattle.office_requests.specs.Asking.{is_told_by_path, may_ask}
+use Rattle.office_requests.specs.Asking.{is_read_at_once, may_ask}
 use Rattle.office_requests.specs.Routing.{routed}
 use Rattle.office_requests.specs.declared.route.Allow.{Allow}
 use Rattle.office_requests.specs.declared.route.Route.{Route}
@@ -39,16 +39,16 @@ takes_none (Refuses why method) = true
 takes_none (Gives caller command) = not (gathers_lines command)
 takes_none (Sees caller query) = true
 
--- The meaning is found without memory. There is no such route, the caller isn't known or may not use it, or the path alone says which command or query it is.
-abbrev pub is_found : Result Route (Refusal × Option Allow) → Result Caller Refusal → Bool
-is_found (Err why) asker = true
-is_found (Ok route) (Err why) = true
-is_found (Ok route) (Ok caller) = is_told_by_path route.endpoint || not (may_ask caller route.endpoint)
+-- The meaning is found without memory. There is no such route, the caller isn't known or may not use it, or the command or query is read without memory.
+abbrev pub is_found : List ℕ → Result Route (Refusal × Option Allow) → Result Caller Refusal → Bool
+is_found body (Err why) asker = true
+is_found body (Ok route) (Err why) = true
+is_found body (Ok route) (Ok caller) = is_read_at_once route.endpoint body || not (may_ask caller route.endpoint)
 
 -- If meaning and decision need no memory, a refused request gets its refusal, or the store has counted another fault.
 abbrev pub TellsCertain : {S : Type 0} → Meaning S → Settings → S → S → ℕ → RequestView → List ℕ → Type 0
 TellsCertain M settings old new moment request text =
     M.honest new → (s : Tables) → M.holds old s
-    → is_found (routed request.head.method request.head.target) (who settings s (credentials_of request.head.fields)) ≡ true
+    → is_found request.body (routed request.head.method request.head.target) (who settings s (credentials_of request.head.fields)) ≡ true
     → takes_none (meant settings request s) ≡ true → (why : Refusal × Option Allow) → refusal_meant s moment (meant settings request s) ≡ Some why
     → (text ≡ response_of (Refused why.0 why.1)) ⊎ HasRisen (M.fault_count old) (M.fault_count new)

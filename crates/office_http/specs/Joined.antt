@@ -1,5 +1,5 @@
 -- The commands that an office accepts over HTTP, and the properties that they keep.
-use Rattle.std.specs.Prelude.{◌≡◌, ⊤, ℕ, Bool, List, [], ◌∷◌, Option, if◌then◌else◌}
+use Rattle.std.specs.Prelude.{◌≡◌, ℕ, Bool, List, [], ◌∷◌, if◌then◌else◌}
 use Rattle.office_values.specs.declared.settings.Publisher.{Publisher}
 use Rattle.office_values.specs.declared.settings.Settings.{Settings}
 use Rattle.office_base.specs.Tables.{Tables}
@@ -9,13 +9,12 @@ use Rattle.office_machine.specs.Requests.{accepted_by}
 use Rattle.office_publications.specs.Keeping.{KeepsReleases}
 use Rattle.office_publications.specs.Publishing.{publishing}
 use Rattle.office_plans.specs.Asking.{given}
-use Rattle.office_desk.specs.Desks.{DeskOf}
 use Rattle.office_desk.specs.Steps.{OfficeIsKept}
-use Rattle.office_wire.specs.Request.{RequestView, IsRequest, IsRequestRead, IsRefused}
-use Rattle.office_wire.specs.Runs.{Step, IsOneAtMost, office_left}
+use Rattle.office_wire.specs.Request.{RequestView, IsRequest, IsRefused}
+use Rattle.office_wire.specs.Runs.{Step, office_left}
 use Rattle.office_wire.specs.declared.fault.ReadFault.{ReadFault}
 use Rattle.office_http.specs.Meaning.{Meant, Refuses, Gives, Sees, meant}
-use Rattle.office_http.specs.Answering.{Held, StandsAs, answer_bytes, fault_text, meant_in, office_answers, tables_left}
+use Rattle.office_http.specs.Answering.{Held, answer_bytes, fault_text, meant_in, office_answers, tables_left}
 
 -- The accepted commands after the meaning of a request, the last one first. A refusal and a query add nothing.
 abbrev pub joined_meant : Tables → ℕ → Meant → List Given → List Given
@@ -66,22 +65,3 @@ pub record KeepsRefusing {S : Type 0} (M : Meaning S) (publisher : Publisher) (o
   pub refused : IsRefused input why
   pub text_is : text ≡ fault_text why
   pub kept : M.honest new → (s : Tables) → M.holds old s → (xs : List Given) → Reaches (publishing publisher) xs s → M.holds new s × OfficeIsKept publisher xs s
-
--- Serving one request is no step, or one step at this moment with the request that was read.
-abbrev pub AreServed : List ℕ → Option (List ℕ) → ℕ → List Step → Type 0
-AreServed input now moment [] = ⊤
-AreServed input now moment (x ∷ []) = (x.block.moment ≡ moment) × IsRequestRead input now x.block.request
-AreServed input now moment (x ∷ y ∷ more) = ⊥
-
--- Serving one request led from office h to office k, and all accepted commands are kept.
-pub record KeepsServing (input : List ℕ) (now : Option (List ℕ)) (moment : ℕ) (h k : Held) (xs : List Given) : Type 0 where
-  pub steps : List Step
-  pub are : AreServed input now moment steps
-  pub left : k ≡ office_left office_answers h steps
-  pub kept : OfficeIsKept h.settings.publisher (accepted_steps h steps xs) k.tables
-
--- Whatever bytes a reader reports, at most one request was answered, at this moment. The office is the one after it.
-abbrev pub IsServedOnce : {S : Type 0} → Meaning S → ℕ → DeskOf S → DeskOf S → Type 0
-IsServedOnce M moment old new =
-    M.honest new.shelf → (h : Held) → StandsAs M old h
-    → (steps : List Step) × IsOneAtMost moment steps × StandsAs M new (office_left office_answers h steps)

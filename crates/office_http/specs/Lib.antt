@@ -6,6 +6,6 @@ pub mod Certain
 pub mod Answering
 pub mod Joined
 pub mod Stops
-pub mod AnyReader
+pub mod Runs
 pub mod Sealed
 pub mod Inside

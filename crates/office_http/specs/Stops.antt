@@ -1,9 +1,9 @@
 -- The states that a stop may leave of an office that answered a run, or one request.
-use Rattle.std.specs.Prelude.{ℕ, List, [], ◌∷◌, ◌++◌}
+use Rattle.std.specs.Prelude.{List, [], ◌∷◌, ◌++◌}
 use Rattle.office_base.specs.Tables.{Tables}
 use Rattle.office_base.specs.Shelves.{Meaning}
 use Rattle.office_desk.specs.Desks.{DeskOf}
-use Rattle.office_wire.specs.Runs.{Answers, Step, IsOneAtMost, office_left}
+use Rattle.office_wire.specs.Runs.{Answers, Step, office_left}
 use Rattle.office_http.specs.Answering.{Held, IsWholeAfter, LeftAfter, StandsAs, is_accepted, meant_in, office_answers}
 
 -- The states that a stop may leave after the steps of a run, by those that it could leave before. The state after an accepted command is a reached office.
@@ -19,12 +19,6 @@ pub record StopsBy {S : Type 0} (M : Meaning S) (old new : S) (h : Held) (steps 
   pub left : (u : Tables) → M.may_leave new u → LeftBySteps (M.may_leave old) h steps u
   pub sound : M.leaves_sound old → M.leaves_sound new
 
--- A desk with a reached office answered at most one request, at this moment. Its office is a reached one again, and a stop leaves only what the step allows.
-abbrev pub StopsOnce : {S : Type 0} → Meaning S → ℕ → DeskOf S → DeskOf S → Type 0
-StopsOnce M moment old new =
-    M.honest new.shelf → (h : Held) → StandsAs M old h
-    → (steps : List Step) × IsOneAtMost moment steps × StandsAs M new (office_left office_answers h steps) × StopsBy M old.shelf new.shelf h steps
-
 -- An office that is watched while it answers: its store at first, the office at first, and the steps so far.
 pub record Watched (S : Type 0) : Type 0 where
   pub shelf : S
@@ -39,6 +33,7 @@ abbrev pub watched_answers : {S : Type 0} → Answers (Watched S)
 watched_answers = record {
   reply = λ busy w b. office_answers.reply busy (office_now w) b;
   after = λ busy w b. record w { steps = w.steps ++ record { busy = busy; block = b } ∷ [] };
+  may_be_busy = λ w b. office_answers.may_be_busy (office_now w) b;
   refusal = office_answers.refusal;
 }
 

@@ -1,18 +1,8 @@
 //! An office that is asked over HTTP.
-ghost use Rattle.std.specs.Prelude.{◌≡◌, ◌≤◌, ℕ, List, true, Some, IfOk, IsErrOf, OnOk};
-ghost use Rattle.office_base.specs.Tables.{Tables};
-ghost use Rattle.office_machine.specs.Machine.{Given, Reaches};
-ghost use Rattle.office_publications.specs.Keeping.{KeepsReleases};
-ghost use Rattle.office_publications.specs.Publishing.{publishing};
-ghost use Rattle.office_publications.specs.Standing.{IsReached};
+ghost use Rattle.std.specs.Prelude.{◌≡◌, ◌≤◌, true, IfOk, IsErrOf, OnOk};
 ghost use Rattle.office_base.specs.Shutting.{TellsShut};
-ghost use Rattle.office_desk.specs.Steps.{OfficeIsKept};
 ghost use Rattle.office_wire.specs.Counting.{HasStopped};
-ghost use Rattle.office_wire.specs.Runs.{Step, Ran, Served, office_left};
-ghost use Rattle.office_http.specs.Answering.{Held, StandsAs, held_by, office_answers};
-ghost use Rattle.office_http.specs.AnyReader.{HasRun};
-ghost use Rattle.office_http.specs.Joined.{IsServedOnce, KeepsServing, accepted_steps};
-ghost use Rattle.office_http.specs.Stops.{StopsBy, StopsOnce};
+ghost use Rattle.office_http.specs.Runs.{HasRun, IsServed};
 
 use crate::answering::{answer_request, fault_response};
 use crate::laws;
@@ -103,7 +93,8 @@ impl<H: Shelf + Drop> Responder for Office<H> {
 
 /// Answers each block of the input in turn: a line `at MOMENT` and a request. Returns the number of blocks if the input ends after a block. The responses are
 /// flushed once, at the end. `Read` means that a read failed or that no more reads are allowed, and `Write` that a write or the flush failed. Whatever bytes
-/// the reader reports, the office goes through steps. Each has a request of the grammar, for which at least one read was made.
+/// the reader reports, the office goes through steps: each has a request of the grammar, for which at least one read was made, and its response was sent. The
+/// office afterwards, its accounts and the states that a stop may leave are those of the same steps.
 pub fn run<H: Shelf + Drop, R: BufRead, W: Write>(
     alloc: Global,
     office: &mut Office<H>,
@@ -111,22 +102,9 @@ pub fn run<H: Shelf + Drop, R: BufRead, W: Write>(
     writer: &mut WatchedWriter<W>,
 ) -> Result<u64, RunFault>
     ensures before { H.meaning.honest office.new.shelf → H.meaning.honest office.old.shelf }
-    ensures ran { H.meaning.honest office.new.shelf → (input : List ℕ) → reader.old.remaining ≡ Some input → (s : Tables) → H.meaning.holds office.old.shelf s
-        → IsReached office.old.settings.publisher s
-        → (steps : List Step)
-        × Ran office_answers result input reader.new.remaining (held_by office.old s) steps writer.old.contents writer.new.contents
-        × StandsAs H.meaning office.new (office_left office_answers (held_by office.old s) steps)
-        × StopsBy H.meaning office.old.shelf office.new.shelf (held_by office.old s) steps }
-    ensures kept { H.meaning.honest office.new.shelf → (input : List ℕ) → reader.old.remaining ≡ Some input → (s : Tables) → H.meaning.holds office.old.shelf s
-        → (xs : List Given) → Reaches (publishing office.old.settings.publisher) xs s → KeepsReleases s
-        → (steps : List Step)
-        × Ran office_answers result input reader.new.remaining (held_by office.old s) steps writer.old.contents writer.new.contents
-        × StandsAs H.meaning office.new (office_left office_answers (held_by office.old s) steps)
-        × OfficeIsKept office.old.settings.publisher (accepted_steps (held_by office.old s) steps xs)
-        (office_left office_answers (held_by office.old s) steps).tables }
+    ensures ran { HasRun H.meaning result reader.old reader.new office.old office.new writer.old.contents writer.new.contents }
     ensures cause { IsErrOf result RunFault.Read → HasStopped reader.new }
     ensures writes { IsErrOf result RunFault.Write → writer.new.has_failed ≡ true }
-    ensures stepped { HasRun H.meaning result reader.old.left reader.new.left office.old office.new writer.old.contents writer.new.contents }
     ensures all_read { OnOk result (reader.new.has_failed ≡ reader.old.has_failed) }
     ensures all_written { OnOk result (writer.new.has_failed ≡ writer.old.has_failed) }
     ensures spent { reader.new.left ≤ reader.old.left }
@@ -138,7 +116,7 @@ pub fn run<H: Shelf + Drop, R: BufRead, W: Write>(
 
 /// Reads one request, and sends and flushes the response to it, at the moment that the caller passes. The only faults are `Read` and `Write`. `Read` means that
 /// a read failed or that no more reads are allowed, and `Write` that a write or the flush failed. Whatever bytes the reader reports, at most one request was
-/// answered.
+/// answered, and the office afterwards is the one after this request.
 pub fn serve_one<H: Shelf + Drop, R: BufRead, W: Write>(
     alloc: Global,
     office: &mut Office<H>,
@@ -147,19 +125,7 @@ pub fn serve_one<H: Shelf + Drop, R: BufRead, W: Write>(
     writer: &mut WatchedWriter<W>,
 ) -> Result<(), RunFault>
     ensures before { H.meaning.honest office.new.shelf → H.meaning.honest office.old.shelf }
-    ensures served { H.meaning.honest office.new.shelf → (input : List ℕ) → reader.old.remaining ≡ Some input → (s : Tables) → H.meaning.holds office.old.shelf s
-        → IsReached office.old.settings.publisher s
-        → (h : Held)
-        × Served office_answers result input reader.new.remaining moment (held_by office.old s) h writer.old.contents writer.new.contents
-        × StandsAs H.meaning office.new h }
-    ensures kept { H.meaning.honest office.new.shelf → (input : List ℕ) → reader.old.remaining ≡ Some input → (s : Tables) → H.meaning.holds office.old.shelf s
-        → (xs : List Given) → Reaches (publishing office.old.settings.publisher) xs s → KeepsReleases s
-        → (h : Held)
-        × Served office_answers result input reader.new.remaining moment (held_by office.old s) h writer.old.contents writer.new.contents
-        × StandsAs H.meaning office.new h
-        × KeepsServing input reader.new.remaining moment (held_by office.old s) h xs }
-    ensures stepped { IsServedOnce H.meaning moment office.old office.new }
-    ensures stops { StopsOnce H.meaning moment office.old office.new }
+    ensures served { IsServed H.meaning result reader.old.remaining reader.new.remaining moment office.old office.new writer.old.contents writer.new.contents }
     ensures cause { IsErrOf result RunFault.Read → HasStopped reader.new }
     ensures writes { IsErrOf result RunFault.Write → writer.new.has_failed ≡ true }
     ensures all_written { OnOk result (writer.new.has_failed ≡ writer.old.has_failed) }

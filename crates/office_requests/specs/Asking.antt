@@ -1,5 +1,5 @@
 -- The command or query that a request asks for, by its route, its query string and its body.
-use Rattle.std.specs.Prelude.{ℕ, Bool, true, false, if◌then◌else◌, List, Result, Ok, Err, IfOk}
+use Rattle.std.specs.Prelude.{ℕ, Bool, true, false, nat_eq, if◌then◌else◌, List, length, Result, Ok, Err, IfOk}
 use Rattle.office_values.specs.declared.refusal.Refusal.{Refusal}
 use Rattle.office_values.specs.declared.refusal.Refusal.TheVariants.{NoRoute, Forbidden}
 use Rattle.office_commands.specs.Commands as of_commands
@@ -43,10 +43,13 @@ reads_nothing table.Query = false
 reads_nothing table.Body = false
 reads_nothing table.QueryAndBody = false
 
--- The path alone says what is asked: neither the query string nor the body is read.
-abbrev pub is_told_by_path : Endpoint → Bool
-is_told_by_path (Commands kind) = reads_nothing (command_row kind).reads
-is_told_by_path (Queries kind) = reads_nothing (query_row kind).reads
+-- The request is read without memory. Its path alone says what is asked, and neither the query string nor the body is read. Or it is a modification, whose sealed
+-- bytes are borrowed, or a signing without a body.
+abbrev pub is_read_at_once : Endpoint → List ℕ → Bool
+is_read_at_once (Commands kinds.Modify) body = true
+is_read_at_once (Commands kinds.Sign) body = nat_eq (length body) 0
+is_read_at_once (Commands kind) body = reads_nothing (command_row kind).reads
+is_read_at_once (Queries kind) body = reads_nothing (query_row kind).reads
 
 -- The command of a route, with this query string and this body. A path with the parameters of another command has no route.
 unfoldable pub command_at : CommandKind → Place → List ℕ → List ℕ → Result Command Refusal

@@ -1,11 +1,11 @@
 //! The command or query that a request asks for.
-ghost use Rattle.std.specs.Prelude.{◌≡◌, ◌≤◌, ◌⊎◌, true, false, length, Err, IfOk};
+ghost use Rattle.std.specs.Prelude.{◌≡◌, ◌≤◌, ◌⊎◌, true, false, [], length, Err, IfOk};
 ghost use Rattle.office_values.specs.declared.refusal.Refusal.TheVariants.{Forbidden, Unavailable};
 ghost use Rattle.office_commands.specs.Commands.{kind_of};
 ghost use Rattle.office_commands.specs.Queries as queries;
 ghost use Rattle.office_requests.specs.declared.route.Endpoint.TheVariants.{Commands, Queries};
 ghost use Rattle.office_requests.specs.Inside.Answers.{ReadsAs};
-ghost use Rattle.office_requests.specs.Asking.{CanBeAsked, WhatIsAskedCanBeGiven, asked_by_route, asked_by, command_at, endpoint_of, is_told_by_path, may_ask, query_at};
+ghost use Rattle.office_requests.specs.Asking.{CanBeAsked, WhatIsAskedCanBeGiven, asked_by_route, asked_by, command_at, endpoint_of, is_read_at_once, may_ask, query_at};
 
 use crate::bodies::{
     cancellation, contract_amendment, ending, examination, import_of, notice_amendment,
@@ -54,7 +54,7 @@ fn command_at<'a>(
 ) -> Result<Command<'a>, Refusal>
     requires { length body.now ≤ 65536 }
     ensures read { ReadsAs result (command_at kind place query.now body.now) }
-    ensures path { is_told_by_path (Commands kind) ≡ true → result ≡ command_at kind place query.now body.now }
+    ensures at_once { is_read_at_once (Commands kind) body.now ≡ true → result ≡ command_at kind place query.now body.now }
     ensures kind { IfOk result (λ command. kind_of command ≡ kind) }
 {
     match (kind, place) {
@@ -122,7 +122,7 @@ fn command_at<'a>(
 #[tactic(auto, unfolding(crate::specs::Asking::query_at))]
 fn query_at(alloc: Global, kind: QueryKind, place: Place, query: &[u8]) -> Result<Query, Refusal>
     ensures read { ReadsAs result (query_at kind place query.now) }
-    ensures path { is_told_by_path (Queries kind) ≡ true → result ≡ query_at kind place query.now }
+    ensures at_once { is_read_at_once (Queries kind) [] ≡ true → result ≡ query_at kind place query.now }
     ensures kind { IfOk result (λ look. queries.query_kind_of look ≡ kind) }
 {
     match (kind, place) {
@@ -160,7 +160,7 @@ fn asked_by<'a>(
 ) -> Result<Asked<'a>, Refusal>
     requires { length body.now ≤ 65536 }
     ensures read { ReadsAs result (asked_by route.now.endpoint route.now.place query.now body.now) }
-    ensures path { is_told_by_path route.now.endpoint ≡ true → result ≡ asked_by route.now.endpoint route.now.place query.now body.now }
+    ensures at_once { is_read_at_once route.now.endpoint body.now ≡ true → result ≡ asked_by route.now.endpoint route.now.place query.now body.now }
     ensures kind { IfOk result (λ asked. endpoint_of asked ≡ route.now.endpoint) }
 {
     match route.endpoint {
@@ -173,7 +173,8 @@ fn asked_by<'a>(
 
 /// The command or query that the caller asks for, by a request and its route. `Forbidden` if the caller may not ask for it, without taking memory. `BadBody` if
 /// the query string or the body is wrong.
-/// `Unavailable` if memory is too small. No memory is taken if the path alone says what is asked. The route must be that of the request.
+/// `Unavailable` if memory is too small. Most routes say alone what is asked; then no memory is taken, nor for a modification and for a signing without a body
+/// (`is_read_at_once`). The route must be that of the request.
 #[tactic(auto, using(crate::proofs::FieldSteps::read_or_wanting, crate::proofs::AskedCommands::read_is))]
 pub fn command_of<'a>(
     alloc: Global,
@@ -182,7 +183,7 @@ pub fn command_of<'a>(
     request: &'a Request,
 ) -> Result<Asked<'a>, Refusal>
     ensures asked { (result ≡ asked_by_route caller.now route.now request.now) ⊎ (result ≡ Err Unavailable) }
-    ensures path { is_told_by_path route.now.endpoint ≡ true → result ≡ asked_by_route caller.now route.now request.now }
+    ensures at_once { is_read_at_once route.now.endpoint request.now.body ≡ true → result ≡ asked_by_route caller.now route.now request.now }
     ensures kind { IfOk result (λ asked. endpoint_of asked ≡ route.now.endpoint) }
     ensures given { IfOk result CanBeAsked }
     ensures forbidden { may_ask caller.now route.now.endpoint ≡ false → result ≡ Err Forbidden }

@@ -1,5 +1,5 @@
 //! The bodies of requests. Each reader reads the fields in their order, and names the first that is missing or wrong.
-ghost use Rattle.std.specs.Prelude.{◌≡◌, ◌≤◌, ◌⊎◌, IfOk, length};
+ghost use Rattle.std.specs.Prelude.{◌≡◌, ◌≤◌, ◌⊎◌, true, nat_eq, IfOk, length};
 ghost use Rattle.serde_json.specs.Errors.{IsMemory};
 ghost use Rattle.serde_json.specs.View.{view};
 ghost use Rattle.office_values.specs.declared.refusal.Refusal.TheVariants.{BadBody, Unavailable};
@@ -151,7 +151,8 @@ fn named(body: &Value) -> Result<Option<NamedSecurity>, Refusal>
 /// The performance security that the body of a signing names; None if the body is empty or has neither a security nor an amount.
 #[tactic(auto, unfolding(crate::specs::Bodies::performance_of))]
 pub fn performance_of(alloc: Global, body: &[u8]) -> Result<Option<NamedSecurity>, Refusal>
-    ensures { ReadsAs result (performance_of body.now) }
+    ensures body { ReadsAs result (performance_of body.now) }
+    ensures none { nat_eq (length body.now) 0 ≡ true → result ≡ performance_of body.now }
 {
     if body.len() == 0 {
         return Ok(None);

@@ -1,18 +1,18 @@
 -- The facts that a loop over blocks keeps from step to step, and its end, for any answers.
-use Rattle.std.proofs.Common.{◌≡◌, ◌≢◌, ℕ, ◌+◌, ◌<◌, ◌⊎◌, inl, inr, List, [], ◌∷◌, ◌++◌, length, Option, Some, Result, Ok, Err, refl, sym, ap, subst, arith, ◌∙◌, append_assoc, length-append}
+use Rattle.std.proofs.Common.{◌≡◌, ℕ, ◌+◌, ◌<◌, ◌⊎◌, inl, inr, true, List, [], ◌∷◌, ◌++◌, length, Option, Some, None, Result, Ok, Err, refl, sym, ap, subst, arith, ◌∙◌, append_assoc, length-append}
 use Rattle.std.proofs.lemmas.List.{append-nil, map-append}
-use Rattle.std.specs.Prelude.{⊤}
+use Rattle.std.proofs.lemmas.Option.{IfSome_then}
+use Rattle.std.specs.Prelude.{⊤, IfSome}
 use Rattle.std.specs.Io.KnownBytes.{Appends, Keeps}
-use Rattle.office_wire.specs.Request.{IsRequest, IsRefused, HasNoWhole, IsCutRequest}
+use Rattle.office_wire.specs.AnyReader.{IsWellFormed}
+use Rattle.office_wire.specs.Counting.{ReaderView}
+use Rattle.office_wire.specs.Request.{IsRequest, HasNoWhole, IsCutRequest}
 use Rattle.office_wire.specs.Reading.{IsCutShort}
 use Rattle.office_wire.specs.Blocks.{Block, HasLine, HasNoLine, IsBlock, AreBlocks, IsCutBlock}
-use Rattle.office_wire.specs.Sending.{AppendsPart}
-use Rattle.office_wire.specs.Runs.{Answers, Step, blocks_of, written, office_left, Ran, Served}
-use Rattle.office_wire.specs.declared.fault.ReadFault.{ReadFault}
-use Rattle.office_wire.specs.declared.fault.ReadFault.TheVariants as fault
+use Rattle.office_wire.specs.Runs.{Answers, AreSteps, Ends, HasTold, Step, blocks_of, written, office_left, Ran, Served}
 use Rattle.office_wire.specs.declared.fault.RunFault.{RunFault}
 use Rattle.office_wire.specs.declared.fault.RunFault.TheVariants as ends
-use Rattle.office_wire.proofs.SendLemmas.{appends_more, appends_keep, appends_none}
+use Rattle.office_wire.proofs.SendLemmas.{appends_more, appends_keep}
 use Rattle.office_wire.proofs.BlockLemmas.{short_line, same_line}
 
 -- ---- one step more
@@ -76,108 +76,81 @@ cut_none rest now e = record { part = []; rest = rest; now_is = e; parts = refl;
 
 -- ---- how runs end
 
--- the blocks of the steps were answered, and their responses were sent
-pub record Answered {S : Type 0} (A : Answers S) (input : List ℕ) (s : S) (steps : List Step) (rest : List ℕ) (before after : Option (List ℕ)) : Type 0 where
-  pub blocks : AreBlocks input (blocks_of steps) rest
-  pub sent : Appends before after (written A s steps)
-
--- no step yet
-pub answered_none : {S : Type 0} (A : Answers S) (input : List ℕ) (s : S) (before : Option (List ℕ)) → Answered A input s [] input before before
-answered_none A input s before = record { blocks = refl; sent = appends_none before }
+-- a fact of the bytes that came, if they are known
+pub if_known : {A : Type 0} {P : A → Type 0} (known : Option A) → ((x : A) → known ≡ Some x → P x) → IfSome known P
+if_known None so = tt
+if_known (Some x) so = so x refl
 
 -- one step more
-pub answered_on : {S : Type 0} (A : Answers S) (input : List ℕ) (s : S) (steps : List Step) (rest after end : List ℕ) (x : Step) (a b c : Option (List ℕ)) → Answered A input s steps rest a b
-    → HasLine rest x.block.moment after → IsRequest after x.block.request end → Appends b c (A.reply x.busy (office_left A s steps) x.block) → Answered A input s (steps ++ x ∷ []) end a c
-answered_on A input s steps rest after end x a b c h line r more = record {
-  blocks = blocks_on steps x input rest after end h.blocks line r;
-  sent = sent_on A steps s x a b c h.sent more;
-}
+pub steps_push : {S : Type 0} (A : Answers S) (steps : List Step) (s : S) (x : Step) → AreSteps A s steps → IsWellFormed x.block.request
+    → (x.busy ≡ true → A.may_be_busy (office_left A s steps) x.block ≡ true) → AreSteps A s (steps ++ x ∷ [])
+steps_push A [] s x all one may = (one, may, tt)
+steps_push A (y ∷ steps) s x all one may = (all.0, all.1, steps_push A steps (A.after y.busy s y.block) x all.2 one may)
 
--- the input is at its end
-pub ran_done : {S : Type 0} (A : Answers S) (n : ℕ) (input rest : List ℕ) (now : Option (List ℕ)) (s : S) (steps : List Step) (a b : Option (List ℕ)) → Answered A input s steps rest a b
-    → rest ≡ [] → n ≡ length steps → Ran A (Ok n) input now s steps a b
-ran_done A n input rest now s steps a b h none count = record { rest = rest; told = written A s steps; blocks = h.blocks; sent = h.sent; ends_so = (none, count, refl) }
+-- the blocks of the steps were read, and the bytes after them are left
+pub record HasRead (input : List ℕ) (steps : List Step) (now : Option (List ℕ)) : Type 0 where
+  pub rest : List ℕ
+  pub now_is : now ≡ Some rest
+  pub blocks : AreBlocks input (blocks_of steps) rest
 
--- all responses were sent, but couldn't be flushed
-pub ran_unflushed : {S : Type 0} (A : Answers S) (input rest : List ℕ) (now : Option (List ℕ)) (s : S) (steps : List Step) (a b : Option (List ℕ)) → Answered A input s steps rest a b
-    → Ran A (Err ends.Write) input now s steps a b
-ran_unflushed A input rest now s steps a b h = record { rest = rest; told = written A s steps; blocks = h.blocks; sent = h.sent; ends_so = inr (inr refl) }
+module _ {S : Type 0} (A : Answers S) (s : S) (steps : List Step) where
+  -- no line was read
+  pub told_no_line : (e : RunFault) → (e ≡ ends.BadBlock) ⊎ (e ≡ ends.Read) → HasTold A (Err e) s steps (written A s steps)
+  told_no_line e (inl is) = subst (λ (f : RunFault). HasTold A (Err f) s steps (written A s steps)) (sym is) refl
+  told_no_line e (inr is) = subst (λ (f : RunFault). HasTold A (Err f) s steps (written A s steps)) (sym is) refl
 
--- the next bytes aren't a line
-pub ran_bad_block : {S : Type 0} (A : Answers S) (input rest : List ℕ) (now : Option (List ℕ)) (s : S) (steps : List Step) (a b : Option (List ℕ)) → Answered A input s steps rest a b
-    → HasNoLine rest → Ran A (Err ends.BadBlock) input now s steps a b
-ran_bad_block A input rest now s steps a b h none = record { rest = rest; told = written A s steps; blocks = h.blocks; sent = h.sent; ends_so = (none, refl) }
+  pub ends_no_line : (e : RunFault) (rest : List ℕ) (now : Option (List ℕ)) → (e ≡ ends.BadBlock) ⊎ (e ≡ ends.Read) → (e ≡ ends.BadBlock → HasNoLine rest)
+      → (e ≡ ends.Read → IsCutShort rest now 24) → Ends A (Err e) s steps rest now (written A s steps)
+  ends_no_line e rest now (inl is) bad cut = subst (λ (f : RunFault). Ends A (Err f) s steps rest now (written A s steps)) (sym is) (bad is, refl)
+  ends_no_line e rest now (inr is) bad cut = subst (λ (f : RunFault). Ends A (Err f) s steps rest now (written A s steps)) (sym is) (cut_line rest now (cut is), refl)
 
--- reading stopped
-pub ran_cut : {S : Type 0} (A : Answers S) (input rest : List ℕ) (now : Option (List ℕ)) (s : S) (steps : List Step) (a b : Option (List ℕ)) → Answered A input s steps rest a b
-    → IsCutBlock rest now → Ran A (Err ends.Read) input now s steps a b
-ran_cut A input rest now s steps a b h cut = record { rest = rest; told = written A s steps; blocks = h.blocks; sent = h.sent; ends_so = (cut, refl) }
+  -- the writer couldn't flush
+  told_unflushed : (result : Result ℕ RunFault) (told : List ℕ) → HasTold A result s steps told → HasTold A (Err ends.Write) s steps told
+  told_unflushed (Ok n) told it = inr (inr it.1)
+  told_unflushed (Err ends.BadBlock) told it = inr (inr it)
+  told_unflushed (Err ends.Read) told it = inr (inr it)
+  told_unflushed (Err ends.LostPlace) told (why, was_read, is) =
+      inr (inl (record { why = why; was_read = was_read; part = A.refusal why; front = ([], sym (append-nil (A.refusal why))); told_is = is }))
+  told_unflushed (Err ends.Write) told it = it
 
--- the bytes after a line are refused, and the refusal was sent
-pub ran_lost : {S : Type 0} (A : Answers S) (input rest after : List ℕ) (moment : ℕ) (why : ReadFault) (now : Option (List ℕ)) (s : S) (steps : List Step) (a b c : Option (List ℕ)) → Answered A input s steps rest a b
-    → HasLine rest moment after → IsRefused after why → why ≢ fault.Read → Appends b c (A.refusal why) → Ran A (Err ends.LostPlace) input now s steps a c
-ran_lost A input rest after moment why now s steps a b c h line refused other more = record {
-  rest = rest;
-  told = written A s steps ++ A.refusal why;
-  blocks = h.blocks;
-  sent = appends_more a b c (written A s steps) (A.refusal why) h.sent more;
-  ends_so = (why, record { moment = moment; after = after; line = line; refused = refused; was_read = other }, refl);
-}
+  ends_unflushed : (result : Result ℕ RunFault) (rest : List ℕ) (now : Option (List ℕ)) (told : List ℕ) → Ends A result s steps rest now told
+      → Ends A (Err ends.Write) s steps rest now told
+  ends_unflushed (Ok n) rest now told it = inr (inr it.2)
+  ends_unflushed (Err ends.BadBlock) rest now told it = inr (inr it.1)
+  ends_unflushed (Err ends.Read) rest now told it = inr (inr it.1)
+  ends_unflushed (Err ends.LostPlace) rest now told (why, lost, is) =
+      inr (inl (record { why = why; lost = lost; part = A.refusal why; front = ([], sym (append-nil (A.refusal why))); told_is = is }))
+  ends_unflushed (Err ends.Write) rest now told it = it
 
--- the first part of the refusal was sent
-pub ran_cut_refusal : {S : Type 0} (A : Answers S) (input rest after : List ℕ) (moment : ℕ) (why : ReadFault) (now : Option (List ℕ)) (s : S) (steps : List Step) (a b c : Option (List ℕ)) → Answered A input s steps rest a b
-    → HasLine rest moment after → IsRefused after why → why ≢ fault.Read → AppendsPart b c (A.refusal why) → Ran A (Err ends.Write) input now s steps a c
-ran_cut_refusal A input rest after moment why now s steps a b c h line refused other x = record {
-  rest = rest;
-  told = written A s steps ++ x.part;
-  blocks = h.blocks;
-  sent = appends_more a b c (written A s steps) x.part h.sent x.more;
-  ends_so = inr (inl (record { why = why; lost = record { moment = moment; after = after; line = line; refused = refused; was_read = other }; part = x.part; front = x.front; told_is = refl }));
-}
+  module _ (came left : ReaderView) (a b c : Option (List ℕ)) where
+    -- flushing keeps the bytes that were sent
+    pub ran_kept : (result : Result ℕ RunFault) → Ran A result came left s steps a b → Keeps b c → Ran A result came left s steps a c
+    ran_kept result it keeps =
+        record { steps_are = it.steps_are; few = it.few; told = it.told; sent = appends_keep a b c it.told it.sent keeps; told_so = it.told_so; known = it.known }
 
--- the first part of the last step's response was sent
-pub ran_cut_reply : {S : Type 0} (A : Answers S) (input rest after end : List ℕ) (now : Option (List ℕ)) (s : S) (steps : List Step) (x : Step) (a b c : Option (List ℕ)) → Answered A input s steps rest a b
-    → HasLine rest x.block.moment after → IsRequest after x.block.request end → AppendsPart b c (A.reply x.busy (office_left A s steps) x.block) → Ran A (Err ends.Write) input now s (steps ++ x ∷ []) a c
-ran_cut_reply A input rest after end now s steps x a b c h line r p = record {
-  rest = end;
-  told = written A s steps ++ p.part;
-  blocks = blocks_on steps x input rest after end h.blocks line r;
-  sent = appends_more a b c (written A s steps) p.part h.sent p.more;
-  ends_so = inl (record { earlier = steps; last = x; are = refl; part = p.part; front = p.front; told_is = refl });
-}
+    pub ran_unflushed : (result : Result ℕ RunFault) → Ran A result came left s steps a b → Keeps b c → Ran A (Err ends.Write) came left s steps a c
+    ran_unflushed result it keeps = record {
+      steps_are = it.steps_are;
+      few = it.few;
+      told = it.told;
+      sent = appends_keep a b c it.told it.sent keeps;
+      told_so = told_unflushed result it.told it.told_so;
+      known = IfSome_then came.remaining it.known (λ input read. (read.0, read.1, ends_unflushed result read.0 left.remaining it.told read.2));
+    }
 
--- no line was read
-pub ran_no_line : {S : Type 0} (A : Answers S) (e : RunFault) (input rest : List ℕ) (now : Option (List ℕ)) (s : S) (steps : List Step) (a b : Option (List ℕ)) → Answered A input s steps rest a b
-    → (e ≡ ends.BadBlock) ⊎ (e ≡ ends.Read) → (e ≡ ends.BadBlock → HasNoLine rest) → (e ≡ ends.Read → IsCutShort rest now 24) → Ran A (Err e) input now s steps a b
-ran_no_line A e input rest now s steps a b h (inl is) bad cut = subst (λ t. Ran A (Err t) input now s steps a b) (sym is) (ran_bad_block A input rest now s steps a b h (bad is))
-ran_no_line A e input rest now s steps a b h (inr is) bad cut = subst (λ t. Ran A (Err t) input now s steps a b) (sym is) (ran_cut A input rest now s steps a b h (cut_line rest now (cut is)))
+-- ---- one request
 
--- the writer couldn't flush
-pub ran_flush_failed : {S : Type 0} (A : Answers S) (result : Result ℕ RunFault) (input : List ℕ) (now : Option (List ℕ)) (s : S) (steps : List Step) (a b : Option (List ℕ)) → Ran A result input now s steps a b
-    → Ran A (Err ends.Write) input now s steps a b
-ran_flush_failed A (Ok n) input now s steps a b r = record { rest = r.rest; told = r.told; blocks = r.blocks; sent = r.sent; ends_so = inr (inr r.ends_so.2) }
-ran_flush_failed A (Err ends.BadBlock) input now s steps a b r = record { rest = r.rest; told = r.told; blocks = r.blocks; sent = r.sent; ends_so = inr (inr r.ends_so.1) }
-ran_flush_failed A (Err ends.Read) input now s steps a b r = record { rest = r.rest; told = r.told; blocks = r.blocks; sent = r.sent; ends_so = inr (inr r.ends_so.1) }
-ran_flush_failed A (Err ends.LostPlace) input now s steps a b r = record {
-  rest = r.rest;
-  told = r.told;
-  blocks = r.blocks;
-  sent = r.sent;
-  ends_so = inr (inl (record { why = r.ends_so.0; lost = r.ends_so.1; part = A.refusal r.ends_so.0; front = ([], sym (append-nil (A.refusal r.ends_so.0))); told_is = r.ends_so.2 }));
-}
-ran_flush_failed A (Err ends.Write) input now s steps a b r = r
+module _ {S : Type 0} (A : Answers S) (came now : Option (List ℕ)) (moment : ℕ) (s : S) (steps : List Step) (a b c : Option (List ℕ)) where
+  -- flushing keeps the bytes that were sent
+  pub served_kept : (result : Result ⊤ RunFault) → Served A result came now moment s steps a b → Keeps b c → Served A result came now moment s steps a c
+  served_kept result it keeps = record { one = it.one; steps_are = it.steps_are; told = it.told; sent = appends_keep a b c it.told it.sent keeps; served = it.served }
 
--- flushing keeps the bytes that were sent
-pub ran_kept : {S : Type 0} (A : Answers S) (result : Result ℕ RunFault) (input : List ℕ) (now : Option (List ℕ)) (s : S) (steps : List Step) (a b c : Option (List ℕ)) → Ran A result input now s steps a b → Keeps b c
-    → Ran A result input now s steps a c
-ran_kept A result input now s steps a b c r keeps = record { rest = r.rest; told = r.told; blocks = r.blocks; sent = appends_keep a b c r.told r.sent keeps; ends_so = r.ends_so }
-
--- flushing after one request was served keeps the bytes that were sent
-pub served_kept : {S : Type 0} (A : Answers S) (result : Result ⊤ RunFault) (input : List ℕ) (now : Option (List ℕ)) (moment : ℕ) (s t : S) (a b c : Option (List ℕ)) → Served A result input now moment s t a b → Keeps b c
-    → Served A result input now moment s t a c
-served_kept A result input now moment s t a b c r keeps = record { told = r.told; sent = appends_keep a b c r.told r.sent keeps; served = r.served }
-
--- one request was served, but the writer couldn't flush
-pub served_unflushed : {S : Type 0} (A : Answers S) (done : ⊤) (input : List ℕ) (now : Option (List ℕ)) (moment : ℕ) (s t : S) (a b : Option (List ℕ)) → Served A (Ok done) input now moment s t a b
-    → Served A (Err ends.Write) input now moment s t a b
-served_unflushed A done input now moment s t a b r = record { told = r.told; sent = r.sent; served = (r.told, r.served, ([], sym (append-nil r.told))) }
+  -- one request was served, but the writer couldn't flush
+  pub served_unflushed : (done : ⊤) → Served A (Ok done) came now moment s steps a b → Keeps b c → Served A (Err ends.Write) came now moment s steps a c
+  served_unflushed done it keeps = record {
+    one = it.one;
+    steps_are = it.steps_are;
+    told = it.told;
+    sent = appends_keep a b c it.told it.sent keeps;
+    served = (it.told, it.served, ([], sym (append-nil it.told)));
+  }

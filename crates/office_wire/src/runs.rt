@@ -1,9 +1,8 @@
 //! Runs: blocks are read, and responses are written.
-ghost use Rattle.std.specs.Prelude.{◌≡◌, ◌≤◌, ℕ, List, true, Some, IsErrOf, OnOk};
-ghost use Rattle.office_wire.specs.AnyReader.{WentThrough};
+ghost use Rattle.std.specs.Prelude.{◌≡◌, ◌≤◌, List, true, IsErrOf, OnOk};
 ghost use Rattle.office_wire.specs.Counting.{HasStopped};
 ghost use Rattle.office_wire.specs.Responders.{Meaning, Responds};
-ghost use Rattle.office_wire.specs.Runs.{Step, IsOneAtMost, Ran, Served, office_left};
+ghost use Rattle.office_wire.specs.Runs.{Step, Ran, Served, office_left};
 
 use crate::answer::Answer;
 use crate::blocks::read_block_line;
@@ -38,10 +37,9 @@ fn answer_blocks<D: Responder, R: BufRead, W: Write>(
     writer: &mut WatchedWriter<W>,
 ) -> Result<u64, RunFault>
     ensures before { D.meaning.honest desk.new → D.meaning.honest desk.old }
-    ensures ran { D.meaning.honest desk.new → (input : List ℕ) → reader.old.remaining ≡ Some input → (s : D.meaning.Office) → D.meaning.holds desk.old s
-        → (steps : List Step) × Ran D.meaning.answers result input reader.new.remaining s steps writer.old.contents writer.new.contents × D.meaning.holds desk.new (office_left D.meaning.answers s steps) }
-    ensures stepped { D.meaning.honest desk.new → (s : D.meaning.Office) → D.meaning.holds desk.old s
-        → (steps : List Step) × WentThrough D.meaning.answers result reader.old.left reader.new.left s steps writer.old.contents writer.new.contents × D.meaning.holds desk.new (office_left D.meaning.answers s steps) }
+    ensures ran { D.meaning.honest desk.new → (s : D.meaning.Office) → D.meaning.holds desk.old s
+        → (steps : List Step) × Ran D.meaning.answers result reader.old reader.new s steps writer.old.contents writer.new.contents
+        × D.meaning.holds desk.new (office_left D.meaning.answers s steps) }
     ensures cause { IsErrOf result RunFault.Read → HasStopped reader.new }
     ensures writes { IsErrOf result RunFault.Write → writer.new.has_failed ≡ true }
     ensures all_read { OnOk result (reader.new.has_failed ≡ reader.old.has_failed) }
@@ -71,7 +69,7 @@ fn answer_blocks<D: Responder, R: BufRead, W: Write>(
 }
 
 /// Answers each block of the input in turn, and returns their number. The responses are flushed once, at the end. With any reader, a run goes through steps,
-/// and the written bytes are their responses.
+/// and the written bytes are their responses. If the bytes of the reader are known, the steps are those of these bytes.
 pub fn run<D: Responder, R: BufRead, W: Write>(
     alloc: Global,
     desk: &mut D,
@@ -79,10 +77,9 @@ pub fn run<D: Responder, R: BufRead, W: Write>(
     writer: &mut WatchedWriter<W>,
 ) -> Result<u64, RunFault>
     ensures before { D.meaning.honest desk.new → D.meaning.honest desk.old }
-    ensures ran { D.meaning.honest desk.new → (input : List ℕ) → reader.old.remaining ≡ Some input → (s : D.meaning.Office) → D.meaning.holds desk.old s
-        → (steps : List Step) × Ran D.meaning.answers result input reader.new.remaining s steps writer.old.contents writer.new.contents × D.meaning.holds desk.new (office_left D.meaning.answers s steps) }
-    ensures stepped { D.meaning.honest desk.new → (s : D.meaning.Office) → D.meaning.holds desk.old s
-        → (steps : List Step) × WentThrough D.meaning.answers result reader.old.left reader.new.left s steps writer.old.contents writer.new.contents × D.meaning.holds desk.new (office_left D.meaning.answers s steps) }
+    ensures ran { D.meaning.honest desk.new → (s : D.meaning.Office) → D.meaning.holds desk.old s
+        → (steps : List Step) × Ran D.meaning.answers result reader.old reader.new s steps writer.old.contents writer.new.contents
+        × D.meaning.holds desk.new (office_left D.meaning.answers s steps) }
     ensures cause { IsErrOf result RunFault.Read → HasStopped reader.new }
     ensures writes { IsErrOf result RunFault.Write → writer.new.has_failed ≡ true }
     ensures all_read { OnOk result (reader.new.has_failed ≡ reader.old.has_failed) }
@@ -106,10 +103,9 @@ fn answer_one<D: Responder, R: BufRead, W: Write>(
     writer: &mut WatchedWriter<W>,
 ) -> Result<(), RunFault>
     ensures before { D.meaning.honest desk.new → D.meaning.honest desk.old }
-    ensures served { D.meaning.honest desk.new → (input : List ℕ) → reader.old.remaining ≡ Some input → (s : D.meaning.Office) → D.meaning.holds desk.old s
-        → (t : D.meaning.Office) × Served D.meaning.answers result input reader.new.remaining moment s t writer.old.contents writer.new.contents × D.meaning.holds desk.new t }
-    ensures stepped { D.meaning.honest desk.new → (s : D.meaning.Office) → D.meaning.holds desk.old s
-        → (steps : List Step) × IsOneAtMost moment steps × D.meaning.holds desk.new (office_left D.meaning.answers s steps) }
+    ensures served { D.meaning.honest desk.new → (s : D.meaning.Office) → D.meaning.holds desk.old s
+        → (steps : List Step) × Served D.meaning.answers result reader.old.remaining reader.new.remaining moment s steps writer.old.contents writer.new.contents
+        × D.meaning.holds desk.new (office_left D.meaning.answers s steps) }
     ensures cause { IsErrOf result RunFault.Read → HasStopped reader.new }
     ensures writes { IsErrOf result RunFault.Write → writer.new.has_failed ≡ true }
     ensures all_written { OnOk result (writer.new.has_failed ≡ writer.old.has_failed) }
@@ -140,10 +136,9 @@ pub fn serve_one<D: Responder, R: BufRead, W: Write>(
     writer: &mut WatchedWriter<W>,
 ) -> Result<(), RunFault>
     ensures before { D.meaning.honest desk.new → D.meaning.honest desk.old }
-    ensures served { D.meaning.honest desk.new → (input : List ℕ) → reader.old.remaining ≡ Some input → (s : D.meaning.Office) → D.meaning.holds desk.old s
-        → (t : D.meaning.Office) × Served D.meaning.answers result input reader.new.remaining moment s t writer.old.contents writer.new.contents × D.meaning.holds desk.new t }
-    ensures stepped { D.meaning.honest desk.new → (s : D.meaning.Office) → D.meaning.holds desk.old s
-        → (steps : List Step) × IsOneAtMost moment steps × D.meaning.holds desk.new (office_left D.meaning.answers s steps) }
+    ensures served { D.meaning.honest desk.new → (s : D.meaning.Office) → D.meaning.holds desk.old s
+        → (steps : List Step) × Served D.meaning.answers result reader.old.remaining reader.new.remaining moment s steps writer.old.contents writer.new.contents
+        × D.meaning.holds desk.new (office_left D.meaning.answers s steps) }
     ensures cause { IsErrOf result RunFault.Read → HasStopped reader.new }
     ensures writes { IsErrOf result RunFault.Write → writer.new.has_failed ≡ true }
     ensures all_written { OnOk result (writer.new.has_failed ≡ writer.old.has_failed) }

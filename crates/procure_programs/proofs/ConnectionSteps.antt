@@ -1,6 +1,6 @@
 -- One connection, and the printed texts.
-use Rattle.std.proofs.Common.{◌≡◌, ℕ, ◌==◌, inr, Bool, true, List, [], Option, Some, None, Result, Ok, Err, if◌then◌else◌, refl, sym, ap, subst, ◌∙◌}
-use Rattle.std.specs.Prelude.{⊤, IfErr, OnErr, OnOk}
+use Rattle.std.proofs.Common.{◌≡◌, ℕ, ◌==◌, Bool, true, List, [], Option, Some, None, Result, Ok, Err, if◌then◌else◌, refl, sym, ap, subst, ◌∙◌}
+use Rattle.std.specs.Prelude.{⊤, IfErr, IfSome, OnErr, OnOk}
 use Rattle.std.specs.Io.Buffered.{reader_buffer, reader_capacity, reader_inner, reader_remaining}
 use Rattle.std.specs.Io.KnownBytes.{Appends, prepend_known}
 use Rattle.std.specs.declared.io.buffered.BufReader.{BufReader}
@@ -9,16 +9,20 @@ use Rattle.office_values.specs.declared.settings.Settings.{Settings as OfficeSet
 use Rattle.office_base.specs.Shelves.{Meaning}
 use Rattle.office_base.specs.Tables.{Tables}
 use Rattle.office_desk.specs.Desks.{DeskOf}
+use Rattle.office_wire.specs.Request.{IsRefused}
 use Rattle.office_wire.specs.Sending.{AppendsPart, WriterView}
 use Rattle.office_wire.specs.Runs.{Served}
 use Rattle.office_wire.specs.declared.fault.ReadFault.TheVariants as fault
 use Rattle.office_wire.specs.declared.fault.RunFault.{RunFault}
 use Rattle.office_wire.specs.declared.fault.RunFault.TheVariants as ends
-use Rattle.office_http.specs.Answering.{fault_text, held_by, office_answers}
+use Rattle.office_http.specs.Answering.{Held, StandsAs, fault_text, office_answers}
+use Rattle.office_http.specs.Joined.{StepsAreKept}
+use Rattle.office_http.specs.Runs.{WentThrough}
 use Rattle.procure_config.specs.declared.fault.ProgramFault.{ProgramFault}
 use Rattle.procure_config.specs.declared.fault.ProgramFault.TheVariants.{Arguments, Settings, Store, Input, Output, Refused}
 use Rattle.procure_programs.specs.Showing.{IsOfPrinting, IsPrinted, IsOfOffice, IsSeenWhole, IsShown}
 use Rattle.procure_programs.specs.Turns.{AnswersConnection, EndsConnection}
+use Rattle.procure_programs.proofs.ServingSteps.{stops_none}
 
 -- ---- a buffer over a reader
 
@@ -42,33 +46,46 @@ pub ended_refused : (written : WriterView) (result : Result ⊤ RunFault) → On
 ended_refused written (Ok done) flushed failed is = record { flushed = flushed; cut = λ same. absurd (cc same); stopped = λ same. absurd (cc same) }
 ended_refused written (Err why) flushed failed is = record { flushed = tt; cut = λ same. failed; stopped = λ same. absurd (cc (same, is)) }
 
-module _ {S : Type 0} (M : Meaning S) (moment : ℕ) (came before after : Option (List ℕ)) (office : DeskOf S) where
+-- Any bytes can be refused because memory is too small.
+any_refused : (came : Option (List ℕ)) → IfSome came (λ input. IsRefused input fault.Unavailable)
+any_refused None = tt
+any_refused (Some input) = tt
+
+module _ {S : Type 0} (M : Meaning S) (law : StepsAreKept) (moment : ℕ) (came before after : Option (List ℕ)) (office : DeskOf S) where
+  -- No request was read, and the office stays as it is.
+  stays : (h : Held) → StandsAs M office h → WentThrough M office office h []
+  stays h stands = record { stands = stands; stops = stops_none M office.shelf h; kept = λ xs reached. law xs h reached [] }
+
   pub refused_connection : (result : Result ⊤ RunFault) → OnOk result (Appends before after (fault_text fault.Unavailable))
       → OnErr result (AppendsPart before after (fault_text fault.Unavailable)) → IfErr result (λ (why : RunFault). why ≡ ends.Write)
       → AnswersConnection M moment came before after office office result
-  refused_connection (Ok done) whole part why honest input known s held stands = (
+  refused_connection (Ok done) whole part why = (
     None,
-    held_by office s,
-    record {
-      told = fault_text fault.Unavailable;
-      sent = whole;
-      served = inr (record { why = fault.Unavailable; refused = tt; was_read = λ same. cc same; text_is = refl; left = refl });
-    },
-    ((refl, held), stands),
+    λ honest h stands. (
+      [],
+      record {
+        one = tt;
+        steps_are = tt;
+        told = fault_text fault.Unavailable;
+        sent = whole;
+        served = (fault.Unavailable, λ same. cc same, refl, any_refused came);
+      },
+      stays h stands,
+    ),
   )
-  refused_connection (Err why) whole part is honest input known s held stands = (
+  refused_connection (Err why) whole part is = (
     None,
-    held_by office s,
-    subst (λ (f : RunFault). Served office_answers (Err f) input None moment (held_by office s) (held_by office s) before after) (sym is) (record {
-      told = part.part;
-      sent = part.more;
-      served = (
-        fault_text fault.Unavailable,
-        inr (record { why = fault.Unavailable; refused = tt; was_read = λ same. cc same; text_is = refl; left = refl }),
-        part.front,
-      );
-    }),
-    ((refl, held), stands),
+    λ honest h stands. (
+      [],
+      subst (λ (f : RunFault). Served office_answers (Err f) came None moment h [] before after) (sym is) (record {
+        one = tt;
+        steps_are = tt;
+        told = part.part;
+        sent = part.more;
+        served = (fault_text fault.Unavailable, (fault.Unavailable, λ same. cc same, refl, any_refused came), part.front);
+      }),
+      stays h stands,
+    ),
   )
 
 -- ---- the printed text

@@ -22,13 +22,14 @@ use Rattle.office_store.specs.Reopening.{FilesHoldOffice, OpensHeld}
 use Rattle.office_store.specs.SqlMeaning.{LeavesNoOther, LeavesShown, sql_meaning}
 use Rattle.office_wire.specs.Runs.{Step, office_left}
 use Rattle.office_http.specs.Answering.{Held, office_answers}
+use Rattle.office_http.specs.Joined.{StepsAreKept}
 use Rattle.procure_config.specs.declared.fault.ProgramFault.{ProgramFault}
 use Rattle.procure_programs.specs.Hosts.{Hosting}
 use Rattle.procure_programs.specs.Placed.{HadOfficeIfUsed, OpensEmpty}
 use Rattle.procure_programs.specs.Serving.{DayIn, DaysFollow, FilesGoOn, HaveOffice, KeysFollow, LedOn, MayBeFound, PrintsFiles, ServesFiles, ServesOpened, StandsIn, StopsIn, WasServed, WasServedAt, sql_standing, under_settings}
 use Rattle.procure_programs.specs.Showing.{IsPrintout}
 use Rattle.procure_programs.specs.declared.showing.Printout.{Printout}
-use Rattle.procure_programs.proofs.ServingSteps.{office_on, served_none, served_still}
+use Rattle.procure_programs.proofs.ServingSteps.{office_on, served_none, served_still, serving_kept}
 
 module _ {D : Type 0} {g : Ghosts D} where
   -- The office that was opened shows the content of the files.
@@ -57,7 +58,8 @@ module _ {D : Type 0} {g : Ghosts D} where
   closes image settings most old new files held blank (before, (_, serves)) copied clean now found h are (sorted, has, stands) =
       let it = copied clean in
       let shown = shows_files image old.0 held blank (before it.was_clean) h.tables has in
-      let (steps, few, ((_, (in_order, shows)), left), _) = serves it.was_clean h ((sym are, (sorted, shown)), stands) in
+      let (steps, few, went) = serves it.was_clean h ((sym are, (sorted, shown)), stands) in
+      let ((_, (in_order, shows)), left) = went.stands in
       (steps, few, (in_order, inl (holds_found new.0 files it now found _ shows), left))
 
   -- An office that was opened was served.
@@ -89,10 +91,11 @@ module _ {D : Type 0} {g : Ghosts D} where
       (looks.1 it.was_clean t (sorted, shows_files image old.0 held blank (looks.0.before it.was_clean) t has))
 
 -- Serving that changes nothing is serving by no step.
-pub kept_served : {S : Type 0} (M : Meaning S) (settings : Settings) (old new : S) → Keeps M old new → WasServed M 0 settings old new
-kept_served {S = S} M settings old new keeps =
+pub kept_served : {S : Type 0} (M : Meaning S) → StepsAreKept → (settings : Settings) (old new : S) → Keeps M old new → WasServed M 0 settings old new
+kept_served {S = S} M law settings old new keeps =
     let first : DeskOf S = record { shelf = old; settings = settings } in
-    (keeps.before, (settings, served_still M 0 first first (record { shelf = new; settings = settings }) (served_none M 0 first) keeps refl))
+    let last : DeskOf S = record { shelf = new; settings = settings } in
+    (keeps.before, (settings, serving_kept M 0 first last law (served_still M 0 first first last (served_none M 0 first) keeps refl)))
 
 pub settings_stay : (steps : List Step) (h : Held) → (office_left office_answers h steps).settings ≡ h.settings
 settings_stay [] h = refl

@@ -9,10 +9,10 @@ use Rattle.office_desk.specs.Desks.{DeskOf}
 use Rattle.office_wire.specs.Runs.{Answers, IsOneAtMost, Step, office_left}
 use Rattle.office_http.specs.Answering.{Held, IsWholeAfter, LeftAfter, StandsAs, is_accepted, meant_in, office_answers}
 use Rattle.office_http.specs.Joined.{StepsAreKept}
-use Rattle.office_http.specs.Stops.{LeftBySteps, StopsBy, StopsOnce}
+use Rattle.office_http.specs.Stops.{LeftBySteps, StopsBy}
 use Rattle.procure_config.specs.declared.fault.ProgramFault.{ProgramFault}
 use Rattle.procure_programs.specs.Hosts.{Hosting}
-use Rattle.procure_programs.specs.Serving.{TurnsKeepCommands, TakesTurns, WasServed, WasServedAt}
+use Rattle.procure_programs.specs.Serving.{TakesTurns, WasServed, WasServedAt}
 use Rattle.procure_programs.specs.Turns.{ServesAt}
 
 -- The office after two lists of steps.
@@ -20,7 +20,7 @@ pub office_on : {S : Type 0} (A : Answers S) (xs ys : List Step) (s : S) → off
 office_on A [] ys s = refl
 office_on A (x ∷ xs) ys s = office_on A xs ys (A.after x.busy s x.block)
 
-at_most_one : (moment : ℕ) (steps : List Step) → IsOneAtMost moment steps → length steps ≤ 1
+pub at_most_one : (moment : ℕ) (steps : List Step) → IsOneAtMost moment steps → length steps ≤ 1
 at_most_one moment [] one = omega arith
 at_most_one moment (x ∷ []) one = omega arith
 at_most_one moment (x ∷ y ∷ more) one = absurd one
@@ -51,7 +51,7 @@ left_on : (xs ys : List Step) (h : Held) (Before : Tables → Type 0) (u : Table
 left_on [] ys h Before u it = it
 left_on (x ∷ xs) ys h Before u it = left_on xs ys (office_answers.after x.busy h x.block) (left_by Before h x) u it
 
-stops_on : {S : Type 0} (M : Meaning S) (old mid new : S) (h : Held) (xs ys : List Step) → StopsBy M old mid h xs → StopsBy M mid new (office_left office_answers h xs) ys
+pub stops_on : {S : Type 0} (M : Meaning S) (old mid new : S) (h : Held) (xs ys : List Step) → StopsBy M old mid h xs → StopsBy M mid new (office_left office_answers h xs) ys
     → StopsBy M old new h (xs ++ ys)
 stops_on M old mid new h xs ys first last = record {
   left = λ u may. left_on xs ys h (M.may_leave old) u (left_more ys (office_left office_answers h xs) (LeftBySteps (M.may_leave old) h xs) (M.may_leave mid) first.left u (last.left u may));
@@ -65,44 +65,31 @@ stops_still M old mid new h steps first keeps honest = record {
   sound = λ before. keeps.sound honest (first.sound before);
 }
 
-stops_none : {S : Type 0} (M : Meaning S) (shelf : S) (h : Held) → StopsBy M shelf shelf h []
+pub stops_none : {S : Type 0} (M : Meaning S) (shelf : S) (h : Held) → StopsBy M shelf shelf h []
 stops_none M shelf h = record { left = λ u may. may; sound = λ before. before }
 
 -- ---- the office
 
--- No request was read.
-pub once_none : {S : Type 0} (M : Meaning S) (moment : ℕ) (office : DeskOf S) → StopsOnce M moment office office
-once_none M moment office honest h held = ([], tt, held, stops_none M office.shelf h)
+-- The desk went through at most this many steps: as `TakesTurns` says, but for the accepted commands.
+abbrev pub Turned : {S : Type 0} → Meaning S → ℕ → DeskOf S → DeskOf S → Type 0
+Turned M most old new =
+    M.honest new.shelf → (h : Held) → StandsAs M old h
+    → (steps : List Step) × (length steps ≤ most) × StandsAs M new (office_left office_answers h steps) × StopsBy M old.shelf new.shelf h steps
 
-pub served_none : {S : Type 0} (M : Meaning S) (n : ℕ) (office : DeskOf S) → TakesTurns M n office office
+pub served_none : {S : Type 0} (M : Meaning S) (n : ℕ) (office : DeskOf S) → Turned M n office office
 served_none M n office honest h held = ([], omega arith, held, stops_none M office.shelf h)
 
 -- A call that only asks changes nothing.
-pub served_still : {S : Type 0} (M : Meaning S) (n : ℕ) (first old new : DeskOf S) → TakesTurns M n first old → Keeps M old.shelf new.shelf → new.settings ≡ old.settings → TakesTurns M n first new
+pub served_still : {S : Type 0} (M : Meaning S) (n : ℕ) (first old new : DeskOf S) → Turned M n first old → Keeps M old.shelf new.shelf → new.settings ≡ old.settings → Turned M n first new
 served_still M n first old new so_far keeps same honest h held =
     let (xs, few, ((are, now), stands), stops) = so_far (keeps.before honest) h held in
     (xs, few, ((same ∙ are, keeps.same honest _ now), stands), stops_still M first.shelf old.shelf new.shelf h xs stops keeps honest)
 
-pub served_on : {S : Type 0} (M : Meaning S) (n moment : ℕ) (first old new : DeskOf S) → (M.honest new.shelf → M.honest old.shelf) → TakesTurns M n first old
-    → StopsOnce M moment old new → TakesTurns M (n + 1) first new
-served_on M n moment first old new before so_far once honest h held =
-    let (xs, few, now, stops) = so_far (before honest) h held in
-    let (ys, one, after, more) = once honest (office_left office_answers h xs) now in
-    let short : length ys ≤ 1 = at_most_one moment ys one in
-    let bound : length (xs ++ ys) ≤ n + 1 = rw (length-append xs ys) (omega (arith, few, short)) in
-    (xs ++ ys, bound, subst (λ (k : Held). StandsAs M new k) (sym (office_on office_answers xs ys h)) after, stops_on M first.shelf old.shelf new.shelf h xs ys stops more)
-
--- Fewer steps than are allowed.
-pub served_within : {S : Type 0} (M : Meaning S) (n most : ℕ) (old new : DeskOf S) → n ≤ most → TakesTurns M n old new → TakesTurns M most old new
-served_within M n most old new within so_far honest h held =
-    let (xs, few, now, stops) = so_far honest h held in
-    (xs, omega (arith, within, few), now, stops)
-
 -- The accepted commands are kept.
-pub serving_kept : {S : Type 0} (M : Meaning S) (most : ℕ) (old new : DeskOf S) → StepsAreKept → TakesTurns M most old new → TurnsKeepCommands M most old new
-serving_kept M most old new law serves honest h held xs reached =
-    let (steps, few, left, _) = serves honest h held in
-    (steps, few, left, law xs h reached steps)
+pub serving_kept : {S : Type 0} (M : Meaning S) (most : ℕ) (old new : DeskOf S) → StepsAreKept → Turned M most old new → TakesTurns M most old new
+serving_kept M most old new law serves honest h held =
+    let (steps, few, stands, stops) = serves honest h held in
+    (steps, few, record { stands = stands; stops = stops; kept = λ xs reached. law xs h reached steps })
 
 -- An office was made of a store and served, and its store was returned.
 pub was_served : {S : Type 0} (M : Meaning S) (most : ℕ) (settings : Settings) (shelf left : S) (begun ended : DeskOf S) → begun ≡ record { shelf = shelf; settings = settings }

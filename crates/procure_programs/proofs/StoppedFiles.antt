@@ -66,7 +66,8 @@ module _ {D : Type 0} {g : Ghosts D} (image : Image) (settings : Settings) (most
       let honest : HasCleanDisk (file_state new.0) = put.clean clean in
       let early : HasCleanDisk (file_state old.0) = before honest in
       let shows = shows_files image old.0 held empty early h.tables has in
-      let (steps, few, _, stop) = serves honest h ((sym are, (sorted, shows)), stands) in
+      let (steps, few, went) = serves honest h ((sym are, (sorted, shows)), stands) in
+      let stop = went.stops in
       ∥∥₁_map (put.left clean (stop.sound (shown early h.tables shows)) now may) (λ found.
       let u : Tables = found.0 in
       elim (left_whole steps h (λ t. MayLeave (file_state old.0) t) u (stop.left u found.1)) [
@@ -94,7 +95,8 @@ module _ {D : Type 0} {g : Ghosts D} (image : Image) (settings : Settings) (most
       let honest : HasCleanDisk (file_state new.0) = half.clean clean in
       let early : HasCleanDisk (file_state old.0) = before honest in
       let shows = shows_files image old.0 held empty early h.tables has in
-      let (steps, few, _, stop) = serves honest h ((sym are, (sorted, shows)), stands) in
+      let (steps, few, went) = serves honest h ((sym are, (sorted, shows)), stands) in
+      let stop = went.stops in
       let left = half.left trees may in
       let (u, (d, is, holds)) = stop.sound (shown early h.tables shows) trees left in
       let there : MayLeave (file_state new.0) u = (d, subst (file_state new.0).may_leave is left, holds) in

@@ -19,17 +19,13 @@ use Rattle.office_values.specs.declared.settings.Settings.{Settings}
 use Rattle.office_base.specs.Shelves.{Meaning}
 use Rattle.office_base.specs.Shutting.{Standing}
 use Rattle.office_base.specs.Tables.{Tables, IsSorted, no_tables}
-use Rattle.office_machine.specs.Machine.{Given, Reaches}
-use Rattle.office_publications.specs.Publishing.{publishing}
 use Rattle.office_publications.specs.Standing.{IsReached}
 use Rattle.office_desk.specs.Desks.{DeskOf}
-use Rattle.office_desk.specs.Steps.{OfficeIsKept}
 use Rattle.office_store.specs.Reopening.{FilesHoldOffice, OpensHeld, StandForOffice}
 use Rattle.office_store.specs.SqlMeaning.{LeavesNoOther, LeavesShown, sql_meaning}
 use Rattle.office_wire.specs.Runs.{Step, office_left}
 use Rattle.office_http.specs.Answering.{Held, StandsAs, office_answers}
-use Rattle.office_http.specs.Joined.{accepted_steps}
-use Rattle.office_http.specs.Stops.{StopsBy}
+use Rattle.office_http.specs.Runs.{WentThrough}
 use Rattle.procure_config.specs.declared.fault.ProgramFault.{ProgramFault}
 use Rattle.procure_programs.specs.Hosts.{Hosting}
 use Rattle.procure_programs.specs.Placed.{HadOfficeIfUsed, HoldNothing, OpensEmpty}
@@ -37,11 +33,11 @@ use Rattle.procure_programs.specs.Showing.{IsPrintout}
 use Rattle.procure_programs.specs.Turns.{ServesAt}
 use Rattle.procure_programs.specs.declared.showing.Printout.{Printout}
 
--- The desk went through at most this many steps. Its office is the one after them, and a stop leaves only what they allow.
+-- The desk went through at most this many steps. Its office is the one after them, a stop leaves only what they allow, and all accepted commands are kept.
 abbrev pub TakesTurns : {S : Type 0} → Meaning S → ℕ → DeskOf S → DeskOf S → Type 0
 TakesTurns M most old new =
     M.honest new.shelf → (h : Held) → StandsAs M old h
-    → (steps : List Step) × (length steps ≤ most) × StandsAs M new (office_left office_answers h steps) × StopsBy M old.shelf new.shelf h steps
+    → (steps : List Step) × (length steps ≤ most) × WentThrough M old new h steps
 
 -- The office in a store was served under these settings, and this store is left.
 abbrev pub WasServed : {S : Type 0} → Meaning S → ℕ → Settings → S → S → Type 0
@@ -76,13 +72,6 @@ pub record ServesFilesAt {D : Type 0} (g : Ghosts D) {X T R W : Type 0} (binds :
   pub last : Connected (FileStore D g) × ℕ
   pub served : ServesOpened binds N network port image settings count last result
   pub closed : AreClean g files.log files.db → IsCopied last.0 files
-
--- After at most this many steps, all accepted commands are kept, those of the steps included.
-abbrev pub TurnsKeepCommands : {S : Type 0} → Meaning S → ℕ → DeskOf S → DeskOf S → Type 0
-TurnsKeepCommands M most old new =
-    M.honest new.shelf → (h : Held) → StandsAs M old h → (xs : List Given) → Reaches (publishing h.settings.publisher) xs h.tables
-    → (steps : List Step) × (length steps ≤ most) × StandsAs M new (office_left office_answers h steps)
-    × OfficeIsKept h.settings.publisher (accepted_steps h steps xs) (office_left office_answers h steps).tables
 
 -- Two files with these bytes have an office with this content. Either they hold it, or they hold nothing yet and it is the empty office.
 abbrev pub HaveOffice : Image → Tables → Type 0

@@ -1,20 +1,19 @@
 -- How an office in a store is served, one connection after another, until its store is closed for good.
-use Rattle.std.specs.Prelude.{◌≡◌, ◌⊎◌, ⊤, ℕ, zero, suc, ◌<◌, Bool, true, false, List, Option, Some, None, Result, Ok, Err, IsErrOf, IsTrue, OnOk}
+use mathlib.Core.Logic.{inl, inr}
+use Rattle.std.specs.Prelude.{◌≡◌, ◌⊎◌, ⊤, ℕ, zero, suc, ◌<◌, ◌≤◌, Bool, true, false, List, [], ◌++◌, length, Option, Some, None, Result, Ok, Err, IsErrOf, IsTrue, OnOk}
 use Rattle.std.specs.Result.{result_unwrap_or}
 use Rattle.std.specs.declared.net.socket_addr.SocketAddrV4.{SocketAddrV4}
 use Rattle.office_base.specs.Shelves.{Meaning}
-use Rattle.office_base.specs.Tables.{Tables}
 use Rattle.office_base.specs.declared.shelf.ShelfFault.{ShelfFault}
 use Rattle.office_base.specs.Shutting.{Standing, TellsShut}
 use Rattle.office_desk.specs.Desks.{DeskOf}
-use Rattle.office_publications.specs.Standing.{IsReached}
 use Rattle.office_wire.specs.Counting.{HasStopped, ReaderView}
-use Rattle.office_wire.specs.Runs.{Served}
 use Rattle.office_wire.specs.Sending.{WriterView}
 use Rattle.office_wire.specs.declared.fault.RunFault.{RunFault}
 use Rattle.office_wire.specs.declared.fault.RunFault.TheVariants as ends
-use Rattle.office_http.specs.Answering.{Held, StandsAs, held_by, office_answers}
-use Rattle.office_http.specs.Stops.{StopsOnce}
+use Rattle.office_wire.specs.Runs.{Served, Step, office_left}
+use Rattle.office_http.specs.Answering.{Held, StandsAs, office_answers}
+use Rattle.office_http.specs.Runs.{IsServed, WentThrough}
 use Rattle.procure_config.specs.declared.fault.ProgramFault.{ProgramFault}
 use Rattle.procure_config.specs.declared.fault.ProgramFault.TheVariants.{Store, Input}
 use Rattle.procure_programs.specs.Hosts.{HostEvents, Hosting, IsLoopbackAt, clock_moment}
@@ -26,12 +25,10 @@ pub record EndsConnection (ended : Result ⊤ RunFault) (read : Option ReaderVie
   pub cut : IsErrOf ended ends.Write → written.has_failed ≡ true
   pub stopped : IsErrOf ended ends.Read → (reader : ReaderView) × (read ≡ Some reader) × HasStopped reader
 
--- One request was answered over a connection at this moment. If the bytes that came are known, the output is the response to the request at their beginning, or
--- the refusal of them. It is a beginning of this if the writer failed, and nothing if the reader failed. The desk then holds the office after it.
+-- One request was served over a connection at this moment, and these bytes of it are left. The output is the response to the request, or the refusal of bytes that
+-- aren't one. It is a beginning of this if the writer failed, and nothing if the reader failed. The desk then holds the office after the request.
 abbrev pub AnswersConnection : {S : Type 0} → Meaning S → ℕ → Option (List ℕ) → Option (List ℕ) → Option (List ℕ) → DeskOf S → DeskOf S → Result ⊤ RunFault → Type 0
-AnswersConnection M moment came before after old new result =
-    M.honest new.shelf → (input : List ℕ) → came ≡ Some input → (s : Tables) → M.holds old.shelf s → IsReached old.settings.publisher s
-    → (now : Option (List ℕ)) × (h : Held) × Served office_answers result input now moment (held_by old s) h before after × StandsAs M new h
+AnswersConnection M moment came before after old new result = (now : Option (List ℕ)) × IsServed M result came now moment old new before after
 
 -- A connection was taken, then the clock was read, the request was answered at this moment, and the connection was closed. Only serving a connection gives the
 -- value that says how it ended (`Ended`); `serve_connection`, clause `ended`, says when it can be a fault.
@@ -46,9 +43,14 @@ pub record ServesConnection {S T R W : Type 0} (N : Hosting T R W) (M : Meaning 
   pub ended : Result ⊤ RunFault
   pub left : W
   pub answers : AnswersConnection M (clock_moment nanos) (N.remaining reader) (N.contents writer) (N.contents left) old new ended
-  pub once : StopsOnce M (clock_moment nanos) old new
   pub honest : M.honest new.shelf → M.honest old.shelf
   pub closes : N.events.closes told left ended after
+
+-- These are the steps of a connection that was served, from this office: the step of its request, if it had one.
+abbrev pub AreOfConnection : {S T R W : Type 0} (N : Hosting T R W) (M : Meaning S) (before after : T) (old new : DeskOf S) → ServesConnection N M before after old new
+    → Held → List Step → Type 0
+AreOfConnection N M before after old new it h steps =
+    Served office_answers it.ended (N.remaining it.reader) it.answers.0 (clock_moment it.nanos) h steps (N.contents it.writer) (N.contents it.left)
 
 -- A connection was taken, and then the clock couldn't be read.
 abbrev pub FindsNoClock : {T R W : Type 0} → HostEvents T R W → T → T → Type 0
@@ -84,6 +86,20 @@ GoesOnFor N M store zero before after old new = (after ≡ before) × (new ≡ o
 GoesOnFor {S = S} {T = T} N M store (suc n) before after old new =
     (host : T) × (mid : DeskOf S) × GoesOnFor N M store n before host old mid × IsOneTurn N M store host after mid new
 
+-- These are the steps of one turn: those of its connection, if one could be taken.
+abbrev pub AreOfTurn : {S T R W : Type 0} (N : Hosting T R W) (M : Meaning S) (store : Standing S) (before after : T) (old new : DeskOf S) → IsOneTurn N M store before after old new
+    → Held → List Step → Type 0
+AreOfTurn N M store before after old new (inl none) h steps = steps ≡ []
+AreOfTurn N M store before after old new (inr it) h steps = AreOfConnection N M before after old it.1.served it.1.one h steps
+
+-- These are the steps of all turns, in their order.
+abbrev pub AreOfTurns : {S T R W : Type 0} (N : Hosting T R W) (M : Meaning S) (store : Standing S) (n : ℕ) (before after : T) (old new : DeskOf S)
+    → GoesOnFor N M store n before after old new → Held → List Step → Type 0
+AreOfTurns N M store zero before after old new it h steps = steps ≡ []
+AreOfTurns N M store (suc n) before after old new it h steps =
+    (earlier : List Step) × (last : List Step) × (steps ≡ earlier ++ last)
+    × AreOfTurns N M store n before it.0 old it.1 it.2 h earlier × AreOfTurn N M store it.0 after it.1 new it.3 (office_left office_answers h earlier) last
+
 -- The end of serving if not all connections are taken. Either one more connection is served and then the store is known to be closed for good, or one is taken
 -- for which the clock can't be read.
 abbrev pub EndsBy : {S T R W : Type 0} → Hosting T R W → Meaning S → Standing S → ProgramFault → T → T → DeskOf S → DeskOf S → Type 0
@@ -103,10 +119,29 @@ ServesInTurn N M store count before after old new (Ok done) = GoesOnFor N M stor
 ServesInTurn {S = S} {T = T} N M store count before after old new (Err fault) =
     (n : ℕ) × (n < count) × (host : T) × (mid : DeskOf S) × GoesOnFor N M store n before host old mid × EndsBy N M store fault host after mid new
 
+-- These are the steps of all connections that were served, in their order.
+abbrev pub AreOfServing : {S T R W : Type 0} (N : Hosting T R W) (M : Meaning S) (store : Standing S) (count : ℕ) (before after : T) (old new : DeskOf S)
+    (result : Result (Unit {0}) ProgramFault) → ServesInTurn N M store count before after old new result → Held → List Step → Type 0
+AreOfServing N M store count before after old new (Ok done) it h steps = AreOfTurns N M store count before after old new it h steps
+AreOfServing N M store count before after old new (Err Store) it h steps =
+    (earlier : List Step) × (last : List Step) × (steps ≡ earlier ++ last)
+    × AreOfTurns N M store it.0 before it.2 old it.3 it.4 h earlier
+    × AreOfConnection N M it.2 after it.3 it.5.1.served it.5.1.one (office_left office_answers h earlier) last
+AreOfServing N M store count before after old new (Err Input) it h steps = AreOfTurns N M store it.0 before it.2 old it.3 it.4 h steps
+AreOfServing N M store count before after old new (Err _) it h steps = ⊥
+
+-- Connections were served in turn (`ServesInTurn`), by at most so many steps. These are the steps of the connections, in their order: each connection's response
+-- is that of its step. The desk went through the same steps.
+abbrev pub ServesSteps : {S T R W : Type 0} → Hosting T R W → Meaning S → Standing S → ℕ → T → T → DeskOf S → DeskOf S → Result (Unit {0}) ProgramFault → Type 0
+ServesSteps N M store count before after old new result =
+    (turns : ServesInTurn N M store count before after old new result)
+    × (M.honest new.shelf → (h : Held) → StandsAs M old h
+    → (steps : List Step) × (length steps ≤ count) × AreOfServing N M store count before after old new result turns h steps × WentThrough M old new h steps)
+
 -- An office was served at 127.0.0.1 and this port. If the port isn't free, the result is `Input` and nothing changed. Otherwise this many connections were
--- served in turn, or fewer with a fault.
+-- served in turn, or fewer with a fault (`ServesSteps`).
 abbrev pub ServesAt : {S X T R W : Type 0} → (X → SocketAddrV4 → Option T → Type 0) → Hosting T R W → Meaning S → Standing S → X → ℕ → ℕ → DeskOf S → DeskOf S → Result (Unit {0}) ProgramFault → Type 0
 ServesAt {T = T} binds N M store network port count old new result =
     (address : SocketAddrV4) × IsLoopbackAt port address
     × ((binds network address None × (result ≡ Err Input) × (new ≡ old))
-    ⊎ ((host : T) × (last : T) × binds network address (Some host) × ServesInTurn N M store count host last old new result))
+    ⊎ ((host : T) × (last : T) × binds network address (Some host) × ServesSteps N M store count host last old new result))

@@ -4,11 +4,11 @@ ghost use Rattle.std.specs.Io.KnownBytes.{Appends};
 ghost use Rattle.office_wire.specs.Sending.{AppendsPart};
 ghost use Rattle.office_wire.specs.declared.fault.ReadFault.TheVariants.{Unavailable};
 ghost use Rattle.office_http.specs.Answering.{fault_text};
-ghost use Rattle.office_http.specs.Stops.{StopsOnce};
 ghost use Rattle.procure_programs.specs.Turns.{AnswersConnection, EndsConnection};
 
 use office_base::shelf::{Lookups, Shelf};
 use office_http::answering::fault_response;
+use office_http::laws;
 use office_http::office::{Office, serve_one};
 use office_values::moment::Moment;
 use office_wire::counted::CountedReader;
@@ -57,7 +57,6 @@ fn refuse<W: Write>(writer: &mut WatchedWriter<W>) -> Result<(), RunFault>
 
 /// Serves one connection: reads a request, and sends and flushes the response to it, at this moment. A fault of the reader or the writer ends only this
 /// connection. If there is no memory for the reader's buffer, the response is `Unavailable`, nothing is read, and no reader is returned.
-#[tactic(auto, using(crate::proofs::ServingSteps::once_none))]
 pub fn serve_connection<H: Shelf + Drop, R: Read + Drop, W: Write>(
     alloc: Global,
     office: &mut Office<H>,
@@ -68,8 +67,8 @@ pub fn serve_connection<H: Shelf + Drop, R: Read + Drop, W: Write>(
     ensures before { H.meaning.honest office.new.shelf → H.meaning.honest office.old.shelf }
     ensures served { AnswersConnection H.meaning moment (R.remaining reader) writer.old.contents writer.new.contents office.old office.new result.1 }
     ensures ended { EndsConnection result.1 result.0 writer.new }
-    ensures stepped { StopsOnce H.meaning moment office.old office.new }
 {
+    laws::accounts_and_fates();
     match BufReader::new(alloc, reader) {
         Ok(buffered) => {
             let mut counted = CountedReader::new(buffered);

@@ -1,8 +1,8 @@
 //! An office that is served over connections, one after another.
 ghost use Rattle.std.specs.Prelude.{◌≡◌, ◌⊎◌, IfErr};
 ghost use Rattle.procure_programs.specs.Hosts.{hosting};
-ghost use Rattle.procure_programs.specs.Serving.{TurnsKeepCommands, TakesTurns};
-ghost use Rattle.procure_programs.specs.Turns.{ServesAt, ServesInTurn, TakesOne, TakesTurn};
+ghost use Rattle.procure_programs.specs.Serving.{TakesTurns};
+ghost use Rattle.procure_programs.specs.Turns.{ServesAt, ServesInTurn, ServesSteps, TakesOne, TakesTurn};
 
 use crate::clock::moment_now;
 use crate::connection::serve_connection;
@@ -78,9 +78,7 @@ pub fn serve<T: Host, H: StoredShelf + Drop>(
     count: u32,
 ) -> Result<(), ProgramFault>
     ensures before { H.meaning.honest office.new.shelf → H.meaning.honest office.old.shelf }
-    ensures serves { TakesTurns H.meaning count office.old office.new }
-    ensures kept { TurnsKeepCommands H.meaning count office.old office.new }
-    ensures turns { ServesInTurn (hosting T.events T.Reader.remaining T.Writer.contents) H.meaning H.store count host.old host.new office.old office.new result }
+    ensures served { ServesSteps (hosting T.events T.Reader.remaining T.Writer.contents) H.meaning H.store count host.old host.new office.old office.new result }
     ensures fault { IfErr result (λ fault. (fault ≡ ProgramFault.Store) ⊎ (fault ≡ ProgramFault.Input)) }
 {
     laws::accounts_and_fates();
@@ -88,7 +86,6 @@ pub fn serve<T: Host, H: StoredShelf + Drop>(
 }
 
 /// Serves this many connections to 127.0.0.1 and this port, as `serve` does. `Input` also if the port isn't free; then nothing is served.
-#[tactic(auto, using(crate::proofs::ServingSteps::served_none))]
 pub fn serve_at<N: Network, H: StoredShelf + Drop>(
     alloc: Global,
     network: &N,
@@ -101,6 +98,7 @@ pub fn serve_at<N: Network, H: StoredShelf + Drop>(
     ensures at { ServesAt N.binds (hosting N.Opened.events N.Opened.Reader.remaining N.Opened.Writer.contents) H.meaning H.store network.now port count office.old office.new result }
     ensures fault { IfErr result (λ fault. (fault ≡ ProgramFault.Store) ⊎ (fault ≡ ProgramFault.Input)) }
 {
+    laws::accounts_and_fates();
     match network.bind(loopback(port)) {
         Some(mut host) => serve(alloc, &mut host, office, count),
         None => Err(ProgramFault::Input),

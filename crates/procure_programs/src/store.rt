@@ -20,6 +20,7 @@ use crate::kept::{print_office, serve_office};
 use crate::placing::place_empty;
 use crate::room::{page_size_at, room_for};
 use crate::showing::Printout;
+use office_http::laws::accounts_and_fates;
 use office_machine::laws::order;
 use office_store::opened::{Opened, Origin};
 use office_store::shelf::SqlShelf;
@@ -213,6 +214,7 @@ pub fn print_from<S: Start, W: Write>(
     ensures half { IfErr result (λ left. IfSome left.1 (HalfClosesFiles (image_at S.Start) settings 0)) }
 {
     order();
+    accounts_and_fates();
     let opened = match open_office(rt, path, start) {
         Ok(opened) => opened,
         Err(fault) => return Err((fault, None)),

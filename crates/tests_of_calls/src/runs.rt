@@ -17,10 +17,10 @@ struct Echo {
 }
 
 impl Responder for Echo {
-    ghost use Rattle.std.specs.Prelude.{ℕ, ◌≡◌, ◌+◌, if◌then◌else◌, codes};
+    ghost use Rattle.std.specs.Prelude.{ℕ, ◌≡◌, ◌+◌, true, if◌then◌else◌, codes};
     ghost use Rattle.office_wire.specs.Request.{is_shown};
 
-    ghost meaning = { record { Office = ℕ; honest = λ _. Unit {0}; holds = λ d s. d.total ≡ s; answers = record { reply = λ busy s b. if busy then codes "busy" else b.request.body; after = λ busy s b. if busy then s else s + 1; refusal = λ why. if is_shown why then codes "refused" else codes "busy" } } };
+    ghost meaning = { record { Office = ℕ; honest = λ _. Unit {0}; holds = λ d s. d.total ≡ s; answers = record { reply = λ busy s b. if busy then codes "busy" else b.request.body; after = λ busy s b. if busy then s else s + 1; may_be_busy = λ s b. true; refusal = λ why. if is_shown why then codes "refused" else codes "busy" } } };
 
     fn answer(&mut self, alloc: Global, _moment: Moment, request: &Request) -> Answer {
         let mut text = Vec::new(alloc);

@@ -42,19 +42,22 @@ returns-in-Err-carry_out-clause-answered g c honest s held stands can =
 
 pub returns-in-Err-clause-told : goal.returns-in-Err-clause-told
 returns-in-Err-clause-told g c honest s held needs =
-    tells_refused_command c.args.desk.now.settings s c.args.moment c.refuse.result _ c.args.caller.now c.args.command c.in-Err.refusal
+    tells_refused_command c.args.desk.now.settings s c.args.moment c.refuse.result (g.H.Lookups.meaning.holds c.plan.new.self.shelf) c.args.caller.now c.args.command c.in-Err.refusal
     (c.in-Err.ensures.looks.1 honest s held) c.refuse.ensures (c.plan.ensures.looks.0.same honest s held)
 
 pub returns-in-Ok-carry_out-clause-told : goal.returns-in-Ok-carry_out-clause-told
 returns-in-Ok-carry_out-clause-told g c honest s held needs =
     let before = c.in-Ok-carry_out.ensures.alters.before honest in
-    tells_done_command c.args.desk.now.settings s c.args.moment c.built.result _ c.args.caller.now c.args.command c.in-Ok.planned (c.in-Ok.ensures.looks.1 before s held)
+    tells_done_command c.args.desk.now.settings s c.args.moment c.built.result (g.H.Lookups.meaning.holds c.carry_out.new.self.shelf) c.args.caller.now c.args.command c.in-Ok.planned
+    (c.in-Ok.ensures.looks.1 before s held)
     (c.built.ensures ∙ c.in-Ok-accepted_response.ensures ∙ ap (λ (text : List ℕ). response_of (Json text)) c.into_parts-puts.ensures.reply)
+    (subst (λ (ps : List Put). g.H.Lookups.meaning.holds c.carry_out.new.self.shelf (after_puts ps s)) c.into_parts-puts.ensures.puts
+    (c.in-Ok-carry_out.ensures.alters.all honest s (c.in-Ok.ensures.looks.0.same before s held)))
 
 pub returns-in-Err-carry_out-clause-told : goal.returns-in-Err-carry_out-clause-told
 returns-in-Err-carry_out-clause-told g c honest s held needs =
     let before = c.in-Err-carry_out.ensures.alters.before honest in
-    tells_unavailable c.args.desk.now.settings s c.args.moment c.constant-in-Err-carry_out.result _ (Gives c.args.caller.now c.args.command)
+    tells_unavailable c.args.desk.now.settings s c.args.moment c.constant-in-Err-carry_out.result (g.H.Lookups.meaning.holds c.carry_out.new.self.shelf) (Gives c.args.caller.now c.args.command)
     (c.constant-in-Err-carry_out.ensures ∙ c.unavailable-in-Err-carry_out.ensures) (c.in-Err-carry_out.ensures.alters.none honest s (c.in-Ok.ensures.looks.0.same before s held))
 
 pub returns-in-Err-clause-certain : goal.returns-in-Err-clause-certain

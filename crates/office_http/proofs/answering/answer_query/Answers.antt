@@ -25,12 +25,12 @@ returns-in-Err-clause-shown g c honest s held = inr (tells_some c.in-Err.refusal
 
 pub returns-in-Err-clause-told : goal.returns-in-Err-clause-told
 returns-in-Err-clause-told g c honest s held needs =
-    tells_refused_query c.args.desk.now.settings s c.args.moment c.refuse.result _ c.args.caller.now c.args.query c.in-Err.refusal
+    tells_refused_query c.args.desk.now.settings s c.args.moment c.refuse.result (g.H.Lookups.meaning.holds c.look.new.self.shelf) c.args.caller.now c.args.query c.in-Err.refusal
     (c.in-Err.ensures.looks.1 honest s held) needs c.refuse.ensures (c.look.ensures.looks.0.same honest s held)
 
 pub returns-in-Ok-seen_response-clause-told : goal.returns-in-Ok-seen_response-clause-told
 returns-in-Ok-seen_response-clause-told g c honest s held needs =
-    tells_shown_query c.args.desk.now.settings s c.args.moment c.built.result _ c.args.caller.now c.args.query c.in-Ok.text.items
+    tells_shown_query c.args.desk.now.settings s c.args.moment c.built.result (g.H.Lookups.meaning.holds c.look.new.self.shelf) c.args.caller.now c.args.query c.in-Ok.text.items
     (c.in-Ok.ensures.looks.1 honest s held) needs
     (c.built.ensures ∙ c.in-Ok-seen_response.ensures ∙ ap (λ (k : QueryKind). response_of (seen_as k c.in-Ok.text.items)) c.kind.ensures)
     (c.look.ensures.looks.0.same honest s held)

@@ -6,8 +6,8 @@ use Rattle.office_http.specs.Meaning.{meant, meant_asked}
 use Rattle.office_http.proofs.LeftSteps.{stops_then}
 use Rattle.office_base.specs.Faults.{HasRisen}
 use Rattle.office_http.proofs.CertainSteps.{Certain, certain_asked, certain_nobody, certain_route}
-use Rattle.office_http.proofs.AlwaysTold.{tells_asked, tells_no_route, tells_nobody}
-use Rattle.office_http.specs.Answering.{NeedsMeant, answer_bytes, is_done}
+use Rattle.office_http.proofs.AlwaysTold.{Tells, tells_asked, tells_no_route, tells_nobody}
+use Rattle.office_http.specs.Answering.{NeedsMeant}
 use Rattle.office_http.proofs.SightSteps.{sight_of_asker, sight_of_nobody, sight_of_route}
 use Rattle.office_http.proofs.RequestSteps.{asked_answered, asked_gives, asked_shown, caller_refused, refused_shows, route_refused, tells_some}
 use Rattle.office_http.proofs.answering.answer_read.Goals as goal
@@ -88,20 +88,20 @@ returns-clause-sight g c why at_sight =
 
 pub returns-in-Err-clause-told : goal.returns-in-Err-clause-told
 returns-in-Err-clause-told g c honest s held needs =
-    tells_no_route c.args.desk.now.settings s c.args.moment c.refuse.result _ c.args.request.now c.in-Err.refusal c.in-Err.method (sym c.in-Err.ensures) c.refuse.ensures held
+    tells_no_route c.args.desk.now.settings s c.args.moment c.refuse.result (g.H.Lookups.meaning.holds c.args.desk.now.shelf) c.args.request.now c.in-Err.refusal c.in-Err.method (sym c.in-Err.ensures) c.refuse.ensures held
 
 pub returns-in-Err-caller_of-clause-told : goal.returns-in-Err-caller_of-clause-told
 returns-in-Err-caller_of-clause-told g c honest s held needs =
-    tells_nobody c.args.desk.now.settings s c.args.moment c.refuse-in-Err-caller_of.result _ c.args.request.now c.in-Ok.route c.in-Err-caller_of.refusal (sym c.in-Ok.ensures)
+    tells_nobody c.args.desk.now.settings s c.args.moment c.refuse-in-Err-caller_of.result (g.H.Lookups.meaning.holds c.caller_of.new.desk.shelf) c.args.request.now c.in-Ok.route c.in-Err-caller_of.refusal (sym c.in-Ok.ensures)
     (c.in-Err-caller_of.ensures.looks.1 honest s held) c.refuse-in-Err-caller_of.ensures (c.caller_of.ensures.looks.0.same honest s held)
 
 pub returns-clause-told : goal.returns-clause-told
 returns-clause-told g c honest s held needs =
     let before = c.answer_asked.ensures.before honest in
     let m = meant_asked c.in-Ok-caller_of.caller c.command_of-asked.result in
-    let family : Settings → Type 0 = λ u. NeedsMeant u s m
-    → (busy : Bool) × (c.answer_asked.result ≡ answer_bytes u busy s c.args.moment m) × (is_done busy s c.args.moment m ≡ false → g.H.Lookups.meaning.holds c.answer_asked.new.desk.shelf s) in
-    tells_asked c.args.desk.now.settings s c.args.moment c.answer_asked.result _ c.args.request.now c.in-Ok.route c.in-Ok-caller_of.caller c.command_of-asked.result (sym c.in-Ok.ensures)
+    let holds = g.H.Lookups.meaning.holds c.answer_asked.new.desk.shelf in
+    let family : Settings → Type 0 = λ u. NeedsMeant u s m → Tells u s c.args.moment c.answer_asked.result holds m in
+    tells_asked c.args.desk.now.settings s c.args.moment c.answer_asked.result holds c.args.request.now c.in-Ok.route c.in-Ok-caller_of.caller c.command_of-asked.result (sym c.in-Ok.ensures)
     (c.in-Ok-caller_of.ensures.looks.1 before s held) c.command_of-asked.ensures.asked needs
     (subst family c.caller_of.ensures.settings (c.answer_asked.ensures.told honest s (c.caller_of.ensures.looks.0.same before s held)))
 
@@ -123,4 +123,4 @@ returns-clause-certain g c honest s held found =
     let certain = subst family c.in-Ok-caller_of.ensures.counted (c.answer_asked.ensures.certain honest s (c.caller_of.ensures.looks.0.same before s held)) in
     certain_asked c.args.desk.now.settings s c.args.moment c.answer_asked.result _ c.args.request.now c.in-Ok.route c.in-Ok-caller_of.caller c.command_of-asked.result (sym c.in-Ok.ensures)
     (c.in-Ok-caller_of.ensures.looks.1 before s held)
-    c.command_of-asked.ensures.path c.command_of-asked.ensures.forbidden found certain
+    c.command_of-asked.ensures.at_once c.command_of-asked.ensures.forbidden found certain

@@ -1,8 +1,7 @@
 use Rattle.std.proofs.Common.{◌≡◌, ◌≤◌, ◌+◌, ℕ, List, length, Some}
 use Rattle.std.specs.Io.KnownBytes.{Appends}
-use Rattle.office_wire.specs.AnyReader.{AreWellFormed}
-use Rattle.office_wire.specs.Runs.{Step, office_left, written}
-use Rattle.office_wire.proofs.RunLemmas.{Answered}
+use Rattle.office_wire.specs.Runs.{AreSteps, Step, office_left, written}
+use Rattle.office_wire.proofs.RunLemmas.{HasRead}
 use Rattle.office_wire.proofs.runs.answer_blocks.Given as goal
 
 abbrev pub invariant-rounds : goal.invariant-rounds
@@ -11,19 +10,12 @@ invariant-rounds g l = record {
   all_read : l.reader.has_failed ≡ l.fn.reader.has_failed;
   all_written : l.writer.has_failed ≡ l.fn.writer.has_failed;
   before : g.D.Responder.meaning.honest l.desk → g.D.Responder.meaning.honest l.fn.desk;
-  ran : g.D.Responder.meaning.honest l.desk → (input : List ℕ) → l.fn.reader.remaining ≡ Some input → (s : g.D.Responder.meaning.Office) → g.D.Responder.meaning.holds l.fn.desk s → record {
-    steps : List Step;
-    rest : List ℕ;
-    now : l.reader.remaining ≡ Some rest;
-    count : l.count ≡ length steps;
-    answered : Answered g.D.Responder.meaning.answers input s steps rest l.fn.writer.contents l.writer.contents;
-    holds : g.D.Responder.meaning.holds l.desk (office_left g.D.Responder.meaning.answers s steps);
-  };
-  stepped : g.D.Responder.meaning.honest l.desk → (s : g.D.Responder.meaning.Office) → g.D.Responder.meaning.holds l.fn.desk s → record {
+  ran : g.D.Responder.meaning.honest l.desk → (s : g.D.Responder.meaning.Office) → g.D.Responder.meaning.holds l.fn.desk s → record {
     steps : List Step;
     count : l.count ≡ length steps;
-    formed : AreWellFormed steps;
+    steps_are : AreSteps g.D.Responder.meaning.answers s steps;
     sent : Appends l.fn.writer.contents l.writer.contents (written g.D.Responder.meaning.answers s steps);
+    known : (input : List ℕ) → l.fn.reader.remaining ≡ Some input → HasRead input steps l.reader.remaining;
     holds : g.D.Responder.meaning.holds l.desk (office_left g.D.Responder.meaning.answers s steps);
   };
 }

@@ -6,18 +6,16 @@ pub returns-in-Ok-clause-ran : goal.returns-in-Ok-clause-ran
 returns-in-Ok-clause-ran g c = record {
   ended = c.run.result;
   told = rw c.in-Ok.is refl;
-  run = c.run.ensures.stepped;
+  run = c.run.ensures.ran;
   read = c.run.ensures.cause;
   written = c.run.ensures.writes;
-  known = λ honest input came s held stands. let ran = c.run.ensures.ran honest input came s held stands in (ran.0, ran.1);
 }
 
 pub returns-in-Err-clause-ran : goal.returns-in-Err-clause-ran
 returns-in-Err-clause-ran g c = record {
   ended = c.run.result;
   told = rw c.in-Err.is (ap (λ (f : ProgramFault). Err f) c.of_run.ensures);
-  run = c.run.ensures.stepped;
+  run = c.run.ensures.ran;
   read = c.run.ensures.cause;
   written = c.run.ensures.writes;
-  known = λ honest input came s held stands. let ran = c.run.ensures.ran honest input came s held stands in (ran.0, ran.1);
 }

@@ -14,4 +14,4 @@ returns g c =
     served_one (hosting g.T.Host.events g.T.Reader.Read.remaining g.T.Writer.Write.contents) g.H.Lookups.meaning c.args.host.now c.accept.new.self c.in-Some.reader c.in-Some.writer
     (rw c.in-Some.is at c.accept.ensures) c.moment_now.new.host c.close.new.self c.into_inner.result c.args.office.now c.serve_connection-reader.new.office c.in_ok-moment.moment
     c.serve_connection-reader.result.1 c.new-watched.result.contents c.serve_connection-reader.new.writer.contents c.in_ok-moment.ensures c.new-watched.ensures.contents
-    c.into_inner.ensures c.serve_connection-reader.ensures.served c.serve_connection-reader.ensures.stepped c.serve_connection-reader.ensures.before c.close.ensures
+    c.into_inner.ensures c.serve_connection-reader.ensures.served c.serve_connection-reader.ensures.before c.close.ensures

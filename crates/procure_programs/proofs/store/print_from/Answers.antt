@@ -13,7 +13,7 @@ returns-in-Ok-close_office-clause-keeps g c =
     let opened = c.in-Ok.opened.shelf in
     let left = c.print_shelf-shelf.result.0 in
     closes (image_at g.S.Start) c.args.settings 0 opened left c.in-Ok-close_office.left.0 c.in-Ok.ensures.held c.in-Ok.ensures.empty
-    (kept_served (sql_meaning over_files) c.args.settings opened left c.print_shelf-shelf.ensures.looks.0) c.in-Ok-close_office.ensures.closed
+    (kept_served (sql_meaning over_files) c.accounts_and_fates.ensures.steps c.args.settings opened left c.print_shelf-shelf.ensures.looks.0) c.in-Ok-close_office.ensures.closed
 
 pub returns-in-Ok-close_office-clause-used : goal.returns-in-Ok-close_office-clause-used
 returns-in-Ok-close_office-clause-used g c =
@@ -27,7 +27,7 @@ returns-in-Err-close_office-clause-half g c =
     let opened = c.in-Ok.opened.shelf in
     let left = c.print_shelf-shelf.result.0 in
     closes_half (image_at g.S.Start) c.args.settings 0 opened left c.in-Err-close_office.store c.order.ensures c.in-Ok.ensures.held c.in-Ok.ensures.empty c.in-Ok.ensures.sound c.in-Ok.ensures.alone
-    (kept_served (sql_meaning over_files) c.args.settings opened left c.print_shelf-shelf.ensures.looks.0) c.in-Err-close_office.ensures.half
+    (kept_served (sql_meaning over_files) c.accounts_and_fates.ensures.steps c.args.settings opened left c.print_shelf-shelf.ensures.looks.0) c.in-Err-close_office.ensures.half
 
 pub returns-in-Ok-close_office-clause-printed : goal.returns-in-Ok-close_office-clause-printed
 returns-in-Ok-close_office-clause-printed g c =
