@@ -166,7 +166,7 @@ def away(large: Scene) -> None:
     page = Page(large.browser, DESKTOP)
     page.go(large.front.address("#about"))
     moment = json.loads(large.front.ask("GET", "/data/mirror.json").body)["moment"]
-    for place, text in {"list": "400 procurements", "notice/N005": "Contract 1", "notice/N001": "24 tenders for lot L1", "notice/N300": "Tenders sealed",
+    for place, text in {"list": "400 procurements", "notice/N005": "Under contract, paid in part", "notice/N001": "24 tenders for lot L1", "notice/N300": "Tenders sealed",
                         "ledger": "All 125 budget lines", "line/2003": "Upkeep of district 3", "firms": "Firm 24 Ltd",
                         "figures": "Tenders for each lot"}.items():
         timed(page, place, "document.querySelector('main h1')")
@@ -208,7 +208,7 @@ def own_tenders(desk: Desk, far: int, near: int) -> None:
     by the search."""
     next_first(desk, near)
     rows = "document.querySelectorAll('main tbody tr').length"
-    desk.press("Show more")
+    desk.press("Show more (")
     check(f"{desk.page.run(rows)} tenders are shown", desk.page.run(rows) == 21)
     desk.says("of 379 notices are searched. Your tenders appear below.")
     desk.page.wait(f"{with_text('a', f'Change or withdraw {far}')}")
@@ -221,7 +221,7 @@ def own_tenders(desk: Desk, far: int, near: int) -> None:
     desk.says("The tender is withdrawn.")
     timed(desk.page, "tenders", with_text("a", f"Change or withdraw {far}"))
     desk.fill("tenders-receipt", str(near))
-    desk.press("Show")
+    desk.page.press("Enter")
     desk.shows(f"Tender with receipt {near}")
 
 
@@ -240,10 +240,10 @@ def open_notices(desk: Desk) -> None:
     desk.page.wait(f"{heads}.length > 0 && {heads}.every((it) => it.startsWith('School desks') && Number(it.split(' ').at(-1)) % 7 === 3)")
     desk.fill("offer-notice", "2117")
     desk.page.wait(f"{heads}.length === 2")
-    desk.press("Show")
+    desk.page.press("Enter")
     desk.says("Select one of the notices below.")
     desk.fill("offer-notice", "n245")
-    desk.press("Show")
+    desk.page.press("Enter")
     desk.shows("", "offer/N245")
 
 
