@@ -166,8 +166,8 @@ def away(large: Scene) -> None:
     page = Page(large.browser, DESKTOP)
     page.go(large.front.address("#about"))
     moment = json.loads(large.front.ask("GET", "/data/mirror.json").body)["moment"]
-    for place, text in {"list": "400 procurements", "notice/N005": "Under contract, paid in part", "notice/N001": "24 tenders for lot L1", "notice/N300": "Tenders sealed",
-                        "ledger": "All 125 budget lines", "line/2003": "Upkeep of district 3", "firms": "Firm 24 Ltd",
+    for place, text in {"list": "400 procurements", "notice/N005": "Under contract, paid in part", "notice/N001": "24 tenders for lot L1",
+                        "notice/N300": "Tenders sealed", "ledger": "All 125 budget lines", "line/2003": "Upkeep of district 3", "firms": "Firm 24 Ltd",
                         "figures": "Tenders for each lot"}.items():
         timed(page, place, "document.querySelector('main h1')")
         is_shown = text in page.text()
