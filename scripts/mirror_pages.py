@@ -42,7 +42,7 @@ def page(base: str, moment: str, files: list[tuple[str, int, str]], notices: lis
 <table>
 <thead><tr><th>Procurement</th><th>State</th><th>Deadline</th><th>Estimate</th></tr></thead>
 <tbody>
-{"".join(notice_row(one) for one in newest)}</tbody>
+{"".join(notice_row(one, moment) for one in newest)}</tbody>
 </table>
 <h2>Files</h2>
 <table>
@@ -61,10 +61,19 @@ the office answered them. In the tables a text that begins with = + - or @ has a
 """
 
 
-def notice_row(one: Notice) -> str:
-    value = one.compiled["tender"]["value"]
+def state_of(one: Notice, moment: str) -> str:
+    """The state at a moment. (Moments are compared as texts.)"""
+    if one.row["state"] == "receiving":
+        return "receives tenders" if moment <= one.row["deadline"] else "deadline passed, not opened yet"
+    return STATES[one.compiled["tender"]["status"]]
+
+
+def notice_row(one: Notice, moment: str) -> str:
+    value, state = one.compiled["tender"]["value"], state_of(one, moment)
     link = f"<a href={quoteattr(f'records/{one.name}.json')}>{html.escape(one.name)}</a> <bdi>{html.escape(one.row['title'])}</bdi>"
-    state = "receives tenders" if one.row["state"] == "receiving" else STATES[one.compiled["tender"]["status"]]
+    more = [f"<a href={quoteattr(f'{folder}/{one.name}.txt')}>{word}</a>" for folder, word in (("minutes", "minutes"), ("evaluations", "evaluation"))
+            if folder in one.texts]
+    link += f"<br>{', '.join(more)}" if more else ""
     return (f"<tr><td>{link}</td><td>{state}</td><td>{html.escape(one.row['deadline'])}</td>"
             f"<td>{value['amount']:,} {html.escape(value['currency'])}</td></tr>\n")
 

@@ -321,7 +321,9 @@ def each_refusal(scene: Scene) -> None:
     sentence(page, "B1", (200, b"{"))
     sentence(page, "B2", (200, b'{"records":[]}'))
     sentence(page, "B3", None)
+    # (The page may still ask for files of the mirror, which nobody waits for.)
     page.ask("Fetch.disable")
+    page.browser.paused.clear()
     for text in ("N 1", "a/b", "..", "x" * 33, "<b>", "%00", "é"):
         page.run(f"location.hash = '#notice/' + encodeURIComponent({json.dumps(text)})")
         page.wait("document.querySelector('main').textContent.includes('not a valid number')")

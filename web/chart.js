@@ -1,6 +1,7 @@
 // Charts: SVG bars between names and figures that are words of the page, so that they keep their size on a
 // phone. Patterns distinguish the kinds.
 import { element } from "./common/draw.js";
+import { growing } from "./common/forms.js";
 
 const SPACE = "http://www.w3.org/2000/svg";
 
@@ -19,6 +20,8 @@ const PATTERNS = {
   reserved: () => [8, drawn("circle", { cx: "4", cy: "4", r: "2.5", class: "dot" })],
 };
 let charts = 0;
+// So many bars are shown at first, and with each press of the button.
+const FIRST = 25, AT_ONCE = 100;
 
 function patternsOf(chart, kinds) {
   const defined = kinds.filter((kind) => PATTERNS[kind]).map((kind) => {
@@ -45,8 +48,10 @@ function barOf(chart, parts, most) {
 /** Bars below each other. A row has a `name` (a text or elements), `parts` with a kind and an amount, and the
  * text `told` after the bar. Screen readers get a list of names and figures. */
 export function bars(label, rows) {
-  charts += 1;
   const most = Math.max(1, ...rows.map(({ parts }) => parts.reduce((sum, { amount }) => sum + amount, 0)));
-  return element("ul", { class: "bars", "aria-label": label }, rows.map(({ name, parts, told }, at) => element("li", {},
-    element("span", { class: "name" }, name), barOf(`chart-${charts}-${at}`, parts, most), element("b", { class: "figure" }, told))));
+  const row = ({ name, parts, told }) => {
+    charts += 1;
+    return element("li", {}, element("span", { class: "name" }, name), barOf(`chart-${charts}`, parts, most), element("b", { class: "figure" }, told));
+  };
+  return growing(element("ul", { class: "bars", "aria-label": label }), rows, row, AT_ONCE, FIRST);
 }

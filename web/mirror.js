@@ -12,6 +12,8 @@ const FOLDERS = { record: ["records", "json"], releases: ["records", "json"], te
   evaluation: ["evaluations", "txt"] };
 // When the mirror asked the office for what the present view shows; null if the view has nothing of it.
 let asked = null;
+// The mirror's own file, which has the list of notices; read once for each view.
+let state = null;
 
 /** A file of the mirror; null if there is none. */
 async function read(path) {
@@ -36,23 +38,24 @@ async function ofLine(name) {
 
 /** The text that the office gave for a path, or null. */
 export async function fromMirror(path) {
-  const state = JSON.parse((await read("mirror.json")) ?? "null");
-  const text = state === null ? null : await answerOf(path, state);
-  asked = text === null ? asked : state.moment;
+  state ??= read("mirror.json").then((text) => JSON.parse(text ?? "null"));
+  const known = await state;
+  const text = known === null ? null : await answerOf(path, known);
+  asked = text === null ? asked : known.moment;
   return text;
 }
 
-async function answerOf(path, state) {
+async function answerOf(path, { notices }) {
   const [, notice, kind] = /^\/notices\/([^/?]+)\/([a-z]+)$/.exec(path) ?? [];
   const [, line] = /^\/lines\/([^/]+)$/.exec(path) ?? [];
   return path === "/ledger" ? read("ledger.txt") : line ? ofLine(line) : notice ? ofNotice(notice, kind)
-    : path.startsWith("/notices") ? JSON.stringify({ notices: Object.values(state.notices).map(({ row }) => row), next: null }) : null;
+    : path.startsWith("/notices") ? JSON.stringify({ notices: Object.values(notices).map(({ row }) => row), next: null }) : null;
 }
 
 /** Draws a view, and says in it of which moment it is if it is the mirror's. `draw` draws it, and `again`
  * tries again. */
 export async function ofItsMoment(draw, again) {
-  asked = null;
+  [asked, state] = [null, null];
   const shown = await draw();
   const [head, ...rest] = shown.content;
   return asked === null ? shown : { ...shown, content: [head, note("look", say("see.away"), element("p", {}, sayParts("see.away.asked", { moment: moment(asked) })),

@@ -17,6 +17,8 @@ await addTexts({ en: () => import("./en.js"), de: () => import("./de.js") });
 const VIEWS = { list: [drawList, "list"], notice: [drawNotice, "list"], ledger: [drawBudget, "ledger"], line: [drawLine, "ledger"], firms: [drawFirms, "firms"],
   firm: [drawFirm, "firms"], figures: [drawFigures, "figures"], about: [drawAbout, "about"] };
 const PAGES = ["list", "ledger", "firms", "figures", "about"];
+// After so many milliseconds without an answer of the office, the mirror's data is shown.
+const PATIENCE = 15_000;
 let site = "";
 
 /** The address as a view and its arguments: `#notice/N1`, `#notice/N1/L1`, `#list?words=road`. */
@@ -50,5 +52,5 @@ function back() {
   return link(say("see.page.list"), "#list");
 }
 
-standIn(fromMirror);
+standIn(fromMirror, PATIENCE);
 showViews({ place, around, view: (asked, again) => ofItsMoment(() => viewOf(asked, again), again), site: () => site, back });

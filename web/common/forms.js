@@ -147,7 +147,7 @@ export function growing(list, all, make, many, first = many) {
     return next;
   };
   grow();
-  more.addEventListener("click", () => grow()[0].querySelector("a, button, summary").focus());
+  more.addEventListener("click", () => grow()[0].querySelector("a, button, summary")?.focus());
   return [list, more];
 }
 

@@ -62,13 +62,13 @@ function refusalOf(answer, text) {
 
 /** The text of an answer. A caller is `{ caller, key }`, or nothing for the public. Without a key it is somebody whom
  * nginx knows: the browser then sends the name and the password, or the certificate. */
-async function send(path, { method = "GET", caller = null, body = undefined, cache = "no-store" } = {}) {
+async function send(path, { method = "GET", caller = null, body = undefined, cache = "no-store", longest = LONGEST } = {}) {
   const isKnown = caller !== null && caller.key === null;
   const headers = caller ? { "Office-Caller": caller.caller, ...(isKnown ? {} : { "Office-Key": caller.key }) } : {};
   const credentials = isKnown ? "same-origin" : "omit";
   let answer, text;
   try {
-    answer = await fetch(path, { method, headers, body, credentials, cache, redirect: "error", signal: AbortSignal.timeout(LONGEST) });
+    answer = await fetch(path, { method, headers, body, credentials, cache, redirect: "error", signal: AbortSignal.timeout(longest) });
     text = await answer.text();
   } catch {
     throw new Refused({ kind: "away" });
@@ -89,14 +89,13 @@ function pause(seconds) {
 const KEPT = 4100;
 let changed = 0;
 
-// The portal reads the mirror's files if the office is away (mirror.js). The desks show only what the office
-// has now.
-let substitute = async () => null;
+// Only the portal has one: the mirror's files (mirror.js). The desks show what the office has now.
+let [substitute, patience] = [async () => null, LONGEST];
 
-/** From now on `find` gives the answers to public queries while the office is away: a text for a path, or
- * null. */
-export function standIn(find) {
-  substitute = find;
+/** From now on, if the office doesn't answer a public query in `longest` milliseconds, `find` gives the
+ * answer: a text for a path, or null. */
+export function standIn(find, longest) {
+  [substitute, patience] = [find, longest];
 }
 
 /** A query: repeated as long as nginx answers that queries come too fast. */
@@ -107,7 +106,7 @@ export async function look(path, caller = null) {
   }
   for (let turn = 1; ; turn += 1) {
     try {
-      return await send(path, { caller });
+      return await send(path, { caller, longest: caller === null ? patience : LONGEST });
     } catch (fault) {
       const found = fault.isOpen && caller === null ? await substitute(path) : null;
       if (found !== null) {
