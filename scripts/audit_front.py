@@ -9,6 +9,7 @@ import re
 from collections.abc import Callable, Iterable, Iterator
 from typing import Any, NamedTuple
 
+from audit_looks import terms_of
 from audit_office import Found, Json, Office, Unreadable, json_object, rule, text_of
 
 # The members of a line, in their order, with their types.
@@ -164,12 +165,22 @@ def command_of(office: Office, notice: str, row: str, moment: int, release: Json
 
 
 Told = tuple[str, str | None, Json | None]
+# The members of a publication that may be absent, and their values then.
+OPTIONAL: Json = {"price_weight": None, "late_withdrawal": "refused", "performance": 0}
+
+
+def lots_of(lots: Iterable[Json]) -> Json:
+    """The lots of a notice by their names, in the members that a publication gives them."""
+    return {lot["id"]: {"items": {item["id"]: [item["title"], item["quantity"]] for item in lot["items"]},
+                        **{name: lot[name] for name in ("title", "line", "estimate", "security")}} for lot in lots}
 
 
 def publication(office: Office, notice: str, release: Json) -> Told:
-    tender = release["tender"]
-    lots = {lot["id"]: lot["value"]["amount"] for lot in tender["lots"]}
-    return f"/notices/{notice}", None, {"title": tender["title"], "deadline": tender["tenderPeriod"]["endDate"], "lots": lots}
+    if (notice,) not in office.table("notices"):
+        return f"/notices/{notice}", None, None
+    told = terms_of(office, notice)
+    due = {name: told[name] for name in ("title", "validity_days", "standstill_days", "criteria", *OPTIONAL)}
+    return f"/notices/{notice}", None, {**due, "deadline": release["tender"]["tenderPeriod"]["endDate"], "lots": lots_of(told["lots"])}
 
 
 def amendment(office: Office, notice: str, release: Json) -> Told:
@@ -236,15 +247,23 @@ def differences(line: Line, command: Command) -> list[tuple[str, Any, Any]]:
 def said_by(line: Line, due: Json) -> Json:
     """The same things as a line's body says them."""
     if "rows" in due:
-        text = line.body.decode("utf-8-sig", "surrogateescape")
-        return {"rows": max(0, sum(1 for row in csv.reader(io.StringIO(text, newline="")) if row) - 1)}
+        return {"rows": len(budget_rows(line))}
     body = body_of(line) or {}
-    said = {name: body.get(name) for name in due}
+    said = {name: body.get(name, OPTIONAL.get(name)) for name in due}
     if "lots" in due:
-        said["lots"] = {lot["id"]: lot["estimate"] for lot in body.get("lots", []) if isinstance(lot, dict) and {"id", "estimate"} <= lot.keys()}
+        try:
+            said["lots"] = lots_of(body["lots"])
+        except (KeyError, TypeError):
+            said["lots"] = None
     if isinstance(said.get("key"), str):
         said["key"] = str(said["key"]).lower()
     return said
+
+
+def budget_rows(line: Line) -> list[list[str]]:
+    """The rows of a budget file, without its header."""
+    text = line.body.decode("utf-8-sig", "surrogateescape")
+    return [row for row in csv.reader(io.StringIO(text, newline="")) if row][1:]
 
 
 def shown(value: Any) -> str:
@@ -267,13 +286,13 @@ def front_lines_come_in_order(office: Office, log: Log) -> Found:
 
 @rule("front")
 def commands_have_a_line(office: Office, log: Log) -> Found:
-    """Each accepted command of the clerk has a line of its own in the front's log that says 200, with its route and its moment, or one without an answer."""
+    """Each accepted command of the clerk has a line of its own in the front's log, with its route and its moment. It says 200, or that no answer came."""
     of_commands = {line.place for _, line in log.pairs}
     for command in log.missing:
         others = [line.told() for line in log.lines if line.route == command.route and line.place not in of_commands]
         hint = f"; there is {', '.join(others[:2])}" if others else ""
         at = "" if command.moment is None else f" at {text_of(command.moment)}"
-        yield command.row, f"{command.route} was accepted{at}, and the front's log has no line of it: somebody gave it past the front, or the line is gone{hint}"
+        yield command.row, f"{command.route} was accepted{at}, and the front's log has no line of it: it was given past the front, or the line is gone{hint}"
 
 
 @rule("front")
@@ -289,6 +308,20 @@ def commands_have_a_name(office: Office, log: Log) -> Found:
     for command, line in log.pairs:
         if not re.fullmatch(r"[a-z0-9._-]{1,32}", line.name):
             yield command.row, f"{line.told()} has no name of a clerk"
+
+
+@rule("front")
+def budget_lines_come_from_the_files(office: Office, log: Log) -> Found:
+    """Each budget line has the title and the appropriation that all budget files in the front's log give it, if the log has them all."""
+    if log.since or any(command.row.startswith("batches ") for command in log.missing):
+        return
+    due: dict[str, tuple[str, int]] = {}
+    for command, said in log.pairs:
+        for name, kind, amount, title in budget_rows(said) if command.row.startswith("batches ") else ():
+            due[name] = (title, due.get(name, ("", 0))[1] + (int(amount) if kind == "add" else -int(amount)))
+    for name, title, appropriation in office.rows("SELECT line, title, appropriation FROM lines ORDER BY line"):
+        if due.get(name) != (title, appropriation):
+            yield f"lines {name}", f"is {shown([title, appropriation])}, and by the budget files in the front's log {shown(due.get(name))}"
 
 
 @rule("front")

@@ -1,14 +1,15 @@
 """The questions of `tests/clerk` to a desk whose clerks sign in at the front by name. It needs no key. Each clerk finds the steps of the own roles, and no
 other ones."""
+import contextlib
 import json
 import os
 import tempfile
 
 import page_checks
 from audit_life import Life, offer, part
-from clerk_desk import Desk
+from clerk_desk import HANDS, Desk
 from client import Port, budget
-from common import check, connect, free_port, running, serve_words
+from common import ROOT, check, connect, free_port, running, serve_words
 from front import PATIENCE, Front
 from front_clerks import Signing
 from front_life import read_lines
@@ -29,6 +30,10 @@ SCREENS = {
     "notice/N3": {"Sign the contract …": "contracts", "Pass over the winner …": "evaluation"},
     "notice/N4": {"Record the payment …": "contracts", "Change the contract …": "contracts", "End the contract by default …": "contracts"},
 }
+# A name, a module that is made wrong for it, the text, and the changed text.
+PLANTS = [("bert", "session.js", "session.roles.includes(role)", "true"), ("bert", "desk.js", "!FOR_ROLE[name] || may(FOR_ROLE[name])", "true"),
+          ("cora", "contracts.js", 'forRole("contracts"', 'forRole("evaluation"'), ("anna", "deadline.js", 'forRole("evaluation"', 'forRole("notices"'),
+          ("dora", "award.js", 'forRole("contracts"', 'forRole("evaluation"'), ("fred", "tenderers.js", 'forRole("notices"', 'forRole("all"')]
 TEXTS = "[...document.querySelectorAll('main button, main summary, main label, nav a')].map((at) => at.textContent.trim())"
 
 
@@ -89,12 +94,32 @@ def by_name(scene: Scene) -> None:
                     finds_own(desk, name)
                     desk.leave()
                 does_own(scene, front, contract)
+                passed_over = [plant for plant in PLANTS if not is_found(scene, front, *plant)]
+                check(f"these are passed over: {passed_over}", not passed_over)
                 desk = signed_in(scene, front, NOBODY)
                 bar = desk.page.run("document.getElementById('who').innerText")
                 check(f"a name without a role is told {bar}", "your name has no role" in bar)
                 desk.go("key")
                 check("it may give a key", not desk.page.run("document.querySelector('main input')"))
                 desk.leave()
+
+
+def is_found(scene: Scene, front: Front, name: str, module: str, old: str, new: str) -> bool:
+    """Whether a wrong module is noticed."""
+    with open(os.path.join(ROOT, "web", "clerk", module), encoding="utf-8") as file:
+        text = file.read()
+    check(f"{module} doesn't have {old} once", text.count(old) == 1)
+    desk = signed_in(scene, front, name)
+    desk.page.answer_for({f"/clerk/{module}": (200, text.replace(old, new).encode())}, "Script")
+    desk.page.go(front.address("clerk/"))
+    desk.page.run(HANDS)
+    try:
+        with contextlib.suppress(AssertionError):
+            finds_own(desk, name)
+            return False
+        return True
+    finally:
+        desk.leave()
 
 
 def does_own(scene: Scene, front: Front, contract: int) -> None:

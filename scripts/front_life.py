@@ -10,8 +10,8 @@ import client
 from audit_life import AuditedLife
 from audit_office import Json
 from client import Answer, Port
-from common import ROOT, Caller, check, free_port, running, serve_words
-from front import Front
+from common import ROOT, Caller, check, connect, free_port, running, serve_words
+from front import PATIENCE, Front
 from front_clerks import Signing
 from planted_lines import NAMES, at, text_of
 
@@ -64,6 +64,7 @@ def try_life(program: str, folder: str, way: str) -> int:
     """Checks that nothing is found in the log that the front wrote, and that each forgery is; how many forgeries there were."""
     port, path = free_port(), os.path.join(folder, "office.db")
     with running(serve_words(program, path, port, CONNECTIONS)):
+        connect(port, PATIENCE).close()
         with Front(folder, port, (), Signing(way, ROLES)) as front:
             life = AuditedLife(ByName(front))
             life.before_the_deadline()

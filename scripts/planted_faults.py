@@ -252,12 +252,12 @@ def faults_outside(life: AuditedLife) -> list[tuple[Any, ...]]:
     ]
 
 
-# The witnesses: the public answers, those to the clerk and tenderers, and an earlier copy of the file.
-PUBLIC, HELD, COPY = "earlier answers", "what was handed out", "an earlier copy"
+# The witnesses: the public answers, those to the clerk and tenderers, an earlier copy of the file, and the front's log of all commands.
+PUBLIC, HELD, COPY, LOG = "earlier answers", "what was handed out", "an earlier copy", "the log of the clerks"
 
 
 STAY, DECIDED, RECEIPTS = "rows_of_an_earlier_copy_stay", "what_is_decided_stays", "receipts_are_of_the_rows"
-TERMS, SHOWN = "saved_terms_stay", "contracts_are_as_shown"
+TERMS, SHOWN, BODIES = "saved_terms_stay", "contracts_are_as_shown", "bodies_say_what_was_done"
 # Takes the last end of a contract back, in all rows that hang together.
 UNENDED = ("UPDATE lines SET free = free - (SELECT released FROM contracts WHERE contract = {broken}) WHERE line = '1000'; "
            "UPDATE contracts SET ended = NULL, how = NULL, released = 0 WHERE contract = {broken}; "
@@ -272,51 +272,62 @@ ENDED = ("UPDATE contracts SET ended = (SELECT moment FROM office), how = 'defau
          "UPDATE performance SET state = 'forfeited' WHERE contract = {running}; UPDATE lines SET free = free + 150 WHERE line = '2000'; "
          "UPDATE notices_2 SET releases = 6 WHERE notice = 'N2'; INSERT INTO releases SELECT 'N2', 6, moment, '" + RELEASE_OF_END + "' FROM office; "
          """UPDATE compiled SET text = replace(text, ']},"status":"active","value"', ']},"status":"terminated","value"') WHERE notice = 'N2'""")
-# Forgeries that the file alone doesn't show: their name, the script, and the witness, the rule and the row by which each is found.
+# Forgeries that the file alone doesn't show: their name, the script, and the witness, the rule and the row by which each is found. A row `front ROUTE` is the
+# place of the route's last line.
 FORGERIES: list[tuple[Any, ...]] = [
     ("a whole procurement is deleted, and the gaps are closed", without("N7") + in_places("releases", "compiled", "lots", "notices_2"),
-     (PUBLIC, "saved_notices_are_there", "notices N7"), (HELD, "saved_notices_are_there", "notices N7"), (COPY, STAY, "notices N7")),
+     (PUBLIC, "saved_notices_are_there", "notices N7"), (HELD, "saved_notices_are_there", "notices N7"), (COPY, STAY, "notices N7"),
+     (LOG, "lines_have_a_command", "front /notices/N7")),
     ("a late tender is shown as withdrawn in time",
      "UPDATE envelopes SET state = 'withdrawn', moment = {in_time} WHERE receipt = {late}",
      (HELD, RECEIPTS, "envelopes {late}"), (HELD, "registers_are_of_the_rows", "envelopes {late}"), (COPY, DECIDED, "envelopes {late}"),
      (COPY, STAY, "envelopes {late}")),
     ("a contract that ended by default is shown as ended as agreed, and its security as returned",
      "UPDATE contracts SET how = 'regular' WHERE contract = {broken}; UPDATE performance SET state = 'returned' WHERE contract = {broken}",
-     (HELD, "securities_are_as_shown", "performance {broken}"), (COPY, DECIDED, "contracts {broken}"), (COPY, DECIDED, "performance {broken}")),
+     (HELD, "securities_are_as_shown", "performance {broken}"), (COPY, DECIDED, "contracts {broken}"), (COPY, DECIDED, "performance {broken}"),
+     (LOG, BODIES, "releases N8/5")),
     ("less was paid", "UPDATE entries SET amount = 90 WHERE contract = {running}; " + said("N2", '"amount":100,', '"amount":90,'),
      (PUBLIC, "saved_releases_stay", "notices N2"), (PUBLIC, "paid_never_falls", "lines 2000"), (HELD, SHOWN, "contracts {running}"),
-     (COPY, STAY, "entries {running}/P1")),
+     (COPY, STAY, "entries {running}/P1"), (LOG, BODIES, "releases N2/5")),
     ("a contract was changed for another reason", "UPDATE entries SET rationale = 'Works' WHERE rationale = 'Kerbs'; " + said("N1", "Kerbs", "Works"),
-     (PUBLIC, "saved_releases_stay", "notices N1"), (HELD, SHOWN, "contracts {contract}"), (COPY, STAY, "entries {contract}/A1")),
+     (PUBLIC, "saved_releases_stay", "notices N1"), (HELD, SHOWN, "contracts {contract}"), (COPY, STAY, "entries {contract}/A1"),
+     (LOG, BODIES, "releases N1/8")),
     ("an opened tender has another price", other_bytes("{low}", offer(0, 21)) + "UPDATE envelopes SET stated = 210, corrected = 210 WHERE receipt = {low}",
      (PUBLIC, "saved_minutes_stay", "notices N2"), (HELD, RECEIPTS, "envelopes {low}"), (COPY, STAY, "seals {low}")),
     ("a sealed tender has another content", other_bytes("{sealed}", offer(9, 9)), (HELD, RECEIPTS, "envelopes {sealed}"), (COPY, STAY, "envelopes {sealed}")),
     ("a tenderer has another name", "UPDATE tenderers SET name = 'Firm A4' WHERE tenderer = 'T4'; " + said("N1", "Firm T4", "Firm A4"),
-     (PUBLIC, "saved_releases_stay", "notices N1"), (PUBLIC, "saved_minutes_stay", "notices N1"), (COPY, STAY, "tenderers T4")),
+     (PUBLIC, "saved_releases_stay", "notices N1"), (PUBLIC, "saved_minutes_stay", "notices N1"), (COPY, STAY, "tenderers T4"),
+     (LOG, BODIES, "tenderers T4")),
     ("the deadline is later", "UPDATE notices_2 SET deadline = deadline + 90000 WHERE notice = 'N5'; " + said("N5", "{moved}", "{further}"),
-     (PUBLIC, "saved_releases_stay", "notices N5"), (COPY, STAY, "releases N5/2")),
-    ("a tenderer has another key", "UPDATE tenderers SET key = zeroblob(32) WHERE tenderer = 'T1'", (COPY, STAY, "tenderers T1")),
+     (PUBLIC, "saved_releases_stay", "notices N5"), (COPY, STAY, "releases N5/2"), (LOG, BODIES, "releases N5/2")),
+    ("a tenderer has another key", "UPDATE tenderers SET key = zeroblob(32) WHERE tenderer = 'T1'", (COPY, STAY, "tenderers T1"),
+     (LOG, BODIES, "tenderers T1")),
     ("a security has another reference", "UPDATE securities SET reference = 'G0' WHERE security = {sealed}",
      (HELD, "securities_are_as_shown", "securities {sealed}"), (COPY, STAY, "securities {sealed}")),
-    ("the standstill is longer", "UPDATE notices_2 SET standstill = 5 WHERE notice = 'N5'", (PUBLIC, TERMS, "notices N5"), (COPY, STAY, "notices N5")),
+    ("the standstill is longer", "UPDATE notices_2 SET standstill = 5 WHERE notice = 'N5'", (PUBLIC, TERMS, "notices N5"), (COPY, STAY, "notices N5"),
+     (LOG, BODIES, "releases N5/1")),
     ("a performance security is required", "UPDATE notices_2 SET performance = 5 WHERE notice = 'N5'", (PUBLIC, TERMS, "notices N5"),
-     (COPY, STAY, "notices N5")),
+     (COPY, STAY, "notices N5"), (LOG, BODIES, "releases N5/1")),
     ("tenders may be withdrawn after the deadline", "INSERT INTO late_rules VALUES ('N5')", (PUBLIC, TERMS, "notices N5"),
-     (COPY, "nothing_is_put_in_behind", "late_rules N5")),
+     (COPY, "nothing_is_put_in_behind", "late_rules N5"), (LOG, BODIES, "releases N5/1")),
     ("a withdrawn tender had another content", "UPDATE envelopes SET digest = zeroblob(32) WHERE receipt = {taken}",
      (HELD, RECEIPTS, "envelopes {taken}"), (COPY, STAY, "envelopes {taken}")),
     ("a tender was found not responsive", "UPDATE envelopes SET responsive = 0, quality = NULL WHERE receipt = {low}",
-     (PUBLIC, "saved_evaluations_stay", "notices N2"), (COPY, DECIDED, "envelopes {low}")),
+     (PUBLIC, "saved_evaluations_stay", "notices N2"), (COPY, DECIDED, "envelopes {low}"), (LOG, BODIES, "envelopes {low}")),
     ("a tender of an undecided lot was found not responsive", "UPDATE envelopes SET responsive = 0 WHERE receipt = {open}",
-     (HELD, "saved_evaluations_stay", "notices N6"), (COPY, DECIDED, "envelopes {open}")),
-    ("a budget file is added", "INSERT INTO batches VALUES ('B0', (SELECT max(moment) FROM batches), 9)", (COPY, "what_is_new_is_later", "batches B0")),
+     (HELD, "saved_evaluations_stay", "notices N6"), (COPY, DECIDED, "envelopes {open}"), (LOG, BODIES, "envelopes {open}")),
+    ("a budget file is added", "INSERT INTO batches VALUES ('B0', (SELECT max(moment) FROM batches), 9)", (COPY, "what_is_new_is_later", "batches B0"),
+     (LOG, "commands_have_a_line", "batches B0")),
     ("a budget line has more money", "UPDATE lines SET appropriation = appropriation + 1, free = free + 1 WHERE line = '3000'",
-     (COPY, "appropriations_come_from_batches", "lines 3000")),
-    ("a budget line has another title", "UPDATE lines SET title = 'Woods' WHERE line = '3000'", (COPY, "appropriations_come_from_batches", "lines 3000")),
-    ("a budget file was imported at another time", "UPDATE batches SET moment = moment - 100", (COPY, STAY, "batches B1")),
-    ("a lot requires another tender security", "UPDATE lots SET security = 15 WHERE notice = 'N5'", (PUBLIC, TERMS, "notices N5"), (COPY, STAY, "lots N5/L1")),
+     (COPY, "appropriations_come_from_batches", "lines 3000"), (LOG, "budget_lines_come_from_the_files", "lines 3000")),
+    ("a budget line has another title", "UPDATE lines SET title = 'Woods' WHERE line = '3000'", (COPY, "appropriations_come_from_batches", "lines 3000"),
+     (LOG, "budget_lines_come_from_the_files", "lines 3000")),
+    ("a budget file was imported at another time", "UPDATE batches SET moment = moment - 100", (COPY, STAY, "batches B1"),
+     (LOG, "commands_have_a_line", "batches B1")),
+    ("a lot requires another tender security", "UPDATE lots SET security = 15 WHERE notice = 'N5'", (PUBLIC, TERMS, "notices N5"), (COPY, STAY, "lots N5/L1"),
+     (LOG, BODIES, "releases N5/1")),
     ("a lot is on another budget line", "UPDATE lots SET line = '2000' WHERE notice = 'N5'; UPDATE lines SET free = free + 900 WHERE line = '1000'; "
-     "UPDATE lines SET free = free - 900 WHERE line = '2000'", (PUBLIC, TERMS, "notices N5"), (COPY, STAY, "lots N5/L1")),
+     "UPDATE lines SET free = free - 900 WHERE line = '2000'", (PUBLIC, TERMS, "notices N5"), (COPY, STAY, "lots N5/L1"), (LOG, BODIES, "releases N5/1")),
     ("a withdrawn tender is another tenderer's", "UPDATE envelopes SET tenderer = 'T5' WHERE receipt = {taken}; "
      "UPDATE securities SET tenderer = 'T5' WHERE security = {taken}",
      (HELD, "securities_are_as_shown", "securities {taken}"), (COPY, STAY, "envelopes {taken}")),
@@ -324,14 +335,16 @@ FORGERIES: list[tuple[Any, ...]] = [
      (HELD, RECEIPTS, "envelopes {later}"), (HELD, "registers_are_of_the_rows", "envelopes {later}"), (COPY, STAY, "envelopes {later}"),
      (COPY, DECIDED, "office 2")),
     ("the last event is missing", UNENDED, (PUBLIC, "saved_releases_stay", "notices N8"), (HELD, "securities_are_as_shown", "performance {broken}"),
-     (COPY, STAY, "releases N8/5")),
-    # No witness shows a change that a command could have made since the last witness, or within the facts that a witness leaves open.
+     (COPY, STAY, "releases N8/5"), (LOG, "lines_have_a_command", "front /contracts/{broken}/end")),
+    # No answer and no copy shows a change that a command could have made since then, or within the facts that it leaves open. The log shows a clerk's command.
     ("a sealed tender was withdrawn before the deadline", "UPDATE envelopes SET state = 'withdrawn' WHERE receipt = {sealed}; "
      "DELETE FROM seals WHERE receipt = {sealed}; UPDATE securities SET state = 'returned' WHERE security = {sealed}"),
     ("a budget line has another title and more money, as if by a later budget file",
-     "UPDATE lines SET title = 'Woods', appropriation = 8, free = 8 WHERE line = '3000'; INSERT INTO batches SELECT 'B9', moment, 1 FROM office"),
-    ("a tenderer is added, registered after all witnesses", "INSERT INTO tenderers VALUES ('T9', 'Firm T9', 'T9 Street', zeroblob(32))"),
-    ("a contract is shown as ended by default, after all witnesses", ENDED),
+     "UPDATE lines SET title = 'Woods', appropriation = 8, free = 8 WHERE line = '3000'; INSERT INTO batches SELECT 'B9', moment, 1 FROM office",
+     (LOG, "commands_have_a_line", "batches B9")),
+    ("a tenderer is added, registered after all witnesses", "INSERT INTO tenderers VALUES ('T9', 'Firm T9', 'T9 Street', zeroblob(32))",
+     (LOG, "commands_have_a_line", "tenderers T9")),
+    ("a contract is shown as ended by default, after all witnesses", ENDED, (LOG, "commands_have_a_line", "releases N2/6")),
 ]
 
 
