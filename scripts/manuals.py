@@ -6,7 +6,7 @@ import textwrap
 
 from common import ROOT, fail
 
-# Each command with its section, its script, and what it does.
+# The commands, each with its section, its script and its purpose.
 COMMANDS = {
     "procure-backup": (8, "deploy/backup.sh", "copy and check a procurement office while it is served"),
     "procure-check": (8, "deploy/check", "check a procurement office in operation"),
