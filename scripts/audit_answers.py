@@ -164,6 +164,11 @@ class Answers:
         with open(self.path_of(name), encoding="utf-8", newline="") as file:
             return file.read()
 
+    def days(self) -> list[tuple[str, str]]:
+        """The ledgers that the folder kept of days, ledgers/YYYY-MM-DD.txt, the earliest first: the day and the text."""
+        names = sorted(os.listdir(os.path.join(self.folder, "ledgers"))) if self.folder and os.path.isdir(os.path.join(self.folder, "ledgers")) else []
+        return [(name[:-4], self.saved(os.path.join("ledgers", name)) or "") for name in names if re.fullmatch(r"[0-9]{4}-[0-9]{2}-[0-9]{2}\.txt", name)]
+
     def of_notice(self, notice: str, kind: str) -> str | None:
         """The text of a notice that is answered, or None."""
         return self.perhaps(f"/notices/{notice}/{kind}", f"{kind}-{notice}{OF_NOTICES[kind]}")

@@ -2,13 +2,16 @@
 
 No command takes back an answer of the office, or most facts of its rows. So a witness exposes changes even if everything related was changed too.
 """
+import datetime
 from collections.abc import Callable, Collection, Iterator
 
 from audit_answers import Answers
-from audit_office import TABLES, Found, Json, Office, Row, rule, text_of
-from audit_releases import compiled_of, difference, record_in, releases_in
+from audit_office import TABLES, Found, Json, Office, Row, difference, rule, text_of
+from audit_releases import compiled_of, record_in, releases_in
 from audit_rows import MOMENTS
 
+# A day after all others, and how far, in seconds, the clock of whoever saved a ledger may be from the office's.
+LAST_DAY, MARGIN = datetime.date(9999, 12, 31), 3600
 # The columns that no command changes in an existing row.
 FIXED = {
     "batches": "moment rows", "tenderers": "name address key", "notices": "title published validity standstill weight performance",
@@ -218,3 +221,29 @@ def paid_never_falls(here: str, before: str, place: str) -> Found:
     for name, *_, paid in (line.split("\t") for line in before.split("\n")[2:-1]):
         if name not in lines or int(lines[name][-1]) < int(paid):
             yield f"lines {name}", f"{paid} were paid in {place}, and {lines.get(name, ['', 'none: it does not exist'])[-1]} now"
+
+
+def appropriations_in(ledger: str) -> dict[str, int]:
+    """The appropriation of each line of a ledger."""
+    return {line.split("\t")[0]: int(line.split("\t")[1]) for line in ledger.split("\n")[2:-1]}
+
+
+def start_of(day: datetime.date) -> int:
+    """The first second of a day (UTC), since 1970."""
+    return (day - datetime.date(1970, 1, 1)).days * 86_400
+
+
+@rule("days")
+def appropriations_of_days_come_from_batches(office: Office, saved: Answers) -> Found:
+    """Between the saved ledgers of two days, and since the last, no more lines changed appropriation than rows of budget files were imported."""
+    told = [(datetime.date.fromisoformat(day), appropriations_in(text)) for day, text in saved.days()]
+    steps = [*told, (LAST_DAY, {key[0]: row["appropriation"] for key, row in office.table("lines").items()})]
+    batches = [(row["moment"], row["rows"]) for row in office.table("batches").values()]
+    for (day, before), (until, after) in zip(steps, steps[1:]):
+        # (A ledger was saved at some time of its day, so files of that whole day may have come after it.)
+        came = sum(rows for at, rows in batches if start_of(day) - MARGIN <= at < start_of(until) + 86_400 + MARGIN)
+        moved = sorted(line for line in before.keys() | after.keys() if before.get(line) != after.get(line))
+        for line in moved if len(moved) > came else []:
+            end = "in the file" if until == LAST_DAY else f"on {until}"
+            yield f"lines {line}", (f"its appropriation is {after.get(line)} {end}, and was {before.get(line)} on {day} in {saved.place}; "
+                                    f"such lines: {len(moved)}, rows of budget files that were imported: {came}")

@@ -7,9 +7,9 @@ from typing import Any
 
 from audit_answers import Answers
 from audit_earlier import Later
-from audit_office import Found, Json, Office, rule, text_of
+from audit_office import Found, Json, Office, difference, rule, text_of
 from audit_outside import Seen, Tender, read_minutes
-from audit_releases import difference, text_with, unlike
+from audit_releases import text_with, unlike
 from audit_story import Story
 
 # The parts of the terms that an amended deadline, the opening, an award and a cancellation change.

@@ -85,10 +85,10 @@ CREATE TEMP VIEW offers AS SELECT * FROM envelopes WHERE state = 'opened' AND re
 # The rules, by the things to which they apply. The file. The releases of a notice, and those that the file keeps. An office's answers on a notice. With the
 # file: its minutes, its terms and its evaluation, the list of notices, contracts, and the ledger. A notice of the file that isn't answered. All answers
 # together, without the file. An earlier copy of the file. Answers on a notice that may be earlier, and those that are. Answers with a number (receipts,
-# securities, contracts). An earlier ledger. The log of clerks who sign in at the front.
+# securities, contracts). An earlier ledger, and those of days. The log of clerks who sign in at the front.
 RULES: dict[str, list[Check]] = {it: [] for it in (
     "file", "releases", "kept", "answers", "minutes", "looks", "list", "contracts", "ledger", "lacking", "outside", "copies", "witness", "saved", "held",
-    "ledgers", "front")}
+    "ledgers", "days", "front")}
 
 
 class Unreadable(Exception):
@@ -115,6 +115,20 @@ def once(pairs: list[tuple[str, Any]]) -> Json:
     if len(dict(pairs)) != len(pairs):
         raise ValueError("a member twice")
     return dict(pairs)
+
+
+def difference(here: Any, there: Any, path: str = "") -> tuple[str, str, str] | None:
+    """The first place where two JSON values differ, and both values there, or None."""
+    pairs: list[tuple[str, Any, Any]]
+    if isinstance(here, dict) and isinstance(there, dict):
+        pairs = [(f"{path}/{name}", here.get(name), there.get(name)) for name in sorted(here.keys() | there.keys())]
+    elif isinstance(here, list) and isinstance(there, list) and len(here) == len(there):
+        pairs = [(f"{path}/{place}", *pair) for place, pair in enumerate(zip(here, there))]
+    else:
+        texts = [json.dumps(value, sort_keys=True) for value in (here, there)]
+        told = [f"a list of {len(value)}" if isinstance(value, list) else text[:60] for value, text in zip((here, there), texts)]
+        return None if texts[0] == texts[1] else (path or "/", told[0], told[1])
+    return next((found for place, one, other in pairs if (found := difference(one, other, place))), None)
 
 
 def json_object(text: str) -> Json | None:

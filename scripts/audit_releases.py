@@ -6,7 +6,7 @@ from collections.abc import Callable, Iterable
 from typing import Any
 
 from audit_answers import Answers
-from audit_office import Found, Json, Office, json_object, rule, text_of
+from audit_office import Found, Json, Office, difference, json_object, rule, text_of
 
 TAGS = [["tenderAmendment"], ["tenderUpdate"], ["award"], ["awardCancellation"], ["tenderCancellation"], ["tenderCancellation", "awardCancellation"],
         ["contract"], ["contractAmendment"], ["implementation"], ["contractTermination"]]
@@ -96,20 +96,6 @@ def compiled_of(releases: list[Json]) -> Json:
     last = max((str(release.get("date", "")) for release in releases), default="")
     merge = merge_of(releases)
     return {**merge, "id": f"{merge.get('ocid')}-{last}", "date": last, "tag": ["compiled"]}
-
-
-def difference(here: Any, there: Any, path: str = "") -> tuple[str, str, str] | None:
-    """The first place where two JSON values differ, and both values there, or None."""
-    pairs: list[tuple[str, Any, Any]]
-    if isinstance(here, dict) and isinstance(there, dict):
-        pairs = [(f"{path}/{name}", here.get(name), there.get(name)) for name in sorted(here.keys() | there.keys())]
-    elif isinstance(here, list) and isinstance(there, list) and len(here) == len(there):
-        pairs = [(f"{path}/{place}", *pair) for place, pair in enumerate(zip(here, there))]
-    else:
-        texts = [json.dumps(value, sort_keys=True) for value in (here, there)]
-        told = [f"a list of {len(value)}" if isinstance(value, list) else text[:60] for value, text in zip((here, there), texts)]
-        return None if texts[0] == texts[1] else (path or "/", told[0], told[1])
-    return next((found for place, one, other in pairs if (found := difference(one, other, place))), None)
 
 
 # ---- What releases tell.

@@ -76,7 +76,7 @@ class Front:
                 ("127.0.0.0/8 1;", 1, f"{HOST} 1; {CLERKS} 1;"),
                 ("/usr/share/procure/web;", 1, f"{ROOT}/web;"), ("/usr/share/procure;", 1, f"{ROOT}/docs;"),
                 ("include /etc/procure/clerks.conf;", 1, f"include {self.clerks};"), ("/etc/nginx/procure/clerks.passwords;", 4, f"{self.folder}/passwords;"),
-                ("/etc/nginx/procure;", 1, f"{self.folder}/city;"), ("/var/lib/procure-mirror;", 2, f"{self.folder}/mirror;"),
+                ("/etc/nginx/procure;", 1, f"{self.folder}/city;"), ("/var/lib/procure-mirror;", 3, f"{self.folder}/mirror;"),
                 ("/etc/procure/tls/certificate.pem;", 1, f"{self.certificate};"), ("/etc/procure/tls/key.pem;", 1, f"{self.key};"),
                 ("/var/cache/nginx/procure ", 1, f"{self.folder}/answers "), ("/var/cache/nginx/procure-wrong ", 1, f"{self.folder}/wrong "),
                 ("/var/log/nginx/procure.log ", 2, f"{self.folder}/access.log "), ("/var/log/nginx/procure-counts.log ", 2, f"{self.folder}/counts.log ")]

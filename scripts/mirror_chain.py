@@ -7,23 +7,33 @@ line it is 64 zeros. If a release is gone or has changed, and that was accepted,
 import hashlib
 from typing import Any, NamedTuple
 
+from audit_office import difference
 from mirror_office import Notice, text_of
 
 FIRST, GONE = "0" * 64, "gone"
 
 
 class Finding(NamedTuple):
-    """A release that changed: when it was first seen, its digest then, and now (`gone` if it is missing)."""
+    """A release that changed: when it was first seen, its digest then, and now (`gone` if it is missing); and the first place where it differs, with the value
+    there now and before, if the folder still has it as it was."""
 
     notice: str
     number: int
     seen: str
     before: str
     after: str
+    where: tuple[str, str, str] | None = None
 
     def told(self) -> str:
-        what = "is GONE" if self.after == GONE else f"has CHANGED: SHA-256 is {self.after} now"
+        place = "{} is {}, and was {}; ".format(*self.where) if self.where else ""
+        what = "is GONE" if self.after == GONE else f"has CHANGED: {place}SHA-256 is {self.after} now"
         return f"release {self.number} of {self.notice} {what}; as it was published, seen {self.seen}, it was {self.before}"
+
+    def placed(self, here: list[Any], before: list[Any]) -> "Finding":
+        """The same with the first place that differs: `here` are the notice's releases now, `before` those that the folder has."""
+        if self.after == GONE or self.number > len(before) or digest_of_release(before[self.number - 1]) != self.before:
+            return self
+        return self._replace(where=difference(here[self.number - 1], before[self.number - 1]))
 
 
 def digest_of(text: str) -> str:

@@ -1,13 +1,14 @@
-"""The pages of `tools/mirror` for readers: an index, a table of all procurements that needs no script, and a feed of the latest events."""
+"""The index of `tools/mirror` for readers: a table of all procurements that needs no script, and the files."""
 import html
-from xml.sax.saxutils import escape, quoteattr
+import json
+from typing import Any
+from xml.sax.saxutils import quoteattr
 
-from mirror_office import Json, Notice
+from mirror_columns import COLUMNS, MEANS, licence_of
+from mirror_events import LANGUAGES, moment, say, state_of
+from mirror_feeds import author
+from mirror_office import Notice
 
-# The number of entries in the feed, the newest first.
-NEWEST = 100
-# The state of a procurement, by the status of its tender. Before the opening it receives tenders.
-STATES = {"active": "opened", "complete": "contracted", "cancelled": "cancelled", "unsuccessful": "ended without a contract"}
 # The head of the index, a page of HTML.
 HEAD = """<!DOCTYPE html>
 <html lang="en">
@@ -17,8 +18,8 @@ HEAD = """<!DOCTYPE html>
 <meta name="color-scheme" content="light dark">
 <title>Open data of the procurement office</title>
 <link rel="stylesheet" href="/page.css">
-<link rel="alternate" type="application/atom+xml" href="feed.atom">
-</head>
+<link rel="alternate" type="application/atom+xml" title="New procurements" href="notices.atom">
+<link rel="alternate" type="application/atom+xml" title="What happened" href="feed.atom">
 """
 WORDS = """<p>Everything that this office has published: the procurements below, and files to download. Amounts are whole units of the currency. Times
 are UTC.</p>
@@ -28,21 +29,25 @@ WITNESS = """<p>The chain has a line for each release that was seen here. Each l
 show later whether anything published until now was changed. <code>tools/mirror URL FOLDER</code> keeps such a copy for you and reports changes.</p>"""
 
 
-def page(base: str, moment: str, files: list[tuple[str, int, str]], notices: list[Notice], head: str) -> str:
-    """The index. `files` are names, lengths and digests; `head` is the last digest of the chain."""
+def page(base: str, now: str, files: list[tuple[str, int, str]], notices: list[Notice], head: str, city: dict[str, Any]) -> str:
+    """The index. `files` are names, lengths and digests; `head` is the last digest of the chain; `city` are the city's own words."""
     rows = [f"<tr><td><a href={quoteattr(name)}>{html.escape(name)}</a></td><td>{length:,}</td><td><code>{digest}</code></td></tr>\n"
             for name, length, digest in files]
     newest = sorted(notices, key=lambda one: (one.row["published"], one.name), reverse=True)
-    return f"""{HEAD}<body>
+    return f"""{HEAD}<script type="application/ld+json">{dataset(base, notices, city)}</script>
+</head>
+<body>
 <main>
 <h1>Open data of the procurement office</h1>
 {WORDS}
-<p>From <a href={quoteattr(base)}>{html.escape(base)}</a>, asked at {moment}.</p>
+<p>From <a href={quoteattr(base)}>{html.escape(base)}</a>, asked at {now}.</p>
+{licence_told(city)}<p>Follow: <a href="notices.atom">new procurements</a>, <a href="feed.atom">what happened</a>; in <a href="en/notices.atom">English</a> (<a href="en/feed.atom">all</a>),
+<a href="de/notices.atom" lang="de">Deutsch</a> (<a href="de/feed.atom" lang="de">alles</a>).</p>
 <h2>Procurements</h2>
 <table>
 <thead><tr><th>Procurement</th><th>State</th><th>Deadline</th><th>Estimate</th></tr></thead>
 <tbody>
-{"".join(notice_row(one, moment) for one in newest)}</tbody>
+{"".join(notice_row(one, now) for one in newest)}</tbody>
 </table>
 <h2>Files</h2>
 <table>
@@ -50,8 +55,11 @@ def page(base: str, moment: str, files: list[tuple[str, int, str]], notices: lis
 <tbody>
 {"".join(rows)}</tbody>
 </table>
+<p><a href="datapackage.json">datapackage.json</a> explains each column of each table, for people and for programs (Frictionless Data Package).</p>
+<ul>
+{"".join(f"<li>{html.escape(name)}.csv: {html.escape(means)}</li>{chr(10)}" for name, means in MEANS.items())}</ul>
 <p>There are also <code>records/NOTICE.json</code>, <code>terms/NOTICE.json</code>, <code>minutes/NOTICE.txt</code> and <code>evaluations/NOTICE.txt</code>, as
-the office answered them. In the tables a text that begins with = + - or @ has an apostrophe before it, so that no spreadsheet reads it as a formula.</p>
+the office answered them, and the ledger of each day, <code>ledgers/YYYY-MM-DD.txt</code>. In the tables a text that begins with = + - or @ has an apostrophe before it, so that no spreadsheet reads it as a formula.</p>
 <h2>The chain</h2>
 {WITNESS}
 <p>Its last digest: <code>{head}</code></p>
@@ -61,41 +69,31 @@ the office answered them. In the tables a text that begins with = + - or @ has a
 """
 
 
-def state_of(one: Notice, moment: str) -> str:
-    """The state at a moment. (Moments are compared as texts.)"""
-    if one.row["state"] == "receiving":
-        return "receives tenders" if moment <= one.row["deadline"] else "deadline passed, not opened yet"
-    return STATES[one.compiled["tender"]["status"]]
+def dataset(base: str, notices: list[Notice], city: dict[str, Any]) -> str:
+    """What schema.org has for the data: a data set with its files. (A script of this type isn't run; `<` can't end it.)"""
+    files = [{"@type": "DataDownload", "name": name, "contentUrl": f"{base}/data/{name}.csv", "encodingFormat": "text/csv"} for name in COLUMNS]
+    licence = [it.get("path") or it["name"] for it in licence_of(city)]
+    told = {"@context": "https://schema.org", "@type": "Dataset", "name": f"Procurements: {author(notices)}", "url": f"{base}/data/",
+            "description": "Notices, lots, items, tenders, awards, contracts, payments and budget lines of a procurement office, as it published them.",
+            "creator": {"@type": "GovernmentOrganization", "name": author(notices)}, "isAccessibleForFree": True, "distribution": files,
+            **({"license": licence[0]} if licence else {})}
+    return json.dumps(told, ensure_ascii=False, sort_keys=True).replace("<", "\\u003c")
 
 
-def notice_row(one: Notice, moment: str) -> str:
-    value, state = one.compiled["tender"]["value"], state_of(one, moment)
-    link = f"<a href={quoteattr(f'records/{one.name}.json')}>{html.escape(one.name)}</a> <bdi>{html.escape(one.row['title'])}</bdi>"
-    more = [f"<a href={quoteattr(f'{folder}/{one.name}.txt')}>{word}</a>" for folder, word in (("minutes", "minutes"), ("evaluations", "evaluation"))
-            if folder in one.texts]
-    link += f"<br>{', '.join(more)}" if more else ""
-    return (f"<tr><td>{link}</td><td>{state}</td><td>{html.escape(one.row['deadline'])}</td>"
+def licence_told(city: dict[str, Any]) -> str:
+    """The licence of the data, if the city names one."""
+    for it in licence_of(city):
+        name = html.escape(it.get("title") or it.get("name") or it["path"])
+        path = it.get("path", "")
+        return f"<p>Licence of the data: {f'<a href={quoteattr(path)}>{name}</a>' if path.startswith(('https://', 'http://')) else name}</p>\n"
+    return ""
+
+
+def notice_row(one: Notice, now: str) -> str:
+    value, state = one.compiled["tender"]["value"], say("en", f"see.state.{state_of(one, now)}")
+    link = f"<a href={quoteattr(f'en/{one.name}.html')}>{html.escape(one.name)}</a> <bdi>{html.escape(one.row['title'])}</bdi>"
+    more = [f'<a href={quoteattr(f"{tag}/{one.name}.html")} hreflang="{tag}">{name}</a>' for tag, name in LANGUAGES.items() if tag != "en"]
+    files = (("records", "json", "record"), ("minutes", "txt", "minutes"), ("evaluations", "txt", "evaluation"))
+    more += [f"<a href={quoteattr(f'{folder}/{one.name}.{end}')}>{word}</a>" for folder, end, word in files if folder in one.texts]
+    return (f"<tr><td>{link}<br>{', '.join(more)}</td><td>{state}</td><td>{html.escape(moment('en', one.row['deadline']))}</td>"
             f"<td>{value['amount']:,} {html.escape(value['currency'])}</td></tr>\n")
-
-
-def feed(base: str, moment: str, notices: list[Notice]) -> str:
-    """The feed (RFC 4287): an entry for each of the last releases."""
-    releases = [(release["date"], one, release) for one in notices for release in one.releases]
-    newest = sorted(releases, key=lambda it: (it[0], it[2]["id"]), reverse=True)[:NEWEST]
-    updated = newest[0][0] if newest else moment
-    head = (f"<id>{escape(base)}/data/feed.atom</id>\n<title>Procurements</title>\n<updated>{escape(updated)}</updated>\n"
-            f"<author><name>{escape(author(notices))}</name></author>\n")
-    links = f"<link rel=\"self\" href={quoteattr(base + '/data/feed.atom')}/>\n<link href={quoteattr(base + '/')}/>\n"
-    entries = "".join(entry(base, one, release) for _, one, release in newest)
-    return f'<?xml version="1.0" encoding="utf-8"?>\n<feed xmlns="http://www.w3.org/2005/Atom">\n{head}{links}{entries}</feed>\n'
-
-
-def author(notices: list[Notice]) -> str:
-    return str(notices[0].compiled["buyer"]["name"]) if notices else "The procurement office"
-
-
-def entry(base: str, one: Notice, release: Json) -> str:
-    tags = ", ".join(release["tag"])
-    return (f"<entry>\n<id>urn:ocds:{escape(release['id'])}</id>\n<title>{escape(one.row['title'])} ({escape(one.name)}): {escape(tags)}</title>\n"
-            f"<updated>{escape(release['date'])}</updated>\n<link href={quoteattr(f'{base}/#notice/{one.name}')}/>\n"
-            f"<summary>{escape(tags)}</summary>\n</entry>\n")

@@ -4,22 +4,10 @@ import io
 from collections.abc import Iterable, Iterator
 from typing import Any
 
+from mirror_columns import COLUMNS
 from mirror_office import Json, Notice
 
 Cell = str | int | None
-COLUMNS = {
-    "notices": ["notice", "title", "buyer", "state", "status", "published", "deadline", "opened", "criteria", "price_weight", "validity_days",
-                "standstill_days", "late_withdrawal", "performance", "currency", "estimate", "lots", "tenderers", "running", "amendments", "releases"],
-    "lots": ["notice", "lot", "title", "line", "currency", "estimate", "security", "status", "items", "tenders", "winner", "winner_name", "price", "contract",
-             "contract_status", "worth", "paid"],
-    "items": ["notice", "lot", "item", "title", "quantity"],
-    "tenders": ["notice", "lot", "receipt", "tenderer", "name", "address", "currency", "reading", "stated", "corrected", "corrections", "answer", "quality",
-                "points", "standing"],
-    "awards": ["award", "notice", "lot", "tenderer", "name", "date", "currency", "price", "status"],
-    "contracts": ["contract", "notice", "lot", "tenderer", "name", "signed", "currency", "price", "changes", "worth", "paid", "status", "ended"],
-    "payments": ["contract", "payment", "notice", "lot", "tenderer", "name", "date", "currency", "amount"],
-    "budget": ["line", "title", "currency", "appropriation", "free", "reserved", "contracted", "paid"],
-}
 
 
 def guarded(cell: Cell) -> Cell:
