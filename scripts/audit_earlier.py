@@ -10,7 +10,7 @@ from audit_office import TABLES, Found, Json, Office, Row, difference, rule, tex
 from audit_releases import compiled_of, record_in, releases_in
 from audit_rows import MOMENTS
 
-# A day after all others, and how far, in seconds, the clock of whoever saved a ledger may be from the office's.
+# A day after all others. And by how many seconds the clock of the person who saved a ledger may differ from the office's.
 LAST_DAY, MARGIN = datetime.date(9999, 12, 31), 3600
 # The columns that no command changes in an existing row.
 FIXED = {

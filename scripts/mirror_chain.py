@@ -14,8 +14,8 @@ FIRST, GONE = "0" * 64, "gone"
 
 
 class Finding(NamedTuple):
-    """A release that changed: when it was first seen, its digest then, and now (`gone` if it is missing); and the first place where it differs, with the value
-    there now and before, if the folder still has it as it was."""
+    """A release that changed: when it was first seen, its digest then, and now (`gone` if it is missing). If the folder still has it as it was, also the first
+    place that differs, with the value there now and before."""
 
     notice: str
     number: int

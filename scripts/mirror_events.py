@@ -1,4 +1,4 @@
-"""What happened in a procurement, in sentences: one for each release. The texts are those of the screens (web/common/en.js and de.js).
+"""The events of a procurement in sentences: one for each release. The texts are those of the screens (web/common/en.js and de.js).
 
 An event is a row of TOLD; web/common/timeline.js has the same rows.
 """
@@ -58,7 +58,7 @@ def moment(language: str, text: str) -> str:
 
 
 class Teller:
-    """Tells the releases of a notice in a language. Each method returns the name of a head and the sentences."""
+    """Describes the releases of a notice in a language. Each method returns the name of a head and the sentences."""
 
     def __init__(self, language: str, notice: Notice) -> None:
         self.language, self.compiled = language, notice.compiled
@@ -140,7 +140,7 @@ class Teller:
         return "ended", self.say("see.told.ended", contract=contract["id"], paid=self.money({**contract["value"], "amount": paid}), amount=amount)
 
 
-# The method of each tag. A release with more tags is told by the first one here.
+# The method of each tag. If a release has more than one tag, the first one here counts.
 TOLD: list[tuple[str, Callable[[Teller, Json], tuple[str, str]]]] = [
     ("tenderCancellation", Teller.cancelled), ("awardCancellation", Teller.failed), ("tenderAmendment", Teller.amended),
     ("contractAmendment", Teller.changed), ("contractTermination", Teller.ended), ("implementation", Teller.paid), ("contract", Teller.signed),

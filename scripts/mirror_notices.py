@@ -8,7 +8,7 @@ from mirror_feeds import address, author, summary
 from mirror_office import Json, Notice
 from mirror_tables import Cell, lot_rows, tender_rows
 
-# The looks of these pages, on screens and on paper. (The portal's own are added, if the same front serves them.)
+# The style of these pages, on screens and on paper.
 STYLE = """body { font-family: system-ui, sans-serif; line-height: 1.5; margin: 0 auto; max-width: 50rem; padding: 1rem; }
 table { border-collapse: collapse; }
 th, td { border-bottom: 1px solid; padding: 0.25rem 1rem 0.25rem 0; text-align: start; vertical-align: top; }
@@ -41,7 +41,7 @@ def text(given: Cell) -> str:
 
 
 def structured(base: str, language: str, notice: Notice, now: str) -> str:
-    """What schema.org has for a procurement: a demand of an organization. (A script of this type isn't run; `<` can't end it.)"""
+    """A procurement as schema.org describes it: a demand of an organization. (A script of this type isn't run; `<` can't end it.)"""
     tender = notice.compiled["tender"]
     offered = [{"@type": "Product", "name": item["description"]} for item in tender.get("items", [])]
     price = {"@type": "PriceSpecification", "price": tender["value"]["amount"], "priceCurrency": tender["value"]["currency"]}
@@ -159,6 +159,6 @@ def page_of(base: str, language: str, notice: Notice, now: str) -> str:
 
 
 def notice_pages(base: str, notices: list[Notice], now: str) -> dict[str, str]:
-    """The page of each procurement in each language, by their paths, and their looks."""
+    """The page of each procurement in each language, by their paths, and their style."""
     pages = {f"{language}/{one.name}.html": page_of(base, language, one, now) for one in notices for language in LANGUAGES}
     return {**pages, "notices.css": STYLE}

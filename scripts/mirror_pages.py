@@ -70,7 +70,7 @@ the office answered them, and the ledger of each day, <code>ledgers/YYYY-MM-DD.t
 
 
 def dataset(base: str, notices: list[Notice], city: dict[str, Any]) -> str:
-    """What schema.org has for the data: a data set with its files. (A script of this type isn't run; `<` can't end it.)"""
+    """The data as schema.org describes it: a data set with its files. (A script of this type isn't run; `<` can't end it.)"""
     files = [{"@type": "DataDownload", "name": name, "contentUrl": f"{base}/data/{name}.csv", "encodingFormat": "text/csv"} for name in COLUMNS]
     licence = [it.get("path") or it["name"] for it in licence_of(city)]
     told = {"@context": "https://schema.org", "@type": "Dataset", "name": f"Procurements: {author(notices)}", "url": f"{base}/data/",
