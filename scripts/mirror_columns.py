@@ -1,7 +1,10 @@
 """The columns of the tables of `tools/mirror`, each with its type and meaning; and datapackage.json, which says so (Frictionless Data Package, version 1)."""
 import json
 import os
+import sys
 from typing import Any
+
+from audit_office import json_object
 
 # A column: the name of its type in Frictionless' Table Schema, and its meaning. `state` and `status` differ: `state` is the office's word, `status` OCDS's.
 Column = tuple[str, str]
@@ -98,10 +101,11 @@ def city_of(path: str | None) -> dict[str, Any]:
     for place in (path, shipped):
         if place and os.path.exists(place):
             with open(place, encoding="utf-8") as file:
-                told = json.load(file)
-            if isinstance(told, dict):
-                return told
-            raise ValueError(f"{place} is no JSON object")
+                told = json_object(file.read())
+            if told is None:
+                # (Data without a licence are better than none.)
+                print(f"mirror: {place} is no JSON object, so no file names a licence", file=sys.stderr)
+            return told or {}
     return {}
 
 
