@@ -33,12 +33,13 @@ TABLES: dict[str, dict[str, Column]] = {
         "performance": (WHOLE, "The least amount of the performance security of each contract; 0 for none."),
         "currency": CURRENCY, "estimate": (WHOLE, "The sum of the estimates of all lots."), "lots": (WHOLE, "The number of lots."),
         "tenderers": (WHOLE, "The number of tenderers whose tenders were opened; empty before the opening."),
-        "running": (WHOLE, "The number of contracts that run."), "amendments": (WHOLE, "The number of amendments of the notice: moved deadlines and cancellations."),
+        "running": (WHOLE, "The number of contracts that run."),
+        "amendments": (WHOLE, "The number of amendments of the notice: moved deadlines and cancellations."),
         "releases": (WHOLE, "The number of releases of the notice."),
     },
     "lots": {
-        "notice": NOTICE, "lot": LOT, "title": (WORD, "The title."), "line": (WORD, "The budget line that pays for the lot (budget.csv)."), "currency": CURRENCY,
-        "estimate": (WHOLE, "The estimate."), "security": (WHOLE, "The least amount of a tender's security; 0 for none."),
+        "notice": NOTICE, "lot": LOT, "title": (WORD, "The title."), "line": (WORD, "The budget line that pays for the lot (budget.csv)."),
+        "currency": CURRENCY, "estimate": (WHOLE, "The estimate."), "security": (WHOLE, "The least amount of a tender's security; 0 for none."),
         "status": (WORD, "The status of the lot in OCDS: active, complete, cancelled or unsuccessful."), "items": (WHOLE, "The number of items."),
         "tenders": (WHOLE, "The number of tenders that were opened; empty before the opening."),
         "winner": (WORD, "The winner's identifier; empty without an award that holds."), "winner_name": (WORD, "The winner's name."), "price": AWARD_PRICE,
@@ -126,8 +127,8 @@ def resource(table: str) -> dict[str, Any]:
 
 def datapackage(base: str, author: str, city: dict[str, Any]) -> str:
     """The data package: each table with the meaning of each column, and the files of releases."""
-    files = [{"name": path.split(".", maxsplit=1)[0], "path": path, "format": "jsonl", "mediatype": "application/jsonl", "encoding": "utf-8", "description": means}
-             for path, means in OTHERS.items()]
+    lines = {"format": "jsonl", "mediatype": "application/jsonl", "encoding": "utf-8"}
+    files = [{"name": path.removesuffix(".jsonl"), "path": path, **lines, "description": means} for path, means in OTHERS.items()]
     licences = licence_of(city)
     told = {"profile": "data-package", "name": "procurements", "title": f"Procurements: {author}", "homepage": f"{base}/",
             "description": "Everything that a procurement office published. Amounts are whole units of the currency; times are UTC. In the tables a text that "

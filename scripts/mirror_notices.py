@@ -96,7 +96,8 @@ def lot(language: str, notice: Notice, row: Json, tenders: list[Json]) -> str:
         told.append((say(language, "see.head.awarded"), f"{text(row['winner_name'])}, {amount(row['price'])}"))
     if row["contract"]:
         told += [(say(language, "see.contract", contract=row["contract"]), say(language, "see.runs" if row["contract_status"] == "active" else "see.ended")),
-                 (say(language, "see.worth" if row["contract_status"] == "active" else "see.worth.end"), amount(row["worth"])), (say(language, "see.paid"), amount(row["paid"]))]
+                 (say(language, "see.worth" if row["contract_status"] == "active" else "see.worth.end"), amount(row["worth"])),
+                 (say(language, "see.paid"), amount(row["paid"]))]
     elif row["status"] in ("cancelled", "unsuccessful"):
         told.append((say(language, "see.state"), say(language, f"see.is.{row['status']}")))
     items = next(it["items"] for it in notice.terms["lots"] if it["id"] == row["lot"])

@@ -41,8 +41,8 @@ def page(base: str, now: str, files: list[tuple[str, int, str]], notices: list[N
 <h1>Open data of the procurement office</h1>
 {WORDS}
 <p>From <a href={quoteattr(base)}>{html.escape(base)}</a>, asked at {now}.</p>
-{licence_told(city)}<p>Follow: <a href="notices.atom">new procurements</a>, <a href="feed.atom">what happened</a>; in <a href="en/notices.atom">English</a> (<a href="en/feed.atom">all</a>),
-<a href="de/notices.atom" lang="de">Deutsch</a> (<a href="de/feed.atom" lang="de">alles</a>).</p>
+{licence_told(city)}<p>Follow: <a href="en/notices.atom">new procurements</a>, <a href="en/feed.atom">everything that happened</a>.</p>
+<p lang="de">Folgen: <a href="de/notices.atom">neue Vergaben</a>, <a href="de/feed.atom">alles, was geschah</a>.</p>
 <h2>Procurements</h2>
 <table>
 <thead><tr><th>Procurement</th><th>State</th><th>Deadline</th><th>Estimate</th></tr></thead>
@@ -59,7 +59,8 @@ def page(base: str, now: str, files: list[tuple[str, int, str]], notices: list[N
 <ul>
 {"".join(f"<li>{html.escape(name)}.csv: {html.escape(means)}</li>{chr(10)}" for name, means in MEANS.items())}</ul>
 <p>There are also <code>records/NOTICE.json</code>, <code>terms/NOTICE.json</code>, <code>minutes/NOTICE.txt</code> and <code>evaluations/NOTICE.txt</code>, as
-the office answered them, and the ledger of each day, <code>ledgers/YYYY-MM-DD.txt</code>. In the tables a text that begins with = + - or @ has an apostrophe before it, so that no spreadsheet reads it as a formula.</p>
+the office answered them, and the ledger of each day, <code>ledgers/YYYY-MM-DD.txt</code>. In the tables a text
+that begins with = + - or @ has an apostrophe before it, so that no spreadsheet reads it as a formula.</p>
 <h2>The chain</h2>
 {WITNESS}
 <p>Its last digest: <code>{head}</code></p>
