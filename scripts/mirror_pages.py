@@ -9,6 +9,8 @@ from mirror_events import LANGUAGES, moment, say, state_of
 from mirror_feeds import author
 from mirror_office import Notice
 
+# The number of items that the index names of each procurement.
+MOST = 10
 # The head of the index, a page of HTML.
 HEAD = """<!DOCTYPE html>
 <html lang="en">
@@ -34,6 +36,9 @@ def page(base: str, now: str, files: list[tuple[str, int, str]], notices: list[N
     rows = [f"<tr><td><a href={quoteattr(name)}>{html.escape(name)}</a></td><td>{length:,}</td><td><code>{digest}</code></td></tr>\n"
             for name, length, digest in files]
     newest = sorted(notices, key=lambda one: (one.row["published"], one.name), reverse=True)
+    # (Open ones are first, with the nearest deadline first.)
+    ordered = sorted((one for one in newest if state_of(one, now) == "open"), key=lambda one: str(one.row["deadline"]))
+    ordered += [one for one in newest if state_of(one, now) != "open"]
     return f"""{HEAD}<script type="application/ld+json">{dataset(base, notices, city)}</script>
 </head>
 <body>
@@ -47,7 +52,7 @@ def page(base: str, now: str, files: list[tuple[str, int, str]], notices: list[N
 <table>
 <thead><tr><th>Procurement</th><th>State</th><th>Deadline</th><th>Estimate</th></tr></thead>
 <tbody>
-{"".join(notice_row(one, now) for one in newest)}</tbody>
+{"".join(notice_row(one, now) for one in ordered)}</tbody>
 </table>
 <h2>Files</h2>
 <table>
@@ -96,5 +101,7 @@ def notice_row(one: Notice, now: str) -> str:
     more = [f'<a href={quoteattr(f"{tag}/{one.name}.html")} hreflang="{tag}">{name}</a>' for tag, name in LANGUAGES.items() if tag != "en"]
     files = (("records", "json", "record"), ("minutes", "txt", "minutes"), ("evaluations", "txt", "evaluation"))
     more += [f"<a href={quoteattr(f'{folder}/{one.name}.{end}')}>{word}</a>" for folder, end, word in files if folder in one.texts]
-    return (f"<tr><td>{link}<br>{', '.join(more)}</td><td>{state}</td><td>{html.escape(moment('en', one.row['deadline']))}</td>"
+    items = [item["description"] for item in one.compiled["tender"].get("items", [])]
+    bought = html.escape(", ".join(items[:MOST]) + (" …" if len(items) > MOST else ""))
+    return (f"<tr><td>{link}<br><bdi>{bought}</bdi><br>{', '.join(more)}</td><td>{state}</td><td>{html.escape(moment('en', one.row['deadline']))}</td>"
             f"<td>{value['amount']:,} {html.escape(value['currency'])}</td></tr>\n")
