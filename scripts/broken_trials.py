@@ -155,7 +155,7 @@ def release_added(name: str, after: int) -> str:
 
 
 def numbered_from_0(name: str) -> str:
-    """The second release gets the number 0, which no office gives: as many releases as the notice counts, and the last one is there."""
+    """The second release gets the number 0, which no office gives: as many releases as the notice counts, with the last one."""
     return f"PRAGMA ignore_check_constraints = 1; UPDATE releases SET seq = 0 WHERE notice = '{name}' AND seq = 2;"
 
 

@@ -185,8 +185,8 @@ def away(large: Scene) -> None:
         in_time(page, place, "document.querySelector('main h1')")
         is_shown = text in page.text()
         check(f"{place} says {page.text()[:500]!r}", is_shown)
-        # (Views of the tables alone are the same as always.)
-        if place not in ("firms", "figures"):
+        # (Views of the tables alone are the same as always, and nginx keeps the ledger for a minute.)
+        if place not in ("firms", "figures", "ledger"):
             told = page.run("[document.querySelector('.look')?.innerText, document.querySelector('.look time')?.getAttribute('datetime')]")
             check(f"{place} says of its moment {told}", str(told[0]).startswith("The office isn't answering at the moment.") and told[1] == moment)
     in_time(page, "notice/NONE", "document.querySelector('main .bad')")
@@ -224,7 +224,11 @@ def own_tenders(desk: Desk, far: int, near: int) -> None:
     desk.press("Show more (")
     check(f"{desk.page.run(rows)} tenders are shown", desk.page.run(rows) == 21)
     desk.says("of 379 notices are searched. Your tenders appear below.")
+    desk.page.run("document.querySelector('main tbody a').focus()")
     desk.page.wait(f"{with_text('a', f'Change or withdraw {far}')}")
+    kept = desk.page.run("document.activeElement.textContent")
+    check(f"the focus moves to {kept!r}", kept == f"Change or withdraw {near}")
+    desk.press("Show more (")
     order = desk.page.run("[...document.querySelectorAll('main tbody th')].map((at) => Number(at.textContent))")
     check(f"the tenders are {order}", order[:2] == [near, far] and order[2:] == sorted(order[2:], reverse=True))
     desk.press(f"Change or withdraw {near}")

@@ -389,7 +389,7 @@ def breaches(page: Page) -> list[Any]:
 
 
 def office_away(scene: Scene) -> None:
-    """If the office is gone, the front says so, and so does the page."""
+    """If the office is gone, the front says so, and so does the page. It shows the ledger that the mirror has, and the list."""
     scene.office.kill()
     scene.office.wait()
     # The checks before used up what one address may ask at once. So the front may answer 429 first, until its count has run down.
@@ -401,6 +401,9 @@ def office_away(scene: Scene) -> None:
     check(f"a query without an office: {answer}", answer.status == 502 and b"front" in answer.body)
     said = page_of(scene, "#notice/N78").text()
     check(f"the page says {said!r}", said == "Not shown\nThe office isn't answering at the moment. Try again in a few minutes.\nTry again\nProcurements\n")
+    for place, text in (("#ledger", "All 22 budget lines\nAppropriation 44,"), ("#list", "6 procurements\n"), ("#notice/N1", "All contracts ended\n")):
+        said = page_of(scene, place).text()
+        check(f"{place} says {said!r}", text in said and "\nThe office isn't answering at the moment.\nSo this page shows what" in said)
 
 
 def too_often(scene: Scene) -> None:

@@ -1,7 +1,7 @@
 // Chooses the portal's view by the address, in the spoken language.
 import { decoded, drawAround, refused, showViews } from "./common/frame.js";
 import { link, placeOf } from "./common/draw.js";
-import { standIn } from "./common/office.js";
+import { substitute } from "./common/office.js";
 import { drawNotice } from "./common/process.js";
 import { addTexts, say } from "./common/texts.js";
 import { drawAbout, siteName } from "./about.js";
@@ -52,5 +52,5 @@ function back() {
   return link(say("see.page.list"), "#list");
 }
 
-standIn(fromMirror, PATIENCE);
+Object.assign(substitute, { find: fromMirror, longest: PATIENCE });
 showViews({ place, around, view: (asked, again) => ofItsMoment(() => viewOf(asked, again), again), site: () => site, back });

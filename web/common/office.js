@@ -89,14 +89,9 @@ function pause(seconds) {
 const KEPT = 4100;
 let changed = 0;
 
-// Only the portal has one: the mirror's files (mirror.js). The desks show what the office has now.
-let [substitute, patience] = [async () => null, LONGEST];
-
-/** From now on, if the office doesn't answer a public query in `longest` milliseconds, `find` gives the
- * answer: a text for a path, or null. */
-export function standIn(find, longest) {
-  [substitute, patience] = [find, longest];
-}
+/** If the office doesn't answer a public query in `longest` milliseconds, `find` gives a text for its path, or null. Only
+ * the portal has more than this (mirror.js): the desks show what the office has now. */
+export const substitute = { find: async () => null, longest: LONGEST };
 
 /** A query: repeated as long as nginx answers that queries come too fast. */
 export async function look(path, caller = null) {
@@ -106,9 +101,9 @@ export async function look(path, caller = null) {
   }
   for (let turn = 1; ; turn += 1) {
     try {
-      return await send(path, { caller, longest: caller === null ? patience : LONGEST });
+      return await send(path, { caller, longest: caller === null ? substitute.longest : LONGEST });
     } catch (fault) {
-      const found = fault.isOpen && caller === null ? await substitute(path) : null;
+      const found = fault.isOpen && caller === null ? await substitute.find(path) : null;
       if (found !== null) {
         return found;
       }

@@ -15,7 +15,7 @@ const FIRST = 20, AT_ONCE = 100;
 const asked = { words: "", order: "" };
 
 function entry(one) {
-  const estimate = one.known ? ["  · ", say("see.estimate"), " ", money(one.known.estimate, one.known.currency)] : [];
+  const estimate = one.known ? [" · ", say("see.estimate"), " ", money(one.known.estimate, one.known.currency)] : [];
   return element("li", { class: "card" }, element("h2", {}, link(given(one.title), placeOf("offer", one.notice))),
     element("p", {}, one.notice, " · ", clock(one.deadline)), element("p", { class: "quiet" }, say("see.deadline"), " ", moment(one.deadline), estimate));
 }

@@ -60,12 +60,15 @@ export async function lookFirst({ order }) {
   }
 }
 
-/** Searches the other notices, as long as `goes` says so. `tell` is called after each step. */
+/** Searches the other notices once, as long as `goes` says so: those first that were never searched. `tell` is
+ * called after each step with the number of notices that are left. */
 export async function lookOn(rows, goes, tell) {
-  for (let some = left(rows); some.length > 0 && goes(); some = left(rows)) {
+  const rest = left(rows).sort((one, other) => session.seen.has(one.notice) - session.seen.has(other.notice));
+  for (let at = 0; at < rest.length && goes(); at += TOGETHER) {
     const begun = Date.now();
-    await lookInto(some.slice(0, TOGETHER));
-    tell();
-    await new Promise((done) => { setTimeout(done, Math.max(0, begun + PAUSE - Date.now())); });
+    await lookInto(rest.slice(at, at + TOGETHER));
+    const more = Math.max(0, rest.length - at - TOGETHER);
+    tell(more);
+    await new Promise((done) => { setTimeout(done, more > 0 ? Math.max(0, begun + PAUSE - Date.now()) : 0); });
   }
 }

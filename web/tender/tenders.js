@@ -53,6 +53,13 @@ function listOf(all, isWhole) {
   return growingTable(say("tenders.caption", { count: all.length }), heads, all, rowOf, { first: ROWS });
 }
 
+/** Replaces the list. A link that has the focus keeps it. */
+function replaced(at, content) {
+  const href = at.contains(document.activeElement) ? document.activeElement.getAttribute("href") : null;
+  at.replaceChildren(...content);
+  href && at.querySelector(`a[href="${CSS.escape(href)}"]`)?.focus();
+}
+
 /** A field for a receipt's number, which leads to its tender without a search. */
 function ask() {
   const receipt = field(say("tenders.receipt"), { id: "tenders-receipt", hint: say("tenders.receipt.hint"), ...DIGITS });
@@ -78,23 +85,27 @@ export async function drawTenders({ redraw }) {
   const plan = planOf(list, data, session.caller.caller, officeNow());
   await lookFirst(plan);
   const [shown, told] = [element("div", {}), element("div", {})];
-  const draw = (rows = plan.order) => {
-    const count = left(rows).length;
-    shown.replaceChildren(...listOf(found(plan, list), count === 0));
+  let last = "";
+  const draw = (count, rows = plan.order) => {
+    const all = found(plan, list);
+    const now = JSON.stringify([all.map(({ receipt, state }) => [receipt, state]), all.length > 0 || count === 0]);
+    if (now !== last) {
+      replaced(shown, listOf(all, count === 0));
+      last = now;
+    }
     told.replaceChildren(...(count > 0 ? [element("p", { class: "quiet" }, say("tenders.looks", { at: rows.length - count, count: rows.length }))]
       : othersPart(plan.rest, () => search(plan.rest))));
   };
   const search = async (rows) => {
-    draw(rows);
     try {
-      await lookOn(rows, () => told.isConnected, () => draw(rows));
-      draw();
+      await lookOn(rows, () => told.isConnected, (count) => draw(count, rows));
     } catch (fault) {
       told.replaceChildren(note("bad", sentenceOf(fault)), steps(button(say("frame.again"), () => search(rows))));
     }
   };
-  draw();
-  if (left(plan.order).length > 0) {
+  const count = left(plan.order).length;
+  draw(count);
+  if (count > 0) {
     // (once the view is shown)
     setTimeout(() => search(plan.order));
   }

@@ -110,12 +110,12 @@ module _ {S T R W : Type 0} (N : Hosting T R W) (M : Meaning S) (store : Standin
         subst (λ (zs : List Step). StandsAs M new (office_left office_answers h zs)) whole stands,
         subst (λ (zs : List Step). StopsBy M first.shelf new.shelf h zs) whole stops,
       )
-  turn_led n Are before after first old new (inr it) so_far =
-      connection_led n Are before after first old it.1.served new it.1.one so_far it.1.asked.3 it.1.settings
+  turn_led n Are before after first old new (inr it) so_far honest h held =
+      connection_led n Are before after first old it.1.served new it.1.one so_far it.1.asked.3 it.1.settings honest h held
 
   for_led : (n : ℕ) (before after : T) (first new : DeskOf S) (it : GoesOnFor N M store n before after first new) → LedTo n (AreOfTurns N M store n before after first new it) first new
-  for_led zero before after first new it =
-      subst (λ (d : DeskOf S). LedTo zero (λ h steps. steps ≡ []) first d) (sym it.1) (λ honest h held. ([], omega arith, refl, held, stops_none M first.shelf h))
+  for_led zero before after first new it honest h held =
+      subst (λ (d : DeskOf S). LedTo zero (λ h steps. steps ≡ []) first d) (sym it.1) (λ honest h held. ([], omega arith, refl, held, stops_none M first.shelf h)) honest h held
   for_led (suc n) before after first new it honest h held =
       let (xs, ys, few, are, last, stands, stops) =
       turn_led n (AreOfTurns N M store n before it.0 first it.1 it.2) it.0 after first it.1 new it.3 (for_led n before it.0 first it.1 it.2) honest h held in
@@ -123,7 +123,7 @@ module _ {S T R W : Type 0} (N : Hosting T R W) (M : Meaning S) (store : Standin
 
   serving_led : (count : ℕ) (before after : T) (old new : DeskOf S) (result : Result (Unit {0}) ProgramFault) (turns : ServesInTurn N M store count before after old new result)
       → LedTo count (AreOfServing N M store count before after old new result turns) old new
-  serving_led count before after old new (Ok done) it = for_led count before after old new it
+  serving_led count before after old new (Ok done) it honest h held = for_led count before after old new it honest h held
   serving_led count before after old new (Err Store) it honest h held =
       let (xs, ys, few, are, last, stands, stops) =
       connection_led it.0 (AreOfTurns N M store it.0 before it.2 old it.3 it.4) it.2 after old it.3 it.5.1.served new it.5.1.one
@@ -133,10 +133,10 @@ module _ {S T R W : Type 0} (N : Hosting T R W) (M : Meaning S) (store : Standin
       let (xs, few, are, stands, stops) =
       subst (λ (d : DeskOf S). LedTo it.0 (AreOfTurns N M store it.0 before it.2 old it.3 it.4) old d) (sym it.5.1) (for_led it.0 before it.2 old it.3 it.4) honest h held in
       (xs, omega (arith, few, it.1), are, stands, stops)
-  serving_led count before after old new (Err (Arguments e)) it = absurd it.5
-  serving_led count before after old new (Err (Settings name)) it = absurd it.5
-  serving_led count before after old new (Err Output) it = absurd it.5
-  serving_led count before after old new (Err (Refused why)) it = absurd it.5
+  serving_led count before after old new (Err (Arguments e)) it honest h held = absurd it.5
+  serving_led count before after old new (Err (Settings name)) it honest h held = absurd it.5
+  serving_led count before after old new (Err Output) it honest h held = absurd it.5
+  serving_led count before after old new (Err (Refused why)) it honest h held = absurd it.5
 
   -- The accepted commands are kept.
   pub serves_steps : StepsAreKept → (count : ℕ) (before after : T) (old new : DeskOf S) (result : Result (Unit {0}) ProgramFault)

@@ -5,12 +5,12 @@ use Rattle.office_plans.proofs.OneByOne.{are_from, are_numbers, as_many, first_i
 use Rattle.office_plans.proofs.release_numbers.are_numbers_to.Goals as goal
 
 pub returns-then-found-count-clause-other : goal.returns-then-found-count-clause-other
-returns-then-found-count-clause-other c no are =
+returns-then-found-count-clause-other c differs are =
     let many : length c.args.found.now ≡ c.args.count = ap length are ∙ as_many c.args.count 1 in
     absurd (c.if-found-count.true many)
 
 pub returns-then-get-next-clause-other : goal.returns-then-get-next-clause-other
-returns-then-get-next-clause-other c no are =
+returns-then-get-next-clause-other c differs are =
     let found : List ℕ = c.args.found.now in
     let at = c.loop-number.number-index in
     let next = c.loop-number.next in
@@ -19,7 +19,7 @@ returns-then-get-next-clause-other c no are =
     absurd (c.if-get-next.true (c.get.ensures.value ∙ c.number-item.is ∙ first_is next _ _ split))
 
 pub returns-clause-all : goal.returns-clause-all
-returns-clause-all c yes =
+returns-clause-all c same =
     let found : List ℕ = c.args.found.now in
     let at = c.loop-number.number-index in
     let none : drop at found ≡ [] = drop_all at found (omega (arith, c.loop-number-test.false)) in
