@@ -20,7 +20,7 @@ returns-in-Ok-close_office-clause-used g c =
     let opened = c.in-Ok.opened.shelf in
     let left = c.print_shelf-shelf.result.0 in
     closes_used (image_at g.S.Start) c.args.settings 0 opened left c.in-Ok-close_office.left.0 c.in-Ok.ensures.used
-    (kept_served (sql_meaning over_files) c.args.settings opened left c.print_shelf-shelf.ensures.looks.0) c.in-Ok-close_office.ensures.closed
+    (kept_served (sql_meaning over_files) c.accounts_and_fates.ensures.steps c.args.settings opened left c.print_shelf-shelf.ensures.looks.0) c.in-Ok-close_office.ensures.closed
 
 pub returns-in-Err-close_office-clause-half : goal.returns-in-Err-close_office-clause-half
 returns-in-Err-close_office-clause-half g c =
