@@ -149,9 +149,14 @@ def releases_gone(name: str, which: str = "") -> str:
     return f"DELETE FROM releases WHERE notice = '{name}'{which};"
 
 
-def release_added(name: str) -> str:
-    """A release under the number that the notice's next one gets."""
-    return f"INSERT INTO releases SELECT notice, seq + 1, moment, text FROM releases WHERE notice = '{name}' ORDER BY seq DESC LIMIT 1;"
+def release_added(name: str, after: int) -> str:
+    """A release whose number is so many after the last one's."""
+    return f"INSERT INTO releases SELECT notice, seq + {after}, moment, text FROM releases WHERE notice = '{name}' ORDER BY seq DESC LIMIT 1;"
+
+
+def numbered_from_0(name: str) -> str:
+    """The second release gets the number 0, which no office gives: as many releases as the notice counts, and the last one is there."""
+    return f"PRAGMA ignore_check_constraints = 1; UPDATE releases SET seq = 0 WHERE notice = '{name}' AND seq = 2;"
 
 
 def merge_gone(name: str) -> str:
@@ -159,16 +164,17 @@ def merge_gone(name: str) -> str:
 
 
 def of_releases(name: str, is_long: bool) -> list[tuple[str, ...]]:
-    """Trials with missing releases of a notice; with more than two of them, also with some. A publication continues from the last release and their merge, or
-    from all releases if the merge isn't kept."""
+    """Trials with missing releases of a notice; with more than two of them, also with some. A publication compares the numbers of all releases with the
+    notice's count. It continues from their merge, or from all releases if the merge isn't kept."""
     second, last = " AND seq = 2", f" AND seq = (SELECT max(seq) FROM releases WHERE notice = '{name}')"
     found = [("all releases", releases_gone(name)), ("all releases and the merge", releases_gone(name) + merge_gone(name)),
              ("the merge", merge_gone(name), ANEW), ("the merge that isn't JSON", f"UPDATE compiled SET text = '{{{{' WHERE notice = '{name}';"),
              ("the merge that is no object", f"UPDATE compiled SET text = '[]' WHERE notice = '{name}';"),
              ("the merge, and a release that is no object", merge_gone(name) + f"UPDATE releases SET text = '[]' WHERE notice = '{name}' AND seq = 1;"),
-             ("a release with the next number is there", release_added(name))]
+             ("a release with the next number is there", release_added(name, 1)), ("a release with a later number is there", release_added(name, 5))]
     if is_long:
-        found += [("a release in the middle", releases_gone(name, second), MAY), ("the last release", releases_gone(name, last)),
+        found += [("a release in the middle", releases_gone(name, second)), ("the last release", releases_gone(name, last)),
+                  ("a release in the middle, and one with the number 0", numbered_from_0(name)),
                   ("a release in the middle and the merge", releases_gone(name, second) + merge_gone(name)),
                   ("the last release and the merge", releases_gone(name, last) + merge_gone(name))]
     return found

@@ -1,3 +1,4 @@
+pub mod AllBefore
 pub mod Decided
 pub mod KeptObjects
 pub mod LookedUp

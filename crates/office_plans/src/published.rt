@@ -7,6 +7,7 @@ ghost use Rattle.office_base.specs.Shelves.{Looks, LooksUp};
 ghost use Rattle.office_base.specs.Tables.{Tables, notice_at};
 ghost use Rattle.office_base.specs.declared.puts.Put.TheVariants.{Compiled, Release};
 ghost use Rattle.office_machine.specs.Counted.{releases_in};
+ghost use Rattle.office_machine.specs.Fates.{numbers};
 ghost use Rattle.office_commands.specs.Commands.{IsCommand};
 ghost use Rattle.office_machine.specs.Lacking.{is_lacking};
 ghost use Rattle.office_machine.specs.Machine.{Given, effect, refusal_of, time_of};
@@ -17,7 +18,7 @@ ghost use Rattle.office_plans.specs.Released.{IsKept, IsReleased};
 ghost use Rattle.office_plans.specs.Replies.{reply_text};
 ghost use Rattle.office_publications.specs.Events.{event_of};
 ghost use Rattle.office_publications.specs.Keeping.{KeepsReleasesOf, has_last_release, has_release};
-ghost use Rattle.office_publications.specs.Merges.{AreSoMany, HasMerge, IsKeptOf};
+ghost use Rattle.office_publications.specs.Merges.{AreSoMany, HasMerge};
 ghost use Rattle.office_values.specs.declared.refusal.Refusal.TheVariants.{Unavailable};
 ghost use Rattle.office_values.specs.declared.settings.Publisher.{Publisher as PublisherOf};
 
@@ -30,8 +31,8 @@ use office_base::laws::looks_follow;
 use office_base::puts::Put;
 use office_base::records::NoticeRow;
 use office_base::shelf::{Lookups, ShelfFault};
-use office_publications::laws::keeping;
-use office_publications::merges::{Kept, load_kept};
+use office_publications::laws::{keeping, numbering};
+use office_publications::merges::load_kept;
 use office_publications::publication::{Publication, keep_release};
 use office_values::id::Id;
 use office_values::moment::Moment;
@@ -90,40 +91,39 @@ pub(crate) fn make_release<'a>(
     }
 }
 
-// Whether the release before this number exists. True for the first number, because no release comes before it.
-fn follows_another<H: Lookups>(
-    shelf: &mut H,
-    notice: &Id,
-    seq: Sequence,
-) -> Result<bool, ShelfFault>
-    ensures { LooksUp H.meaning shelf.old shelf.new result (λ s follows. follows ≡ has_last_release notice.now (seq - 1) s) }
+// Whether these are the numbers from 1 up to the one before this.
+fn are_all_before(found: &[Sequence], seq: Sequence) -> bool
+    ensures all { result ≡ true → found.now ≡ numbers 1 (seq - 1) }
+    ensures other { result ≡ false → ¬ (found.now ≡ numbers 1 (seq - 1)) }
 {
-    match Sequence::read(seq.get() - 1) {
-        Some(last) => Ok(shelf.get_release(notice, last)?.is_some()),
-        None => Ok(true),
+    if found.len() as u64 != seq.get() - 1 {
+        return false;
     }
-}
-
-// Whether a release of the notice has this number.
-fn has_release<H: Lookups>(shelf: &mut H, notice: &Id, seq: Sequence) -> Result<bool, ShelfFault>
-    ensures { LooksUp H.meaning shelf.old shelf.new result (λ s found. found ≡ has_release notice.now seq s) }
-{
-    Ok(shelf.get_release(notice, seq)?.is_some())
-}
-
-// Whether a merge is stored, or else whether the notice has as many releases as the numbers before this one.
-fn is_whole(kept: &Kept, seq: Sequence) -> bool
-    ensures { result ≡ true → (notice : List ℕ) (s : Tables) → IsKeptOf notice s kept.now → AreSoMany notice (seq - 1) s }
-{
-    match kept {
-        Kept::Merge(_) => true,
-        Kept::Releases(rows) => rows.as_slice().len() as u64 == seq.get() - 1,
+    let mut next: u64 = 1;
+    for number in found {
+        if number.get() != next {
+            return false;
+        }
+        next += 1;
     }
+    true
 }
 
-// The release as it is stored, and the merge that it joins. Reads the notice's merge, or all its releases if no merge is stored. `Unavailable` if a release
-// has its number, the previous one is missing or the stored merge isn't an object. If no merge is stored, `Unavailable` also if a release is missing or isn't an object. So nothing is
-// published over a release or after a gap.
+// Whether the notice has the releases before this number, and no others. Then its last release exists, and none has this number. No text is read.
+fn has_all_before<H: Lookups>(shelf: &mut H, notice: &Id, seq: Sequence) -> Result<bool, ShelfFault>
+    ensures all { Looks H.meaning shelf.old shelf.new (λ s. IfOk result (λ all. all ≡ true → AreSoMany notice.now (seq - 1) s)) }
+    ensures other { Looks H.meaning shelf.old shelf.new (λ s. IfOk result (λ all. all ≡ false → ¬ (AreSoMany notice.now (seq - 1) s))) }
+    ensures last { Looks H.meaning shelf.old shelf.new (λ s. IfOk result (λ all. all ≡ true → has_last_release notice.now (seq - 1) s ≡ true)) }
+    ensures next { Looks H.meaning shelf.old shelf.new (λ s. IfOk result (λ all. all ≡ true → has_release notice.now seq s ≡ false)) }
+{
+    numbering();
+    let found = shelf.list_release_numbers(notice)?;
+    Ok(are_all_before(found.as_slice(), seq))
+}
+
+// The release as it is stored, and the merge that it joins. Reads the numbers of the notice's releases and its merge, or all its releases if no merge is stored.
+// `Unavailable` if the releases aren't those before this one, or if the stored merge isn't an object. If no merge is stored, `Unavailable` also if a release isn't
+// an object. So nothing is published over a release or after a gap.
 fn keep<H: Lookups>(
     alloc: Global,
     shelf: &mut H,
@@ -137,18 +137,11 @@ fn keep<H: Lookups>(
     ensures none { IfErr result (λ why. why ≡ Unavailable) }
 {
     looks_follow::<H>();
-    let taken = has_release(shelf, &released.notice, released.seq)?;
-    if taken {
-        return Err(Refusal::Unavailable);
-    }
-    let follows = follows_another(shelf, &released.notice, released.seq)?;
-    if !follows {
+    let whole = has_all_before(shelf, &released.notice, released.seq)?;
+    if !whole {
         return Err(Refusal::Unavailable);
     }
     let kept = load_kept(shelf, &released.notice)?;
-    if !is_whole(&kept, released.seq) {
-        return Err(Refusal::Unavailable);
-    }
     keep_release(
         alloc,
         released.notice,
@@ -176,8 +169,8 @@ fn with_publication(
 }
 
 /// The plan of an accepted command that publishes: its changes, the release, the merge that this joins, and the reply's text. `Unavailable` also if the
-/// notice's last release is missing, if a release has the next number, or if its stored merge isn't an object. If no merge is stored, `Unavailable` also if a release is missing or isn't an
-/// object. None of this can happen in a reached office.
+/// notice's releases aren't those that it counts, or if its stored merge isn't an object. If no merge is stored, `Unavailable` also if a release isn't an object.
+/// None of this can happen in a reached office.
 pub(crate) fn published<H: Lookups>(
     alloc: Global,
     shelf: &mut H,

@@ -1,7 +1,8 @@
 -- Each release of a notice is at the place in the sequence that its number says.
-use Rattle.std.specs.Prelude.{◌≡◌, ◌≤◌, ◌<◌, ◌&&◌, zero, suc, nat_le, slice_get}
+use Rattle.std.specs.Prelude.{◌≡◌, ◌×◌, ◌≤◌, ◌<◌, ◌&&◌, ◌||◌, zero, suc, nat_eq, nat_le, slice_get}
 use Rattle.std.proofs.Common.{ℕ, ◌+◌, Bool, true, false, cond, List, [], ◌∷◌, map, length, filter, Option, Some, None, is_some, refl, sym, ap, ◌∙◌, arith}
 use Rattle.std.proofs.lemmas.Bool.Decides.{nat_tests}
+use Rattle.std.proofs.lemmas.Option.{slice_get_past}
 use Rattle.std.specs.Cmp.{nat_cmp_is}
 use Rattle.std.specs.List.{AllByRecursion}
 use Rattle.std.specs.Ordering.{nat_cmp, ordering_then}
@@ -9,7 +10,7 @@ use Rattle.std.specs.declared.cmp.Ordering.TheVariants.{Equal, Greater}
 use Rattle.office_values.specs.Ids.{id_cmp, same_id}
 use Rattle.office_base.specs.Limits.{release_limit}
 use Rattle.office_base.specs.Rows.{by_order, row_at, StartsAbove, IsInOrder}
-use Rattle.office_base.specs.Tables.{Tables, IsSorted, notice_at, release_at, release_cmp, release_key, releases_of_notice}
+use Rattle.office_base.specs.Tables.{Tables, IsSorted, notice_at, release_at, release_cmp, release_key, release_numbers, releases_of_notice}
 use Rattle.office_base.specs.declared.records.ReleaseRow.{ReleaseRow}
 use Rattle.office_base.proofs.ExactKeys.{equal_ids, same_itself}
 use Rattle.office_base.proofs.Orders.{same_key}
@@ -20,6 +21,7 @@ use Rattle.office_machine.specs.Fates.{numbers}
 use Rattle.office_machine.specs.Releases.{AreNumbered}
 use Rattle.office_machine.proofs.Rows.Keyed as keyed
 use Rattle.office_machine.proofs.Rows.Numbered.{FindsAll, keys_are}
+use Rattle.office_publications.specs.Keeping.{has_last_release, has_release}
 use Rattle.office_publications.specs.Told.{AreInSequence}
 
 abbrev seq_of : ReleaseRow → ℕ
@@ -53,6 +55,15 @@ as_many zero from [] are = refl
 as_many zero from (r ∷ rows) are = absurd cc
 as_many (suc n) from [] are = absurd cc
 as_many (suc n) from (r ∷ rows) are = let rest : map seq_of rows ≡ numbers (from + 1) n = cc in ap suc (as_many n (from + 1) rows rest)
+
+or_true : (b : Bool) → (b || true) ≡ true
+or_true true = refl
+or_true false = refl
+
+there : (rows : List ReleaseRow) (k : ℕ) → k < length rows → is_some (slice_get rows k) ≡ true
+there [] k less = absurd (omega (arith, less))
+there (r ∷ rows) zero less = refl
+there (r ∷ rows) (suc k) less = there rows k (omega (arith, less))
 
 -- ---- rows of one notice are in the order of their numbers
 
@@ -89,13 +100,7 @@ module _ (notice : List ℕ) where
 
   -- ---- the releases of a notice
 
-  module _ (s : Tables) (sorted : IsSorted s) (numbered : AreNumbered s) where
-    abbrev rows : List ReleaseRow
-    rows = releases_of_notice notice s
-
-    abbrev count : ℕ
-    count = releases_in (notice_at notice s)
-
+  module _ (s : Tables) (sorted : IsSorted s) where
     passes : (q : ℕ) (o : Option ReleaseRow) → release_at (notice, q) s ≡ o → if_passes (is_of notice) o ≡ o
     passes q None found = refl
     passes q (Some r) found =
@@ -103,17 +108,43 @@ module _ (notice : List ℕ) where
         let own : is_of notice r ≡ true = ap (λ (k : List ℕ × ℕ). same_id k.0 notice) key ∙ same_itself notice in
         ap (λ b. cond b (Some r) None) own
 
-    at_number : (q : ℕ) → row_at nat_cmp seq_of rows q ≡ release_at (notice, q) s
+    at_number : (q : ℕ) → row_at nat_cmp seq_of (releases_of_notice notice s) q ≡ release_at (notice, q) s
     at_number q =
-        sym (found_by_seq q rows (filtered s.releases))
+        sym (found_by_seq q (releases_of_notice notice s) (filtered s.releases))
         ∙ row_at-filter keyed.releases (is_of notice) s.releases (notice, q) sorted.releases
         ∙ passes q (release_at (notice, q) s) refl
 
+    -- the release with the number after this place
+    placed : (count : ℕ) → release_numbers notice s ≡ numbers 1 count → (k : ℕ) → slice_get (releases_of_notice notice s) k ≡ release_at (notice, k + 1) s
+    placed count are k = at_place count 1 (releases_of_notice notice s) are k ∙ at_number (1 + k) ∙ ap (λ n. release_at (notice, n) s) (omega arith)
+
+    last : (count : ℕ) → release_numbers notice s ≡ numbers 1 count → has_last_release notice count s ≡ true
+    last zero are = refl
+    last (suc k) are =
+        let many = as_many (suc k) 1 (releases_of_notice notice s) are in
+        let more : k + 1 ≡ suc k = omega arith in
+        let found : is_some (release_at (notice, suc k) s) ≡ true =
+        ap (λ n. is_some (release_at (notice, n) s)) (sym more) ∙ ap is_some (sym (placed (suc k) are k)) ∙ there (releases_of_notice notice s) k (omega (arith, many)) in
+        ap (λ b. nat_eq (suc k) 0 || b) found ∙ or_true (nat_eq (suc k) 0)
+
+    pub last_and_next : (count : ℕ) → release_numbers notice s ≡ numbers 1 count
+        → (has_last_release notice count s ≡ true) × (has_release notice (count + 1) s ≡ false)
+    last_and_next count are =
+        let many = as_many count 1 (releases_of_notice notice s) are in
+        (last count are, ap is_some (sym (placed count are count)) ∙ ap is_some (slice_get_past (releases_of_notice notice s) count (omega (arith, many))))
+
+  module _ (s : Tables) (sorted : IsSorted s) (numbered : AreNumbered s) where
+    abbrev rows : List ReleaseRow
+    rows = releases_of_notice notice s
+
+    abbrev count : ℕ
+    count = releases_in (notice_at notice s)
+
     finds : FindsAll seq_of 1 count rows
     finds = record {
-      here = λ q low high. ap is_some (at_number q) ∙ numbered notice q ∙ grind (arith, nat_tests, low, high);
+      here = λ q low high. ap is_some (at_number s sorted q) ∙ numbered notice q ∙ grind (arith, nat_tests, low, high);
       nowhere = λ q r found.
-          let both : (nat_le 1 q && nat_le q count) ≡ true = sym (numbered notice q) ∙ sym (ap is_some (at_number q)) ∙ ap is_some found in
+          let both : (nat_le 1 q && nat_le q count) ≡ true = sym (numbered notice q) ∙ sym (ap is_some (at_number s sorted q)) ∙ ap is_some found in
           within q both;
     }
       where
@@ -125,7 +156,8 @@ module _ (notice : List ℕ) where
 
     pub in_sequence : count ≤ release_limit → AreInSequence notice s
     in_sequence few = record {
-      place = λ k. at_place count 1 rows are k ∙ at_number (1 + k) ∙ ap (λ n. release_at (notice, n) s) (omega arith);
+      place = placed s sorted count are;
       counted = sym (as_many count 1 rows are);
+      numbered = are;
       within = let many = as_many count 1 rows are in omega (arith, many, few);
     }

@@ -9,7 +9,7 @@ use Rattle.office_base.specs.declared.puts.Put.{Put}
 use Rattle.office_base.specs.declared.puts.Put.TheVariants as puts
 use Rattle.office_base.specs.declared.records.CompiledRow.{CompiledRow}
 use Rattle.office_base.specs.declared.records.ReleaseRow.{ReleaseRow}
-use Rattle.office_base.specs.Tables.{Tables, no_tables, notice_at, release_at, after_puts}
+use Rattle.office_base.specs.Tables.{Tables, IsSorted, no_tables, notice_at, release_at, after_puts}
 use Rattle.office_machine.specs.Machine.{Given, CanBeGiven, Reaches, effect, next, publication, puts_of, refusal_of, release_row, with_merges}
 use Rattle.office_machine.specs.Counted.{releases_in}
 use Rattle.office_machine.specs.OfficeMeans.{office_readings}
@@ -57,13 +57,13 @@ has_last_release notice releases t = nat_eq releases 0 || is_some (release_at (n
 abbrev pub has_release : List ℕ → ℕ → Tables → Bool
 has_release notice number t = is_some (release_at (notice, number) t)
 
--- A new release can follow in this notice. Its last release exists, none has the next number, and its merge, if stored, is an object. If no merge is stored, all counted releases exist
--- and are objects.
+-- A new release can follow in this notice. Its releases have the numbers from 1 to its count, and no others, so the last one exists, and none has the next
+-- number. Its merge, if stored, is an object. If no merge is stored, each release is one.
 pub record CanBeFollowed (notice : List ℕ) (t : Tables) : Type 0 where
+  pub counted : AreSoMany notice (releases_in (notice_at notice t)) t
   pub last : has_last_release notice (releases_in (notice_at notice t)) t ≡ true
   pub next : has_release notice (releases_in (notice_at notice t) + 1) t ≡ false
   pub merge : HasMerge notice t
-  pub counted : AreSoMany notice (releases_in (notice_at notice t)) t
 
 -- This is true of the notice for which the command publishes a release. A command that publishes nothing needs nothing.
 abbrev pub FollowsReleases : Given → Type 0
@@ -80,6 +80,11 @@ abbrev pub PublicationReadsBack : Publisher → Given → Type 0
 PublicationReadsBack publisher x = (r : ReleaseRow) → publication (publishing publisher) x ≡ Some r → ReadsBack x.before r
 
 -- ---- laws
+
+-- The law: if a notice has the releases with the numbers from 1 to this one, and no others, then its last release exists, and none has the next number.
+abbrev pub NumbersTellTheLast : Type 0
+NumbersTellTheLast = (notice : List ℕ) (count : ℕ) (t : Tables) → IsSorted t → AreSoMany notice count t
+    → (has_last_release notice count t ≡ true) × (has_release notice (count + 1) t ≡ false)
 
 -- The law: a command that is no event publishes nothing.
 abbrev pub NoEventPublishesNothing : Type 0

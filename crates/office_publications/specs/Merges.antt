@@ -1,14 +1,15 @@
 -- The merge of a notice's releases, as it is stored beside them.
-use Rattle.std.specs.Prelude.{◌≡◌, ℕ, List, ◌∷◌, [], ◌++◌, map, filter, Some, None, unwrap_or, All, false, length}
+use Rattle.std.specs.Prelude.{◌≡◌, ℕ, List, ◌∷◌, [], ◌++◌, map, filter, Some, None, unwrap_or, All, false}
 use Rattle.serde_json.specs.Data.{Data, null}
 use Rattle.serde_json.specs.Read.{read}
 use Rattle.serde_json.specs.Written.{compact_text, has_float}
 use Rattle.ocds_merge.specs.Compile.{body_of}
 use Rattle.ocds_merge.specs.Stored.{KeepsMerge, IsObjectText, IsStorable}
 use Rattle.office_values.specs.Ids.{same_id}
-use Rattle.office_base.specs.Tables.{Tables, compiled_at, put_compiled, releases_of_notice}
+use Rattle.office_base.specs.Tables.{Tables, compiled_at, put_compiled, release_numbers, releases_of_notice}
 use Rattle.office_base.specs.declared.records.CompiledRow.{CompiledRow}
 use Rattle.office_base.specs.declared.records.ReleaseRow.{ReleaseRow}
+use Rattle.office_machine.specs.Fates.{numbers}
 use Rattle.office_publications.specs.declared.merges.Kept.{Kept}
 use Rattle.office_publications.specs.declared.merges.Kept.TheVariants.{Merge, Releases}
 
@@ -71,9 +72,9 @@ CanGoOn (Releases rows) = AreObjects rows
 abbrev pub HasMerge : List ℕ → Tables → Type 0
 HasMerge notice t = ((c : CompiledRow) → compiled_at notice t ≡ Some c → IsObjectText c.text) × (compiled_at notice t ≡ None → AreObjects (releases_of_notice notice t))
 
--- If no merge is stored, the notice has this many releases.
+-- The notice has a release of each number from 1 to this one, and no other.
 abbrev pub AreSoMany : List ℕ → ℕ → Tables → Type 0
-AreSoMany notice count t = compiled_at notice t ≡ None → length (releases_of_notice notice t) ≡ count
+AreSoMany notice count t = release_numbers notice t ≡ numbers 1 count
 
 -- A release and the merge with it are put. The notice has one release more, and other notices keep theirs.
 pub record IsPublished (s t : Tables) (r : ReleaseRow) (c : CompiledRow) : Type 0 where

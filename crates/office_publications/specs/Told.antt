@@ -12,7 +12,7 @@ use Rattle.office_base.specs.Limits.{release_limit}
 use Rattle.office_base.specs.Tables.{Tables, notice_at, release_at, releases_of_notice}
 use Rattle.office_base.specs.declared.records.ReleaseRow.{ReleaseRow}
 use Rattle.office_machine.specs.Counted.{releases_in}
-use Rattle.office_publications.specs.Merges.{bodies}
+use Rattle.office_publications.specs.Merges.{AreSoMany, bodies}
 use Rattle.office_publications.specs.Packages.{releases_told, compiled_told}
 use Rattle.office_publications.specs.Standing.{IsReached}
 
@@ -36,10 +36,11 @@ abbrev pub RecordsAreCompiled : Type 0
 RecordsAreCompiled = (publisher : Publisher) (s : Tables) → IsReached publisher s → (notice : List ℕ) → 0 < length (releases_of_notice notice s)
     → All IsInRange (releases_of_notice notice s) → IsCompiled publisher notice s
 
--- Each release of a notice is at the place that its number says. There are as many as the notice's row counts, and at most `release_limit`.
+-- Each release of a notice is at the place that its number says. Their numbers are those from 1 to the count in the notice's row, at most `release_limit`.
 pub record AreInSequence (notice : List ℕ) (s : Tables) : Type 0 where
   pub place : (k : ℕ) → slice_get (releases_of_notice notice s) k ≡ release_at (notice, k + 1) s
   pub counted : releases_in (notice_at notice s) ≡ length (releases_of_notice notice s)
+  pub numbered : AreSoMany notice (releases_in (notice_at notice s)) s
   pub within : length (releases_of_notice notice s) ≤ release_limit
 
 -- The law: this is true of every notice in an office that its commands made.

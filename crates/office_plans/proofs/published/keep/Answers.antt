@@ -24,25 +24,21 @@ is_kept r s k (Err why) storable loaded keeps release merge reads = tt
 
 pub returns-clause-kept : goal.returns-clause-kept
 returns-clause-kept g c =
-    let first = c.in_ok-taken.ensures.0 in
-    let before = c.in_ok-follows.ensures.0 in
+    let counted = c.in_ok-whole.ensures.all in
     let loaded = c.in_ok-kept.ensures.0 in (
-      c.looks_follow.ensures _ _ _ first.0 (c.looks_follow.ensures _ _ _ before.0 loaded.0),
+      c.looks_follow.ensures _ _ _ counted.0 loaded.0,
       λ honest s held storable keeps.
-          let then = loaded.0.before honest in
-          let here = before.0.same then s (first.0.same (before.0.before then) s held) in
+          let here = counted.0.same (loaded.0.before honest) s held in
           is_kept c.args.released s _ c.keep_release.result storable (loaded.1 honest s here) keeps c.keep_release.ensures.release c.keep_release.ensures.merge
           c.keep_release.ensures.read,
     )
 
 pub returns-clause-goes_on : goal.returns-clause-goes_on
 returns-clause-goes_on g c =
-    let first = c.in_ok-taken.ensures.0 in
-    let before = c.in_ok-follows.ensures.0 in
+    let counted = c.in_ok-whole.ensures.all in
     let loaded = c.in_ok-kept.ensures.0 in (
-      c.looks_follow.ensures _ _ _ first.0 (c.looks_follow.ensures _ _ _ before.0 loaded.0),
+      c.looks_follow.ensures _ _ _ counted.0 loaded.0,
       λ honest s held.
-          let then = loaded.0.before honest in
-          let here = before.0.same then s (first.0.same (before.0.before then) s held) in
+          let here = counted.0.same (loaded.0.before honest) s held in
           has_merge_on c.args.released.notice s _ c.keep_release.result (loaded.1 honest s here) c.keep_release.ensures.goes_on,
     )
