@@ -163,6 +163,11 @@ def merge_gone(name: str) -> str:
     return f"DELETE FROM compiled WHERE notice = '{name}';"
 
 
+def merge_begun(name: str, front: str) -> str:
+    """The merge with this front in the place of its opening bracket."""
+    return f"UPDATE compiled SET text = '{front}' || substr(text, 2) WHERE notice = '{name}';"
+
+
 def of_releases(name: str, is_long: bool) -> list[tuple[str, ...]]:
     """Trials with missing releases of a notice; with more than two of them, also with some. A publication compares the numbers of all releases with the
     notice's count. It continues from their merge, or from all releases if the merge isn't kept."""
@@ -170,6 +175,8 @@ def of_releases(name: str, is_long: bool) -> list[tuple[str, ...]]:
     found = [("all releases", releases_gone(name)), ("all releases and the merge", releases_gone(name) + merge_gone(name)),
              ("the merge", merge_gone(name), ANEW), ("the merge that isn't JSON", f"UPDATE compiled SET text = '{{{{' WHERE notice = '{name}';"),
              ("the merge that is no object", f"UPDATE compiled SET text = '[]' WHERE notice = '{name}';"),
+             ("the merge with a blank", merge_begun(name, "{ ")), ("the merge with a float", merge_begun(name, '{"a":1.5,')),
+             ("the merge whose names aren't in order", merge_begun(name, '{"z":1,')), ("the merge with a name twice", merge_begun(name, '{"a":1,"a":1,')),
              ("the merge, and a release that is no object", merge_gone(name) + f"UPDATE releases SET text = '[]' WHERE notice = '{name}' AND seq = 1;"),
              ("a release with the next number is there", release_added(name, 1)), ("a release with a later number is there", release_added(name, 5))]
     if is_long:

@@ -3,9 +3,10 @@ use Rattle.std.proofs.Common.{◌≡◌, ℕ, ◌≤◌, List, [], ◌∷◌, �
 use Rattle.serde_json.specs.Data.{Data, object, depth}
 use Rattle.serde_json.specs.Read.{read, max_depth}
 use Rattle.serde_json.specs.Written.{compact_text}
-use Rattle.ocds_merge.specs.Stored.{IsObjectText}
+use Rattle.ocds_merge.specs.Stored.{IsObjectText, IsWrittenObject}
 use Rattle.ocds_merge.specs.Inside.Splice.{TextIsKept}
 use Rattle.ocds_merge.specs.Inside.Readable.{Passed, PassedMembers, Reads}
+use Rattle.ocds_merge.proofs.KeptLaw.{kept_plain}
 use Rattle.ocds_merge.proofs.ReadKept.{kept_reads}
 
 whole : (text rest : List ℕ) (d : Data) → TextIsKept d → depth d ≤ max_depth → text ≡ compact_text d ++ rest → rest ≡ [] → Reads text
@@ -15,6 +16,12 @@ whole text rest d kept shallow is none =
 
 pub passed_reads : (text rest : List ℕ) → Passed text rest max_depth → rest ≡ [] → Reads text
 passed_reads text rest p none = whole text rest p.value p.kept p.shallow p.is none
+
+pub object_written : (text inside rest : List ℕ) → text ≡ 123 ∷ inside → PassedMembers inside rest 126 → rest ≡ [] → IsWrittenObject text
+unfolding whole
+object_written text inside rest is p none =
+    let reads = whole text rest (object p.members) p.kept (omega (arith, p.shallow)) (is ∙ ap (λ (l : List ℕ). 123 ∷ l) p.is) none in
+    record { members = p.members; reads = reads.reads; written = reads.is; no_float = kept_plain (object p.members) p.kept }
 
 pub object_reads : (text inside rest : List ℕ) → text ≡ 123 ∷ inside → PassedMembers inside rest 126 → rest ≡ [] → IsObjectText text
 unfolding whole

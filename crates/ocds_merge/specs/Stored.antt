@@ -14,6 +14,14 @@ pub record KeepsMerge (text : List ℕ) (vs : List Data) : Type 0 where
 abbrev pub IsObjectText : List ℕ → Type 0
 IsObjectText text = (members : Members) × (read text ≡ Some (object members))
 
+-- The text is a JSON object as the office writes it: compact, so without blanks, its names in byte order, each once, and without floats. What a text is read as
+-- has its names in that order.
+pub record IsWrittenObject (text : List ℕ) : Type 0 where
+  pub members : Members
+  pub reads : read text ≡ Some (object members)
+  pub written : text ≡ compact_text (object members)
+  pub no_float : has_float (object members) ≡ false
+
 -- the value has no float, and nests no deeper than a JSON text may (127 levels)
 pub record IsStorable (v : Data) : Type 0 where
   pub no_float : has_float v ≡ false

@@ -6,6 +6,7 @@
 
 mod compiling;
 mod examples;
+mod floats;
 mod head;
 mod identified;
 mod kept_value;
@@ -23,6 +24,7 @@ mod step;
 mod stored;
 mod unspliced;
 mod writes;
+mod written;
 
 pub use compiling::compile;
 pub use examples::{worked_columns, worked_compilations, worked_merges};
@@ -32,3 +34,4 @@ pub use merging::{NoMemory, merge_all, merge_into};
 pub use stored::{
     StoredFault, begins_object, is_object, merge_from_text, merge_into_text, merge_to_text,
 };
+pub use written::{continue_text, is_written_object};

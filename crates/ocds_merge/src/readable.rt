@@ -7,7 +7,7 @@ ghost use Rattle.std.specs.Str.Parse.{AllDigits};
 ghost use Rattle.json.specs.Print.{escape, escape_byte, quoted};
 ghost use Rattle.serde_json.specs.Read.{read};
 ghost use Rattle.serde_json.specs.Written.{comma_if};
-ghost use Rattle.ocds_merge.specs.Stored.{IsObjectText};
+ghost use Rattle.ocds_merge.specs.Stored.{IsObjectText, IsWrittenObject};
 ghost use Rattle.ocds_merge.specs.Inside.Readable.{Passed, PassedItems, MembersFrom};
 ghost use Rattle.ocds_merge.specs.Inside.Scan.{scan, between, IsPlain};
 ghost use Rattle.ocds_merge.specs.Inside.Splice.{EndsBefore};
@@ -317,7 +317,8 @@ pub(crate) fn skipped_members<'a>(from: Remaining<'a>, depth: usize) -> Result<&
 /// Whether a text is surely the compact text of an object: its numbers are natural numbers, and its names are in order and have no escapes. Other texts may
 /// be objects too.
 pub(crate) fn is_plain_object(text: &[u8]) -> bool
-    ensures { IsTrue result → IsObjectText text.now }
+    ensures object { IsTrue result → IsObjectText text.now }
+    ensures written { IsTrue result → IsWrittenObject text.now }
 {
     let Some(inside) = after_byte(text, b'{') else {
         return false;

@@ -130,7 +130,7 @@ fn merged_anew(alloc: Global, stored: &str, value: &Value) -> Result<String, Sto
 }
 
 /// The text after one more value, from the stored text itself.
-fn spliced(alloc: Global, stored: &str, value: &Value) -> Result<String, Unspliced>
+pub(crate) fn spliced(alloc: Global, stored: &str, value: &Value) -> Result<String, Unspliced>
     ensures keeps { IfOk result (λ text. (vs : List Data) → read stored.now ≡ Some (merge_or_null vs)
         → All IsStorable (vs ++ view value.now ∷ [])
         → KeepsMerge (string_bytes text) (vs ++ view value.now ∷ [])) }

@@ -20,7 +20,7 @@ ghost use Rattle.office_desk.specs.Extent.{IsExtentOf, IsMeasured, ReadsAsObject
 ghost use Rattle.office_values.specs.Moments.{moment_text};
 ghost use Rattle.office_values.specs.declared.refusal.Refusal.TheVariants.{Unavailable};
 
-use ocds_merge::{is_object, with_compiled_head};
+use ocds_merge::{is_written_object, with_compiled_head};
 use ocds_release::package_texts::{PackageText, open_record, open_releases};
 use office_base::counts::{ReleaseCount, Sequence};
 use office_base::laws::looks_follow;
@@ -55,14 +55,14 @@ fn with_release(extent: Extent, release: &ReleaseRow) -> Extent
     }
 }
 
-// The extent with one more release, if its text is a JSON object.
+// The extent with one more release, if its text is a JSON object as the office writes it.
 fn with_readable(alloc: Global, extent: Extent, release: &ReleaseRow) -> Result<Extent, Refusal>
     ensures last { IfOk result (λ with. with.last ≡ Some release.now.moment) }
     ensures range { OnOk result (IsInRange release.now) }
     ensures reads { OnOk result (ReadsAsObject release.now) }
     ensures none { IfErr result (λ why. why ≡ Unavailable) }
 {
-    match is_object(alloc, release.text.as_str()) {
+    match is_written_object(alloc, release.text.as_str()) {
         Ok(true) => Ok(with_release(extent, release)),
         Ok(false) | Err(_) => Err(Refusal::Unavailable),
     }
@@ -83,7 +83,7 @@ fn load_release<H: Lookups>(shelf: &mut H, notice: &Id, place: u64) -> Result<Re
     }
 }
 
-// The extent of this many releases of a notice, if each of their texts is a JSON object.
+// The extent of this many releases of a notice, if each of their texts is a JSON object as the office writes it.
 fn measure<H: Lookups>(
     alloc: Global,
     shelf: &mut H,
