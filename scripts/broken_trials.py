@@ -165,7 +165,8 @@ def merge_gone(name: str) -> str:
 
 def merge_begun(name: str, front: str) -> str:
     """The merge with this front in the place of its opening bracket."""
-    return f"UPDATE compiled SET text = '{front}' || substr(text, 2) WHERE notice = '{name}';"
+    written = front.replace("{", "{{")
+    return f"UPDATE compiled SET text = '{written}' || substr(text, 2) WHERE notice = '{name}';"
 
 
 def of_releases(name: str, is_long: bool) -> list[tuple[str, ...]]:
