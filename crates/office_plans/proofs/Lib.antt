@@ -1,4 +1,4 @@
-pub mod AllBefore
+pub mod OneByOne
 pub mod Decided
 pub mod KeptObjects
 pub mod LookedUp

@@ -29,13 +29,13 @@ before_next seq n next = omega (arith, next)
 
 -- The release comes after the last one of its notice, and it joins the merge.
 pub follows : (publisher : Publisher) (x : Given) (r : Released) → IsReleased publisher x r → has_last_release r.notice (r.seq - 1) x.before ≡ true
-    → has_release r.notice r.seq x.before ≡ false → HasMerge r.notice x.before → AreSoMany r.notice (r.seq - 1) x.before → FollowsReleases x
+    → has_release r.notice (r.seq - 1 + 1) x.before ≡ false → HasMerge r.notice x.before → AreSoMany r.notice (r.seq - 1) x.before → FollowsReleases x
 follows publisher x r released there new merge many notice is =
     let found : Some r.notice ≡ Some notice = sym released.for_notice ∙ is in
     let same : r.notice ≡ notice = cc in
     let number = before_next r.seq (releases_in (notice_at r.notice x.before)) released.next in
     let last = ap (λ k. has_last_release r.notice k x.before) (sym number) ∙ there in
-    let next = ap (λ k. has_release r.notice k x.before) (sym released.next) ∙ new in
+    let next = ap (λ k. has_release r.notice (k + 1) x.before) (sym number) ∙ new in
     let counted = subst (λ (k : ℕ). AreSoMany r.notice k x.before) number many in
     subst (λ (n : List ℕ). CanBeFollowed n x.before) same (record { last = last; next = next; merge = merge; counted = counted })
 

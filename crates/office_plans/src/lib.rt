@@ -14,6 +14,7 @@ mod outstanding;
 mod parents;
 pub mod planned;
 mod published;
+pub mod release_numbers;
 mod replies;
 mod standings;
 mod tenderers;

@@ -7,7 +7,6 @@ ghost use Rattle.office_base.specs.Shelves.{Looks, LooksUp};
 ghost use Rattle.office_base.specs.Tables.{Tables, notice_at};
 ghost use Rattle.office_base.specs.declared.puts.Put.TheVariants.{Compiled, Release};
 ghost use Rattle.office_machine.specs.Counted.{releases_in};
-ghost use Rattle.office_machine.specs.Fates.{numbers};
 ghost use Rattle.office_commands.specs.Commands.{IsCommand};
 ghost use Rattle.office_machine.specs.Lacking.{is_lacking};
 ghost use Rattle.office_machine.specs.Machine.{Given, effect, refusal_of, time_of};
@@ -23,6 +22,7 @@ ghost use Rattle.office_values.specs.declared.refusal.Refusal.TheVariants.{Unava
 ghost use Rattle.office_values.specs.declared.settings.Publisher.{Publisher as PublisherOf};
 
 use crate::planned::Planned;
+use crate::release_numbers::has_releases_to;
 use ocds_release::event::Event;
 use ocds_release::laws::releases_can_be_kept;
 use ocds_release::release_of::release_of_event;
@@ -31,7 +31,7 @@ use office_base::laws::looks_follow;
 use office_base::puts::Put;
 use office_base::records::NoticeRow;
 use office_base::shelf::{Lookups, ShelfFault};
-use office_publications::laws::{keeping, numbering};
+use office_publications::laws::keeping;
 use office_publications::merges::load_kept;
 use office_publications::publication::{Publication, keep_release};
 use office_values::id::Id;
@@ -91,36 +91,6 @@ pub(crate) fn make_release<'a>(
     }
 }
 
-// Whether these are the numbers from 1 up to the one before this.
-fn are_all_before(found: &[Sequence], seq: Sequence) -> bool
-    ensures all { result ≡ true → found.now ≡ numbers 1 (seq - 1) }
-    ensures other { result ≡ false → ¬ (found.now ≡ numbers 1 (seq - 1)) }
-{
-    if found.len() as u64 != seq.get() - 1 {
-        return false;
-    }
-    let mut next: u64 = 1;
-    for number in found {
-        if number.get() != next {
-            return false;
-        }
-        next += 1;
-    }
-    true
-}
-
-// Whether the notice has the releases before this number, and no others. Then its last release exists, and none has this number. No text is read.
-fn has_all_before<H: Lookups>(shelf: &mut H, notice: &Id, seq: Sequence) -> Result<bool, ShelfFault>
-    ensures all { Looks H.meaning shelf.old shelf.new (λ s. IfOk result (λ all. all ≡ true → AreSoMany notice.now (seq - 1) s)) }
-    ensures other { Looks H.meaning shelf.old shelf.new (λ s. IfOk result (λ all. all ≡ false → ¬ (AreSoMany notice.now (seq - 1) s))) }
-    ensures last { Looks H.meaning shelf.old shelf.new (λ s. IfOk result (λ all. all ≡ true → has_last_release notice.now (seq - 1) s ≡ true)) }
-    ensures next { Looks H.meaning shelf.old shelf.new (λ s. IfOk result (λ all. all ≡ true → has_release notice.now seq s ≡ false)) }
-{
-    numbering();
-    let found = shelf.list_release_numbers(notice)?;
-    Ok(are_all_before(found.as_slice(), seq))
-}
-
 // The release as it is stored, and the merge that it joins. Reads the numbers of the notice's releases and its merge, or all its releases if no merge is stored.
 // `Unavailable` if the releases aren't those before this one, or if the stored merge isn't an object. If no merge is stored, `Unavailable` also if a release isn't
 // an object. So nothing is published over a release or after a gap.
@@ -131,13 +101,13 @@ fn keep<H: Lookups>(
 ) -> Result<Publication, Refusal>
     ensures kept { Looks H.meaning shelf.old shelf.new (λ s. IsStorable (view released.release) → KeepsReleasesOf released.notice s → IfOk result (IsKept s released)) }
     ensures follows { Looks H.meaning shelf.old shelf.new (λ s. OnOk result (has_last_release released.notice (released.seq - 1) s ≡ true)) }
-    ensures next { Looks H.meaning shelf.old shelf.new (λ s. OnOk result (has_release released.notice released.seq s ≡ false)) }
+    ensures next { Looks H.meaning shelf.old shelf.new (λ s. OnOk result (has_release released.notice (released.seq - 1 + 1) s ≡ false)) }
     ensures goes_on { Looks H.meaning shelf.old shelf.new (λ s. OnOk result (HasMerge released.notice s)) }
     ensures counted { Looks H.meaning shelf.old shelf.new (λ s. OnOk result (AreSoMany released.notice (released.seq - 1) s)) }
     ensures none { IfErr result (λ why. why ≡ Unavailable) }
 {
     looks_follow::<H>();
-    let whole = has_all_before(shelf, &released.notice, released.seq)?;
+    let whole = has_releases_to(shelf, &released.notice, released.seq.get() - 1)?;
     if !whole {
         return Err(Refusal::Unavailable);
     }

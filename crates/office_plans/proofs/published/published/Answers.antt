@@ -1,4 +1,4 @@
-use Rattle.std.specs.Prelude.{◌-◌}
+use Rattle.std.specs.Prelude.{◌-◌, ◌+◌}
 use Rattle.std.proofs.Common.{sym, subst, ap, ◌∙◌}
 use Rattle.office_base.specs.Tables.{Tables}
 use Rattle.office_publications.specs.Keeping.{KeepsReleasesOf, has_last_release, has_release}
@@ -19,7 +19,7 @@ returns g c =
           let onto = c.in_ok-publication.ensures.goes_on.1 honest s held in
           let many = c.in_ok-publication.ensures.counted.1 honest s held in
           is_planned publisher x r p released given allowed whole
-          (follows publisher x r released (ap (λ (u : Tables). has_last_release r.notice (r.seq - 1) u) at ∙ behind) (ap (λ (u : Tables). has_release r.notice r.seq u) at ∙ new) (subst (λ (u : Tables). HasMerge r.notice u) (sym at) onto)
+          (follows publisher x r released (ap (λ (u : Tables). has_last_release r.notice (r.seq - 1) u) at ∙ behind) (ap (λ (u : Tables). has_release r.notice (r.seq - 1 + 1) u) at ∙ new) (subst (λ (u : Tables). HasMerge r.notice u) (sym at) onto)
           (subst (λ (u : Tables). AreSoMany r.notice (r.seq - 1) u) (sym at) many)) c.args.puts.items c.args.text.items is told
           (λ keeps. subst (λ (u : Tables). IsKept u r p) (sym at)
           (kept.1 honest s held released.storable (subst (KeepsReleasesOf r.notice) at (keeps r.notice released.for_notice))))

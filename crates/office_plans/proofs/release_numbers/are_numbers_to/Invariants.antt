@@ -1,6 +1,6 @@
 use Rattle.std.proofs.Common.{◌≡◌, ◌+◌, drop}
-use Rattle.office_plans.proofs.AllBefore.{are_from}
-use Rattle.office_plans.proofs.published.are_all_before.Given as goal
+use Rattle.office_plans.proofs.OneByOne.{are_from}
+use Rattle.office_plans.proofs.release_numbers.are_numbers_to.Given as goal
 
 -- the numbers from here on are tested, and those before were right
 abbrev pub invariant-loop-number : goal.invariant-loop-number
