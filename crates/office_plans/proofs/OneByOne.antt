@@ -27,3 +27,7 @@ numbers_are (suc k) n = ap₂ (λ (b c : Bool). b && c) same (numbers_are k (n +
   where
     same : nat_eq n n ≡ true
     same = grind (arith, nat_tests)
+
+-- the first of these numbers is the one that is asked for
+pub first_is : (n x : ℕ) (xs : List ℕ) → are_from n (x ∷ xs) ≡ true → x ≡ n
+first_is n x xs are = let both = and_parts (nat_eq x n) (are_from (n + 1) xs) are in grind (arith, nat_tests, both.0)
