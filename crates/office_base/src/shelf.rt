@@ -5,10 +5,12 @@ ghost use Rattle.office_base.specs.Tables.{Tables, IsSorted};
 ghost use Rattle.office_base.specs.Tables.{line_at, batch_at, tenderer_at, notice_at, lot_at, envelope_at, seal_at, security_at, award_at, contract_at, entry_at, release_at, compiled_at, late_at, performance_at, lots_of_notice, lots_of_line, envelopes_of_notice, envelopes_of_lot, envelopes_of_tenderer, securities_of_notice, securities_of_lot, awards_of_notice, contracts_of_notice, entries_of_contract, releases_of_notice};
 ghost use Rattle.office_base.specs.Pages.{notices_after, tenderers_after};
 ghost use Rattle.office_base.specs.Joined.{amounts_of_line, ledger_of, LinesFit};
-ghost use Rattle.office_base.specs.Shelves.{Meaning, Keeps, LooksUp, AddsUp, Changes};
+ghost use Rattle.office_base.specs.Shelves.{Meaning, Keeps, Looks, LooksUp, AddsUp, Changes};
+ghost use Rattle.office_base.specs.PotsAnswers.{IsRowPotsAnswer};
 
 use crate::counts::Sequence;
-use crate::ledger::{LedgerRow, LineAmounts};
+use crate::ledger::{LedgerRow, LineAmounts, Pots};
+use crate::pots::pots_over;
 use crate::puts::Put;
 use crate::records::{
     AwardRow, BatchRow, ClockRow, CompiledRow, ContractRow, EntryRow, EnvelopeRow, LateRow,
@@ -194,6 +196,21 @@ pub trait Lookups {
     /// order of their numbers.
     fn list_amounts_of_line(&mut self, line: &Id) -> Result<LineAmounts, ShelfFault>
         ensures { LooksUp meaning self.old self.new result (λ t amounts. amounts ≡ amounts_of_line line.now t) };
+
+    /// The balances of the budget line with this row. If a sum is outside its range, the error is `Store`, and no fault of the store is counted.
+    fn sum_line(&mut self, row: &LineRow) -> Result<Pots, ShelfFault>
+        ensures { Looks meaning self.old self.new (IsRowPotsAnswer meaning.may_break row.now (meaning.fault_count self.old) (meaning.fault_count self.new) result) }
+    {
+        let amounts = self.list_amounts_of_line(&row.line)?;
+        match pots_over(
+            row,
+            amounts.reserved.as_slice(),
+            amounts.contracts.as_slice(),
+        ) {
+            Some(pots) => Ok(pots),
+            None => Err(ShelfFault::Store),
+        }
+    }
 
     /// The balances of each budget line, in the order of their identifiers. A sum outside its range is a fault of the store, and is counted.
     fn ledger(&mut self) -> Result<Vec<LedgerRow>, ShelfFault>

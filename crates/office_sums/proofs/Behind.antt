@@ -1,0 +1,21 @@
+-- What changes do behind look-ups.
+use Rattle.std.specs.Prelude.{◌≡◌, ◌⊎◌, List}
+use Rattle.std.proofs.Common.{inl, inr}
+use Rattle.office_base.specs.Faults.{IsFaultOf}
+use Rattle.office_base.specs.Shelves.{Meaning, Keeps}
+use Rattle.office_base.specs.Tables.{Tables}
+use Rattle.office_base.specs.declared.puts.Put.{Put}
+use Rattle.office_base.specs.declared.shelf.ShelfFault.{ShelfFault}
+use Rattle.office_base.specs.declared.shelf.ShelfFault.TheVariants.{NoMemory, Store}
+use Rattle.office_sums.specs.Failing.{FailsBehindLooks}
+
+module _ {S : Type 0} (M : Meaning S) (old middle new : S) (keeps : Keeps M old middle) where
+  pub fails_behind : (puts : List Put) (fault : ShelfFault) → IsFaultOf (M.has_failed middle new puts) fault → IsFaultOf (FailsBehindLooks M old new puts) fault
+  fails_behind puts NoMemory h = tt
+  fails_behind puts Store h = record { middle = middle; looks = keeps; failed = h }
+
+  -- what a stop leaves, of what is held and remembered
+  pub leaves_behind : (Also : Tables → Type 0) (change : Tables → Tables) (u : Tables) → M.honest middle → M.may_leave middle u ⊎ ((t : Tables) → M.holds middle t → u ≡ change t)
+      → M.may_leave old u ⊎ ((t : Tables) → M.holds old t × Also t → u ≡ change t)
+  leaves_behind Also change u honest (inl left) = inl (keeps.stop honest u left)
+  leaves_behind Also change u honest (inr is) = inr (λ t held. is t (keeps.same honest t held.0))

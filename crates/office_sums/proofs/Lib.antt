@@ -1,0 +1,9 @@
+pub mod PutRows
+pub mod PutAmounts
+pub mod Staying
+pub mod SumsStaying
+pub mod Forgotten
+pub mod Asked
+pub mod Behind
+pub mod LedgerSoFar
+pub mod LedgerTold

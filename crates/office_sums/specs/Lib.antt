@@ -1,0 +1,4 @@
+pub mod Touched
+pub mod Remembered
+pub mod Failing
+pub mod RememberingMeaning
