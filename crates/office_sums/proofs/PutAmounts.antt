@@ -1,4 +1,4 @@
--- What is joined with a line after one change that doesn't touch it.
+-- One change that doesn't touch a line leaves the amounts that add up to its sums.
 use Rattle.std.specs.Prelude.{◌≡◌, ℕ, ◌+◌, Bool, true, false, cond, ◌&&◌, List, [], ◌∷◌, ◌++◌, map, filter, Option, Some, None}
 use Rattle.std.proofs.Common.{refl, sym, ap, ◌∙◌, arith}
 use Rattle.std.specs.List.{AllByRecursion}
@@ -23,29 +23,21 @@ use Rattle.office_base.proofs.RowLaws.{row_at-row_put}
 use Rattle.office_base.proofs.RowLaws.Found.{each_found, found_compares}
 use Rattle.office_base.proofs.RowLaws.Keyed.{IsKeyed}
 use Rattle.office_base.proofs.SumsOver.{weight, sum_over-put}
+use Rattle.office_sums.proofs.NoneOf.{none_of_first, none_of_second}
 use Rattle.office_sums.proofs.PutRows.{filter-put, filter-ext, map-filter-ext}
-use Rattle.office_sums.specs.Touched.{line_in, line_under, touched, IsNoneOf, joined_amounts}
+use Rattle.office_sums.specs.Touched.{lines_of_lot, lines_of_contract, touched, IsNoneOf, joined_amounts}
 
--- a lot that isn't of the line, or is none
-pub lot_apart : (line : List ℕ) (lot : Option LotRow) → IsNoneOf line (line_in lot) → holds_of (of_line line) lot ≡ false
+-- a lot that isn't on the line, or that doesn't exist
+pub lot_apart : (line : List ℕ) (lot : Option LotRow) → IsNoneOf line (lines_of_lot lot) → holds_of (of_line line) lot ≡ false
 lot_apart line None h = refl
 lot_apart line (Some lot) h = h.0
 
--- of two lists of lines
-pub none_of_first : (line : List ℕ) (xs ys : List (List ℕ)) → IsNoneOf line (xs ++ ys) → IsNoneOf line xs
-none_of_first line [] ys h = tt
-none_of_first line (x ∷ xs) ys h = (h.0, none_of_first line xs ys h.1)
-
-pub none_of_second : (line : List ℕ) (xs ys : List (List ℕ)) → IsNoneOf line (xs ++ ys) → IsNoneOf line ys
-none_of_second line [] ys h = h
-none_of_second line (x ∷ xs) ys h = none_of_second line xs ys h.1
-
--- a contract that is none, or whose lot isn't of the line
-pub contract_apart : (line : List ℕ) (t : Tables) (c : Option ContractRow) → IsNoneOf line (line_under t c) → holds_of (is_on_line t.lots line) c ≡ false
+-- a contract that doesn't exist, or whose lot isn't on the line
+pub contract_apart : (line : List ℕ) (t : Tables) (c : Option ContractRow) → IsNoneOf line (lines_of_contract t c) → holds_of (is_on_line t.lots line) c ≡ false
 contract_apart line t None h = refl
 contract_apart line t (Some c) h = lot_apart line (find_lot t.lots (c.notice, c.lot)) h
 
--- a lot: no contract comes to the line or leaves it
+-- a changed lot brings no contract to the line and takes none from it
 module _ (line : List ℕ) (lots : List LotRow) (l : LotRow) (new : same_id l.line line ≡ false) (old : holds_of (of_line line) (find_lot lots (lot_key l)) ≡ false) where
   lot_step : (k : List ℕ × List ℕ) (b : Bool) → eq_by_cmp lot_cmp k (lot_key l) ≡ b
       → holds_of (of_line line) (cond b (Some l) (find_lot lots k)) ≡ holds_of (of_line line) (find_lot lots k)
@@ -57,7 +49,7 @@ module _ (line : List ℕ) (lots : List LotRow) (l : LotRow) (new : same_id l.li
       ap (holds_of (of_line line)) (row_at-row_put lots_total lot_key lots l (c.notice, c.lot))
       ∙ lot_step (c.notice, c.lot) (eq_by_cmp lot_cmp (c.notice, c.lot) (lot_key l)) refl
 
--- an entry: the sums of each other contract are as before
+-- a changed entry leaves the sums of each other contract
 module _ (entries : List EntryRow) (e : EntryRow) (contract : ℕ) (other : same_number e.contract contract ≡ false) where
   abbrev amount_of : (EntryKind → Bool) → EntryRow → ℕ
   amount_of kind e = cond (kind e.kind && same_number e.contract contract) e.amount 0
@@ -83,7 +75,6 @@ sums_of-put entries e c other =
     ∙ ap (λ n. record { gained = c.signed + entry_sum is_raise entries c.contract; lost = n + c.released; paid = entry_sum is_payment (put_entry entries e) c.contract }) (entry_sum-put entries e c.contract other is_less)
     ∙ ap (λ n. record { gained = c.signed + entry_sum is_raise entries c.contract; lost = entry_sum is_less entries c.contract + c.released; paid = n }) (entry_sum-put entries e c.contract other is_payment)
 
--- numbers of contracts
 numbers_keyed : IsKeyed nat_cmp contract_key
 numbers_keyed = record { total = nat_cmp_total; exact = nat_cmp-IsAntisymmetric }
 
@@ -112,8 +103,8 @@ amounts-put (puts.Lot l) t line sorted h =
 amounts-put (puts.Contract c) t line sorted h =
     ap (λ (cs : List ContractRow). record { reserved = reservations line t; contracts = map (sums_of t.entries) cs })
     (filter-put nat_cmp contract_key (is_on_line t.lots line) t.contracts c
-    (contract_apart line t (Some c) (none_of_first line (line_under t (Some c)) (line_under t (find_contract t.contracts c.contract)) h))
-    (contract_apart line t (find_contract t.contracts c.contract) (none_of_second line (line_under t (Some c)) (line_under t (find_contract t.contracts c.contract)) h)))
+    (contract_apart line t (Some c) (none_of_first line (lines_of_contract t (Some c)) (lines_of_contract t (find_contract t.contracts c.contract)) h))
+    (contract_apart line t (find_contract t.contracts c.contract) (none_of_second line (lines_of_contract t (Some c)) (lines_of_contract t (find_contract t.contracts c.contract)) h)))
 amounts-put (puts.Entry e) t line sorted h =
     ap (λ (sums : List ContractSums). record { reserved = reservations line t; contracts = sums })
     (map-filter-ext (sums_of (put_entry t.entries e)) (sums_of t.entries) (is_on_line t.lots line) t.contracts

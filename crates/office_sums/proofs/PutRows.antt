@@ -1,4 +1,4 @@
--- The rows that pass a test, where one that doesn't is put in place of one that doesn't.
+-- The rows that pass a test stay if a put row fails the test and replaces none or one that fails it.
 use Rattle.std.specs.Prelude.{◌≡◌, Bool, true, false, cond, List, [], ◌∷◌, map, filter, Some, None}
 use Rattle.std.proofs.Common.{refl, sym, ap, ◌∙◌}
 use Rattle.std.specs.List.{AllByRecursion}
@@ -30,7 +30,7 @@ map_step : {X Y : Type 0} (f g : X → Y) (x : X) (kept : List X) → map f kept
 map_step f g x kept ih true h = ap (λ y. y ∷ map f kept) (h refl) ∙ ap (λ ys. g x ∷ ys) ih
 map_step f g x kept ih false h = ih
 
--- what is made of the rows that pass, where it is alike for each of them
+-- two functions that agree on each row that passes make the same of these rows
 pub map-filter-ext : {X Y : Type 0} (f g : X → Y) (p : X → Bool) (xs : List X) → AllByRecursion (λ x. p x ≡ true → f x ≡ g x) xs → map f (filter p xs) ≡ map g (filter p xs)
 map-filter-ext f g p [] h = refl
 map-filter-ext f g p (x ∷ xs) h = map_step f g x (filter p xs) (map-filter-ext f g p xs h.1) (p x) h.0

@@ -1,4 +1,4 @@
--- What is joined with a line after changes that don't touch it.
+-- Changes that don't touch a line leave the amounts that add up to its sums.
 use Rattle.std.specs.Prelude.{ℕ, Bool, true, false, cond, List, [], ◌∷◌, ◌++◌, Option, Some, None}
 use Rattle.std.proofs.Common.{refl, sym, subst, ◌∙◌}
 use Rattle.std.specs.Ordering.{nat_cmp, eq_by_cmp}
@@ -11,32 +11,29 @@ use Rattle.office_base.specs.declared.puts.Put.TheVariants as puts
 use Rattle.office_base.proofs.Orders.{lots_total}
 use Rattle.office_base.proofs.RowLaws.{row_at-row_put}
 use Rattle.office_base.proofs.SortedTables.{sorted-put}
-use Rattle.office_sums.proofs.PutAmounts.{none_of_first, none_of_second, amounts-put}
-use Rattle.office_sums.specs.Touched.{line_in, line_under, touched, touched_by, IsNoneOf, AmountsStay}
+use Rattle.office_sums.proofs.NoneOf.{none_of_both, none_of_first, none_of_second}
+use Rattle.office_sums.proofs.PutAmounts.{amounts-put}
+use Rattle.office_sums.specs.Touched.{lines_of_lot, lines_of_contract, touched, touched_by, IsNoneOf, AmountsStay}
 
-none_of_both : (line : List ℕ) (xs ys : List (List ℕ)) → IsNoneOf line xs → IsNoneOf line ys → IsNoneOf line (xs ++ ys)
-none_of_both line [] ys a b = b
-none_of_both line (x ∷ xs) ys a b = (a.0, none_of_both line xs ys a.1 b)
-
--- one of two holds of the one that is taken
+-- what is true of both is true of the one that is chosen
 of_cond : {A : Type 0} (P : A → Type 0) (b : Bool) (x y : A) → P x → P y → P (cond b x y)
 of_cond P true x y p q = p
 of_cond P false x y p q = q
 
 module _ (line : List ℕ) where
   abbrev lot_misses : Option LotRow → Type 0
-  lot_misses o = IsNoneOf line (line_in o)
+  lot_misses o = IsNoneOf line (lines_of_lot o)
 
   abbrev contract_misses : Tables → Option ContractRow → Type 0
-  contract_misses t o = IsNoneOf line (line_under t o)
+  contract_misses t o = IsNoneOf line (lines_of_contract t o)
 
-  -- a lot that is found after a change: of what touches the line none comes from the change
+  -- a lot that a change puts isn't on a line that the change doesn't touch
   lot_kept : (p : Put) (t : Tables) (k : List ℕ × List ℕ) → IsNoneOf line (touched p t) → lot_misses (lot_at k t) → lot_misses (lot_at k (after_put p t))
   lot_kept (puts.Lot l) t k new h =
       subst lot_misses (sym (row_at-row_put lots_total lot_key t.lots l k)) (of_cond lot_misses (eq_by_cmp lot_cmp k (lot_key l)) (Some l) (find_lot t.lots k) (new.0, tt) h)
   lot_kept _ t k new h = h
 
-  -- a contract, as it is and as it is found
+  -- the lot of a contract isn't on it either, nor is the lot of a contract that is found
   under_kept : (p : Put) (t : Tables) (o : Option ContractRow) → IsNoneOf line (touched p t) → contract_misses t o → contract_misses (after_put p t) o
   under_kept p t None new h = tt
   under_kept p t (Some c) new h = lot_kept p t (c.notice, c.lot) new h
@@ -45,19 +42,19 @@ module _ (line : List ℕ) where
   found_kept (puts.Contract c) t k new h =
       subst (contract_misses t) (sym (row_at-row_put nat_cmp_total contract_key t.contracts c k))
       (of_cond (contract_misses t) (eq_by_cmp nat_cmp k c.contract) (Some c) (find_contract t.contracts k)
-      (none_of_first line (line_under t (Some c)) (line_under t (find_contract t.contracts c.contract)) new) h)
+      (none_of_first line (lines_of_contract t (Some c)) (lines_of_contract t (find_contract t.contracts c.contract)) new) h)
   found_kept _ t k new h = h
 
   contract_kept : (p : Put) (t : Tables) (k : ℕ) → IsNoneOf line (touched p t) → contract_misses t (contract_at k t) → contract_misses (after_put p t) (contract_at k (after_put p t))
   contract_kept p t k new h = under_kept p t (contract_at k (after_put p t)) new (found_kept p t k new h)
 
-  -- a change that doesn't touch the line lets none of those touch it that didn't before
+  -- if a change doesn't touch the line, a second change that didn't touch it before doesn't touch it after the first
   one_kept : (p q : Put) (t : Tables) → IsNoneOf line (touched p t) → IsNoneOf line (touched q t) → IsNoneOf line (touched q (after_put p t))
   one_kept p (puts.Lot r) t new h = (h.0, lot_kept p t (lot_key r) new h.1)
   one_kept p (puts.Contract r) t new h =
-      none_of_both line (line_under (after_put p t) (Some r)) (line_under (after_put p t) (contract_at r.contract (after_put p t)))
-      (under_kept p t (Some r) new (none_of_first line (line_under t (Some r)) (line_under t (contract_at r.contract t)) h))
-      (contract_kept p t r.contract new (none_of_second line (line_under t (Some r)) (line_under t (contract_at r.contract t)) h))
+      none_of_both line (lines_of_contract (after_put p t) (Some r)) (lines_of_contract (after_put p t) (contract_at r.contract (after_put p t)))
+      (under_kept p t (Some r) new (none_of_first line (lines_of_contract t (Some r)) (lines_of_contract t (contract_at r.contract t)) h))
+      (contract_kept p t r.contract new (none_of_second line (lines_of_contract t (Some r)) (lines_of_contract t (contract_at r.contract t)) h))
   one_kept p (puts.Entry r) t new h = contract_kept p t r.contract new h
   one_kept p _ t new h = tt
 

@@ -1,4 +1,4 @@
--- The sums of lines that changes don't touch.
+-- The sums of lines that changes don't touch stay.
 use Rattle.std.specs.Prelude.{◌≡◌, ℕ, ◌≤◌, List, [], ◌∷◌, map}
 use Rattle.std.proofs.Common.{sym, ap, subst, ◌∙◌}
 use Rattle.std.specs.List.{AllByRecursion}
@@ -14,13 +14,12 @@ use Rattle.office_base.proofs.SumsOver.{sum_over-map}
 use Rattle.office_sums.proofs.Staying.{amounts_stay}
 use Rattle.office_sums.specs.Touched.{joined_amounts}
 use Rattle.office_sums.specs.Remembered.{AreSums, SumsStay}
-use Rattle.office_sums.specs.declared.sums.LineSums.{LineSums}
 
--- a sum by contracts is one by their sums
+-- a sum over contracts is a sum over their sums
 by_sums : (t : Tables) (f : ContractSums → ℕ) (cs : List ContractRow) → sum_over (λ m. m) (map (λ c. f (sums_of t.entries c)) cs) ≡ sum_over f (map (sums_of t.entries) cs)
 by_sums t f cs = sum_over-map (λ m. m) (λ c. f (sums_of t.entries c)) cs ∙ sym (sum_over-map f (sums_of t.entries) cs)
 
--- nothing is taken from a contract that wasn't put in, by their sums
+-- no contract with these sums lost more than it gained
 abbrev AreWithin : List ContractSums → Type 0
 AreWithin sums = AllByRecursion (λ (s : ContractSums). s.lost ≤ s.gained) sums
 
@@ -53,15 +52,12 @@ module _ (line : List ℕ) (t u : Tables) (same : joined_amounts line u ≡ join
     paid_fits = subst (λ n. n ≤ total_limit) paid_same h.paid_fits;
   }
 
-sums_same : (sums : LineSums) (t u : Tables) → joined_amounts sums.line u ≡ joined_amounts sums.line t → AreSums sums t → AreSums sums u
-sums_same sums t u same h = record {
-  reserved_is = h.reserved_is ∙ reserved_same sums.line t u same;
-  contracted_is = h.contracted_is ∙ contracted_same sums.line t u same;
-  paid_is = h.paid_is ∙ paid_same sums.line t u same;
-  fit = fits_same sums.line t u same h.fit;
-}
-
 pub sums_stay : SumsStay
-sums_stay [] puts t sorted apart h = tt
-sums_stay (sums ∷ rows) puts t sorted apart h =
-    (sums_same sums t (after_puts puts t) (amounts_stay puts t sums.line sorted apart.0) h.0, sums_stay rows puts t sorted apart.1 h.1)
+sums_stay known puts t sorted apart h line sums found =
+    let same : joined_amounts line (after_puts puts t) ≡ joined_amounts line t = amounts_stay puts t line sorted (apart line sums found) in
+    let are : AreSums line sums t = h line sums found in record {
+      reserved_is = are.reserved_is ∙ reserved_same line t (after_puts puts t) same;
+      contracted_is = are.contracted_is ∙ contracted_same line t (after_puts puts t) same;
+      paid_is = are.paid_is ∙ paid_same line t (after_puts puts t) same;
+      fit = fits_same line t (after_puts puts t) same are.fit;
+    }

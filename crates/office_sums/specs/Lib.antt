@@ -1,4 +1,3 @@
 pub mod Touched
 pub mod Remembered
-pub mod Failing
 pub mod RememberingMeaning

@@ -1,116 +1,115 @@
-//! Sums and pots of budget lines, made of each other.
-ghost use Rattle.std.specs.Prelude.{◌≡◌};
-ghost use Rattle.office_base.specs.Joined.{ledger_of, LinesFit};
-ghost use Rattle.office_base.specs.PotsAnswers.{IsRowPotsAnswer};
-ghost use Rattle.office_base.specs.Shelves.{Keeps, SumsAnswer};
+//! The balances of budget lines, from the sums that are remembered or else from the store.
+ghost use Rattle.std.specs.Prelude.{◌≡◌, IfErr, IfOk};
+ghost use Rattle.office_base.specs.Faults.{IsFaultOf};
+ghost use Rattle.office_base.specs.Joined.{ledger_of, pots_of, LineFits, LinesFit};
+ghost use Rattle.office_base.specs.Shelves.{Keeps, LooksUp, SumsAnswer};
 ghost use Rattle.office_base.specs.Tables.{Tables};
-ghost use Rattle.office_sums.specs.Remembered.{pots_with, sums_in, AreSums, Remembers, ArePotsWithin, TellSums};
+ghost use Rattle.office_sums.specs.Remembered.{AreBalances, IsSummed, Remembers};
 
-use crate::sums::LineSums;
-use keyed_table::table::Table;
+use crate::laws::nothing_remembered;
+use crate::remembered::RememberedSums;
+use crate::sums::pots_by;
 use office_base::ledger::{LedgerRow, Pots};
-use office_base::pots::pots_of_line;
+use office_base::pots::{joined_sums, pots_over};
 use office_base::records::LineRow;
 use office_base::shelf::{Lookups, ShelfFault};
 use std::alloc::Global;
 
-// The pots of the line with this row and these sums.
-pub(crate) fn pots_with(row: &LineRow, sums: &LineSums) -> Pots
-    ensures { result ≡ pots_with row.now sums.now }
+// The balances of the line with this row, which the store adds up; None if a sum is outside its range.
+fn added_up<H: Lookups>(shelf: &mut H, row: &LineRow) -> Result<Option<Pots>, ShelfFault>
+    ensures { LooksUp H.meaning shelf.old shelf.new result (λ t summed. IsSummed row.now t summed) }
 {
-    Pots {
-        appropriation: row.appropriation,
-        free: row.free,
-        reserved: sums.reserved,
-        contracted: sums.contracted,
-        paid: sums.paid,
+    joined_sums();
+    let amounts = shelf.list_amounts_of_line(&row.line)?;
+    Ok(pots_over(
+        row,
+        amounts.reserved.as_slice(),
+        amounts.contracts.as_slice(),
+    ))
+}
+
+/// The balances of the line with this row; None if a sum is outside its range. They come from the sums that are remembered. Otherwise the store adds up, and the
+/// sums are remembered if there is memory for them.
+pub fn sum_row<H: Lookups>(
+    shelf: &mut H,
+    known: &mut RememberedSums,
+    row: &LineRow,
+) -> Result<Option<Pots>, ShelfFault>
+    ensures keeps { Keeps H.meaning shelf.old shelf.new }
+    ensures right { H.meaning.honest shelf.new → (t : Tables) → H.meaning.holds shelf.old t → Remembers known.old t → IfOk result (λ summed. IsSummed row.now t summed) }
+    ensures cause { IfErr result (IsFaultOf H.meaning.may_break) }
+    ensures kept { H.meaning.honest shelf.new → (t : Tables) → H.meaning.holds shelf.old t → Remembers known.old t → Remembers known.new t }
+{
+    if let Some(sums) = known.get(&row.line) {
+        return Ok(Some(pots_by(row, sums)));
+    }
+    let summed = added_up(shelf, row)?;
+    known.remember_summed(row, &summed);
+    Ok(summed)
+}
+
+// The balances of the line with this row; a sum outside its range is a fault of the store.
+fn pots_of_row<H: Lookups>(
+    shelf: &mut H,
+    known: &mut RememberedSums,
+    row: &LineRow,
+) -> Result<Pots, ShelfFault>
+    ensures keeps { Keeps H.meaning shelf.old shelf.new }
+    ensures right { H.meaning.honest shelf.new → (t : Tables) → H.meaning.holds shelf.old t → Remembers known.old t
+        → SumsAnswer H.meaning.may_break (λ t pots. pots ≡ pots_of row.now t) (LineFits row.now.line) result t }
+    ensures kept { H.meaning.honest shelf.new → (t : Tables) → H.meaning.holds shelf.old t → Remembers known.old t → Remembers known.new t }
+{
+    match sum_row(shelf, known, row) {
+        Ok(Some(pots)) => Ok(pots),
+        Ok(None) => Err(ShelfFault::Store),
+        Err(fault) => Err(fault),
     }
 }
 
-// Remembers the sums of a line with these pots, if a place can be had.
-pub(crate) fn remember(sums: &mut Table<LineSums>, row: &LineRow, pots: &Pots)
-    ensures kept { (t : Tables) → ArePotsWithin row.now pots.now t → Remembers sums.old t → Remembers sums.new t }
+// Forgets all lines, and remembers the sums of these, if there is memory for them.
+fn remember_all(known: &mut RememberedSums, rows: &[LedgerRow])
+    ensures kept { (t : Tables) → AreBalances rows.now t → Remembers known.new t }
 {
-    let _ = sums.put(LineSums {
-        line: row.line,
-        reserved: pots.reserved,
-        contracted: pots.contracted,
-        paid: pots.paid,
-    });
-}
-
-// Remembers the sums in a row of the ledger, if a place can be had.
-fn remember_row(sums: &mut Table<LineSums>, row: &LedgerRow)
-    ensures kept { (t : Tables) → AreSums (sums_in row.now) t → Remembers sums.old t → Remembers sums.new t }
-{
-    let _ = sums.put(LineSums {
-        line: row.line,
-        reserved: row.pots.reserved,
-        contracted: row.pots.contracted,
-        paid: row.pots.paid,
-    });
-}
-
-// Remembers the sums in these rows of the ledger, as far as places can be had.
-fn remember_all(sums: &mut Table<LineSums>, rows: &[LedgerRow])
-    ensures kept { (t : Tables) → TellSums rows.now t → Remembers sums.old t → Remembers sums.new t }
-{
+    nothing_remembered();
+    known.forget_all();
     for row in rows {
-        remember_row(sums, row);
+        known.remember(&row.line, &row.pots);
     }
 }
 
-// The pots of each budget line by the shelf, and then their sums are remembered, as far as places can be had.
+// The balances of each budget line, which the store adds up; then their sums are remembered.
 fn ledger_at_once<H: Lookups>(
     shelf: &mut H,
-    sums: &mut Table<LineSums>,
+    known: &mut RememberedSums,
 ) -> Result<Vec<LedgerRow>, ShelfFault>
     ensures keeps { Keeps H.meaning shelf.old shelf.new }
     ensures right { H.meaning.honest shelf.new → (t : Tables) → H.meaning.holds shelf.old t → SumsAnswer H.meaning.may_break (λ t rows. rows.items ≡ ledger_of t) LinesFit result t }
-    ensures kept { H.meaning.honest shelf.new → (t : Tables) → H.meaning.holds shelf.old t → Remembers sums.old t → Remembers sums.new t }
+    ensures kept { H.meaning.honest shelf.new → (t : Tables) → H.meaning.holds shelf.old t → Remembers known.old t → Remembers known.new t }
 {
     match shelf.ledger() {
         Ok(rows) => {
-            remember_all(sums, &rows);
+            remember_all(known, &rows);
             Ok(rows)
         }
         Err(fault) => Err(fault),
     }
 }
 
-// The pots of the line with this row: by its sums where they are remembered, else by the shelf, and then they are remembered if a place
-// can be had.
-fn pots_by<H: Lookups>(
-    shelf: &mut H,
-    sums: &mut Table<LineSums>,
-    row: &LineRow,
-) -> Result<Pots, ShelfFault>
-    ensures keeps { Keeps H.meaning shelf.old shelf.new }
-    ensures right { H.meaning.honest shelf.new → (t : Tables) → H.meaning.holds shelf.old t → Remembers sums.old t → IsRowPotsAnswer H.meaning.may_break row.now (H.meaning.fault_count shelf.old) (H.meaning.fault_count shelf.new) result t }
-    ensures kept { H.meaning.honest shelf.new → (t : Tables) → H.meaning.holds shelf.old t → Remembers sums.old t → Remembers sums.new t }
-{
-    if let Some(found) = sums.get(&row.line) {
-        return Ok(pots_with(row, found));
-    }
-    let pots = pots_of_line(shelf, row)?;
-    remember(sums, row, &pots);
-    Ok(pots)
-}
-
-// The pots of each budget line, in the order of their identifiers.
+// The balances of each of these lines, which are all lines of the office.
 fn ledger_by_lines<H: Lookups>(
     alloc: Global,
     shelf: &mut H,
-    sums: &mut Table<LineSums>,
+    known: &mut RememberedSums,
+    lines: &[LineRow],
 ) -> Result<Vec<LedgerRow>, ShelfFault>
     ensures keeps { Keeps H.meaning shelf.old shelf.new }
-    ensures right { H.meaning.honest shelf.new → (t : Tables) → H.meaning.holds shelf.old t → Remembers sums.old t → SumsAnswer H.meaning.may_break (λ t rows. rows.items ≡ ledger_of t) LinesFit result t }
-    ensures kept { H.meaning.honest shelf.new → (t : Tables) → H.meaning.holds shelf.old t → Remembers sums.old t → Remembers sums.new t }
+    ensures right { H.meaning.honest shelf.new → (t : Tables) → H.meaning.holds shelf.old t → lines.now ≡ t.lines → Remembers known.old t
+        → SumsAnswer H.meaning.may_break (λ t rows. rows.items ≡ ledger_of t) LinesFit result t }
+    ensures kept { H.meaning.honest shelf.new → (t : Tables) → H.meaning.holds shelf.old t → Remembers known.old t → Remembers known.new t }
 {
-    let lines = shelf.list_lines()?;
     let mut rows = Vec::new(alloc);
-    for line in &lines {
-        let pots = pots_by(shelf, sums, line)?;
+    for line in lines {
+        let pots = pots_of_row(shelf, known, line)?;
         let row = LedgerRow {
             line: line.line,
             pots,
@@ -122,20 +121,26 @@ fn ledger_by_lines<H: Lookups>(
     Ok(rows)
 }
 
-// The pots of each budget line, in the order of their identifiers: of all at once where nothing is remembered.
-pub(crate) fn ledger<H: Lookups>(
+/// The balances of each budget line, in the order of their identifiers. If more than a tenth of the lines isn't remembered, the store adds all of them up at
+/// once.
+pub fn ledger<H: Lookups>(
     alloc: Global,
     shelf: &mut H,
-    sums: &mut Table<LineSums>,
+    known: &mut RememberedSums,
 ) -> Result<Vec<LedgerRow>, ShelfFault>
     ensures keeps { Keeps H.meaning shelf.old shelf.new }
-    ensures right { H.meaning.honest shelf.new → (t : Tables) → H.meaning.holds shelf.old t → Remembers sums.old t → SumsAnswer H.meaning.may_break (λ t rows. rows.items ≡ ledger_of t) LinesFit result t }
-    ensures kept { H.meaning.honest shelf.new → (t : Tables) → H.meaning.holds shelf.old t → Remembers sums.old t → Remembers sums.new t }
+    ensures right { H.meaning.honest shelf.new → (t : Tables) → H.meaning.holds shelf.old t → Remembers known.old t
+        → SumsAnswer H.meaning.may_break (λ t rows. rows.items ≡ ledger_of t) LinesFit result t }
+    ensures kept { H.meaning.honest shelf.new → (t : Tables) → H.meaning.holds shelf.old t → Remembers known.old t → Remembers known.new t }
 {
-    let is_empty = sums.iter().next().is_none();
-    if is_empty {
-        ledger_at_once(shelf, sums)
+    if known.is_empty() {
+        return ledger_at_once(shelf, known);
+    }
+    let lines = shelf.list_lines()?;
+    let missing = lines.len().saturating_sub(known.len());
+    if missing > lines.len() / 10 {
+        ledger_at_once(shelf, known)
     } else {
-        ledger_by_lines(alloc, shelf, sums)
+        ledger_by_lines(alloc, shelf, known, &lines)
     }
 }

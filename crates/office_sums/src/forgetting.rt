@@ -1,86 +1,84 @@
-//! Forgetting the sums that changes may change.
-ghost use Rattle.std.specs.Prelude.{◌≡◌};
+//! Forgets the sums that changes may change.
 ghost use Rattle.office_base.specs.Shelves.{LooksUp};
 ghost use Rattle.office_base.specs.Tables.{Tables, lot_at, contract_at};
-ghost use Rattle.office_sums.specs.Touched.{line_in, line_under, touched};
-ghost use Rattle.office_sums.specs.Remembered.{without, Remembers, AreUntouched};
+ghost use Rattle.office_sums.specs.Remembered.{AreUntouched, Forgets, Remembers};
+ghost use Rattle.office_sums.specs.Touched.{lines_of_contract, lines_of_lot, touched};
 
-use crate::sums::LineSums;
-use keyed_table::table::Table;
+use crate::laws::nothing_remembered;
+use crate::remembered::RememberedSums;
 use office_base::puts::Put;
 use office_base::shelf::{Lookups, ShelfFault};
 use office_values::given::{GivenNumber, asked};
 use office_values::id::Id;
 
-// Forgets the sums of a lot's line.
+// Forgets the line of a lot.
 fn forget_lot<H: Lookups>(
     shelf: &mut H,
-    sums: &mut Table<LineSums>,
+    known: &mut RememberedSums,
     notice: &Id,
     lot: &Id,
 ) -> Result<(), ShelfFault>
-    ensures looks { LooksUp H.meaning shelf.old shelf.new result (λ t _. sums.new ≡ without (line_in (lot_at (notice.now, lot.now) t)) sums.old) }
-    ensures kept { (t : Tables) → Remembers sums.old t → Remembers sums.new t }
+    ensures looks { LooksUp H.meaning shelf.old shelf.new result (λ t _. Forgets (lines_of_lot (lot_at (notice.now, lot.now) t)) known.old known.new) }
+    ensures kept { (t : Tables) → Remembers known.old t → Remembers known.new t }
 {
-    match shelf.get_lot(notice, lot)? {
-        Some(row) => {
-            sums.remove(&row.line);
-            Ok(())
-        }
-        None => Ok(()),
-    }
+    let found = shelf.get_lot(notice, lot)?;
+    known.forget_lot(&found);
+    Ok(())
 }
 
-// Forgets the sums of a contract's line.
+// Forgets the line of a contract's lot.
 fn forget_contract<H: Lookups>(
     shelf: &mut H,
-    sums: &mut Table<LineSums>,
+    known: &mut RememberedSums,
     contract: GivenNumber,
 ) -> Result<(), ShelfFault>
-    ensures looks { LooksUp H.meaning shelf.old shelf.new result (λ t _. sums.new ≡ without (line_under t (contract_at contract t)) sums.old) }
-    ensures kept { (t : Tables) → Remembers sums.old t → Remembers sums.new t }
+    ensures looks { LooksUp H.meaning shelf.old shelf.new result (λ t _. Forgets (lines_of_contract t (contract_at contract t)) known.old known.new) }
+    ensures kept { (t : Tables) → Remembers known.old t → Remembers known.new t }
 {
     match shelf.get_contract(asked(contract))? {
-        Some(row) => forget_lot(shelf, sums, &row.notice, &row.lot),
+        Some(row) => forget_lot(shelf, known, &row.notice, &row.lot),
         None => Ok(()),
     }
 }
 
-// Forgets the sums of the lines that a change touches.
+// Forgets the lines that a change touches.
 fn forget_touched<H: Lookups>(
     shelf: &mut H,
-    sums: &mut Table<LineSums>,
+    known: &mut RememberedSums,
     put: &Put,
 ) -> Result<(), ShelfFault>
-    ensures looks { LooksUp H.meaning shelf.old shelf.new result (λ t _. sums.new ≡ without (touched put.now t) sums.old) }
-    ensures kept { (t : Tables) → Remembers sums.old t → Remembers sums.new t }
+    ensures looks { LooksUp H.meaning shelf.old shelf.new result (λ t _. Forgets (touched put.now t) known.old known.new) }
+    ensures kept { (t : Tables) → Remembers known.old t → Remembers known.new t }
 {
     match put {
         Put::Lot(row) => {
-            sums.remove(&row.line);
-            forget_lot(shelf, sums, &row.notice, &row.lot)
+            known.forget(&row.line);
+            forget_lot(shelf, known, &row.notice, &row.lot)
         }
         Put::Contract(row) => {
-            forget_lot(shelf, sums, &row.notice, &row.lot)?;
-            forget_contract(shelf, sums, row.contract)
+            forget_lot(shelf, known, &row.notice, &row.lot)?;
+            forget_contract(shelf, known, row.contract)
         }
-        Put::Entry(row) => forget_contract(shelf, sums, row.contract),
+        Put::Entry(row) => forget_contract(shelf, known, row.contract),
         _ => Ok(()),
     }
 }
 
-/// Forgets the sums of the lines that changes touch, by look-ups before they are made. Takes no memory.
+/// Forgets the lines that these changes touch, before the changes are made. If no line is remembered, nothing is looked up. It allocates no memory of its own.
 pub fn forget<H: Lookups>(
     shelf: &mut H,
-    sums: &mut Table<LineSums>,
+    known: &mut RememberedSums,
     puts: &[Put],
 ) -> Result<(), ShelfFault>
-    ensures looks { LooksUp H.meaning shelf.old shelf.new result (λ t _. AreUntouched sums.new puts.now t) }
-    ensures kept { (t : Tables) → Remembers sums.old t → Remembers sums.new t }
+    ensures looks { LooksUp H.meaning shelf.old shelf.new result (λ t _. AreUntouched known.new puts.now t) }
+    ensures kept { (t : Tables) → Remembers known.old t → Remembers known.new t }
 {
-    sums.keys_rise();
+    nothing_remembered();
+    if known.is_empty() {
+        return Ok(());
+    }
     for put in puts {
-        forget_touched(shelf, sums, put)?;
+        forget_touched(shelf, known, put)?;
     }
     Ok(())
 }

@@ -1,8 +1,10 @@
-//! The sums of budget lines, remembered.
+//! A store that remembers the sums of budget lines.
 #![tactic(auto)]
 
 pub mod asking;
 pub mod forgetting;
 pub mod laws;
-pub mod remembering;
+pub mod lookups;
+pub mod remembered;
+pub mod shelf;
 pub mod sums;

@@ -20,6 +20,7 @@ use crate::showing::Printout;
 use office_machine::laws::order;
 use office_store::opened::{Opened, Origin};
 use office_store::shelf::SqlShelf;
+use office_sums::shelf::RememberingShelf;
 use office_values::settings::Settings;
 use procure_config::fault::ProgramFault;
 use sqlite::{Alter, FileFrom, FileStore, Files, Start, Unknown};
@@ -70,7 +71,8 @@ fn let_go<D: Disk + Drop>(store: Option<FileStore<D>>) {
     }
 }
 
-// Generic in the store, not in the disk below it. So the prover doesn't compare the facts about any store again for a store over files.
+// Remembers the sums of budget lines while it serves. Generic in the store, not in the disk below it. So the prover doesn't compare the facts about any store
+// again for a store over files.
 fn serve_shelf<A: Alter + Drop>(
     rt: &HostRuntime,
     settings: Settings,
@@ -81,7 +83,9 @@ fn serve_shelf<A: Alter + Drop>(
     ensures serves { IfOk result (λ left. WasServed (sql_meaning A.Store) count settings shelf left.0) }
     ensures fault { IfErr result IsOfStore }
 {
-    serve_office(rt, settings, shelf, port, count)
+    let shelf = RememberingShelf::new(rt.alloc(), shelf);
+    let (left, served) = serve_office(rt, settings, shelf, port, count)?;
+    Ok((left.into_shelf(), served))
 }
 
 // Generic in the store, not in the disk below it, as `serve_shelf` is.

@@ -1,8 +1,8 @@
-use Rattle.std.proofs.Common.{drop}
+use Rattle.std.specs.Prelude.{drop}
 use Rattle.office_base.specs.Tables.{Tables}
 use Rattle.office_sums.proofs.asking.remember_all.Given as goal
-use Rattle.office_sums.specs.Remembered.{Remembers, TellSums}
+use Rattle.office_sums.specs.Remembered.{AreBalances, Remembers}
 
--- the rows that are left tell their sums, and what is remembered so far agrees
+-- the rest of the rows have the sums of their lines, and the sums that are remembered so far agree
 abbrev pub invariant-loop-row : goal.invariant-loop-row
-invariant-loop-row l = (t : Tables) → TellSums l.rows t → Remembers l.fn.sums t → TellSums (drop l.row-index l.rows) t × Remembers l.sums t
+invariant-loop-row l = (t : Tables) → AreBalances l.rows t → AreBalances (drop l.row-index l.rows) t × Remembers l.known t
