@@ -13,10 +13,6 @@ use Rattle.office_base.specs.declared.puts.Put.{Put}
 use Rattle.office_sums.specs.Touched.{touched_by, IsNoneOf}
 use Rattle.office_sums.specs.declared.sums.SumsOfLine.{SumsOfLine}
 
--- the greatest number of lines that are remembered
-abbrev pub most_lines : ℕ
-most_lines = 1000000
-
 -- the sums that are remembered of a line, if any
 abbrev pub sums_at : List (List ℕ × SumsOfLine) → List ℕ → Option SumsOfLine
 sums_at known line = lookup (is_at (id_cmp line)) known

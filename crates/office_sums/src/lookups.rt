@@ -204,6 +204,6 @@ impl<H: Lookups> Lookups for RememberingShelf<H> {
     }
 
     fn faults(&mut self) -> u64 {
-        self.fault_count()
+        self.faults
     }
 }

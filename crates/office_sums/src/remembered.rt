@@ -1,7 +1,7 @@
 //! The sums of budget lines that are remembered.
-ghost use Rattle.std.specs.Prelude.{◌≡◌, ◌<◌, ◌↔◌, [], ◌∷◌, IsTrue, length};
+ghost use Rattle.std.specs.Prelude.{◌≡◌, ◌↔◌, [], ◌∷◌, IsTrue, length};
 ghost use Rattle.office_base.specs.Tables.{Tables};
-ghost use Rattle.office_sums.specs.Remembered.{most_lines, sums_at, sums_in, AreSums, Forgets, IsSummed, Remembers};
+ghost use Rattle.office_sums.specs.Remembered.{sums_at, sums_in, AreSums, Forgets, IsSummed, Remembers};
 ghost use Rattle.office_sums.specs.Touched.{lines_of_lot};
 
 use crate::laws::nothing_remembered;
@@ -23,15 +23,12 @@ pub struct RememberedSums {
 }
 
 impl Model for RememberedSums {
-    ghost use Rattle.std.specs.Prelude.{◌≤◌, ℕ, List, length};
-    ghost use Rattle.office_sums.specs.Remembered.{most_lines};
+    ghost use Rattle.std.specs.Prelude.{ℕ, List};
     ghost use Rattle.office_sums.specs.declared.sums.SumsOfLine.{SumsOfLine};
 
     ghost Value = { List (List ℕ × SumsOfLine) };
 
     ghost view = { λ r. r.sums.entries };
-
-    ghost invariant = { λ r. length r.sums.entries ≤ most_lines };
 }
 
 impl RememberedSums {
@@ -93,13 +90,19 @@ impl RememberedSums {
 
     // Forgets all lines if no further line may be remembered.
     fn make_room(&mut self)
-        ensures room { length self.new < most_lines }
         ensures kept { (t : Tables) → Remembers self.old t → Remembers self.new t }
     {
         nothing_remembered();
-        if self.sums.len() >= MOST_LINES {
-            self.sums.clear();
+        if self.len() >= MOST_LINES {
+            self.forget_all();
         }
+    }
+
+    // Remembers these sums of a line, if there is memory for them.
+    fn insert(&mut self, line: Id, sums: SumsOfLine)
+        ensures kept { (t : Tables) → AreSums line sums t → Remembers self.old t → Remembers self.new t }
+    {
+        let _ = self.sums.insert(line, sums);
     }
 
     /// Remembers the sums in the balances of this line. If there is no memory for them, they aren't remembered.
@@ -107,7 +110,7 @@ impl RememberedSums {
         ensures kept { (t : Tables) → AreSums line.now (sums_in pots.now) t → Remembers self.old t → Remembers self.new t }
     {
         self.make_room();
-        let _ = self.sums.insert(*line, SumsOfLine::of(pots));
+        self.insert(*line, SumsOfLine::of(pots));
     }
 
     /// Remembers the sums in the balances of the line with this row, if they were added up and there is memory for them.

@@ -13,23 +13,17 @@ use office_base::puts::Put;
 use office_base::shelf::{Lookups, Shelf, ShelfFault};
 use office_base::stored::StoredShelf;
 use std::alloc::Global;
-use std::marker::Model;
 
 /// A store, and the sums of those of its budget lines that were asked for. A line is forgotten when a change touches it. Its answers are those of the store
 /// inside. It counts its own faults: if a look-up fails that only serves to forget, the sums are lost, and no call fails.
 pub struct RememberingShelf<H> {
     pub(crate) alloc: Global,
-    pub(crate) shelf: H,
-    pub(crate) known: RememberedSums,
-    faults: u64,
-}
-
-impl<H> Model for RememberingShelf<H> {
-    ghost use Rattle.office_sums.specs.RememberingMeaning.{RememberingOf};
-
-    ghost Value = { RememberingOf H };
-
-    ghost view = { λ s. record { shelf = s.shelf; known = s.known; faults = s.faults } };
+    /// The store inside.
+    pub shelf: H,
+    /// The sums that are remembered.
+    pub known: RememberedSums,
+    /// The number of calls that were answered with a fault.
+    pub faults: u64,
 }
 
 impl<H: Drop> Drop for RememberingShelf<H> {
@@ -46,7 +40,8 @@ impl<H: Drop> Drop for RememberingShelf<H> {
 impl<H: Lookups> RememberingShelf<H> {
     /// A store around this one. It remembers no line yet, and holds what this one holds. It allocates no memory.
     pub fn new(alloc: Global, shelf: H) -> RememberingShelf<H>
-        ensures is { result ≡ record { shelf = shelf; known = []; faults = 0 } }
+        ensures shelf { result.shelf ≡ shelf }
+        ensures empty { result.known ≡ [] }
         ensures holds { (t : Tables) → H.meaning.holds shelf t → (remembering H.meaning).holds result t }
     {
         nothing_remembered();
@@ -106,13 +101,6 @@ impl<H: Lookups> RememberingShelf<H> {
             Ok(found) => Ok(found),
             Err(fault) => Err(self.count(fault)),
         }
-    }
-
-    // The number of faults that were returned.
-    pub(crate) fn fault_count(&self) -> u64
-        ensures { result ≡ self.now.faults }
-    {
-        self.faults
     }
 }
 

@@ -5,10 +5,11 @@ use Rattle.office_values.specs.declared.settings.Settings.{Settings}
 use Rattle.office_base.specs.Shelves.{Meaning}
 use Rattle.office_base.specs.Tables.{Tables}
 use Rattle.office_http.specs.Stops.{LeftBySteps}
-use Rattle.office_sums.specs.RememberingMeaning.{RememberingOf, remembering}
+use Rattle.office_sums.specs.RememberingMeaning.{remembering}
+use Rattle.office_sums.specs.declared.shelf.RememberingShelf.{RememberingShelf}
 use Rattle.procure_programs.specs.Serving.{WasServed}
 
-pub served_inside : {S : Type 0} (M : Meaning S) (most : ℕ) (settings : Settings) (old : S) (first left : RememberingOf S) → first.shelf ≡ old
+pub served_inside : {S : Type 0} (M : Meaning S) (most : ℕ) (settings : Settings) (old : S) (first left : RememberingShelf S) → first.shelf ≡ old
     → ((t : Tables) → M.holds old t → (remembering M).holds first t) → WasServed (remembering M) most settings first left → WasServed M most settings old left.shelf
 served_inside M most settings old first left same holds (before, (now, turns)) = (
   λ honest. subst M.honest same (before honest),
