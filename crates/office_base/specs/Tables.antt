@@ -1,5 +1,5 @@
 -- The content of an office: a table for each kind of record, and the clock.
-use Rattle.std.specs.Prelude.{ℕ, Bool, ◌&&◌, List, [], ◌∷◌, Option, filter}
+use Rattle.std.specs.Prelude.{ℕ, Bool, ◌&&◌, List, [], ◌∷◌, Option, filter, map}
 use Rattle.std.specs.Ordering.{nat_cmp, ordering_then, eq_by_cmp}
 use Rattle.std.specs.declared.cmp.Ordering.{Ordering}
 use Rattle.office_values.specs.Ids.{id_cmp, same_id}
@@ -312,6 +312,10 @@ entries_of_contract contract t = filter (λ (e : EntryRow). same_number e.contra
 -- the releases of a notice
 abbrev pub releases_of_notice : List ℕ → Tables → List ReleaseRow
 releases_of_notice notice t = filter (λ (r : ReleaseRow). same_id r.notice notice) t.releases
+
+-- the numbers of a notice's releases
+abbrev pub release_numbers : List ℕ → Tables → List ℕ
+release_numbers notice t = map (λ (r : ReleaseRow). r.seq) (releases_of_notice notice t)
 
 -- the office after one change
 abbrev pub after_put : Put → Tables → Tables

@@ -2,11 +2,11 @@
 ghost use Rattle.std.specs.Prelude.{◌≡◌};
 ghost use Rattle.office_values.specs.declared.refusal.Refusal.TheVariants.{Unavailable};
 ghost use Rattle.office_base.specs.Tables.{Tables, IsSorted};
-ghost use Rattle.office_base.specs.Tables.{line_at, batch_at, tenderer_at, notice_at, lot_at, envelope_at, seal_at, security_at, award_at, contract_at, entry_at, release_at, compiled_at, late_at, performance_at, lots_of_notice, lots_of_line, envelopes_of_notice, envelopes_of_lot, envelopes_of_tenderer, securities_of_notice, securities_of_lot, awards_of_notice, contracts_of_notice, entries_of_contract, releases_of_notice};
+ghost use Rattle.office_base.specs.Tables.{line_at, batch_at, tenderer_at, notice_at, lot_at, envelope_at, seal_at, security_at, award_at, contract_at, entry_at, release_at, compiled_at, late_at, performance_at, lots_of_notice, lots_of_line, envelopes_of_notice, envelopes_of_lot, envelopes_of_tenderer, securities_of_notice, securities_of_lot, awards_of_notice, contracts_of_notice, entries_of_contract, releases_of_notice, release_numbers};
 ghost use Rattle.office_base.specs.Pages.{notices_after, tenderers_after};
 ghost use Rattle.office_base.specs.Joined.{amounts_of_line, ledger_of, LinesFit};
-ghost use Rattle.office_base.specs.Shelves.{Meaning, Keeps, Looks, LooksUp, AddsUp, Changes};
 ghost use Rattle.office_base.specs.PotsAnswers.{IsRowPotsAnswer};
+ghost use Rattle.office_base.specs.Shelves.{Meaning, Keeps, Looks, LooksUp, AddsUp, Changes};
 
 use crate::counts::Sequence;
 use crate::ledger::{LedgerRow, LineAmounts, Pots};
@@ -192,12 +192,17 @@ pub trait Lookups {
     fn list_releases_of_notice(&mut self, notice: &Id) -> Result<Vec<ReleaseRow>, ShelfFault>
         ensures { LooksUp meaning self.old self.new result (λ t rows. rows.items ≡ releases_of_notice notice.now t) };
 
+    /// The numbers of a notice's releases, in their order. No text is read, so it costs far less than the releases.
+    fn list_release_numbers(&mut self, notice: &Id) -> Result<Vec<Sequence>, ShelfFault>
+        ensures { LooksUp meaning self.old self.new result (λ t numbers. numbers.items ≡ release_numbers notice.now t) };
+
     /// The amount that each lot of a line has reserved, in the order of notices and identifiers. The sums of each contract of these lots, lot by lot, in the
     /// order of their numbers.
     fn list_amounts_of_line(&mut self, line: &Id) -> Result<LineAmounts, ShelfFault>
         ensures { LooksUp meaning self.old self.new result (λ t amounts. amounts ≡ amounts_of_line line.now t) };
 
-    /// The balances of the budget line with this row. If a sum is outside its range, the error is `Store`, and no fault of the store is counted.
+    /// The balances of the budget line with this row. If a sum is outside its range, the error is `Store`, and no fault of the store is counted. A store that
+    /// remembers sums has a body of its own.
     fn sum_line(&mut self, row: &LineRow) -> Result<Pots, ShelfFault>
         ensures { Looks meaning self.old self.new (IsRowPotsAnswer meaning.may_break row.now (meaning.fault_count self.old) (meaning.fault_count self.new) result) }
     {

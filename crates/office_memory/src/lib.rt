@@ -8,5 +8,6 @@ mod id_bounds;
 pub mod indexed_table;
 pub mod indexes;
 pub mod memory;
+mod release_numbers;
 mod sums;
 pub mod tables;

@@ -6,6 +6,7 @@ ghost use Rattle.office_memory.specs.MemoryMeaning.{memory_meaning};
 ghost use Rattle.office_base.specs.declared.shelf.ShelfFault.TheVariants.{NoMemory};
 
 use crate::child::copy_rows_of;
+use crate::release_numbers::release_numbers;
 use crate::tables::MemoryTables;
 use crate::{sums, tables};
 use office_base::counts::Sequence;
@@ -354,6 +355,13 @@ impl Lookups for MemoryShelf {
     fn list_releases_of_notice(&mut self, notice: &Id) -> Result<Vec<ReleaseRow>, ShelfFault> {
         match copy_rows_of(self.alloc, &self.tables.releases, notice) {
             Ok(rows) => Ok(rows),
+            Err(_) => Err(self.refused()),
+        }
+    }
+
+    fn list_release_numbers(&mut self, notice: &Id) -> Result<Vec<Sequence>, ShelfFault> {
+        match release_numbers(self.alloc, &self.tables.releases, notice) {
+            Ok(numbers) => Ok(numbers),
             Err(_) => Err(self.refused()),
         }
     }

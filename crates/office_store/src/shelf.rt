@@ -301,6 +301,11 @@ impl<S: Alter> Lookups for SqlShelf<S> {
         self.told(rows)
     }
 
+    fn list_release_numbers(&mut self, notice: &Id) -> Result<Vec<Sequence>, ShelfFault> {
+        let numbers = releases::list_release_numbers(self.alloc, &mut self.conn, notice);
+        self.told(numbers)
+    }
+
     fn list_amounts_of_line(&mut self, line: &Id) -> Result<LineAmounts, ShelfFault> {
         match sums::amounts_of_line(self.alloc, &mut self.conn, line) {
             Ok(amounts) => Ok(amounts),

@@ -184,6 +184,10 @@ impl<H: Lookups> Lookups for RememberingShelf<H> {
         counted!(self, self.shelf.list_releases_of_notice(notice))
     }
 
+    fn list_release_numbers(&mut self, notice: &Id) -> Result<Vec<Sequence>, ShelfFault> {
+        counted!(self, self.shelf.list_release_numbers(notice))
+    }
+
     fn list_amounts_of_line(&mut self, line: &Id) -> Result<LineAmounts, ShelfFault> {
         counted!(self, self.shelf.list_amounts_of_line(line))
     }

@@ -196,6 +196,10 @@ impl Lookups for SqlOffice {
         self.shelf.list_releases_of_notice(notice)
     }
 
+    fn list_release_numbers(&mut self, notice: &Id) -> Result<Vec<Sequence>, ShelfFault> {
+        self.shelf.list_release_numbers(notice)
+    }
+
     fn list_amounts_of_line(&mut self, line: &Id) -> Result<LineAmounts, ShelfFault> {
         self.shelf.list_amounts_of_line(line)
     }

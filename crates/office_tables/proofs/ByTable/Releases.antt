@@ -1,9 +1,11 @@
 -- Releases: what is shown of their table, of the text that puts one, and of each question.
-use Rattle.office_tables.proofs.TableTools.{◌≡◌, inl, inr, ◌&&◌, ◌∷◌, [], List, ℕ, pos, Some, codes, refl, ap, ap₂, ◌∙◌, map, slice_get, drop, option_map, range_with_len, nat_cmp, Int, Text, first_key, Row, value_cmp-Text, same_name, Schema, Select, alone, chosen, first_found, max_budget, first, everything, State, Shown, id_cmp, same_id, Tables, same_number, releases_exact, same_id_is, releases_total, text_column, number_column, IsIn, at_tree, Holds, cast_null, cast_int, texts_equal, equal_texts, numbers_equal, equal_numbers, both_true, first_true, text_tested, number_tested, numbers_cmp, and_true, pair_then, both_equal, same_number_is, indexed, StatementMeans, parsed_in, equals_e, both_e, names_of, outputs_of, Has, one_test, two_tests, select, columns_of, left, IsSelect, selects_mean, found_by_tree, gets, lists, Shape, behind_rowid, columns_in, rows_in, clause_in, IsStored, ReadsTable, creates_it, IsOfficeTable, IsPutText, IsPutOf, StaysBeside}
+use Rattle.office_tables.proofs.TableTools.{◌≡◌, inl, inr, ◌&&◌, ◌∷◌, [], List, ℕ, pos, Some, codes, refl, ap, ap₂, ◌∙◌, map, slice_get, drop, option_map, range_with_len, nat_cmp, Int, Text, first_key, Row, value_cmp-Text, same_name, Schema, Select, alone, chosen, first_found, max_budget, first, everything, State, Shown, id_cmp, same_id, Tables, same_number, releases_exact, same_id_is, releases_total, text_column, number_column, IsIn, at_tree, Holds, cast_null, cast_int, texts_equal, equal_texts, numbers_equal, equal_numbers, both_true, first_true, text_tested, number_tested, numbers_cmp, and_true, pair_then, both_equal, same_number_is, indexed, StatementMeans, parsed_in, equals_e, both_e, names_of, outputs_of, Has, one_test, two_tests, select, columns_of, left, IsSelect, selects_mean, found_by_tree, gets, lists, shows_rows, Shape, behind_rowid, columns_in, rows_in, clause_in, IsStored, ReadsTable, creates_it, IsOfficeTable, IsPutText, IsPutOf, StaysBeside}
 use Rattle.office_base.specs.declared.puts.Put.TheVariants as put
 use Rattle.office_base.specs.declared.records.ReleaseRow.{ReleaseRow}
-use Rattle.office_base.specs.Tables.{release_at, releases_of_notice}
-use Rattle.office_tables.specs.Tables.Releases.{create_releases, releases, upsert_releases, release_values, release_read, release_form}
+use Rattle.sqlite_schema.specs.declared.schema.Column.{Column}
+use Rattle.sqlite_sql.specs.Query.{Output}
+use Rattle.office_base.specs.Tables.{release_at, release_numbers, releases_of_notice}
+use Rattle.office_tables.specs.Tables.Releases.{create_releases, releases, upsert_releases, release_values, release_read, release_form, number_read, number_row}
 use Rattle.office_tables.specs.Schema.OfficeTable.{Releases}
 
 -- ---- the table
@@ -89,3 +91,37 @@ pub select_list_releases_of_notice : (old new : State) (rows : List Row) (t : Ta
 select_list_releases_of_notice old new rows t was k h =
     lists release_form.cmp releases_total releases_exact release_form.key release_form.stored release_form.back release_form.row release_form.read (λ v x. refl) old new rows (was.places Releases) t.releases (was.stands Releases) list_releases_of_notice (Text k ∷ []) (1 ∷ []) (range_with_len 1 4) (1 ∷ 2 ∷ []) _ (list_releases_of_notice_means old.now.schema (was.places Releases) (was.tables Releases)) (λ (x : ReleaseRow). same_id x.notice k) (λ v x. and_true _ ∙ text_tested x.notice k)
     (λ (x : ReleaseRow). Text x.notice ∷ Int (pos x.seq) ∷ []) (λ v x. refl) (λ x y. pair_then _ _ _ _ (value_cmp-Text x.notice y.notice) (numbers_cmp x.seq y.seq)) h
+
+-- the column of the number, with its place in the table
+abbrev number_alone : List (ℕ × Column)
+number_alone = (1, number_column (codes "seq")) ∷ []
+
+abbrev pub list_release_numbers : List ℕ
+list_release_numbers = codes "SELECT seq FROM releases WHERE notice = ?1 ORDER BY notice, seq"
+
+list_release_numbers_read : IsSelect list_release_numbers (codes "releases") (names_of number_alone) (Some (equals_e (codes "notice") 1)) (codes "notice" ∷ codes "seq" ∷ [])
+unfolding everything parsed_in
+list_release_numbers_read = record { is = refl; statement = refl; formats = refl }
+
+pub list_release_numbers_means : (schema : Schema) (n : ℕ) → IsIn schema releases n → StatementMeans schema list_release_numbers (Select (record { lets = []; body = select n (1 ∷ []) (2 ∷ []) (1 ∷ 2 ∷ []) }) (names_of number_alone))
+unfolding same_name alone chosen first_found
+list_release_numbers_means schema n it =
+    selects_mean schema releases n it number_alone ((0, text_column (codes "notice")) ∷ (1, number_column (codes "seq")) ∷ []) list_release_numbers (refl, refl, refl, tt) (Some (equals_e (codes "notice") 1)) _ _ _ list_release_numbers_read
+    (one_test schema it.place (at_tree releases n) it.found releases.name (outputs_of (at_tree releases n) [] number_alone) (0, text_column (codes "notice")) 1 (left number_alone) _ (refl, refl, refl, tt) refl refl (inl (inl refl, refl), refl, refl))
+    (refl, refl, refl, (refl, refl, refl, tt)) (refl, (refl, tt)) (rw (it.stored, found_by_tree schema releases n it))
+
+-- a release in the order of the question, and its number alone
+abbrev numbered_output : ReleaseRow → Output
+numbered_output x = (Text x.notice ∷ Int (pos x.seq) ∷ [], number_row x.seq)
+
+-- the numbers are read back from their rows
+numbers_back : (xs : List ReleaseRow) → map number_read (map (λ (o : Output). o.1) (map numbered_output xs)) ≡ map (λ (r : ReleaseRow). r.seq) xs
+numbers_back [] = refl
+numbers_back (x ∷ xs) = ap (λ (ns : List ℕ). x.seq ∷ ns) (numbers_back xs)
+
+pub select_list_release_numbers : (old new : State) (rows : List Row) (t : Tables) → Holds old.now t → (k : List ℕ) → Shown list_release_numbers (Text k ∷ []) old new rows → map number_read rows ≡ release_numbers k t
+select_list_release_numbers old new rows t was k h =
+    ap (map number_read)
+    (shows_rows release_form.cmp releases_total releases_exact release_form.key release_form.stored release_form.back release_form.row release_form.read (λ v x. refl) old new rows (was.places Releases) t.releases (was.stands Releases) list_release_numbers (Text k ∷ []) (1 ∷ []) (2 ∷ []) (1 ∷ 2 ∷ []) _ (list_release_numbers_means old.now.schema (was.places Releases) (was.tables Releases)) (λ (x : ReleaseRow). same_id x.notice k) (λ v x. and_true _ ∙ text_tested x.notice k)
+    numbered_output (λ v x. refl) (λ x y a b. pair_then _ _ _ _ (value_cmp-Text x.notice y.notice) (numbers_cmp x.seq y.seq)) h)
+    ∙ numbers_back (releases_of_notice k t)

@@ -8,7 +8,7 @@ use Rattle.office_values.specs.Moments.{last_moment}
 use Rattle.office_base.specs.declared.records.ReleaseRow.{ReleaseRow}
 use Rattle.office_base.specs.Tables.{release_key, release_cmp}
 use Rattle.office_tables.specs.Forms.{Form, indexed_form, table_with, text_column, number_column}
-use Rattle.office_tables.specs.Values.{number_in_value}
+use Rattle.office_tables.specs.Values.{number_in_value, whole}
 use Rattle.office_tables.specs.Ranges.{IsWithin}
 
 abbrev pub create_releases : List ℕ
@@ -30,6 +30,13 @@ release_values x = Text x.notice ∷ Int (pos x.seq) ∷ Int (pos x.moment) ∷ 
 -- the release that a row is read as
 abbrev pub release_read : Row → ReleaseRow
 release_read r = record { notice = bytes (column r 0); seq = number_in_value (column r 1); moment = number_in_value (column r 2); text = bytes (column r 3) }
+
+-- the number of a release as a row of its own, and the number that such a row is read as
+abbrev pub number_row : ℕ → Row
+number_row n = whole n ∷ []
+
+abbrev pub number_read : Row → ℕ
+number_read r = number_in_value (column r 0)
 
 -- each field is in its range
 abbrev pub ReleaseFits : ReleaseRow → Type 0

@@ -1,9 +1,10 @@
 //! The table of releases: its SQL texts, its rows as values, and its look-ups.
 ghost use Rattle.std.specs.Prelude.{◌≡◌};
 ghost use Rattle.sqlite.specs.Values.{bound};
-ghost use Rattle.office_base.specs.Tables.{release_at, releases_of_notice};
+ghost use Rattle.office_base.specs.Tables.{release_at, release_numbers, releases_of_notice};
+ghost use Rattle.office_tables.specs.Ranges.{IsWithin};
 ghost use Rattle.office_tables.specs.Steps.{TellsOnly};
-ghost use Rattle.office_tables.specs.Tables.Releases.{release_values, release_read, ReleaseFits};
+ghost use Rattle.office_tables.specs.Tables.Releases.{release_values, release_read, number_read, number_row, ReleaseFits};
 
 use crate::ask::{ask_all, ask_first};
 use crate::columns::{bounded_at, has_columns, id_at, json_at, moment_at};
@@ -56,6 +57,20 @@ impl Stored for ReleaseRow {
     }
 }
 
+// The number of a release, if a query shows that column alone.
+impl Stored for Sequence {
+    ghost read = { number_read };
+
+    ghost row_of = { number_row };
+
+    ghost fits = { IsWithin 1 9999 };
+
+    fn from_row(_alloc: Global, row: &Row) -> Result<Sequence, ShelfFault> {
+        has_columns(row, 1)?;
+        bounded_at(row, 0)
+    }
+}
+
 /// The release of this notice with this number.
 pub fn get_release<S: Alter>(
     alloc: Global,
@@ -85,6 +100,22 @@ pub fn list_releases_of_notice<S: Alter>(
         alloc,
         conn,
         "SELECT notice, seq, moment, text FROM releases WHERE notice = ?1 ORDER BY notice, seq",
+        &[id_value(notice)],
+    )
+}
+
+/// The numbers of a notice's releases, in their order. SQLite finds them in the key's index, so it reads no text.
+pub fn list_release_numbers<S: Alter>(
+    alloc: Global,
+    conn: &mut Connection<S>,
+    notice: &Id,
+) -> Result<Vec<Sequence>, ShelfFault>
+    ensures { TellsOnly S.Store conn.old conn.new result (λ t numbers. numbers.items ≡ release_numbers notice.now t) }
+{
+    ask_all(
+        alloc,
+        conn,
+        "SELECT seq FROM releases WHERE notice = ?1 ORDER BY notice, seq",
         &[id_value(notice)],
     )
 }
