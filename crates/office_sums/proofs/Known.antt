@@ -65,7 +65,7 @@ summed row t amounts contracts None r c joined are fit unfit =
 pub pots_are : (row : LineRow) (sums : SumsOfLine) (t : Tables) → AreSums row.line sums t → IsSummed row t (Some (pots_by row sums))
 pots_are row sums t are = (
   ap (λ n. record { appropriation = row.appropriation; free = row.free; reserved = n; contracted = sums.contracted; paid = sums.paid }) are.reserved_is
-  ∙ ap (λ n. record { appropriation = row.appropriation; free = row.free; reserved = reserved row.line t; contracted = n; paid = sums.paid }) are.contracted_is
-  ∙ ap (λ n. record { appropriation = row.appropriation; free = row.free; reserved = reserved row.line t; contracted = contracted row.line t; paid = n }) are.paid_is,
+      ∙ ap (λ n. record { appropriation = row.appropriation; free = row.free; reserved = reserved row.line t; contracted = n; paid = sums.paid }) are.contracted_is
+      ∙ ap (λ n. record { appropriation = row.appropriation; free = row.free; reserved = reserved row.line t; contracted = contracted row.line t; paid = n }) are.paid_is,
   are.fit,
 )
