@@ -105,7 +105,7 @@ class Teller:
         return "awarded", self.say("see.told.awarded", lots=self.lots(award["relatedLots"]), name=name, amount=self.money(award["value"]))
 
     def failed(self, release: Json) -> tuple[str, str]:
-        award = next(it for it in self.compiled["awards"] if it["id"] == release["awards"][0]["id"])
+        (award,) = [it for it in self.compiled["awards"] if it["id"] == release["awards"][0]["id"]]
         return "passed", self.say("see.told.passed", name=award["suppliers"][0]["name"], lots=self.lots(award["relatedLots"]))
 
     def cancelled(self, release: Json) -> tuple[str, str]:
@@ -134,7 +134,7 @@ class Teller:
 
     def ended(self, release: Json) -> tuple[str, str]:
         # (The release has only the contract's number.)
-        contract = next(it for it in self.compiled["contracts"] if it["id"] == release["contracts"][0]["id"])
+        (contract,) = [it for it in self.compiled["contracts"] if it["id"] == release["contracts"][0]["id"]]
         paid = sum(it["value"]["amount"] for it in contract.get("implementation", {}).get("transactions", []))
         amount = self.money(contract["value"])
         return "ended", self.say("see.told.ended", contract=contract["id"], paid=self.money({**contract["value"], "amount": paid}), amount=amount)

@@ -100,7 +100,7 @@ def lot(language: str, notice: Notice, row: Json, tenders: list[Json]) -> str:
                  (say(language, "see.paid"), amount(row["paid"]))]
     elif row["status"] in ("cancelled", "unsuccessful"):
         told.append((say(language, "see.state"), say(language, f"see.is.{row['status']}")))
-    items = next(it["items"] for it in notice.terms["lots"] if it["id"] == row["lot"])
+    (items,) = [it["items"] for it in notice.terms["lots"] if it["id"] == row["lot"]]
     bought = "".join(f'<tr><td>{text(it["id"])}</td><td>{text(it["title"])}</td><td class="number">{number(language, it["quantity"])}</td></tr>\n'
                      for it in items)
     made = (f"<h3>{html.escape(say(language, 'see.lot', lot=row['lot']))}: {text(row['title'])}</h3>\n{facts(told)}<table>\n<caption>"
