@@ -92,7 +92,7 @@ export async function drawList(text) {
   return { title: "", told: say("see.list.all", { count: list.length }), content: [title(say("see.page.list")),
     element("p", { class: "intro" }, say("see.list.intro")), data ? null : element("p", { class: "note" }, say("see.nodata")),
     list.length === 0 ? element("p", {}, say("see.list.empty")) : search(filtersOf(text), entries, data),
-    data ? element("p", {}, link(say("see.list.feed"), "/data/feed.atom"), " · ", link(say("see.about.data"), "/data/")) : null] };
+    data ? element("p", {}, link(say("see.list.feed"), "/data/notices.atom"), " · ", link(say("see.about.data"), "/data/")) : null] };
 }
 
 /** The notice whose number differs from this one only in case, or null. */
