@@ -154,11 +154,6 @@ def release_added(name: str, after: int) -> str:
     return f"INSERT INTO releases SELECT notice, seq + {after}, moment, text FROM releases WHERE notice = '{name}' ORDER BY seq DESC LIMIT 1;"
 
 
-def numbered_from_0(name: str) -> str:
-    """The second release gets the number 0, which no office gives: as many releases as the notice counts, with the last one."""
-    return f"PRAGMA ignore_check_constraints = 1; UPDATE releases SET seq = 0 WHERE notice = '{name}' AND seq = 2;"
-
-
 def merge_gone(name: str) -> str:
     return f"DELETE FROM compiled WHERE notice = '{name}';"
 
@@ -174,7 +169,6 @@ def of_releases(name: str, is_long: bool) -> list[tuple[str, ...]]:
              ("a release with the next number is there", release_added(name, 1)), ("a release with a later number is there", release_added(name, 5))]
     if is_long:
         found += [("a release in the middle", releases_gone(name, second)), ("the last release", releases_gone(name, last)),
-                  ("a release in the middle, and one with the number 0", numbered_from_0(name)),
                   ("a release in the middle and the merge", releases_gone(name, second) + merge_gone(name)),
                   ("the last release and the merge", releases_gone(name, last) + merge_gone(name))]
     return found
