@@ -5,6 +5,7 @@ ghost use Rattle.std.specs.Cmp.Lexicographic.{slice_cmp};
 ghost use Rattle.std.specs.Char.{digit_value};
 ghost use Rattle.std.specs.Str.Parse.{AllDigits};
 ghost use Rattle.json.specs.Print.{escape, escape_byte, quoted};
+ghost use Rattle.json.specs.Word.{is_space};
 ghost use Rattle.serde_json.specs.Read.{read};
 ghost use Rattle.serde_json.specs.Written.{comma_if};
 ghost use Rattle.ocds_merge.specs.Stored.{IsObjectText};
@@ -257,7 +258,8 @@ pub(crate) fn is_in_turn(later: bool, last: &[u8], name: &[u8]) -> bool
 
 /// Whether a byte may be between the values of a text, and before them.
 pub(crate) fn is_space(byte: u8) -> bool
-    ensures { IsTrue result → (rest : List ℕ) → read (byte ∷ rest) ≡ read rest }
+    ensures passed { IsTrue result → (rest : List ℕ) → read (byte ∷ rest) ≡ read rest }
+    ensures is { result ≡ is_space byte }
 {
     match byte {
         b' ' => true,

@@ -4,7 +4,7 @@ ghost use Rattle.serde_json.specs.Read.{read};
 ghost use Rattle.serde_json.specs.View.{view};
 ghost use Rattle.serde_json.specs.Written.{compact_text};
 ghost use Rattle.ocds_merge.specs.Merge.{merge_or_null};
-ghost use Rattle.ocds_merge.specs.Stored.{KeepsMerge, IsObjectText, IsStorable};
+ghost use Rattle.ocds_merge.specs.Stored.{KeepsMerge, IsObjectText, IsStorable, begins_object};
 ghost use Rattle.ocds_merge.specs.Inside.Step.{step};
 ghost use Rattle.ocds_merge.specs.Inside.Splice.{TextIsKept};
 ghost use Rattle.ocds_merge.specs.Inside.Readable.{Reads};
@@ -78,7 +78,8 @@ pub fn is_object(alloc: Global, text: &str) -> Result<bool, NoMemory>
 
 /// Whether a text begins like an object, perhaps after spaces. A text that begins so and can be read is an object. Only its first bytes are read.
 pub fn begins_object(text: &str) -> bool
-    ensures { MatchBool result ((d : Data) → read text.now ≡ Some d → IsObjectText text.now) ⊤ }
+    ensures object { MatchBool result ((d : Data) → read text.now ≡ Some d → IsObjectText text.now) ⊤ }
+    ensures is { result ≡ begins_object text.now }
 {
     let mut left = text.as_bytes();
     while let Some((first, rest)) = left.split_first() {

@@ -1,23 +1,18 @@
 -- Releases that are taken one after another by their places.
-use Rattle.std.specs.Prelude.{◌≡◌, ◌<◌, ◌-◌, ◌⊎◌, ℕ, zero, suc, ◌+◌, List, [], ◌∷◌, Option, Some, None, IfSome, drop, length, map, get_or, slice_get}
-use Rattle.std.proofs.Common.{refl, sym, ap, ◌∙◌, subst, arith, add-one, inl, inr}
+use Rattle.std.specs.Prelude.{◌≡◌, ◌<◌, ◌-◌, ℕ, suc, ◌+◌, List, [], ◌∷◌, Option, Some, None, IfSome, All, length, map, get_or, slice_get}
+use Rattle.std.proofs.Common.{refl, sym, ap, ◌∙◌, subst, arith, inl, inr}
 use Rattle.std.specs.List.{AllByRecursion}
-use Rattle.std.proofs.lemmas.Bool.{cases_lt}
-use Rattle.std.proofs.lemmas.List.Elements.{All-from_recursion}
+use Rattle.std.proofs.lemmas.List.{length-map}
+use Rattle.std.proofs.lemmas.List.Elements.{All-from_recursion, All-get_or}
+use Rattle.std.proofs.lemmas.Option.{slice_get_cases}
 use Rattle.ocds_release.specs.Opened.{moment_of, moment_of_last}
 use Rattle.office_base.specs.declared.records.ReleaseRow.{ReleaseRow}
-use Rattle.office_base.specs.Tables.{Tables, release_at}
-use Rattle.office_publications.specs.Told.{AreAllThere, CanBeShown, IsInRange}
+use Rattle.office_base.specs.Tables.{Tables, release_at, releases_of_notice}
+use Rattle.office_plans.proofs.OneByOne.{as_many}
+use Rattle.office_publications.specs.Merges.{AreSoMany}
+use Rattle.office_publications.specs.Told.{AreAllThere, IsInRange}
 use Rattle.office_desk.specs.Extent.{IsExtentOf, ReadsAsObject}
 use Rattle.office_desk.specs.declared.queries.packages.texts.Extent.{Extent}
-
-from_place : (rows : List ReleaseRow) (k : ℕ) (r : ReleaseRow) → slice_get rows k ≡ Some r → drop k rows ≡ r ∷ drop (suc k) rows
-from_place [] k r is = absurd cc
-from_place (q ∷ rows) zero r is = let same : q ≡ r = cc in ap (λ (x : ReleaseRow). x ∷ rows) same
-from_place (q ∷ rows) (suc k) r is = from_place rows k r is
-
-pub next_is : (rows : List ReleaseRow) (k : ℕ) (r : ReleaseRow) → slice_get rows k ≡ Some r → drop k rows ≡ r ∷ drop (k + 1) rows
-next_is rows k r is = rw add-one (from_place rows k r is)
 
 -- The moment of the last of these rows, which follow others whose last one has this moment.
 abbrev pub last_after : Option ℕ → List ReleaseRow → Option ℕ
@@ -30,11 +25,11 @@ pub record Measures (last : Option ℕ) (rest all : List ReleaseRow) : Type 0 wh
   pub range : AllByRecursion IsInRange rest → AllByRecursion IsInRange all
   pub read : AllByRecursion ReadsAsObject rest → AllByRecursion ReadsAsObject all
 
-pub measures_next : (last : Option ℕ) (rows : List ReleaseRow) (k : ℕ) (r : ReleaseRow) → slice_get rows k ≡ Some r → IsInRange r → ReadsAsObject r
-    → Measures last (drop k rows) rows → Measures (Some r.moment) (drop (k + 1) rows) rows
-measures_next last rows k r is range reads so_far =
-    let here : Measures last (r ∷ drop (k + 1) rows) rows = subst (λ (l : List ReleaseRow). Measures last l rows) (next_is rows k r is) so_far in
-    record { moment = here.moment; range = λ rest. here.range (range, rest); read = λ rest. here.read (reads, rest) }
+pub measures_next : (last : Option ℕ) (rest more all : List ReleaseRow) (r : ReleaseRow) → rest ≡ r ∷ more → IsInRange r → ReadsAsObject r
+    → Measures last rest all → Measures (Some r.moment) more all
+measures_next last rest more all r is range reads so_far =
+    let here : Measures last (r ∷ more) all = subst (λ (l : List ReleaseRow). Measures last l all) is so_far in
+    record { moment = here.moment; range = λ later. here.range (range, later); read = λ later. here.read (reads, later) }
 
 last_of : (last : Option ℕ) (r : ReleaseRow) (rows : List ReleaseRow) → last_after last (r ∷ rows) ≡ Some (moment_of_last (r ∷ rows))
 last_of last r [] = refl
@@ -63,15 +58,16 @@ measured extent rows rest none so_far =
 
 -- ---- the releases that exist
 
-below_or_at : (k n : ℕ) → k < n + 1 → (k < n) ⊎ (k ≡ n)
-below_or_at k n low = elim (cases_lt k n) [
-  | inl below ↦ inl below
-  | inr above ↦ inr (omega (arith, above, low))
+-- If a notice has releases with the numbers from 1 to this one and no others, each at its place, and all can be read, then each can be shown.
+pub all_there : (notice : List ℕ) (count : ℕ) (s : Tables) → AreSoMany notice count s
+    → ((k : ℕ) → slice_get (releases_of_notice notice s) k ≡ release_at (notice, k + 1) s) → All ReadsAsObject (releases_of_notice notice s) → AreAllThere notice count s
+all_there notice count s many place read k low = elim (slice_get_cases rows k).1 [
+  | inl (r, within, is, same) ↦ (r, sym (place k) ∙ is, subst ReadsAsObject same (All-get_or ReadsAsObject rows k r within read))
+  | inr (past, _) ↦ absurd (omega (arith, past, low, so_many))
 ]
+  where
+    rows : List ReleaseRow
+    rows = releases_of_notice notice s
 
-pub one_more_there : (notice : List ℕ) (place : ℕ) (s : Tables) (r : ReleaseRow) → AreAllThere notice place s → release_at (notice, place + 1) s ≡ Some r → ReadsAsObject r
-    → AreAllThere notice (place + 1) s
-one_more_there notice place s r there found reads k low = elim (below_or_at k place low) [
-  | inl below ↦ there k below
-  | inr same ↦ subst (λ (n : ℕ). CanBeShown notice (n + 1) s) (sym same) (r, found, reads)
-]
+    so_many : length rows ≡ count
+    so_many = sym (length-map rows (λ (r : ReleaseRow). r.seq)) ∙ ap length many ∙ as_many count 1

@@ -7,7 +7,7 @@ use Rattle.serde_json.specs.declared.value.Value.{Value}
 use Rattle.office_base.specs.declared.records.NoticeRow.{NoticeRow}
 use Rattle.office_base.specs.Tables.{Tables, notice_at}
 use Rattle.office_machine.specs.Counted.{releases_in}
-use Rattle.office_publications.specs.Merges.{HasMerge}
+use Rattle.office_publications.specs.Merges.{AreSoMany, HasMerge}
 use Rattle.office_publications.specs.Told.{AreAllThere, HasReleases}
 
 -- A release that is made of a merge is made of the merge that it equals.
@@ -16,8 +16,29 @@ pub made_of : {E : Type 0} (result : Result Value E) (Stands : Type 0) (make : D
 made_of (Ok release) Stands make merge told is same = λ stands. is ∙ ap make (same stands)
 made_of (Err why) Stands make merge told is same = tt
 
--- A record is shown only if all releases that the notice's row counts exist and the stored merge is an object.
+-- What holds anyway holds of a result.
+pub on_ok_any : {T E : Type 0} (result : Result T E) (P : Type 0) → P → OnOk result P
+on_ok_any (Ok x) P holds = holds
+on_ok_any (Err why) P holds = tt
+
+-- Releases are shown only if they are those that the notice's row counts.
+pub releases_shown : {T E : Type 0} (notice : List ℕ) (s : Tables) (row : NoticeRow) (result : Result T E) → Some row ≡ notice_at notice s
+    → OnOk result (AreAllThere notice row.releases s) → OnOk result (AreSoMany notice row.releases s) → OnOk result (HasReleases notice s)
+releases_shown notice s row (Ok text) is there numbered = record {
+  there = subst (λ (o : Option NoticeRow). AreAllThere notice (releases_in o) s) is there;
+  numbered = subst (λ (o : Option NoticeRow). AreSoMany notice (releases_in o) s) is numbered;
+}
+releases_shown notice s row (Err why) is there numbered = tt
+
+-- A record is shown only if this is so, and the stored merge is an object.
 pub record_shown : {T E : Type 0} (notice : List ℕ) (s : Tables) (row : NoticeRow) (result : Result T E) → Some row ≡ notice_at notice s
-    → OnOk result (AreAllThere notice row.releases s) → OnOk result (HasMerge notice s) → OnOk result (HasReleases notice s × HasMerge notice s)
-record_shown notice s row (Ok text) is there merge = (subst (λ (o : Option NoticeRow). AreAllThere notice (releases_in o) s) is there, merge)
-record_shown notice s row (Err why) is there merge = tt
+    → OnOk result (AreAllThere notice row.releases s) → OnOk result (AreSoMany notice row.releases s) → OnOk result (HasMerge notice s)
+    → OnOk result (HasReleases notice s × HasMerge notice s)
+record_shown notice s row (Ok text) is there numbered merge = (
+  record {
+    there = subst (λ (o : Option NoticeRow). AreAllThere notice (releases_in o) s) is there;
+    numbered = subst (λ (o : Option NoticeRow). AreSoMany notice (releases_in o) s) is numbered;
+  },
+  merge,
+)
+record_shown notice s row (Err why) is there numbered merge = tt

@@ -115,7 +115,7 @@ module _ (notice : List ℕ) where
         ∙ passes q (release_at (notice, q) s) refl
 
     -- the release with the number after this place
-    placed : (count : ℕ) → release_numbers notice s ≡ numbers 1 count → (k : ℕ) → slice_get (releases_of_notice notice s) k ≡ release_at (notice, k + 1) s
+    pub placed : (count : ℕ) → release_numbers notice s ≡ numbers 1 count → (k : ℕ) → slice_get (releases_of_notice notice s) k ≡ release_at (notice, k + 1) s
     placed count are k = at_place count 1 (releases_of_notice notice s) are k ∙ at_number (1 + k) ∙ ap (λ n. release_at (notice, n) s) (omega arith)
 
     last : (count : ℕ) → release_numbers notice s ≡ numbers 1 count → has_last_release notice count s ≡ true

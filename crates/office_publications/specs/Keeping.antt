@@ -1,5 +1,5 @@
 -- The changes that an accepted command makes in an office that publishes: those of the specification, and the merge that its release joins.
-use Rattle.std.specs.Prelude.{◌≡◌, ℕ, ◌+◌, Bool, true, false, ◌||◌, nat_eq, List, ◌∷◌, [], ◌++◌, Option, Some, None, is_some}
+use Rattle.std.specs.Prelude.{◌≡◌, ℕ, ◌+◌, Bool, true, false, ◌||◌, nat_eq, List, ◌∷◌, [], ◌++◌, Option, Some, None, is_some, slice_get}
 use Rattle.serde_json.specs.Written.{compact_text}
 use Rattle.ocds_merge.specs.Merge.{merge_or_null}
 use Rattle.ocds_merge.specs.Stored.{KeepsMerge}
@@ -9,7 +9,7 @@ use Rattle.office_base.specs.declared.puts.Put.{Put}
 use Rattle.office_base.specs.declared.puts.Put.TheVariants as puts
 use Rattle.office_base.specs.declared.records.CompiledRow.{CompiledRow}
 use Rattle.office_base.specs.declared.records.ReleaseRow.{ReleaseRow}
-use Rattle.office_base.specs.Tables.{Tables, IsSorted, no_tables, notice_at, release_at, after_puts}
+use Rattle.office_base.specs.Tables.{Tables, IsSorted, no_tables, notice_at, release_at, releases_of_notice, after_puts}
 use Rattle.office_machine.specs.Machine.{Given, CanBeGiven, Reaches, effect, next, publication, puts_of, refusal_of, release_row, with_merges}
 use Rattle.office_machine.specs.Counted.{releases_in}
 use Rattle.office_machine.specs.OfficeMeans.{office_readings}
@@ -85,6 +85,11 @@ PublicationReadsBack publisher x = (r : ReleaseRow) → publication (publishing 
 abbrev pub NumbersTellTheLast : Type 0
 NumbersTellTheLast = (notice : List ℕ) (count : ℕ) (t : Tables) → IsSorted t → AreSoMany notice count t
     → (has_last_release notice count t ≡ true) × (has_release notice (count + 1) t ≡ false)
+
+-- The law: then each of its releases is at the place that its number says.
+abbrev pub NumbersTellThePlaces : Type 0
+NumbersTellThePlaces = (notice : List ℕ) (count : ℕ) (t : Tables) → IsSorted t → AreSoMany notice count t
+    → (k : ℕ) → slice_get (releases_of_notice notice t) k ≡ release_at (notice, k + 1) t
 
 -- The law: a command that is no event publishes nothing.
 abbrev pub NoEventPublishesNothing : Type 0

@@ -55,6 +55,8 @@ CanBeShown notice seq s = (r : ReleaseRow) × (release_at (notice, seq) s ≡ So
 abbrev pub AreAllThere : List ℕ → ℕ → Tables → Type 0
 AreAllThere notice count s = (k : ℕ) → k < count → CanBeShown notice (k + 1) s
 
--- This is true of each release that the notice's row counts. It is asked of any office, even of one to which no commands lead.
-abbrev pub HasReleases : List ℕ → Tables → Type 0
-HasReleases notice s = AreAllThere notice (releases_in (notice_at notice s)) s
+-- The notice has the releases that its row counts, each with a text that is a JSON object, and no others. It is asked of any office, even of one to which no
+-- commands lead.
+pub record HasReleases (notice : List ℕ) (s : Tables) : Type 0 where
+  pub there : AreAllThere notice (releases_in (notice_at notice s)) s
+  pub numbered : AreSoMany notice (releases_in (notice_at notice s)) s

@@ -1,5 +1,5 @@
 //! The laws of the publications of an office. Each function does nothing, and its contract is the law.
-ghost use Rattle.office_publications.specs.Keeping.{NoEventPublishesNothing, EventsAreReleased, NumbersTellTheLast};
+ghost use Rattle.office_publications.specs.Keeping.{NoEventPublishesNothing, EventsAreReleased, NumbersTellTheLast, NumbersTellThePlaces};
 ghost use Rattle.office_publications.specs.Keeping.{NoEventPutsItsEffect, EventsPutReleases};
 ghost use Rattle.office_publications.specs.Keeping.{MergesStandBeside, KeptStepsReach, ReleasesStayKept, NothingIsKeptAtFirst};
 ghost use Rattle.office_publications.specs.Merges.{BodiesAreStorable, MergesStay, ReleasesStay};
@@ -24,9 +24,11 @@ pub fn releases_can_be_merged()
     ensures storable { BodiesAreStorable }
 {}
 
-/// If a notice has the releases with the numbers from 1 to its count, and no others, its last release exists, and none has the next number.
+/// If a notice has the releases with the numbers from 1 to its count, and no others, its last release exists, and none has the next number. Each of them is at
+/// the place that its number says.
 pub fn numbering()
-    ensures { NumbersTellTheLast }
+    ensures last { NumbersTellTheLast }
+    ensures places { NumbersTellThePlaces }
 {}
 
 /// The specification of the office that publishes makes a release of each command that publishes.

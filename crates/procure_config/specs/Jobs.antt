@@ -48,6 +48,17 @@ over_port name = with_rule (over_store name) (number_rule (codes "PORT") port_bo
 abbrev pub serve : App
 serve = with_rule (over_port (codes "serve")) (number_rule (codes "COUNT") count_bound)
 
+-- `read-tender ITEMS`, and `read-tender ITEMS FILE`.
+abbrev pub over_items : App
+over_items = with_rule (new_app (codes "read-tender")) (needed_rule (codes "ITEMS"))
+
+abbrev pub read_tender : App
+read_tender = with_rule over_items (needed_rule (codes "FILE"))
+
+-- `read-budget FILE`.
+abbrev pub read_budget : App
+read_budget = with_rule (new_app (codes "read-budget")) (needed_rule (codes "FILE"))
+
 -- The program's name, and its option `--version`.
 abbrev pub named : App
 named = let app = new_app (codes "procure") in record app { top = record app.top { has_version = true } }
@@ -55,9 +66,10 @@ named = let app = new_app (codes "procure") in record app { top = record app.top
 -- The program's subcommands.
 abbrev pub subcommands : App
 subcommands =
-    with_subcommand (with_subcommand (with_subcommand (with_subcommand (with_subcommand (with_subcommand (with_subcommand named
+    with_subcommand (with_subcommand (with_subcommand (with_subcommand (with_subcommand (with_subcommand (with_subcommand (with_subcommand
+    (with_subcommand named
     (over_settings (codes "desk")).top) serve.top) (over_store (codes "ledger")).top) (over_notice (codes "minutes")).top) (over_notice (codes "record")).top)
-    (over_store (codes "notices")).top) (over_notice (codes "evaluation")).top
+    (over_store (codes "notices")).top) (over_notice (codes "evaluation")).top) read_tender.top) read_budget.top
 
 -- The program's command line: a subcommand must be given.
 unfoldable pub procure : App
@@ -72,6 +84,8 @@ pub data Asked : Type 0 where
   Record : (config store notice : Text) → Asked
   Notices : (config store : Text) → Asked
   Evaluation : (config store notice : Text) → Asked
+  ReadTender : (items file : Text) → Asked
+  ReadBudget : (file : Text) → Asked
 
 -- The job as the program's own type has it.
 abbrev pub asked_by_job : Job → Asked
@@ -82,6 +96,8 @@ asked_by_job (job.Minutes config store notice) = Minutes config.now store.now no
 asked_by_job (job.Record config store notice) = Record config.now store.now notice.now
 asked_by_job (job.Notices config store) = Notices config.now store.now
 asked_by_job (job.Evaluation config store notice) = Evaluation config.now store.now notice.now
+asked_by_job (job.ReadTender items file) = ReadTender items.now file.now
+asked_by_job (job.ReadBudget file) = ReadBudget file.now
 
 -- The number that a text writes in decimal digits, if it is from 1 to this bound.
 abbrev pub number_in : ℕ → Option Text → Option ℕ
@@ -140,6 +156,17 @@ evaluation_in rows = do
   notice ← first_of (codes "NOTICE") rows
   Some (Evaluation config store notice)
 
+abbrev pub read_tender_in : List Row → Option Asked
+read_tender_in rows = do
+  items ← first_of (codes "ITEMS") rows
+  file ← first_of (codes "FILE") rows
+  Some (ReadTender items file)
+
+abbrev pub read_budget_in : List Row → Option Asked
+read_budget_in rows = do
+  file ← first_of (codes "FILE") rows
+  Some (ReadBudget file)
+
 -- The job by the name of the subcommand.
 abbrev pub asked_as : Text → List Row → Option Asked
 asked_as name rows =
@@ -150,6 +177,8 @@ asked_as name rows =
     else if pointwise nat_eq name (codes "record") then record_in rows
     else if pointwise nat_eq name (codes "notices") then notices_in rows
     else if pointwise nat_eq name (codes "evaluation") then evaluation_in rows
+    else if pointwise nat_eq name (codes "read-tender") then read_tender_in rows
+    else if pointwise nat_eq name (codes "read-budget") then read_budget_in rows
     else None
 
 -- The job of the subcommand that was found.

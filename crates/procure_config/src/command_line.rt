@@ -119,6 +119,43 @@ fn serve<'a>(alloc: Global) -> Result<Command<'a>, AllocError>
     over_port(alloc, "serve", about, example)?.arg(count)
 }
 
+// The subcommand `read-budget`.
+fn read_budget<'a>(alloc: Global) -> Result<Command<'a>, AllocError>
+    ensures shape { IfOk result (λ command. app_of command ≡ spec.read_budget) }
+    ensures local { IfOk result (λ command. (fields_of command).has_globals ≡ false) }
+{
+    let file = required_argument(alloc, "FILE", "The budget file, CSV");
+    Command::new(alloc, "read-budget")
+        .about("Prints as JSON what an office reads in a budget file")
+        .after_help("Example: procure read-budget budget.csv")
+        .arg(file)
+}
+
+// The subcommand `read-tender` without its last argument.
+fn over_items<'a>(alloc: Global) -> Result<Command<'a>, AllocError>
+    ensures shape { IfOk result (λ command. app_of command ≡ spec.over_items) }
+    ensures local { IfOk result (λ command. (fields_of command).has_globals ≡ false) }
+{
+    let items = required_argument(
+        alloc,
+        "ITEMS",
+        "The lot's items: JSON, an object whose `items` are as in the notice",
+    );
+    Command::new(alloc, "read-tender")
+        .about("Prints as JSON what an office reads in a tender's file")
+        .after_help("Example: procure read-tender lot.json tender.csv")
+        .arg(items)
+}
+
+// The subcommand `read-tender`.
+fn read_tender<'a>(alloc: Global) -> Result<Command<'a>, AllocError>
+    ensures shape { IfOk result (λ command. app_of command ≡ spec.read_tender) }
+    ensures local { IfOk result (λ command. (fields_of command).has_globals ≡ false) }
+{
+    let file = required_argument(alloc, "FILE", "The tender's file, CSV");
+    over_items(alloc)?.arg(file)
+}
+
 /// The program's command line, with this version.
 pub(crate) fn procure<'a>(alloc: Global, version: &'a str) -> Result<Command<'a>, AllocError>
     ensures { IfOk result (λ command. app_of command ≡ spec.procure) }
@@ -164,6 +201,8 @@ pub(crate) fn procure<'a>(alloc: Global, version: &'a str) -> Result<Command<'a>
             "evaluation",
             "Prints how the awards of a notice were decided",
             "Example: procure evaluation office.toml office.db 2026-101",
-        )?)?;
+        )?)?
+        .subcommand(read_tender(alloc)?)?
+        .subcommand(read_budget(alloc)?)?;
     Ok(procure.subcommand_required(true))
 }

@@ -17,7 +17,7 @@ pub enum ProgramFault {
     Settings(Option<SettingName>),
     /// The store failed, or its file isn't an office.
     Store,
-    /// The input, a port or the clock failed.
+    /// The input, a port or the clock failed, or a file that is only read: it can't be read, or the office doesn't accept it.
     Input,
     /// The output failed.
     Output,

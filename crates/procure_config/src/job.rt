@@ -73,6 +73,18 @@ pub enum Job<'a> {
         /// The notice as it was written; it may not be an identifier.
         notice: &'a str,
     },
+    /// Prints what the office reads in a tender file.
+    ReadTender {
+        /// The path of the file with the lot's items.
+        items: &'a str,
+        /// The path of the tender file.
+        file: &'a str,
+    },
+    /// Prints what the office reads in a budget file.
+    ReadBudget {
+        /// The path of the budget file.
+        file: &'a str,
+    },
 }
 
 // The value of an argument.
@@ -179,6 +191,21 @@ fn evaluation_in<'a>(met: &ArgMatches<'a>) -> Option<Job<'a>>
     })
 }
 
+fn read_tender_in<'a>(met: &ArgMatches<'a>) -> Option<Job<'a>>
+    ensures { option_map asked_by_job result ≡ spec.read_tender_in (rows_of (found_of met.now)) }
+{
+    let items = text_of(met, "ITEMS")?;
+    let file = text_of(met, "FILE")?;
+    Some(Job::ReadTender { items, file })
+}
+
+fn read_budget_in<'a>(met: &ArgMatches<'a>) -> Option<Job<'a>>
+    ensures { option_map asked_by_job result ≡ spec.read_budget_in (rows_of (found_of met.now)) }
+{
+    let file = text_of(met, "FILE")?;
+    Some(Job::ReadBudget { file })
+}
+
 // The job that a subcommand with these values asks for.
 fn asked_as<'a>(name: &str, met: &ArgMatches<'a>) -> Option<Job<'a>>
     ensures { option_map asked_by_job result ≡ spec.asked_as name.now (rows_of (found_of met.now)) }
@@ -197,6 +224,10 @@ fn asked_as<'a>(name: &str, met: &ArgMatches<'a>) -> Option<Job<'a>>
         notices_in(met)
     } else if name == "evaluation" {
         evaluation_in(met)
+    } else if name == "read-tender" {
+        read_tender_in(met)
+    } else if name == "read-budget" {
+        read_budget_in(met)
     } else {
         None
     }

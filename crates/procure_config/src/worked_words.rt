@@ -2,7 +2,7 @@
 ghost use Rattle.std.specs.Prelude.{◌≡◌, true, false, codes, [], ◌∷◌, None, Some};
 ghost use Rattle.clap.specs.Words.{takes};
 ghost use Rattle.procure_config.specs.Jobs as spec;
-ghost use Rattle.procure_config.specs.Jobs.{Desk, Evaluation, Ledger, Minutes, Notices, Record, Serve, asked, faults_of};
+ghost use Rattle.procure_config.specs.Jobs.{Desk, Evaluation, Ledger, Minutes, Notices, ReadBudget, ReadTender, Record, Serve, asked, faults_of};
 
 use clap::error::ErrorKind;
 
@@ -15,6 +15,8 @@ pub fn worked_jobs()
     ensures record_of { asked (codes "procure" ∷ codes "record" ∷ codes "a" ∷ codes "b" ∷ codes "N1" ∷ []) ≡ Some (Record (codes "a") (codes "b") (codes "N1")) }
     ensures notices { asked (codes "procure" ∷ codes "notices" ∷ codes "a" ∷ codes "b" ∷ []) ≡ Some (Notices (codes "a") (codes "b")) }
     ensures evaluation { asked (codes "procure" ∷ codes "evaluation" ∷ codes "a" ∷ codes "b" ∷ codes "N1" ∷ []) ≡ Some (Evaluation (codes "a") (codes "b") (codes "N1")) }
+    ensures read_tender { asked (codes "procure" ∷ codes "read-tender" ∷ codes "a" ∷ codes "b" ∷ []) ≡ Some (ReadTender (codes "a") (codes "b")) }
+    ensures read_budget { asked (codes "procure" ∷ codes "read-budget" ∷ codes "a" ∷ []) ≡ Some (ReadBudget (codes "a")) }
     ensures taken { takes spec.procure (codes "procure" ∷ codes "serve" ∷ codes "a" ∷ codes "b" ∷ codes "65535" ∷ codes "1000000" ∷ []) ≡ true }
     ensures right { faults_of (codes "procure" ∷ codes "desk" ∷ codes "office.toml" ∷ []) ≡ [] }
 {}
@@ -25,6 +27,7 @@ pub fn worked_faults()
     ensures more { takes spec.procure (codes "procure" ∷ codes "desk" ∷ codes "a" ∷ codes "b" ∷ []) ≡ false }
     ensures no_word { faults_of [] ≡ ErrorKind.MissingSubcommand ∷ [] }
     ensures no_path { faults_of (codes "procure" ∷ codes "desk" ∷ []) ≡ ErrorKind.MissingRequiredArgument ∷ [] }
+    ensures no_tender { faults_of (codes "procure" ∷ codes "read-tender" ∷ codes "a" ∷ []) ≡ ErrorKind.MissingRequiredArgument ∷ [] }
     ensures no_notice { faults_of (codes "procure" ∷ codes "minutes" ∷ codes "a" ∷ codes "b" ∷ []) ≡ ErrorKind.MissingRequiredArgument ∷ [] }
     ensures unknown { faults_of (codes "procure" ∷ codes "shop" ∷ []) ≡ ErrorKind.UnknownArgument ∷ ErrorKind.InvalidSubcommand ∷ [] }
     ensures port_0 { faults_of (codes "procure" ∷ codes "serve" ∷ codes "a" ∷ codes "b" ∷ codes "0" ∷ codes "3" ∷ []) ≡ ErrorKind.ValueValidation ∷ [] }

@@ -7,3 +7,5 @@ mod StoppedFiles
 pub mod Turns
 pub mod ConnectionSteps
 pub mod FaultSteps
+pub mod ItemSteps
+pub mod ReadFileSteps

@@ -4,6 +4,7 @@ pub mod Turns
 pub mod Streams
 pub mod Showing
 pub mod Listing
+pub mod ReadFiles
 pub mod Serving
 pub mod Blank
 pub mod PageSize

@@ -14,7 +14,7 @@ use Rattle.office_wire.specs.Sending.{AppendsPart}
 use Rattle.tender_papers.specs.Listing.{listing_text}
 use Rattle.procure_config.specs.Configuration.{settings_in}
 use Rattle.procure_config.specs.Faults.{no_memory, no_route, of_settings}
-use Rattle.procure_config.specs.Jobs.{Asked, Desk, Evaluation, Ledger, Minutes, Notices, Record, Serve}
+use Rattle.procure_config.specs.Jobs.{Asked, Desk, Evaluation, Ledger, Minutes, Notices, ReadBudget, ReadTender, Record, Serve}
 use Rattle.procure_config.specs.declared.fault.ProgramFault.{ProgramFault}
 use Rattle.procure_config.specs.declared.fault.ProgramFault.TheVariants as fault
 use Rattle.procure_config.specs.declared.fault.ProgramFault.TheVariants.{Refused}
@@ -73,6 +73,8 @@ AsksPrintout (Minutes config store notice) result = AsksOfNotice queries.Minutes
 AsksPrintout (Record config store notice) result = AsksOfNotice queries.Record notice result
 AsksPrintout (Notices config store) result = result ≡ Ok (Some printouts.Notices)
 AsksPrintout (Evaluation config store notice) result = AsksOfNotice queries.Evaluation notice result
+AsksPrintout (ReadTender items file) result = result ≡ Ok None
+AsksPrintout (ReadBudget file) result = result ≡ Ok None
 
 -- A fault of the settings: memory is too small, a member is faulty, or the settings can't be read.
 abbrev pub IsOfSettings : ProgramFault → Type 0

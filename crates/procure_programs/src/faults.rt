@@ -62,6 +62,17 @@ pub fn of_unread_settings(error: Error) -> ProgramFault
     }
 }
 
+/// The fault of a file that can't be read, and isn't the settings' or an office's.
+pub fn of_unread_file(error: Error) -> ProgramFault
+    ensures memory { error_kind error ≡ ErrorKind.OutOfMemory → result ≡ no_memory }
+    ensures other { error_kind error ≢ ErrorKind.OutOfMemory → result ≡ ProgramFault.Input }
+{
+    match error.kind() {
+        ErrorKind::OutOfMemory => no_memory(),
+        _ => ProgramFault::Input,
+    }
+}
+
 /// The fault of an office's file that can't be made.
 pub fn of_unplaced_file(error: Error) -> ProgramFault
     ensures memory { error_kind error ≡ ErrorKind.OutOfMemory → result ≡ no_memory }

@@ -4,6 +4,7 @@ ghost use Rattle.procure_programs.specs.Showing.{AsksPrintout};
 
 use crate::config::settings_at;
 use crate::desk::run_desk;
+use crate::reading::{print_budget_at, print_tender_at};
 use crate::showing::Printout;
 use crate::store::{print_file, serve_file};
 use office_commands::queries::Query;
@@ -16,7 +17,8 @@ pub fn printout_of(job: &Job<'_>) -> Result<Option<Printout>, ProgramFault>
     ensures { AsksPrintout (asked_by_job job.now) result }
 {
     match *job {
-        Job::Desk { .. } | Job::Serve { .. } => Ok(None),
+        Job::Desk { .. } | Job::Serve { .. } | Job::ReadTender { .. } | Job::ReadBudget { .. } =>
+            Ok(None),
         Job::Ledger { .. } => Ok(Some(Printout::Seen(Query::Ledger))),
         Job::Notices { .. } => Ok(Some(Printout::Notices)),
         Job::Minutes { notice, .. } => match notice_named(notice) {
@@ -67,5 +69,7 @@ pub fn run_job(rt: &HostRuntime, job: &Job<'_>) -> Result<(), ProgramFault> {
         | Job::Minutes { config, store, .. }
         | Job::Record { config, store, .. }
         | Job::Evaluation { config, store, .. } => print_job(rt, job, config, store),
+        Job::ReadTender { items, file } => print_tender_at(rt, items, file),
+        Job::ReadBudget { file } => print_budget_at(rt, file),
     }
 }

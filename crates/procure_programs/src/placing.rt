@@ -1,7 +1,7 @@
 //! Puts an empty database at a path that nothing has yet. Its pages are smaller than those that the ported `sqlite` gives a new file.
 //!
 //! The only way in which a file gets there is `hard_link`, which fails if its name is taken. So no existing file is replaced or written to, whatever it holds.
-//! No contract can name the content of a file. This holds because of the way the module is built, and `tests/pages` tries it.
+//! No contract can name the content of a file. This holds because of the way the module is built, and `tests/store/test_pages.py` tries it.
 
 ghost use Rattle.std.specs.Prelude.{IfErr};
 ghost use Rattle.procure_programs.specs.FaultsTold.{IsOfStore};

@@ -180,9 +180,10 @@ fn notices_are_published(rt: HostRuntime) {
     assert!(rt; are_decided(rt.alloc(), &PUBLICATIONS));
 }
 
-// An amendment that moves the deadline from second 9 to this one.
+// An amendment that moves the deadline from second 9 to this one. The notice has this many releases.
 #[derive(Clone, Copy)]
 pub struct Delay {
+    pub releases: u64,
     pub second: u64,
     pub deadline: u64,
 }
@@ -192,7 +193,7 @@ impl Delay {
         let (t, clock) = (rows::at(self.second)?, rows::clock(1, 0)?);
         let deadline = rows::at(self.deadline)?;
         let rows = AmendNoticeRows {
-            notice: rows::notice(alloc, NoticeState::Receiving, 0, 1),
+            notice: rows::notice(alloc, NoticeState::Receiving, 0, self.releases),
             clock,
         };
         let whole = rows.notice.is_some();
@@ -200,9 +201,10 @@ impl Delay {
     }
 }
 
-static DELAYS: [(Case, Wanted); 3] = [
+static DELAYS: [(Case, Wanted); 5] = [
     (
         Case::Delay(Delay {
+            releases: 1,
             second: 8,
             deadline: 20,
         }),
@@ -217,6 +219,7 @@ static DELAYS: [(Case, Wanted); 3] = [
     ),
     (
         Case::Delay(Delay {
+            releases: 1,
             second: 8,
             deadline: 8,
         }),
@@ -224,10 +227,34 @@ static DELAYS: [(Case, Wanted); 3] = [
     ),
     (
         Case::Delay(Delay {
+            releases: 1,
             second: 9,
             deadline: 20,
         }),
         Wanted::Refused("DeadlinePassed"),
+    ),
+    (
+        Case::Delay(Delay {
+            releases: 9_998,
+            second: 8,
+            deadline: 20,
+        }),
+        Wanted::Puts(&[
+            Made::Notice(MadeNotice {
+                numbers: [20, 1, 9_999],
+                state: NoticeState::Receiving,
+                opened: None,
+            }),
+            Made::Clock([8, 1, 0]),
+        ]),
+    ),
+    (
+        Case::Delay(Delay {
+            releases: 9_999,
+            second: 8,
+            deadline: 20,
+        }),
+        Wanted::Refused("LimitReached"),
     ),
 ];
 

@@ -32,9 +32,11 @@ fn earlier(alloc: Global, there: bool, reading: Option<Reading>) -> Option<Rows<
     Some(rows::of(alloc, Some(row)))
 }
 
-// T1 submits a tender at this second with a security of this amount, perhaps after another tender. The notice receives tenders until second 9.
+// T1 submits a tender at this second with a security of this amount, perhaps after another tender. The notice receives tenders until second 9. The office has
+// given this many receipts.
 #[derive(Clone, Copy)]
 pub struct Presented {
+    pub receipts: u64,
     pub second: u64,
     pub security: u64,
     pub again: bool,
@@ -42,7 +44,7 @@ pub struct Presented {
 
 impl Presented {
     pub fn decide(&self, alloc: Global) -> Option<Decided> {
-        let (t, clock) = (rows::at(self.second)?, rows::clock(3, 0)?);
+        let (t, clock) = (rows::at(self.second)?, rows::clock(self.receipts, 0)?);
         let caller = Caller::Tenderer(rows::id("T1")?);
         let (notice, lot) = (rows::id("N1")?, rows::id("L1")?);
         let (security, sealed) = (named(self.security), Sealed::read(b"abc")?);
@@ -66,6 +68,7 @@ impl Presented {
 static RECEIVED: [(Case, Wanted); 4] = [
     (
         Case::Presented(Presented {
+            receipts: 3,
             second: 9,
             security: 50,
             again: false,
@@ -86,6 +89,7 @@ static RECEIVED: [(Case, Wanted); 4] = [
     ),
     (
         Case::Presented(Presented {
+            receipts: 3,
             second: 9,
             security: 49,
             again: false,
@@ -94,6 +98,7 @@ static RECEIVED: [(Case, Wanted); 4] = [
     ),
     (
         Case::Presented(Presented {
+            receipts: 3,
             second: 9,
             security: 0,
             again: false,
@@ -102,6 +107,7 @@ static RECEIVED: [(Case, Wanted); 4] = [
     ),
     (
         Case::Presented(Presented {
+            receipts: 3,
             second: 9,
             security: 50,
             again: true,
@@ -117,6 +123,7 @@ fn tenders_are_received_sealed(rt: HostRuntime) {
 
 static LATE: [(Case, Wanted); 1] = [(
     Case::Presented(Presented {
+        receipts: 3,
         second: 10,
         security: 50,
         again: true,
@@ -138,4 +145,43 @@ static LATE: [(Case, Wanted); 1] = [(
 #[test]
 fn late_tenders_are_given_back(rt: HostRuntime) {
     assert!(rt; are_decided(rt.alloc(), &LATE));
+}
+
+// The last receipt, and the one after it.
+static LAST: [(Case, Wanted); 2] = [
+    (
+        Case::Presented(Presented {
+            receipts: 999_999_999,
+            second: 9,
+            security: 50,
+            again: false,
+        }),
+        Wanted::Puts(&[
+            Made::Tender(MadeTender {
+                numbers: [1_000_000_000, 9, 3, 0xba, 1_000_000_000],
+                state: EnvelopeState::Sealed,
+                price: None,
+                responsive: None,
+                quality: None,
+                failed: false,
+            }),
+            Made::Clock([9, 1_000_000_000, 0]),
+            Made::Seal([1_000_000_000, 3, 97]),
+            Made::Security(1_000_000_000, SecurityState::Held),
+        ]),
+    ),
+    (
+        Case::Presented(Presented {
+            receipts: 1_000_000_000,
+            second: 9,
+            security: 50,
+            again: false,
+        }),
+        Wanted::Refused("LimitReached"),
+    ),
+];
+
+#[test]
+fn the_last_receipt_is_given_once(rt: HostRuntime) {
+    assert!(rt; are_decided(rt.alloc(), &LAST));
 }

@@ -1,6 +1,6 @@
 //! Tests of queries that a transcript can't express. There are merges that aren't stored or that another program wrote, releases that are missing or can't be
-//! read, and the ledger's rows one at a time. There are also answers that are larger than any request, texts that the programs print, and connections and
-//! sockets of a test's own.
+//! read, and the ledger's rows one at a time. There are also answers that are larger than any request, texts that the programs print of an office or of a file,
+//! and connections and sockets of a test's own.
 #![tactic(auto)]
 
 #[cfg(test)]
@@ -17,6 +17,8 @@ mod listed_notices;
 mod looked_at_rows;
 #[cfg(test)]
 mod missing_releases;
+#[cfg(test)]
+mod read_files;
 #[cfg(test)]
 mod served;
 #[cfg(test)]

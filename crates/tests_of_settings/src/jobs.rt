@@ -108,6 +108,21 @@ const PAPERS: &[Asked<'_>] = &[
     ),
 ];
 
+// Words that ask what the office reads in a file.
+const FILES: &[Asked<'_>] = &[
+    (
+        &["procure", "read-tender", "lot.json", "tender.csv"],
+        Job::ReadTender {
+            items: "lot.json",
+            file: "tender.csv",
+        },
+    ),
+    (
+        &["procure", "read-budget", "budget.csv"],
+        Job::ReadBudget { file: "budget.csv" },
+    ),
+];
+
 // Words that ask for no job, each with a part of the reported text.
 const NO_JOBS: &[(&[&str], &str)] = &[
     (&[], "Usage: procure <COMMAND>"),
@@ -136,6 +151,13 @@ const NO_JOBS: &[(&[&str], &str)] = &[
         "unexpected argument 'c'",
     ),
     (&["procure", "evaluation", "a", "b"], "<NOTICE>"),
+    (&["procure", "read-tender", "a"], "<FILE>"),
+    (
+        &["procure", "read-budget", "a", "b"],
+        "unexpected argument 'b'",
+    ),
+    (&["procure", "read-tender", "--help"], "lot.json tender.csv"),
+    (&["procure", "read-budget", "--help"], "budget.csv"),
 ];
 
 // Words that ask to serve with a port or a count out of bounds, each with a part of the reported text.
@@ -167,7 +189,7 @@ const OUT_OF_BOUNDS: &[(&[&str], &str)] = &[
     ),
 ];
 
-// The words of a job: the settings, the store or "", and the notice or "".
+// The words of a job in their order, and "" for each that it hasn't.
 fn words_of<'a>(job: &Job<'a>) -> (&'a str, &'a str, &'a str) {
     match *job {
         Job::Desk { config } => (config, "", ""),
@@ -188,6 +210,8 @@ fn words_of<'a>(job: &Job<'a>) -> (&'a str, &'a str, &'a str) {
             store,
             notice,
         } => (config, store, notice),
+        Job::ReadTender { items, file } => (items, file, ""),
+        Job::ReadBudget { file } => (file, "", ""),
     }
 }
 
@@ -201,6 +225,8 @@ fn numbers_of(job: &Job<'_>) -> (u8, u16, u32) {
         Job::Record { .. } => (4, 0, 0),
         Job::Notices { .. } => (5, 0, 0),
         Job::Evaluation { .. } => (6, 0, 0),
+        Job::ReadTender { .. } => (7, 0, 0),
+        Job::ReadBudget { .. } => (8, 0, 0),
     }
 }
 
@@ -233,6 +259,11 @@ fn asks_to_serve(rt: HostRuntime) {
 #[test]
 fn asks_for_what_is_of_an_office(rt: HostRuntime) {
     assert!(rt; are_asked(rt.alloc(), LEDGERS));
+}
+
+#[test]
+fn asks_what_is_read_in_a_file(rt: HostRuntime) {
+    assert!(rt; are_asked(rt.alloc(), FILES));
 }
 
 #[test]

@@ -1,4 +1,5 @@
-//! Files of the program before performance securities, as `sqlite3 .dump` printed them. `tests/version_1` has them too, and `tests/versions` compares the two.
+//! Files of the program before performance securities, as `sqlite3 .dump` printed them. `tests/version_1` has them too, and
+//! `tests/store/test_versions.py` compares the two.
 
 /// The statements that make their tables and indexes.
 pub const FIRST_TABLES: &str =

@@ -1,7 +1,6 @@
-//! The texts of the packages of a notice's releases and of its record, made of the stored texts. Each release that the notice's row counts is looked up by its
-//! number, once to measure it and once to put it into the text. So memory never holds a list of releases beside the text. If a release is missing or can't be
-//! merged, nothing is shown.
-ghost use Rattle.std.specs.Prelude.{◌≡◌, ◌<◌, ◌+◌, ◌∷◌, ◌++◌, [], IfOk, IfErr, OnOk, List, Some, string_bytes};
+//! The texts of the packages of a notice's releases and of its record, made of the stored texts. One look-up lists the notice's releases. If they aren't those
+//! that the notice's row counts, or if one of them can't be merged, nothing is shown.
+ghost use Rattle.std.specs.Prelude.{◌≡◌, ◌∷◌, ◌++◌, [], true, IfOk, IfErr, OnOk, List, Some, map, string_bytes};
 ghost use Rattle.serde_json.specs.View.{view};
 ghost use Rattle.ocds_merge.specs.Compile.{with_head};
 ghost use Rattle.ocds_merge.specs.Merge.{merge_or_null};
@@ -9,24 +8,25 @@ ghost use Rattle.ocds_release.specs.Opened.{completed};
 ghost use Rattle.ocds_release.specs.Texts.{ocid_text};
 ghost use Rattle.office_commands.specs.declared.queries.Query.TheVariants as queries;
 ghost use Rattle.office_base.specs.Shelves.{Looks};
-ghost use Rattle.office_base.specs.Tables.{Tables, notice_at, release_at, releases_of_notice};
+ghost use Rattle.office_base.specs.Tables.{Tables, notice_at, releases_of_notice};
 ghost use Rattle.office_base.specs.declared.records.ReleaseRow.{ReleaseRow as Row};
 ghost use Rattle.office_machine.specs.Counted.{releases_in};
-ghost use Rattle.office_publications.specs.Merges.{HasMerge, bodies};
+ghost use Rattle.office_machine.specs.Fates.{numbers};
+ghost use Rattle.office_publications.specs.Merges.{AreSoMany, HasMerge, bodies};
 ghost use Rattle.office_publications.specs.Packages.{packages};
 ghost use Rattle.office_publications.specs.Standing.{IsReached};
-ghost use Rattle.office_publications.specs.Told.{AreAllThere, AreInSequence, IsInRange};
-ghost use Rattle.office_desk.specs.Extent.{IsExtentOf, IsMeasured, ReadsAsObject};
+ghost use Rattle.office_publications.specs.Told.{AreAllThere, IsInRange};
+ghost use Rattle.office_desk.specs.Extent.{IsExtentOf, ReadsAsObject};
 ghost use Rattle.office_values.specs.Moments.{moment_text};
 ghost use Rattle.office_values.specs.declared.refusal.Refusal.TheVariants.{Unavailable};
 
 use ocds_merge::{is_object, with_compiled_head};
 use ocds_release::package_texts::{PackageText, open_record, open_releases};
-use office_base::counts::{ReleaseCount, Sequence};
+use office_base::counts::ReleaseCount;
 use office_base::laws::looks_follow;
 use office_base::records::ReleaseRow;
 use office_base::shelf::Lookups;
-use office_publications::laws::told;
+use office_publications::laws::{numbering, told};
 use office_publications::merges::{load_kept, merge_kept};
 use office_values::id::Id;
 use office_values::moment::Moment;
@@ -68,40 +68,52 @@ fn with_readable(alloc: Global, extent: Extent, release: &ReleaseRow) -> Result<
     }
 }
 
-// The release at this place in the sequence of a notice's releases. `Unavailable` if it is missing.
-fn load_release<H: Lookups>(shelf: &mut H, notice: &Id, place: u64) -> Result<ReleaseRow, Refusal>
-    requires { place < 9999 }
-    ensures looks { Looks H.meaning shelf.old shelf.new (λ s. IfOk result (λ row. release_at (notice.now, place + 1) s ≡ Some row)) }
-    ensures none { IfErr result (λ why. why ≡ Unavailable) }
+// Whether these releases have the numbers from 1 to this one.
+fn are_numbered(rows: &[ReleaseRow], count: u64) -> bool
+    ensures { result ≡ true → map (λ (r : Row). r.seq) rows.now ≡ numbers 1 count }
 {
-    let Some(seq) = Sequence::read(place + 1) else {
-        return Err(Refusal::Unavailable);
-    };
-    match shelf.get_release(notice, seq)? {
-        Some(release) => Ok(release),
-        None => Err(Refusal::Unavailable),
+    if rows.len() as u64 != count {
+        return false;
     }
+    let mut next: u64 = 1;
+    for row in rows {
+        if row.seq.get() != next {
+            return false;
+        }
+        next += 1;
+    }
+    true
 }
 
-// The extent of this many releases of a notice, if each of their texts is a JSON object.
-fn measure<H: Lookups>(
-    alloc: Global,
+// The releases of a notice, if there is one of each number from 1 to this count, and no other.
+fn load_releases<H: Lookups>(
     shelf: &mut H,
     notice: &Id,
     count: ReleaseCount,
-) -> Result<Extent, Refusal>
-    ensures looks { Looks H.meaning shelf.old shelf.new (λ s. IfOk result (λ extent. IsMeasured notice.now count extent s)) }
+) -> Result<Vec<ReleaseRow>, Refusal>
+    ensures looks { Looks H.meaning shelf.old shelf.new (λ s. IfOk result (λ rows. rows.items ≡ releases_of_notice notice.now s)) }
+    ensures numbered { Looks H.meaning shelf.old shelf.new (λ s. OnOk result (AreSoMany notice.now count s)) }
     ensures none { IfErr result (λ why. why ≡ Unavailable) }
 {
-    looks_follow::<H>();
+    let rows = shelf.list_releases_of_notice(notice)?;
+    if are_numbered(&rows, count.get()) {
+        Ok(rows)
+    } else {
+        Err(Refusal::Unavailable)
+    }
+}
+
+// The extent of these releases, if each of their texts is a JSON object.
+fn measure(alloc: Global, rows: &[ReleaseRow]) -> Result<Extent, Refusal>
+    ensures is { IfOk result (λ extent. IsExtentOf extent rows.now) }
+    ensures none { IfErr result (λ why. why ≡ Unavailable) }
+{
     let mut extent = Extent {
         bytes: 0,
         last: None,
     };
-    let many = count.get();
-    'places: for place in 0..many {
-        let release = load_release(shelf, notice, place)?;
-        extent = with_readable(alloc, extent, &release)?;
+    for row in rows {
+        extent = with_readable(alloc, extent, row)?;
     }
     Ok(extent)
 }
@@ -117,39 +129,24 @@ fn put_release(text: &mut PackageText, release: &ReleaseRow) -> Result<(), Refus
     }
 }
 
-// Puts this many releases of a notice into the text of a package.
-fn put_releases<H: Lookups>(
-    shelf: &mut H,
-    notice: &Id,
-    count: ReleaseCount,
-    text: &mut PackageText,
-) -> Result<(), Refusal>
-    ensures looks { Looks H.meaning shelf.old shelf.new (λ s. IfOk result (λ _. releases_in (notice_at notice.now s) ≡ count → AreInSequence notice.now s
-        → completed text.new [] ≡ completed text.old (releases_of_notice notice.now s))) }
+// Puts these releases into the text of a package.
+fn put_releases(rows: &[ReleaseRow], text: &mut PackageText) -> Result<(), Refusal>
+    ensures put { OnOk result (completed text.new [] ≡ completed text.old rows.now) }
     ensures none { IfErr result (λ why. why ≡ Unavailable) }
 {
-    looks_follow::<H>();
-    let many = count.get();
-    'places: for place in 0..many {
-        let row = load_release(shelf, notice, place)?;
-        put_release(text, &row)?;
+    for row in rows {
+        put_release(text, row)?;
     }
     Ok(())
 }
 
-// The whole text of a package that was begun, with this many releases of its notice.
-fn whole_text<H: Lookups>(
-    shelf: &mut H,
-    notice: &Id,
-    count: ReleaseCount,
-    opened: PackageText,
-) -> Result<Vec<u8>, Refusal>
-    ensures looks { Looks H.meaning shelf.old shelf.new (λ s. IfOk result (λ text. releases_in (notice_at notice.now s) ≡ count → AreInSequence notice.now s
-        → text.items ≡ completed opened (releases_of_notice notice.now s))) }
+// The whole text of a package that was begun, with these releases.
+fn whole_text(opened: PackageText, rows: &[ReleaseRow]) -> Result<Vec<u8>, Refusal>
+    ensures is { IfOk result (λ text. text.items ≡ completed opened rows.now) }
     ensures none { IfErr result (λ why. why ≡ Unavailable) }
 {
     let mut text = opened;
-    put_releases(shelf, notice, count, &mut text)?;
+    put_releases(rows, &mut text)?;
     match text.close() {
         Ok(text) => Ok(text),
         Err(_) => Err(Refusal::Unavailable),
@@ -177,9 +174,9 @@ fn releases_package(
     }
 }
 
-/// The package of all releases that a notice's row counts, made of their stored texts. It builds no tree, writes no text again, and holds one release at a time
-/// beside the package. `Unavailable` also if the notice has no release, or if one of them is missing or can't be merged. A text that isn't a JSON object of at
-/// most 127 levels can't be merged. None of this can happen in a reached office.
+/// The package of a notice's releases, made of their stored texts. It builds no tree and writes no text again. `Unavailable` also if the notice has no release,
+/// if its releases don't have the numbers from 1 to this count, or if one of them can't be merged. A text that isn't a JSON object of at most 127 levels can't be
+/// merged. None of this can happen in a reached office.
 pub(super) fn releases_text<H: Lookups>(
     alloc: Global,
     shelf: &mut H,
@@ -190,13 +187,14 @@ pub(super) fn releases_text<H: Lookups>(
     ensures looks { Looks H.meaning shelf.old shelf.new (λ s. IsReached publisher.now s → releases_in (notice_at notice.now s) ≡ count
         → IfOk result (λ text. text.items ≡ packages publisher.now (queries.Releases notice.now) s)) }
     ensures there { Looks H.meaning shelf.old shelf.new (λ s. OnOk result (AreAllThere notice.now count s)) }
+    ensures numbered { Looks H.meaning shelf.old shelf.new (λ s. OnOk result (AreSoMany notice.now count s)) }
     ensures none { IfErr result (λ why. why ≡ Unavailable) }
 {
-    told();
-    looks_follow::<H>();
-    let extent = measure(alloc, shelf, notice, count)?;
+    numbering();
+    let rows = load_releases(shelf, notice, count)?;
+    let extent = measure(alloc, &rows)?;
     let opened = releases_package(alloc, publisher, notice, extent)?;
-    whole_text(shelf, notice, count, opened)
+    whole_text(opened, &rows)
 }
 
 fn dashed(alloc: Global, first: &str, second: &str) -> Result<String, AllocError>
@@ -286,12 +284,14 @@ pub(super) fn record_text<H: Lookups>(
     ensures looks { Looks H.meaning shelf.old shelf.new (λ s. IsReached publisher.now s → releases_in (notice_at notice.now s) ≡ count
         → IfOk result (λ text. text.items ≡ packages publisher.now (queries.Record notice.now) s)) }
     ensures there { Looks H.meaning shelf.old shelf.new (λ s. OnOk result (AreAllThere notice.now count s)) }
+    ensures numbered { Looks H.meaning shelf.old shelf.new (λ s. OnOk result (AreSoMany notice.now count s)) }
     ensures merge { Looks H.meaning shelf.old shelf.new (λ s. OnOk result (HasMerge notice.now s)) }
     ensures none { IfErr result (λ why. why ≡ Unavailable) }
 {
-    told();
+    numbering();
     looks_follow::<H>();
-    let extent = measure(alloc, shelf, notice, count)?;
+    let rows = load_releases(shelf, notice, count)?;
+    let extent = measure(alloc, &rows)?;
     let opened = record_package(alloc, shelf, publisher, notice, extent)?;
-    whole_text(shelf, notice, count, opened)
+    whole_text(opened, &rows)
 }

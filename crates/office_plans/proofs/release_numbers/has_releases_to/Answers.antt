@@ -21,7 +21,7 @@ returns-clause-last g c =
       looked.0,
       λ honest s held all.
           let are = sym (looked.1 honest s held) ∙ sym c.as_slice.ensures.value ∙ c.are_numbers_to.ensures.all all in
-          (c.numbering.ensures c.args.notice.now c.args.count s (g.met.H.Lookups.held_sorted _ s held) are).0,
+          (c.numbering.ensures.last c.args.notice.now c.args.count s (g.met.H.Lookups.held_sorted _ s held) are).0,
     )
 
 pub returns-clause-next : goal.returns-clause-next
@@ -30,5 +30,5 @@ returns-clause-next g c =
       looked.0,
       λ honest s held all.
           let are = sym (looked.1 honest s held) ∙ sym c.as_slice.ensures.value ∙ c.are_numbers_to.ensures.all all in
-          (c.numbering.ensures c.args.notice.now c.args.count s (g.met.H.Lookups.held_sorted _ s held) are).1,
+          (c.numbering.ensures.last c.args.notice.now c.args.count s (g.met.H.Lookups.held_sorted _ s held) are).1,
     )

@@ -18,7 +18,9 @@ returns c =
     let minutes = subcommand_added _ _ _ _ _ c.in_ok-subcommand-4.ensures ledger c.in_ok-over_notice.ensures.shape c.in_ok-over_notice.ensures.local in
     let record_of = subcommand_added _ _ _ _ _ c.in_ok-subcommand-5.ensures minutes c.in_ok-over_notice-2.ensures.shape c.in_ok-over_notice-2.ensures.local in
     let notices = subcommand_added _ _ _ _ _ c.in_ok-subcommand-6.ensures record_of c.in_ok-over_store-2.ensures.shape c.in_ok-over_store-2.ensures.local in
+    let evaluation = subcommand_added _ _ _ _ _ c.in_ok-subcommand-7.ensures notices c.in_ok-over_notice-3.ensures.shape c.in_ok-over_notice-3.ensures.local in
+    let tender = subcommand_added _ _ _ _ _ c.in_ok-subcommand-8.ensures evaluation c.in_ok-read_tender.ensures.shape c.in_ok-read_tender.ensures.local in
     let whole : app_of c.in_ok-procure.procure ≡ subcommands =
-    subcommand_added _ _ _ _ _ c.in_ok-procure.ensures notices c.in_ok-over_notice-3.ensures.shape c.in_ok-over_notice-3.ensures.local in
+    subcommand_added _ _ _ _ _ c.in_ok-procure.ensures tender c.in_ok-read_budget.ensures.shape c.in_ok-read_budget.ensures.local in
     ap app_of_fields c.subcommand_required.ensures
     ∙ ap (λ (a : App). let app : App = record a { top = record a.top { subcommand_required = true } } in app) whole

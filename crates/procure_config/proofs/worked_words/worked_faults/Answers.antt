@@ -19,6 +19,10 @@ pub returns-clause-no_path : goal.returns-clause-no_path
 unfolding clap_on_literals procure
 returns-clause-no_path c = refl
 
+pub returns-clause-no_tender : goal.returns-clause-no_tender
+unfolding clap_on_literals procure
+returns-clause-no_tender c = refl
+
 pub returns-clause-no_notice : goal.returns-clause-no_notice
 unfolding clap_on_literals procure
 returns-clause-no_notice c = refl

@@ -31,6 +31,14 @@ pub returns-clause-evaluation : goal.returns-clause-evaluation
 unfolding clap_on_literals procure
 returns-clause-evaluation c = refl
 
+pub returns-clause-read_tender : goal.returns-clause-read_tender
+unfolding clap_on_literals procure
+returns-clause-read_tender c = refl
+
+pub returns-clause-read_budget : goal.returns-clause-read_budget
+unfolding clap_on_literals procure
+returns-clause-read_budget c = refl
+
 pub returns-clause-taken : goal.returns-clause-taken
 unfolding clap_on_literals procure
 returns-clause-taken c = refl

@@ -1,0 +1,23 @@
+use Rattle.std.proofs.Common.{◌∙◌, subst}
+use Rattle.std.specs.Prelude.{All}
+use Rattle.office_desk.proofs.Placed.{all_there}
+use Rattle.office_desk.proofs.Shown.{on_ok_any}
+use Rattle.office_desk.specs.Extent.{ReadsAsObject}
+use Rattle.office_publications.specs.Told.{AreAllThere}
+use Rattle.office_desk.proofs.queries.packages.texts.releases_text.Goals as goal
+
+pub returns-clause-there : goal.returns-clause-there
+returns-clause-there g c =
+    let looked = c.in_ok-rows.ensures.looks in
+    let numbered = c.in_ok-rows.ensures.numbered in
+    let notice = c.args.notice.now in
+    let count = c.args.count in (
+      looked.0,
+      λ honest s held.
+          let before = honest in
+          let many = numbered.1 before s held in
+          let same = c.deref.ensures.value ∙ looked.1 before s held in
+          let places = c.numbering.ensures.places notice count s (g.met.H.Lookups.held_sorted _ s held) many in
+          on_ok_any c.whole_text.result (AreAllThere notice count s)
+          (all_there notice count s many places (subst (All ReadsAsObject) same c.in_ok-extent.ensures.is.read)),
+    )
