@@ -13,8 +13,8 @@
 # make release   packs build/procure as an archive and a Debian package, to build/release (tools/release --help)
 # make bench     measures build/procure (bench/desk --help)
 RT ?= rt
-# How many checks run side by side (scripts/lanes.py). If it is empty, rt decides.
-RT_JOBS ?= $(shell scripts/lanes.py)
+# How many checks run side by side (office_kit/gate/lanes.py). If it is empty, rt decides.
+RT_JOBS ?= $(shell python3 -B -m office_kit.gate.lanes)
 export RT RT_JOBS
 
 .PHONY: run build try test check docs pictures edits soak release bench

@@ -6,11 +6,11 @@
 
 It plays the schedule of `rt ci` on paper. Proofs and tests come first, those first on which most lines depend. The check with which a crate's mutants begin,
 and then the mutants, fill the free lanes. An rt without such a check tries the mutants one after another, as one task that takes its turn by the crate's lines,
-as proofs do (`in_turn` in the table). If rt knows the number of lanes, as with `make test` (scripts/lanes.py), each check takes one lane. Otherwise a proof
-gets the lanes for which no other proof waits, at most four, fixed for its life. A check also waits if rt expects it to need more memory than others leave, and
-a proof if the mutants before it leave too little. The model leaves out other work on the machine. It prints the wall minutes for each number, and the longest
-chain of crates. `bench/gate` prints them too, beside the minutes of the run. Exit status: 0 they are printed, 1 the table can't be read or is incomplete, 2
-wrong arguments.
+as proofs do (`in_turn` in the table). If rt knows the number of lanes, as with `make test` (office_kit/gate/lanes.py), each check takes one lane. Otherwise a
+proof gets the lanes for which no other proof waits, at most four, fixed for its life. A check also waits if rt expects it to need more memory than others
+leave, and a proof if the mutants before it leave too little. The model leaves out other work on the machine. It prints the wall minutes for each number, and
+the longest chain of crates. `bench/gate` prints them too, beside the minutes of the run. Exit status: 0 they are printed, 1 the table can't be read or is
+incomplete, 2 wrong arguments.
 """
 import json
 import os
@@ -18,9 +18,8 @@ import shutil
 import sys
 
 sys.dont_write_bytecode = True
-sys.path.insert(0, os.path.join(os.path.dirname(os.path.dirname(os.path.realpath(__file__))), "scripts"))
-from common import ROOT, fail, options_of
-from crates import crates_of
+from office_kit.common import ROOT, fail, options_of
+from office_kit.gate.crates import crates_of
 from gate_table import is_raw
 
 # The processor time of a check while this many run side by side, compared with one that runs alone.

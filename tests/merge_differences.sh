@@ -3,7 +3,7 @@
 # nothing does. It takes a few minutes, most of it proofs, more if `ocds_merge` wasn't checked before.
 set -eu
 set -- merge_differences.rt.in
-. "$(dirname "$0")/../scripts/workspace.sh"
+. "$(dirname "$0")/../tools/workspace.sh"
 "${RT:-rt}" run --jobs 1 > said 2> log || { cat log said; exit 1; }
 cat said
 grep -q ' 0 different$' said

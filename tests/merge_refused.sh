@@ -3,7 +3,7 @@
 # target must be unchanged; if another step was, the program ends with that error. About half a minute for each N.
 set -eu
 set -- merge_refused.rt.in
-. "$(dirname "$0")/../scripts/workspace.sh"
+. "$(dirname "$0")/../tools/workspace.sh"
 refused=0
 for n in $(seq 1 200); do
     said=$("${RT:-rt}" try --fail-alloc "$n" 2> log || true)

@@ -4,7 +4,7 @@
 set -eu
 command -v valgrind > /dev/null || { echo 'instructions.sh: missing: valgrind. Get it: apt-get install valgrind' >&2; exit 3; }
 set -- instructions.rt.in
-. "$(dirname "$0")/../../scripts/workspace.sh"
+. "$(dirname "$0")/../../tools/workspace.sh"
 "${RT:-rt}" run --jobs 1 2> log || { cat log; exit 1; }
 valgrind --tool=callgrind --callgrind-out-file=counts out/program 2>&1 | sed -n 's/.*I *refs: */of a hundred merges: /p'
 callgrind_annotate counts | sed -n '/file:function/,/^$/p' | head -12

@@ -1,0 +1,232 @@
+"""Tenders' files for tests: the forms of docs/TENDERER-API.md, files at the bounds, and files that hypothesis makes and shrinks; and the program's reading."""
+import functools
+import json
+import os
+import random
+import subprocess
+import types
+from collections.abc import Callable
+from typing import Any, NamedTuple
+
+from hypothesis import HealthCheck, Phase, given, settings, strategies
+
+from office_kit.common import ROOT
+
+TOOL = os.path.join(ROOT, "tools", "check_tender")
+# The lots' items, of several kinds: those of docs/TENDERER-API.md, one alone, names that are words of the file's form, many, few and dear.
+KINDS = [
+    [("I1", 3), ("I2", 10)],
+    [("I1", 1)],
+    [("TOTAL", 2), ("item", 3), ("i1", 1), ("I1", 4)],
+    [(f"{number:02}", number + 1) for number in range(50)],
+    [("a.b-c_d", 1000000), ("2", 2)],
+    [("1", 1000), ("3", 1000000)],
+]
+# How often each kind comes: fifty items seldom, since their files are long.
+OFTEN = [0, 1, 2, 4, 5] * 8 + [3]
+
+
+class Case(NamedTuple):
+    """A file, the kind of its lot, and its source."""
+
+    source: str
+    kind: int
+    data: bytes
+
+
+HEAD, FIRST, SECOND, SUM = "item,quantity,unit,total", "I1,3,150,450", "I2,10,12,120", "TOTAL,,,570"
+RIGHT = [HEAD, FIRST, SECOND, SUM]
+
+
+def lines(*parts: str, end: str = "\n", last: str = "\n") -> bytes:
+    return (end.join(parts) + last).encode()
+
+
+def with_first(line: str) -> bytes:
+    """The right file, with another first row."""
+    return lines(HEAD, line, SECOND, SUM)
+
+
+def parted(sign: bytes) -> bytes:
+    """The right file, with something else than commas between the fields."""
+    return lines(*RIGHT).replace(b",", sign)
+
+
+# The forms of the document's table, each by the words of its first column.
+FORMS = {
+    "as above": [lines(*RIGHT)],
+    "line ends of Windows (CR LF) or of old Macs (CR)": [lines(*RIGHT, end="\r\n", last="\r\n"), lines(*RIGHT, end="\r", last="\r")],
+    "a byte order mark at the start, as in Excel's `CSV UTF-8`": [b"\xef\xbb\xbf" + lines(*RIGHT)],
+    "all fields in quotation marks": [lines(*(",".join(f'"{field}"' for field in line.split(",")) for line in RIGHT))],
+    "empty lines, or no line end after the last line": [lines(HEAD, "", FIRST, SECOND, SUM, "", ""), lines(*RIGHT, last="")],
+    "leading zeros": [lines(HEAD, "I1,03,0150,450", SECOND, SUM)],
+    "a wrong product": [with_first("I1,3,150,460")],
+    "a wrong sum": [lines(HEAD, FIRST, SECOND, "TOTAL,,,580")],
+    "semicolons, tabs or vertical bars between the fields": [parted(b";"), parted(b"\t"), parted(b"|")],
+    "cents": [with_first(line) for line in ("I1,3,150.50,451.50", "I1,3,150.00,450.00", 'I1,3,"150,00","450,00"', "I1,3,150,00,450,00")],
+    "a quantity of `3.0`": [with_first("I1,3.0,150,450")],
+    "digits in groups": [with_first(f"I1,3,{unit},{total}") for unit, total in (
+        ('"1,500"', '"4,500"'), ("1,500", "4,500"), ("1.500", "4.500"), ("1 500", "4 500"), ("1'500", "4'500"), ("1\u00a0500", "4\u00a0500"))],
+    "an exponent, as spreadsheets write large numbers": [with_first("I1,3,1.5E+02,4.5E+02"), with_first('I1,3,"1,5E+02","4,5E+02"')],
+    "a currency": [with_first(f"I1,3,{unit},{total}") for unit, total in (("150 EUR", "450 EUR"), ("€150", "€450"), ("150.-", "450.-"))],
+    "a space beside a number": [with_first("I1, 3, 150, 450"), with_first("I1,3 ,150 ,450")],
+    "a total left empty, or a formula": [with_first("I1,3,150,"), with_first("I1,3,150,=B2*C2"), with_first("I1,3,150,#REF!")],
+    "capitals in the header": [lines(line, FIRST, SECOND, SUM) for line in ("Item,Quantity,Unit,Total", "ITEM,QUANTITY,UNIT,TOTAL")],
+    "a header in other words, or none": [lines("Position,Menge,Preis,Summe", FIRST, SECOND, SUM), lines(FIRST, SECOND, SUM)],
+    "a line above the header": [lines("sep=,", *RIGHT), lines("Tender of Alpha,,,", *RIGHT)],
+    "an empty column": [lines(*(line + "," for line in RIGHT))],
+    "a column of titles": [lines("item,title,quantity,unit,total", "I1,Paving,3,150,450", "I2,Kerbs,10,12,120", "TOTAL,,,,570")],
+    "lines of only commas or spaces": [lines(*RIGHT, ",,,"), lines(HEAD, FIRST, ",,,", SECOND, SUM), lines(*RIGHT, " ")],
+    "a line after the sum": [lines(*RIGHT, "without VAT"), lines(*RIGHT, "VAT,,,108")],
+    "no `TOTAL`": [lines(HEAD, FIRST, SECOND), lines(HEAD, FIRST, SECOND, ",,,570")],
+    "`Total`, or a quantity in its line": [lines(HEAD, FIRST, SECOND, "Total,,,570"), lines(HEAD, FIRST, SECOND, "TOTAL,13,,570")],
+    "UTF-16, as in Excel's `Unicode text`": [lines("\ufeff" + HEAD, *RIGHT[1:]).decode().encode("utf-16-le"), lines(*RIGHT).decode().encode("utf-16-be")],
+    "a PDF, a workbook, a page": [
+        b"%PDF-1.7\n%\xe2\xe3\xcf\xd3\n1 0 obj\n", b"PK\x03\x04\x14\x00\x06\x00" + bytes(range(256)), b"<html><table><tr><td>I1</td></tr></table></html>"],
+    "the lot before the item": [with_first("L1/I1,3,150,450")],
+    "an item in other letters, or with a space": [with_first("i1,3,150,450"), with_first("I1 ,3,150,450")],
+    "another order": [lines(HEAD, SECOND, FIRST, SUM)],
+    "a missing item, an extra item, or an item twice": [
+        lines(HEAD, FIRST, "TOTAL,,,450"), lines(HEAD, FIRST, SECOND, "I3,1,5,5", "TOTAL,,,575"), lines(HEAD, FIRST, FIRST, SECOND, SUM)],
+    "several lots in one file": [lines(HEAD, FIRST, SECOND, "I1,1,290,290", "TOTAL,,,860")],
+    "another quantity": [with_first("I1,4,150,600")],
+    "a unit price above 10^9": [with_first("I1,3,1000000001,3000000003")],
+    "an empty file": [b""],
+    "more than 32,768 bytes": [lines(*RIGHT, last="\n" * 32768)],
+}
+
+
+MARK = b"\xef\xbb\xbf"
+FIGURES = ["0", "1", "00", "007", "999999999", "1000000000", "1000000001", "1000000000000", "1000000000001", "1000000000000000", "1000000000000001",
+           "0000000000000001", "00000000000000001", "9999999999999999", "12.5", "3.0", "1,000", "-1", "+1", " 1", "1 ", "1e3", "", "x", "\u0661", '"5"', '""',
+           '"', '5"', "=1"]
+LETTERS: list[Callable[[str], str]] = [str.lower, str.upper, str.title, lambda it: f"L1/{it}", lambda it: f"{it} "]
+BYTES = [b",", b";", b'"', b"\n", b"\r", b"\r\n", b" ", b"\t", b"0", b"9", b"x", b"\0", b"\xff", MARK, b"'", b",,,", b"TOTAL", b"\n\n", b'""', b""]
+
+
+def right_rows(chance: random.Random, kind: int) -> list[list[str]]:
+    """A right file's rows."""
+    most = 10 ** chance.choice((1, 3, 5))
+    units = [chance.randrange(most) for _ in KINDS[kind]]
+    rows = [[item, str(quantity), str(unit), str(quantity * unit)] for (item, quantity), unit in zip(KINDS[kind], units)]
+    return [HEAD.split(","), *rows, ["TOTAL", "", "", str(sum(int(row[3]) for row in rows))]]
+
+
+def written(chance: random.Random, rows: list[list[str]]) -> bytes:
+    """The rows as a file, in one of the ways that are read alike."""
+    mark, end = chance.choice((b"", b"", MARK)), chance.choice((b"\n", b"\n", b"\r\n", b"\r", b"\n\n", b"\n\r"))
+    quoted = chance.choice((99, 99, 99, 5, 1))
+    fields = [[b'"%s"' % field.encode().replace(b'"', b'""') if at % quoted == quoted - 1 else field.encode() for at, field in enumerate(row, number)]
+              for number, row in enumerate(rows)]
+    return mark + chance.choice((b"", b"", b"\n")) + end.join(map(b",".join, fields)) + chance.choice((end, end, b""))
+
+
+def changed_rows(chance: random.Random, rows: list[list[str]]) -> list[list[str]]:
+    """The rows with one change: a figure, a row too few, again or elsewhere, a field too many or too few, a word in other letters."""
+    at, where = chance.randrange(len(rows)), chance.randrange(4)
+    row, before, after = rows[at], rows[:at], rows[at + 1:]
+    ways: list[Callable[[], list[list[str]]]] = [
+        *[lambda: [*before, [*row[:where], chance.choice(FIGURES), *row[where + 1:]], *after]] * 3, lambda: [*before, [*row, ""], *after],
+        lambda: [*before, [chance.choice(LETTERS)("".join(row[:1])), *row[1:]], *after], lambda: [*before, row[:-1], *after],
+        lambda: before + after or rows, lambda: [*before, row, row, *after], lambda: [*before, *after, row]]
+    return chance.choice(ways)()
+
+
+def changed_bytes(chance: random.Random, data: bytes) -> bytes:
+    """The file with one change of its bytes: some put in, some taken out."""
+    at = chance.randrange(len(data) + 1)
+    return data[:at] + chance.choice(BYTES) + data[at + chance.randrange(2):]
+
+
+def made(chance: random.Random) -> Case:
+    """A file: right, or with up to three changes."""
+    kind, of_rows, of_bytes = chance.choice(OFTEN), chance.choice((0, 0, 1, 1, 2)), chance.choice((0, 0, 0, 1))
+    rows = right_rows(chance, kind)
+    for _ in range(of_rows):
+        rows = changed_rows(chance, rows)
+    data = written(chance, rows)
+    for _ in range(of_bytes):
+        data = changed_bytes(chance, data)
+    return Case("changed" if of_rows + of_bytes else "right", kind, data)
+
+
+# (Its numbers are those of hypothesis, which shrinks them.)
+CHANCE = strategies.randoms(use_true_random=False)
+FILES = CHANCE.map(made)
+
+
+def samples(strategy: strategies.SearchStrategy[Any], count: int) -> list[Any]:
+    """So many different values of a strategy, the same each time."""
+    found: list[Any] = []
+
+    @settings(max_examples=count, derandomize=True, database=None, deadline=None, phases=[Phase.generate], suppress_health_check=HealthCheck.all())
+    @given(strategy)
+    def gather(value: Any) -> None:
+        found.append(value)
+    gather()
+    return found
+
+
+def dear(first: int, second: int) -> bytes:
+    """A file for a lot of 1,000 and 1,000,000 at these unit prices."""
+    return lines(HEAD, f"1,1000,{first},{1000 * first}", f"3,1000000,{second},{1000000 * second}", f"TOTAL,,,{1000 * first + 1000000 * second}")
+
+
+def at_bounds() -> list[Case]:
+    """Files at the bounds of the rules, and one beyond."""
+    prices = [(10 ** 9, 0), (999999, 999001), (999999, 999000), (999000, 1000000), (1000000, 999000), (1001000, 999000), (0, 0), (10 ** 9 + 1, 0)]
+    right, mark = lines(*RIGHT), b"\xef\xbb\xbf"
+    texts = [right + b"\n" * (length - len(right)) for length in (32767, 32768, 32769)]
+    texts += [b"\n", b"\r\n\r\n", b",", b'"', mark, mark + mark + right, HEAD.encode(), lines(HEAD, "TOTAL,,,0"), lines(HEAD, SUM, SUM), right[:-1] + b'"']
+    changed = [(b"570", b'"570'), (b"TOTAL", b'TO"TAL'), (b"TOTAL", b'"TO"TAL'), (b"I1", b'"I""1"'), (b"150", b"0" * 13 + b"150"), (b"150", b"0" * 14 + b"150"),
+               (b"450", b"1" + b"0" * 15), (b"450", b"1" + b"0" * 14 + b"1"), (b"\n", b"\r"), (b"\n", b"\n\r\n")]
+    changed += [(b"\n", sign) for sign in (b"\x0b", b"\x0c", b"\xc2\x85")]
+    texts += [right.replace(*change) for change in changed]
+    return [Case("bounds", 5, dear(*units)) for units in prices] + [Case("bounds", 0, data) for data in texts]
+
+
+def known() -> list[Case]:
+    """The document's forms, and the files at the bounds."""
+    return [Case(name, 0, data) for name, files in FORMS.items() for data in files] + at_bounds()
+
+
+def lot_of(kind: int) -> dict[str, Any]:
+    """The lot of a kind, as a notice's publication has it."""
+    items = [{"id": item, "title": "x", "quantity": quantity} for item, quantity in KINDS[kind]]
+    return {"id": f"K{kind}", "title": "x", "line": "1000", "estimate": 1, "security": 0, "items": items}
+
+
+def tool(change: tuple[str, str] = ("", "")) -> types.ModuleType:
+    """tools/check_tender as a module, with a text in it changed."""
+    with open(TOOL, encoding="utf-8") as file:
+        source = file.read()
+    assert not change[0] or source.count(change[0]) == 1
+    module = types.ModuleType("check_tender")
+    exec(compile(source.replace(*change) if change[0] else source, TOOL, "exec"), module.__dict__)
+    return module
+
+
+class Reader:
+    """`procure read-tender`, for lots of the kinds."""
+
+    def __init__(self, program: str, folder: str) -> None:
+        self.program, self.folder = program, folder
+        for kind in range(len(KINDS)):
+            with open(self.place_of(kind), "w") as file:
+                json.dump(lot_of(kind), file)
+
+    def place_of(self, kind: int) -> str:
+        return os.path.join(self.folder, f"items-{kind}.json")
+
+    @functools.lru_cache(maxsize=None)
+    def read(self, kind: int, data: bytes) -> tuple[str, str | None]:
+        """The reading of a file in the words of the minutes, and the digest, if there is one."""
+        done = subprocess.run([self.program, "read-tender", self.place_of(kind), "/dev/stdin"], input=data, capture_output=True)
+        told = json.loads(done.stdout)
+        word = str(told.get("reading", "not taken"))
+        assert (done.returncode, done.stderr) == ((0, b"") if word == "priced" else (1, b"procure: input\n"))
+        assert word != "not taken" or (told["name"], told["what"]) == ("BadBody", "body")
+        return " ".join([word, *(str(told[it]) for it in ("stated", "corrected", "corrections") if word == "priced")]), told.get("digest")
+
+    def words(self, kind: int, data: bytes) -> str:
+        return self.read(kind, data)[0]

@@ -1,0 +1,339 @@
+"""The client of everything that asks an office: a method for each of its sixteen commands and sixteen queries, over a choice of transports.
+
+    Client(Port(port))              a connection for each request, over the loopback
+    Client(Front(base, context))    an HTTP server in front of the office, with or without TLS; after a 429 it waits as long as that says and asks again
+    Client(Blocks(moment))          blocks of `procure desk`: each method returns the block, `sent` keeps all, and `answers` runs them as one input
+    Client(Requests())              asks nothing: each method returns the bytes of its request
+
+Over a connection a method returns the office's `Answer`, whose members are read as `answer["receipt"]`. An answer with another status than 200 ends the script,
+unless the transport was made with `strict=False`. `lot`, `notice`, `tender` and `text_of` make the parts of requests.
+"""
+import hashlib
+import http.client
+import json
+import os
+import ssl
+import subprocess
+import time
+import urllib.parse
+from collections.abc import Callable, Mapping
+from dataclasses import dataclass
+from typing import Any, Generic, Protocol, TypeVar
+
+from office_kit import common
+from office_kit.common import CLERK, CONFIG, HOST, Caller, fail, parts_of
+
+# The type of a method's result, which depends on the transport.
+Told = TypeVar("Told")
+Given = TypeVar("Given", covariant=True)
+Body = str | bytes | Mapping[str, Any]
+# Seconds, for the first answer of a server that just begins, and for requests that a front makes wait.
+PATIENCE = 60
+# How often a front is asked again.
+TRIES = 60
+# Seconds to the deadlines for which tests wait: AHEAD adds to them if the machine or the program is slow.
+AHEAD = int(os.environ.get("AHEAD", "4"))
+HEAD = "line,kind,amount,title\n"
+
+
+def text_of(second: float) -> str:
+    """A second as the office writes it."""
+    return time.strftime("%Y-%m-%dT%H:%M:%SZ", time.gmtime(second))
+
+
+def wait_until(second: float) -> None:
+    """Waits for a second of this machine's clock."""
+    time.sleep(max(0.0, second - time.time()))
+
+
+def lot(name: str = "L1", line: str = "1000", estimate: int = 600, security: int = 0, *items: tuple[str, int], title: str = "North") -> dict[str, Any]:
+    """A lot of a publication. Its items are texts and quantities, I1 and so on; without one it is some paving."""
+    listed = [{"id": f"I{number}", "title": text, "quantity": quantity} for number, (text, quantity) in enumerate(items or [("Paving", 3)], 1)]
+    return {"id": name, "title": title, "line": line, "estimate": estimate, "security": security, "items": listed}
+
+
+def notice(deadline: str, *lots: Mapping[str, Any], title: str = "Road repair", standstill: int = 0, **terms: Any) -> dict[str, Any]:
+    """The body of a publication: the price decides, unless a criterion is among the other terms."""
+    head = {"title": title, "deadline": deadline, "validity_days": 90, "standstill_days": standstill}
+    return {**head, "criteria": "price", **terms, "lots": list(lots)}
+
+
+def tender(*rows: tuple[int, int], wrong: int = 0) -> str:
+    """A tender of these quantities and unit prices, for the items I1 and so on, with a sum that is too small by so much."""
+    lines = [f"I{number},{quantity},{unit},{quantity * unit}\n" for number, (quantity, unit) in enumerate(rows, 1)]
+    total = sum(quantity * unit for quantity, unit in rows) - wrong
+    return "item,quantity,unit,total\n" + "".join(lines) + f"TOTAL,,,{total}\n"
+
+
+def budget(*rows: str) -> str:
+    """A budget file with these rows."""
+    return HEAD + "".join(row + "\n" for row in rows)
+
+
+def data_of(body: Body) -> bytes:
+    """A body as it is sent: bytes and texts as they are, anything else as compact JSON."""
+    if isinstance(body, bytes):
+        return body
+    return (body if isinstance(body, str) else json.dumps(body, separators=(",", ":"))).encode()
+
+
+@dataclass
+class Answer:
+    """A response: its status, the fields of its head, its body, and the seconds that it took."""
+
+    status: int
+    fields: Mapping[str, str]
+    body: bytes
+    seconds: float = 0.0
+
+    def value(self) -> Any:
+        """The body as a value of JSON."""
+        return json.loads(self.body)
+
+    def __getitem__(self, member: str) -> Any:
+        return self.value()[member]
+
+
+def answer_of(response: bytes, seconds: float = 0.0) -> Answer:
+    """A response as it came over a connection that is closed then."""
+    head, end, body = response.partition(b"\r\n\r\n")
+    first, *lines = head.decode("latin-1").split("\r\n")
+    if not end or not first.startswith("HTTP/1.1 "):
+        fail(f"no response: {response[:100]!r}")
+    return Answer(int(first.split(" ")[1]), dict(line.split(": ", 1) for line in lines), body, seconds)
+
+
+class Transport(Protocol[Given]):
+    """Carries requests."""
+
+    def send(self, method: str, target: str, body: bytes, caller: Caller | None) -> Given:
+        """The result of a request. A caller is a name and a key; without one the public asks."""
+
+
+class Requests:
+    """Sends nothing: returns the bytes of each request."""
+
+    def send(self, method: str, target: str, body: bytes, caller: Caller | None) -> bytes:
+        return common.request(method.encode(), target.encode(), body, caller) if method == "POST" or caller else common.look(target.encode())
+
+
+class Blocks(Requests):
+    """Keeps each request as a block of `procure desk`, at the moment that is set."""
+
+    def __init__(self, moment: str) -> None:
+        self.moment = moment
+        self.sent: list[bytes] = []
+
+    def send(self, method: str, target: str, body: bytes, caller: Caller | None) -> bytes:
+        self.sent.append(common.block(self.moment.encode(), super().send(method, target, body, caller)))
+        return self.sent[-1]
+
+    def answers(self, program: str, settings: str = CONFIG) -> list[Answer]:
+        """The program's answers to everything that was kept, in order."""
+        ran = subprocess.run([program, "desk", settings], input=b"".join(self.sent), capture_output=True)
+        told = parts_of(ran.stdout)
+        if ran.returncode or len(told) != len(self.sent):
+            fail(f"{program} desk ended with {ran.returncode}, {len(told)} of {len(self.sent)} answered: {ran.stderr.decode(errors='replace')}")
+        return [answer_of(response) for response in told]
+
+
+class Asking:
+    """Sends requests over connections."""
+
+    def __init__(self, strict: bool) -> None:
+        self.strict = strict
+
+    def send(self, method: str, target: str, body: bytes, caller: Caller | None) -> Answer:
+        answer = self.exchange(method, target, body, caller)
+        if self.strict and answer.status != 200:
+            fail(f"{method} {target}: {answer.status} {answer.body[:300].decode(errors='replace')}")
+        return answer
+
+    def exchange(self, method: str, target: str, body: bytes, caller: Caller | None) -> Answer:
+        """The answer, whatever it is."""
+        raise NotImplementedError
+
+
+class Port(Asking):
+    """The office itself, at a port of this machine."""
+
+    def __init__(self, port: int, patience: float = PATIENCE, strict: bool = True) -> None:
+        super().__init__(strict)
+        self.port, self.patience = port, patience
+
+    def exchange(self, method: str, target: str, body: bytes, caller: Caller | None) -> Answer:
+        return answer_of(*common.exchange(self.port, Requests().send(method, target, body, caller), self.patience))
+
+
+class Front(Asking):
+    """An office with a front, at an address without a path; a context for TLS if its certificate is self-signed."""
+
+    def __init__(self, base: str, context: ssl.SSLContext | None = None, source: str | None = None, strict: bool = True) -> None:
+        super().__init__(strict)
+        self.base, self.context, self.source = urllib.parse.urlsplit(base), context, (source, 0) if source else None
+
+    def connection(self) -> http.client.HTTPConnection:
+        host, port = self.base.hostname or HOST, self.base.port
+        if self.base.scheme == "https":
+            return http.client.HTTPSConnection(host, port, timeout=PATIENCE, context=self.context, source_address=self.source)
+        return http.client.HTTPConnection(host, port, timeout=PATIENCE, source_address=self.source)
+
+    def exchange(self, method: str, target: str, body: bytes, caller: Caller | None) -> Answer:
+        """The answer; after a 429 the next one, when the time of its Retry-After is over, or a second."""
+        for _ in range(TRIES):
+            answer = self.ask(method, target, body, caller)
+            if answer.status != 429:
+                return answer
+            time.sleep(float(answer.fields.get("Retry-After", "1")))
+        fail(f"{method} {target}: 429, {TRIES} times")
+
+    def ask(self, method: str, target: str, body: bytes, caller: Caller | None) -> Answer:
+        """One answer."""
+        connection, begun = self.connection(), time.perf_counter()
+        try:
+            who = {name.decode(): value.decode() for name, value in zip(common.FIELDS, caller or ())}
+            connection.request(method, target, body or None, who)
+            response = connection.getresponse()
+            return Answer(response.status, dict(response.headers), response.read(), time.perf_counter() - begun)
+        finally:
+            connection.close()
+
+
+def behind(after: str | None) -> str:
+    """The query that says after which one a page begins."""
+    return "" if after is None else f"?after={after}"
+
+
+def hello(_: str) -> str:
+    """The key that each tenderer has if no other is given."""
+    return "hello"
+
+
+class Client(Generic[Told]):
+    """Asks an office. A tenderer's key is made of the name. Each number may be given as a number, or as the name that it has in the requests."""
+
+    def __init__(self, transport: Transport[Told], key_of: Callable[[str], str] = hello) -> None:
+        self.transport, self.key_of = transport, key_of
+
+    def caller_of(self, who: str) -> Caller:
+        """The name and the key of the clerk, or of a tenderer."""
+        return CLERK if who == "clerk" else (who.encode(), self.key_of(who).encode())
+
+    def command(self, who: str, target: str, body: Body = "") -> Told:
+        return self.transport.send("POST", target, data_of(body), self.caller_of(who))
+
+    def query(self, who: str | None, target: str) -> Told:
+        return self.transport.send("GET", target, b"", self.caller_of(who) if who else None)
+
+    def clerk(self, target: str, body: Body = "") -> Told:
+        return self.command("clerk", target, body)
+
+    # The clerk's commands.
+
+    def import_budget(self, batch: str, rows: str | bytes) -> Told:
+        return self.clerk(f"/budget/{batch}", rows)
+
+    def register(self, name: str, firm: str = "Alpha", address: str = "High Street 1") -> Told:
+        return self.clerk(f"/tenderers/{name}", {"name": firm, "address": address, "key": hashlib.sha256(self.key_of(name).encode()).hexdigest()})
+
+    def publish(self, name: str, body: Body) -> Told:
+        return self.clerk(f"/notices/{name}", body)
+
+    def amend_notice(self, name: str, deadline: str, rationale: str = "More time") -> Told:
+        return self.clerk(f"/notices/{name}/amend", {"deadline": deadline, "rationale": rationale})
+
+    def cancel(self, name: str, rationale: str = "No need") -> Told:
+        return self.clerk(f"/notices/{name}/cancel", {"rationale": rationale})
+
+    def open(self, name: str) -> Told:
+        return self.clerk(f"/notices/{name}/open")
+
+    def examine(self, receipt: int, responsive: bool = True, **quality: int) -> Told:
+        return self.clerk(f"/tenders/{receipt}/examine", {"responsive": responsive, **quality})
+
+    def award(self, name: str, lot_name: str = "L1") -> Told:
+        return self.clerk(f"/notices/{name}/lots/{lot_name}/award")
+
+    def fail(self, award: int) -> Told:
+        return self.clerk(f"/awards/{award}/fail")
+
+    def sign(self, award: int, security: str | None = None, amount: int = 0) -> Told:
+        return self.clerk(f"/awards/{award}/sign", {"security": security, "amount": amount} if security else "")
+
+    def amend_contract(self, contract: int, entry: str, kind: str, amount: int, rationale: str = "Kerbs") -> Told:
+        return self.clerk(f"/contracts/{contract}/amend", {"id": entry, "kind": kind, "amount": amount, "rationale": rationale})
+
+    def pay(self, contract: int, entry: str, amount: int) -> Told:
+        return self.clerk(f"/contracts/{contract}/pay", {"id": entry, "amount": amount})
+
+    def end(self, contract: int, how: str = "regular") -> Told:
+        return self.clerk(f"/contracts/{contract}/end", {"how": how})
+
+    # The tenderers' commands.
+
+    def present(self, who: str, name: str, lot_name: str, body: str | bytes, security: str | None = None, amount: int = 0) -> Told:
+        query = f"?security={security}&amount={amount}" if security else ""
+        return self.command(who, f"/notices/{name}/lots/{lot_name}/tenders{query}", body)
+
+    def modify(self, who: str, receipt: int, body: str | bytes) -> Told:
+        return self.command(who, f"/tenders/{receipt}/modify", body)
+
+    def withdraw(self, who: str, receipt: int) -> Told:
+        return self.command(who, f"/tenders/{receipt}/withdraw")
+
+    # The queries: of anybody, of the clerk, and of a named caller.
+
+    def line(self, line: str) -> Told:
+        return self.query(None, f"/lines/{line}")
+
+    def ledger(self) -> Told:
+        return self.query(None, "/ledger")
+
+    def releases(self, name: str) -> Told:
+        return self.query(None, f"/notices/{name}/releases")
+
+    def record(self, name: str) -> Told:
+        return self.query(None, f"/notices/{name}/record")
+
+    def minutes(self, name: str) -> Told:
+        return self.query(None, f"/notices/{name}/minutes")
+
+    def tender_register(self, name: str) -> Told:
+        return self.query("clerk", f"/notices/{name}/register")
+
+    def tender(self, who: str, receipt: int) -> Told:
+        return self.query(who, f"/tenders/{receipt}")
+
+    def security(self, who: str, security: int) -> Told:
+        return self.query(who, f"/securities/{security}")
+
+    def performance_security(self, who: str, contract: int) -> Told:
+        return self.query(who, f"/contracts/{contract}/security")
+
+    def notices(self, after: str | None = None) -> Told:
+        return self.query(None, f"/notices{behind(after)}")
+
+    def terms(self, name: str) -> Told:
+        return self.query(None, f"/notices/{name}/terms")
+
+    def own_tenders(self, who: str, name: str) -> Told:
+        return self.query(who, f"/notices/{name}/tenders")
+
+    def evaluation(self, name: str, who: str | None = None) -> Told:
+        return self.query(who, f"/notices/{name}/evaluation")
+
+    def securities(self, name: str) -> Told:
+        return self.query("clerk", f"/notices/{name}/securities")
+
+    def tenderers(self, after: str | None = None) -> Told:
+        return self.query("clerk", f"/tenderers{behind(after)}")
+
+    def contract_seen(self, who: str, contract: int) -> Told:
+        return self.query(who, f"/contracts/{contract}")
+
+
+# The names of the methods that are commands and queries: as many as docs/API.md has routes.
+COMMANDS = ("import_budget", "register", "publish", "amend_notice", "cancel", "open", "examine", "award", "fail", "sign", "amend_contract", "pay", "end",
+            "present", "modify", "withdraw")
+QUERIES = ("line", "ledger", "releases", "record", "minutes", "tender_register", "tender", "security", "performance_security",
+           "notices", "terms", "own_tenders", "evaluation", "securities", "tenderers", "contract_seen")

@@ -1,0 +1,297 @@
+"""The parts that scripts of bench/, tests/ and tools/ share: the program and its settings, requests, connections, servers, responses, and timed runs.
+
+The program is $PROCURE, or build/procure if that isn't set. A fault of a run ends the script with status 1 and a line that says what is wrong. A missing tool
+ends it with status 3 and a line that says how to get it.
+"""
+import argparse
+import contextlib
+import functools
+import itertools
+import os
+import re
+import shutil
+import socket
+import subprocess
+import sys
+import threading
+import time
+from collections.abc import Iterable, Iterator, Sequence
+from typing import Any, NoReturn
+
+# A name and a key. An empty one isn't sent.
+Caller = tuple[bytes, bytes]
+
+ROOT = os.path.dirname(os.path.dirname(os.path.abspath(__file__)))
+CONFIG = os.path.join(ROOT, "crates", "procure", "data", "office.toml")
+PROGRAM = os.path.abspath(os.environ.get("PROCURE") or os.path.join(ROOT, "build", "procure"))
+NO_PROGRAM = "there is no program {}: `make build` leaves build/procure, and PROCURE=FILE names another"
+HOST = "127.0.0.1"
+CLERK = (b"clerk", b"abc")
+OK = b"HTTP/1.1 200 OK\r\n"
+FIELDS = (b"Office-Caller", b"Office-Key")
+LENGTH = re.compile(rb"\r\nContent-Length: (\d+)\r\n")
+# Names that come in no order: this prime divides no count of tens.
+STRIDE = 7919
+# The thread that holds this chooses the next port.
+TURN = threading.Lock()
+
+
+class Missing(SystemExit):
+    """A tool is missing: ends a script with status 3. `told` says how to get it."""
+
+    def __init__(self, told: str) -> None:
+        super().__init__(3)
+        self.told = told
+
+
+def fail(what: object) -> NoReturn:
+    """Ends the script, which names itself."""
+    sys.exit(f"{os.path.basename(sys.argv[0])}: {what}")
+
+
+def check(said: str, holds: object) -> None:
+    """Checks that something holds; otherwise raises the message."""
+    if not holds:
+        raise AssertionError(said)
+
+
+def place_of(tool: str) -> str | None:
+    """The path of a tool, even one for root only, or None."""
+    return shutil.which(tool) or shutil.which(tool, path="/usr/sbin:/sbin")
+
+
+def need(tool: str, package: str) -> str:
+    """The path of a tool. If it is missing, the script ends with status 3, and says how to get it."""
+    place = place_of(tool)
+    if not place:
+        told = f"missing: {tool}. Get it: apt-get install {package}"
+        print(f"{os.path.basename(sys.argv[0])}: {told}", file=sys.stderr)
+        raise Missing(told)
+    return place
+
+
+def options_of(text: str | None) -> argparse.ArgumentParser:
+    """A reader of the command line, whose help is the script's own text."""
+    return argparse.ArgumentParser(description=text, formatter_class=argparse.RawDescriptionHelpFormatter)
+
+
+def add_program(options: argparse.ArgumentParser) -> None:
+    """The option that names the program."""
+    options.add_argument("--program", type=runnable, default=PROGRAM, help="the program ($PROCURE, or build/procure)")
+
+
+def runnable(path: str) -> str:
+    """The path, if there is a program."""
+    found = shutil.which(path)
+    if not found:
+        raise argparse.ArgumentTypeError(NO_PROGRAM.format(path))
+    return os.path.abspath(found)
+
+
+def need_program() -> str:
+    """The program to use, for a script without an option for it."""
+    return shutil.which(PROGRAM) or fail(NO_PROGRAM.format(PROGRAM))
+
+
+def request(method: bytes, target: bytes, body: bytes = b"", caller: Caller | None = None) -> bytes:
+    """The bytes of a request. Without a caller the public asks."""
+    who = b"".join(b"%s: %s\r\n" % field for field in zip(FIELDS, caller or ()) if field[1])
+    return b"%s %s HTTP/1.1\r\n%sContent-Length: %d\r\n\r\n%s" % (method, target, who, len(body), body)
+
+
+def look(target: bytes) -> bytes:
+    """The request of the public."""
+    return b"GET %s HTTP/1.1\r\n\r\n" % target
+
+
+def import_of(batch: bytes, rows: Iterable[bytes]) -> bytes:
+    """The import of a budget file with these rows."""
+    return request(b"POST", b"/budget/" + batch, b"line,kind,amount,title\n" + b"".join(row + b"\n" for row in rows), CLERK)
+
+
+def block(moment: bytes, text: bytes) -> bytes:
+    """The request as a block of `procure desk`."""
+    return b"at %s\n%s" % (moment, text)
+
+
+def parts_of(stream: bytes) -> list[bytes]:
+    """The requests or responses of a stream, one after another, by their lengths."""
+    found, at = [], 0
+    while at < len(stream):
+        end = stream.index(b"\r\n\r\n", at) + 4
+        length = LENGTH.search(stream, at, end)
+        end += int(length[1]) if length else 0
+        found.append(stream[at:end])
+        at = end
+    return found
+
+
+def is_whole(response: bytes) -> bool:
+    """Whether a response of status 200 is complete."""
+    head, _, body = response.partition(b"\r\n\r\n")
+    return head.startswith(OK) and b"\r\nContent-Length: %d\r\n" % len(body) in head + b"\r\n"
+
+
+@functools.cache
+def own_ports() -> tuple[Iterator[int], socket.socket]:
+    """A hundred ports in turn, which no other script takes while this one runs, and the socket whose name keeps them for it.
+    (To clients the kernel gives those above 32767.)"""
+    name = socket.socket(socket.AF_UNIX)
+    for first in range(20000, 32000, 100):
+        try:
+            name.bind(f"\0procure-ports-{first}")
+            return itertools.cycle(range(first, first + 100)), name
+        except OSError:
+            pass
+    fail("too many scripts run already")
+
+
+def free_port() -> int:
+    """A port at which nothing listens."""
+    with TURN:
+        for port in itertools.islice(own_ports()[0], 100):
+            with socket.socket() as listener:
+                listener.setsockopt(socket.SOL_SOCKET, socket.SO_REUSEADDR, 1)
+                try:
+                    listener.bind((HOST, port))
+                    return port
+                except OSError:
+                    pass
+    fail("no port is free")
+
+
+def connect(port: int, patience: float = 0) -> socket.socket:
+    """A connection, tried for so many seconds until the server listens."""
+    end = time.perf_counter() + patience
+    while True:
+        try:
+            return socket.create_connection((HOST, port))
+        except ConnectionRefusedError:
+            if time.perf_counter() > end:
+                fail("nothing listens")
+            time.sleep(0.01)
+
+
+def read_all(stream: socket.socket) -> bytes:
+    """Everything until the server closes the connection."""
+    parts = []
+    while part := stream.recv(1 << 16):
+        parts.append(part)
+    return b"".join(parts)
+
+
+def exchange(port: int, text: bytes, patience: float = 0, ends: bool = False) -> tuple[bytes, float]:
+    """The whole response to these bytes, and the seconds that it took. With `ends`, it closes the sending side after the text."""
+    with connect(port, patience) as stream:
+        begun = time.perf_counter()
+        stream.sendall(text)
+        if ends:
+            stream.shutdown(socket.SHUT_WR)
+        return read_all(stream), time.perf_counter() - begun
+
+
+def what_came(port: int, text: bytes) -> bytes:
+    """The response to these bytes, or the part that came before the connection broke; empty without a connection."""
+    parts = []
+    try:
+        with socket.create_connection((HOST, port)) as stream:
+            stream.sendall(text)
+            while part := stream.recv(1 << 16):
+                parts.append(part)
+    except OSError:
+        pass
+    return b"".join(parts)
+
+
+def timed_exchange(port: int, text: bytes, patience: float = 0) -> tuple[bytes, float]:
+    """The body of a response, whose status must be 200, and the seconds that it took."""
+    response, took = exchange(port, text, patience)
+    if not response.startswith(OK):
+        fail(f"answered {response[:300]!r}")
+    return response.split(b"\r\n\r\n", 1)[1], took
+
+
+def serve_words(program: str, file: str, port: int | str, count: int | str, settings: str = CONFIG) -> list[str]:
+    """The command line of a server over a file."""
+    return [program, "serve", settings, file, str(port), str(count)]
+
+
+@contextlib.contextmanager
+def running(words: Sequence[str], **how: Any) -> Iterator["subprocess.Popen[bytes]"]:
+    """A process that is killed if it still runs at the end."""
+    process = subprocess.Popen(words, **how)
+    try:
+        yield process
+    finally:
+        if process.poll() is None:
+            process.kill()
+        process.wait()
+
+
+def stand_in(path: str, script: str) -> str:
+    """The path of a new program with this shell script, which a test runs instead of another program. (Another process writes it: a program that one's
+    own threads still hold open, in processes that they just begin, can't be run.)"""
+    subprocess.run(["install", "-m", "755", "/dev/stdin", path], input=f"#!/bin/sh\n{script}\n", text=True, check=True)
+    return path
+
+
+# The head of a library that is loaded before the C library. REAL(int, "fsync", int) makes `real` the C library's function of that name.
+HEADERS = ("dlfcn", "errno", "fcntl", "signal", "stdarg", "stdio", "stdlib", "string", "sys/stat", "sys/types", "sys/uio", "time", "unistd")
+REAL = "static result (*real)(__VA_ARGS__); if (!real) real = (result (*)(__VA_ARGS__))dlsym(RTLD_NEXT, name)"
+SHIM_HEAD = "".join(["#define _GNU_SOURCE\n", *(f"#include <{name}.h>\n" for name in HEADERS), f"#define REAL(result, name, ...) {REAL}\n"])
+
+
+def made_shim(source: str, folder: str) -> str:
+    """A library made from this C in the folder, to be loaded before the C library (LD_PRELOAD)."""
+    need("cc", "gcc")
+    file, shim = os.path.join(folder, "shim.c"), os.path.join(folder, "shim.so")
+    with open(file, "w") as out:
+        out.write(SHIM_HEAD + source)
+    subprocess.run(["cc", "-O1", "-shared", "-fPIC", file, "-o", shim, "-ldl"], check=True)
+    return shim
+
+
+def tenths(times: Sequence[float]) -> float:
+    """The time of the last tenth to that of the first."""
+    tenth = max(1, len(times) // 10)
+    return sum(times[-tenth:]) / sum(times[:tenth])
+
+
+def peak(process: "subprocess.Popen[bytes]", before: int) -> int:
+    """The greatest memory of a process so far, in KiB. (The value of `wait4` counts this script's own, from before the program began.)"""
+    try:
+        with open(f"/proc/{process.pid}/status") as status:
+            return max([before] + [int(line.split()[1]) for line in status if line.startswith("VmHWM")])
+    except OSError:
+        return before
+
+
+def processor(process: "subprocess.Popen[bytes]") -> float:
+    """The seconds of processor that a process took so far, without the kernel's work for it."""
+    with open(f"/proc/{process.pid}/stat") as stat:
+        return int(stat.read().rpartition(")")[2].split()[11]) / os.sysconf("SC_CLK_TCK")
+
+
+def run_blocks(command: Sequence[str], path: str) -> tuple[float, int, bytes, list[tuple[int, float]]]:
+    """Runs a command over an input: seconds, peak memory in KiB, the output, and how many bytes of it existed at which moments."""
+    marks: list[tuple[int, float]] = []
+    chunks: list[bytes] = []
+    faults: list[bytes] = []
+    total = memory = 0
+    with open(path, "rb") as source:
+        start = time.perf_counter()
+        with running(command, stdin=source, stdout=subprocess.PIPE, stderr=subprocess.PIPE) as process:
+            assert process.stdout and process.stderr
+            reader = threading.Thread(target=lambda said: faults.append(said.read()), args=(process.stderr,))
+            reader.start()
+            while chunk := os.read(process.stdout.fileno(), 1 << 16):
+                total += len(chunk)
+                marks.append((total, time.perf_counter() - start))
+                chunks.append(chunk)
+                memory = peak(process, memory)
+            reader.join()
+            process.wait()
+            seconds = time.perf_counter() - start
+    if process.returncode:
+        fail(f"{command[0]} ended with {process.returncode}: {faults[0].decode(errors='replace')}")
+    return seconds, memory, b"".join(chunks), marks

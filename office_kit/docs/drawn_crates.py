@@ -1,0 +1,61 @@
+"""The drawing of the crates in their layers, made of crates.txt. Read by tools/pictures."""
+from collections.abc import Iterator, Mapping
+
+from office_kit.docs.definitions import ROOT, Fault, crates_of_the_program
+from office_kit.gate.crates import crates_of
+
+# The layers, the highest first: what a layer is for, its colour, and its crates.
+LAYERS = [
+    ("The program", "#e4e7eb", ["procure_config", "procure_programs", "procure"]),
+    ("HTTP: requests, routes, responses", "#fbdfdf", ["office_wire", "office_requests", "office_http"]),
+    ("Commands and queries", "#fbdfdf", ["office_plans", "office_desk"]),
+    ("Stores: in memory, in SQL", "#ece3f4", ["office_memory", "office_changes", "office_store", "office_ledger", "office_tables"]),
+    ("Publication", "#fdebcf", ["ocds_merge", "ocds_release", "office_publications"]),
+    ("Rules of the commands", "#dcf0dd", ["tender_papers", "office_machine", "tender_core", "award_core"]),
+    ("Values and records", "#dbe9f6", ["office_values", "office_commands", "office_base", "keyed_table"]),
+]
+HEAD = """\
+// The crates of the program in their layers: an arrow leads from a crate to one that it uses. Crates that are used by way
+// of another one have no arrow of their own. Made by `tools/pictures` of crates.txt, not by hand.
+digraph crates {
+  rankdir=TB; newrank=true; ranksep=0.45; nodesep=0.15; bgcolor="#ffffff"; pad=0.2;
+  graph [fontname="Helvetica,Arial,sans-serif", fontsize=12, fontcolor="#24292f"];
+  node [fontname="Helvetica,Arial,sans-serif", fontsize=12, fontcolor="#24292f", shape=box, style="filled,rounded",
+        fillcolor="#ffffff", color="#57606a", height=0.3, margin="0.1,0.04"];
+  edge [color="#6e7781", arrowsize=0.6];
+"""
+
+
+def direct(crate: str, below: Mapping[str, set[str]]) -> list[str]:
+    """The crates that a crate uses, without those that it also uses by way of another."""
+    used = below[crate]
+    return sorted(it for it in used if not any(it in below[other] for other in used))
+
+
+def layer_lines() -> Iterator[str]:
+    """The lines of the layers: a box for each, and the edge that keeps it above the next one."""
+    for number, (title, colour, crates) in enumerate(LAYERS):
+        yield f'  subgraph cluster_{number} {{ label="{title}"; labeljust=l; style="filled,rounded"; color="{colour}"; fillcolor="{colour}";'
+        yield f"    {{ rank=same; {'; '.join(crates)}; }}"
+        yield "  }"
+    for (_, _, upper), (_, _, lower) in zip(LAYERS, LAYERS[1:]):
+        yield f"  {{ {' '.join(upper)} }} -> {{ {' '.join(lower)} }} [style=invis];"
+
+
+def arrow_lines(layer_of: Mapping[str, int], below: Mapping[str, set[str]]) -> Iterator[str]:
+    """The lines of the arrows. Those inside of a layer don't move a crate to another height."""
+    for crate in layer_of:
+        for used in direct(crate, below):
+            yield f"  {crate} -> {used}{' [constraint=false]' if layer_of[crate] == layer_of[used] else ''};"
+
+
+def crates_dot() -> str:
+    """The source of the drawing. Each crate of the program must be in one layer, and no crate may use one of a layer above its own."""
+    program, below = crates_of_the_program(), crates_of(ROOT)
+    layer_of = {crate: number for number, (_, _, crates) in enumerate(LAYERS) for crate in crates}
+    if program != set(layer_of):
+        raise Fault(f"office_kit/docs/drawn_crates.py: only in a layer, or only in the program: {', '.join(sorted(program ^ set(layer_of)))}")
+    upward = [f"{crate} uses {it}" for crate in layer_of for it in below[crate] if layer_of[it] < layer_of[crate]]
+    if upward:
+        raise Fault(f"office_kit/docs/drawn_crates.py: a crate uses one of a layer above its own: {', '.join(sorted(upward))}")
+    return HEAD + "\n".join([*layer_lines(), *arrow_lines(layer_of, below), "}"]) + "\n"

@@ -1,0 +1,102 @@
+"""Finds the definitions that a reader must believe for the promises: those that the clauses use, directly or through others.
+
+Used by tools/reading and tools/check_names. A variable that has the name of such a definition counts as it.
+"""
+from collections.abc import Iterable, Mapping, Sequence
+from pathlib import Path
+
+from office_kit.docs.contracts import calls_of
+from office_kit.docs.definitions import ROOT, WORD, Definition, Fault, Imported, Source, crates_of_the_program, definition_at, imports_of, places_in, text_of
+
+# The calls whose clauses are the headline, file by file.
+START: dict[str, list[str]] = {
+    "office_http/src/office.rt": ["run", "serve_one"], "office_http/src/answering.rt": ["answer"], "office_http/src/laws.rt": ["seals"],
+}
+# The calls whose clauses are the other promises: an office in files, a store, a desk.
+BESIDES: dict[str, list[str]] = {
+    "procure_programs/src/store.rt": ["serve_from", "print_from"], "procure_programs/src/serving.rt": ["serve", "serve_at"],
+    "procure_programs/src/connection.rt": ["serve_connection"], "procure_programs/src/desk.rt": ["answer_streams"],
+    "procure_programs/src/printing.rt": ["print", "print_notices"], "procure_programs/src/jobs.rt": ["printout_of"],
+    "procure_programs/src/clock.rt": ["moment_now"], "office_http/src/answering.rt": ["answer_request"],
+    "office_desk/src/desk.rt": ["caller", "plan", "commit", "ask", "look"], "office_base/src/shelf.rt": ["apply"], "office_store/src/path.rt": ["open_from"],
+    "office_store/src/open.rt": ["create", "open_files", "close_files"], "office_changes/src/apply.rt": ["apply_all"],
+}
+
+
+class Reached:
+    """The definitions reached so far, and those to follow."""
+
+    def __init__(self) -> None:
+        self.crates = crates_of_the_program()
+        self.definitions: dict[tuple[str, str, str], Definition] = {}
+        self.types: dict[str, set[str]] = {}
+        self.libraries: dict[str, dict[str, set[str]]] = {}
+        self.waiting: list[tuple[Source, Definition]] = []
+        self.seen: set[Path] = set()
+
+    def add_all(self, words: Iterable[str], imports: Mapping[str, Imported], source: Source | None = None) -> None:
+        """Adds the meanings of words in a file with these imports. In a file of definitions, its own come first."""
+        for word in sorted(words):
+            own = source.defines(word.split(".")[0]) if source else None
+            if own:
+                self.add(source, own)
+        for place, name in places_in(sorted(words), imports):
+            self.add_place(place, name)
+
+    def add_place(self, place: str, name: str) -> None:
+        """Adds a definition, a type or a word of a library by its place."""
+        crate, _, module = place.partition(".specs.")
+        if crate not in self.crates:
+            self.libraries.setdefault(crate, {}).setdefault(module, set()).add(name)
+        elif module.startswith("declared."):
+            kind = module[len("declared."):].removesuffix(".TheVariants")
+            self.types.setdefault(crate, set()).add(kind)
+        else:
+            self.add(*definition_at(crate, module, name))
+
+    def need(self, imports: Mapping[str, Imported], where: Path | str) -> None:
+        """Checks that each definition of the program's crates that a file imports exists."""
+        for place, name in imports.values():
+            crate, _, module = place.partition(".specs.")
+            if name and crate in self.crates and not module.startswith("declared."):
+                if not definition_at(crate, module, name)[1]:
+                    raise Fault(f"{where}: there is no definition {name} in {place}")
+
+    def add(self, source: Source | None, definition: Definition | None) -> None:
+        """Adds a definition, once; with the first one of a file what the file imports is looked for."""
+        if source is None or definition is None:
+            raise Fault("a definition that is used isn't there")
+        if source.path not in self.seen:
+            self.seen.add(source.path)
+            self.need(source.imports, source.path.relative_to(ROOT))
+        key = source.crate, source.module, definition.name
+        if key not in self.definitions:
+            self.definitions[key] = definition
+            self.waiting.append((source, definition))
+
+    def follow(self) -> None:
+        """Follows definitions until nothing new is reached."""
+        while self.waiting:
+            source, definition = self.waiting.pop(0)
+            self.add_all(definition.words() - {definition.name}, source.imports, source)
+
+    def files(self) -> dict[tuple[str, str], list[Definition]]:
+        """The files that were reached, with the definitions of each that were."""
+        found: dict[tuple[str, str], list[Definition]] = {}
+        for (crate, module, _), definition in self.definitions.items():
+            found.setdefault((crate, module), []).append(definition)
+        return found
+
+
+def begin(made: Reached, start: Mapping[str, Sequence[str]]) -> None:
+    """Follows the names that the clauses of these calls use."""
+    for name, wanted in start.items():
+        path = ROOT / "crates" / name
+        calls = [call for call in calls_of(path) if call.name in wanted]
+        if {call.name for call in calls} != set(wanted):
+            raise Fault(f"crates/{name}: not all of {', '.join(wanted)} are there")
+        imports = imports_of(text_of(path))
+        made.need(imports, f"crates/{name}")
+        for call in calls:
+            made.add_all(set(WORD.findall(" ".join(clause.text for clause in call.clauses))), imports)
+    made.follow()

@@ -1,0 +1,171 @@
+"""The questions of `tests/page` to the front alone: its own answers, the requests that it lets through, and the clients that it makes wait."""
+import contextlib
+import hashlib
+import http.client
+import json
+import os
+import re
+import time
+from concurrent.futures import ThreadPoolExecutor
+
+from office_kit.common import CLERK, HOST, ROOT, Caller, check, connect, read_all, request
+from office_kit.desks.page_office import SECURITY, key_of
+from office_kit.desks.scene import Scene
+from office_kit.front.nginx import OUTSIDE, PATIENCE, Answer, exchange, fields_of
+
+HEADERS = {"Strict-Transport-Security": "max-age=15768000", "X-Content-Type-Options": "nosniff", "Referrer-Policy": "no-referrer", "Set-Cookie": None,
+           "Cross-Origin-Opener-Policy": "same-origin", "Server": "nginx"}
+POLICY = ["default-src 'none'", "script-src 'self'", "style-src 'self'", "connect-src 'self'", "img-src 'self'", "base-uri 'none'", "form-action 'none'",
+          "frame-ancestors 'none'", "require-trusted-types-for 'script'", "trusted-types 'none'"]
+# The paths asked for, with the type of each, and whether it may be kept.
+KINDS = {"/": ("text/html", "no-cache"), "/page.css": ("text/css", "no-cache"), "/page.js": ("application/javascript", "no-cache"),
+         "/icon.svg": ("image/svg+xml", "no-cache"), "/ledger": ("text/plain; charset=utf-8", "no-store"),
+         "/notices/N9/record": ("application/json", "no-store"), "/notices": ("application/json", "no-store"),
+         "/notices/N9/terms": ("application/json", "no-store"), "/notices/N9/evaluation": ("application/json", "no-store"),
+         "/tender/": ("text/html", "no-cache"), "/tender/main.js": ("application/javascript", "no-cache"),
+         "/common/style.css": ("text/css", "no-cache"), "/clerk/": ("text/html", "no-cache"), "/clerk/desk.js": ("application/javascript", "no-cache"),
+         "/openapi.yaml": ("application/yaml", "no-cache"), "/nothing": ("application/json", "no-store")}
+FOR_ALL_SITES = ("/ledger", "/notices/N9/record", "/notices", "/notices/N9/terms", "/notices/N9/evaluation", "/openapi.yaml")
+# Ways to write a path that the office doesn't know, and that a location of the front might take for another.
+ODD_PATHS = ["/%6cedger", "//ledger", "/notices/N1%2frecord", "/notices/%4e1/record", "/notices/../ledger", "/notices/N1/../../ledger", "/./ledger",
+             "/notices/%2e%2e/ledger", "/lines/x/%2e%2e/%2e%2e/notices/N1/register", "/lines//1100", "/notices/N1/record/.", "/notices/N1//open"]
+NOWHERE = ["/ledger/", "/Ledger", "/index.html", "/nginx.conf", "/web", "/notices/", "/tenderers/", "/notices/N1/record/x", "/favicon.ico", "/.git/config",
+           "/page.css.map", "/common/", "/tender/index.html", "/tender/style.css", "/clerk/index.html", "/clerk/none.js"]
+PLACES = {"notice": "N1", "lot": "L1", "line": "1100", "batch": "B1", "tenderer": "T1", "receipt": "1", "award": "1", "contract": "1", "security": "1"}
+MOST = 65_536
+
+
+def is_own(answer: Answer, status: int) -> bool:
+    """Whether this is an answer of the front itself, in JSON."""
+    return answer.status == status and answer.head["Content-Type"] == "application/json" and list(json.loads(answer.body)) == ["front"]
+
+
+def refusal(answer: Answer) -> object:
+    """The name of the office's refusal."""
+    return json.loads(answer.body).get("name")
+
+
+def routes() -> list[tuple[str, str, str]]:
+    """The rows of the table of docs/API.md: a method, a path, and the callers that may ask it."""
+    with open(os.path.join(ROOT, "docs", "API.md")) as file:
+        rows = re.findall(r"^\| \[`(GET|POST) (/[^`]*)`\]\([^)]*\) \| ([^|]*) \|", file.read(), re.M)
+    check(f"docs/API.md has {len(rows)} routes, and not 32", len(rows) == 32)
+    return [(method, re.sub(r"\{(\w+)\}", lambda name: PLACES[str(name[1])], path), who) for method, path, who in rows]
+
+
+def headers(scene: Scene) -> None:
+    """Each answer has the front's headers, no version and no cookie, and its own type. It says whether it may be kept."""
+    for path, (media, keeping) in KINDS.items():
+        head = scene.front.ask("GET", path).head
+        policy = "cross-origin" if path in FOR_ALL_SITES else "same-origin"
+        for name, value in [*HEADERS.items(), ("Content-Type", media), ("Cache-Control", keeping), ("Cross-Origin-Resource-Policy", policy)]:
+            check(f"{path} has {name}: {head[name]}, and not {value}", head[name] == value)
+        check(f"{path} has Content-Security-Policy: {head['Content-Security-Policy']}", (head["Content-Security-Policy"] or "").split("; ") == POLICY)
+
+
+def sizes(scene: Scene) -> None:
+    """A body of 65,536 bytes passes, and is taken by the office; one more doesn't, nor does a body in chunks, a long head or a long path. No body is written to
+    a disk."""
+    body = json.dumps({"name": "Epsilon", "address": "5 Row", "key": "0" * 64}).encode()
+    answer = scene.front.ask("POST", "/tenderers/T5", body.ljust(MOST), CLERK)
+    check(f"a body of {MOST} bytes is taken: {answer}", answer.status == 200)
+    answer = scene.front.ask("POST", "/tenderers/T6", body.ljust(MOST + 1), CLERK)
+    check(f"a body of one byte more is refused: {answer}", is_own(answer, 413))
+    with contextlib.closing(scene.front.connection()) as connection:
+        connection.request("POST", "/tenderers/T6", iter([body]), fields_of(CLERK), encode_chunked=True)
+        response = connection.getresponse()
+        check(f"a body in chunks is refused: {response.status}", response.status == 501 and "front" in json.loads(response.read()))
+    check("a body is written to a file", "temporary file" not in scene.front.logged("errors.log"))
+    answer = scene.front.ask("GET", "/ledger", caller=(b"T1", b"x" * 9000))
+    check(f"a long head is refused: {answer}", answer.status == 400)
+    answer = scene.front.ask("GET", "/lines/" + "x" * 9000)
+    check(f"a long path is refused: {answer}", answer.status == 414)
+    answer = scene.front.ask("PUT", "/")
+    check(f"another method is refused: {answer}", is_own(answer, 405))
+
+
+def odd_paths(scene: Scene) -> None:
+    """A path that is written in another way than the office's gets only the front's own answer, and so does a path that is no route."""
+    for path in ODD_PATHS + NOWHERE:
+        answer = scene.front.ask("GET", path, caller=CLERK)
+        check(f"GET {path}: {answer}", is_own(answer, 404))
+
+
+def networks(scene: Scene) -> None:
+    """From elsewhere the clerk's routes are refused, with the right key too, and all others reach the office."""
+    for number, (method, path, who) in enumerate(routes(), 1):
+        answer = scene.front.ask(method, path, source=OUTSIDE, caller=CLERK if who == "clerk" else None)
+        check(f"{method} {path} from {OUTSIDE}: {answer}", is_own(answer, 403) if who == "clerk" else b'"front"' not in answer.body)
+        if who == "clerk":
+            # (from another address each time: after a wrong key its address must wait)
+            answer = scene.front.ask(method, path, caller=(b"clerk", b"wrong"), source=f"127.0.1.{number}")
+            told = exchange_with_office(scene, method, path, (b"clerk", b"wrong"))
+            check(f"{method} {path} with a wrong key: {answer}, and from the office {told!r}", answer.status == 401 and answer.body == told)
+            check(f"{path} with a wrong key: {answer.head['WWW-Authenticate']}", answer.head["WWW-Authenticate"])
+
+
+def exchange_with_office(scene: Scene, method: str, path: str, caller: Caller) -> bytes:
+    """The body of the office's own answer."""
+    text = request(method.encode(), path.encode(), b"", caller)
+    with connect(scene.front.office, PATIENCE) as stream:
+        stream.sendall(text)
+        return read_all(stream).partition(b"\r\n\r\n")[2]
+
+
+def many_tenderers(scene: Scene) -> None:
+    """Sixty tenderers of one address present tenders at once, each for two lots, and the office takes all."""
+    names = [f"M{number}" for number in range(60)]
+    for name in names:
+        body = json.dumps({"name": name, "address": "1 Park", "key": hashlib.sha256(key_of(name).encode()).hexdigest()}).encode()
+        check(f"{name} is registered", scene.front.ask("POST", f"/tenderers/{name}", body, CLERK).status == 200)
+
+    def present(name: str, lot: str) -> Answer:
+        return scene.front.ask("POST", f"/notices/N3/lots/{lot}/tenders", b"An offer", (name.encode(), key_of(name).encode()))
+    with ThreadPoolExecutor(60) as pool:
+        answers = list(pool.map(present, names * 2, ["L1"] * 60 + ["L2"] * 60))
+    check(f"all are taken: {[it for it in answers if it.status != 200][:3]}", all(it.status == 200 for it in answers))
+
+
+def slow_clients(scene: Scene) -> None:
+    """If a client sends half a head or half a body, and then nothing, it waits alone."""
+    half_body = b"POST /tenderers/T7 HTTP/1.1\r\nHost: office\r\nContent-Length: 1000\r\n\r\n" + b" " * 500
+    with contextlib.ExitStack() as clients:
+        for sent in [half_body] * 4 + [b"GET /ledger HTTP/1.1\r\nHost: of"] * 2:
+            client = clients.enter_context(contextlib.closing(scene.front.connection()))
+            client.connect()
+            client.sock.sendall(sent)
+        time.sleep(0.3)
+        begun = time.monotonic()
+        # A path that wasn't asked before, so the office must answer it.
+        answer = scene.front.ask("GET", "/lines/unknown")
+        took = time.monotonic() - begun
+        check(f"beside slow clients a look is answered after {took:.1f} seconds: {answer}", refusal(answer) == "NoSuch" and took < 3)
+
+
+def names_and_keys(scene: Scene) -> None:
+    """On public routes the office doesn't learn the caller's name, so a wrong key doesn't matter there. No log has a key or a security."""
+    # (The last one wasn't asked before, so the front has no answer of it.)
+    statuses = {"/ledger": 200, "/lines/1100": 200, "/notices/N1/record": 200, "/notices/N1/releases": 200, "/notices/N1/minutes": 409, "/notices": 200,
+                "/notices/N1/terms": 200, "/notices/N1/evaluation": 409, "/lines/unseen": 404}
+    for path, wanted in statuses.items():
+        status = scene.front.ask("GET", path, caller=(b"T1", b"wrong")).status
+        check(f"{path} with a wrong key: {status}", status == wanted)
+    for name in ("access.log", "errors.log"):
+        log = scene.front.logged(name)
+        check(f"{name} has a key or a security", not any(secret in log for secret in (SECURITY, key_of("T1"), "Office-Key")))
+
+
+def without_tls(scene: Scene) -> None:
+    """Without TLS the front only redirects to the pages, and refuses a request with a key."""
+    with contextlib.closing(http.client.HTTPConnection(HOST, scene.front.plain_port, timeout=PATIENCE)) as connection:
+        answer = exchange(connection, "GET", "/")
+        check(f"GET / in the clear: {answer}", answer.status == 301 and answer.head["Location"] == f"https://{HOST}/")
+        for method, path, caller in (("GET", "/ledger", None), ("GET", "/ledger", CLERK), ("POST", "/notices/N1/open", CLERK), ("POST", "/", CLERK)):
+            answer = exchange(connection, method, path, caller=caller)
+            check(f"{method} {path} in the clear: {answer}", answer.status == 403)
+    with contextlib.closing(http.client.HTTPConnection(HOST, scene.front.port, timeout=PATIENCE)) as connection:
+        answer = exchange(connection, "GET", "/ledger")
+        check(f"in the clear at the port of TLS: {answer}", answer.status == 400)
+
+
+CHECKS = [headers, sizes, odd_paths, networks, slow_clients, many_tenderers, names_and_keys, without_tls]

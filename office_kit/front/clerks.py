@@ -1,0 +1,102 @@
+"""Clerks who sign in at a front by name, for tests: their roles, and their passwords or certificates. The files are those of deploy/, adapted as their heads
+and OPERATING.md say."""
+import base64
+import ctypes
+import os
+import secrets
+import ssl
+import subprocess
+from collections.abc import Iterable, Mapping
+
+from office_kit.common import CLERK, ROOT, fail, need
+
+# A change of a text: the old part, how often it occurs, and the new one.
+Change = tuple[str, int, str]
+WAYS = ("password", "certificate")
+# The password of a clerk is hashed this many times, as a power of two: as `htpasswd -B` does.
+COST = 5
+
+
+def adapted(name: str, text: str, changes: Iterable[Change]) -> str:
+    """The text of a file of deploy/ with each old part replaced by a new one; it must occur as often as is given."""
+    for old, count, new in changes:
+        if text.count(old) != count:
+            fail(f"deploy/{name}: {old!r} stands there {text.count(old)} times, and not {count}")
+        text = text.replace(old, new)
+    return text
+
+
+def of_deploy(name: str) -> str:
+    with open(os.path.join(ROOT, "deploy", name), encoding="utf-8") as file:
+        return file.read()
+
+
+def bcrypt(password: str) -> str:
+    """The line of a password file, by the library that nginx uses."""
+    crypt = ctypes.CDLL("libcrypt.so.1").crypt
+    crypt.restype = ctypes.c_char_p
+    salt = base64.b64encode(secrets.token_bytes(18), b"./").decode()[:22]
+    made: bytes | None = crypt(password.encode(), f"$2y${COST:02}${salt}".encode())
+    return made.decode() if made and made.startswith(b"$2y$") else fail("libcrypt makes no bcrypt")
+
+
+class Signing:
+    """Clerks by name with their roles, one of two ways in which they sign in, and the office's key. More of the files may be changed, by their names."""
+
+    def __init__(self, way: str, roles: Mapping[str, str], others: Iterable[str] = (), key: bytes = CLERK[1],
+                 faults: Mapping[str, Iterable[Change]] | None = None) -> None:
+        self.way, self.roles, self.names, self.key, self.faults = way, roles, [*roles, *others], key.decode(), faults or {}
+        self.passwords = {name: secrets.token_urlsafe(15) for name in self.names}
+        self.folder = ""
+
+    def put(self, folder: str) -> None:
+        """Writes the files into the folder of a front."""
+        self.folder = folder
+        self.write("clerks-key.conf", f'set $office_key "{self.key}";\n')
+        names = "".join(f'    {name} "{roles}";\n' for name, roles in self.roles.items())
+        self.copy("clerks.conf", [("    # cora all;\n", 1, names)])
+        places = [("/etc/procure/clerks-key.conf", 1, f"{folder}/clerks-key.conf"), ("/var/log/procure/clerks.log", 1, f"{folder}/clerks.log")]
+        if self.way == "password":
+            self.write("passwords", "".join(f"{name}:{bcrypt(password)}\n" for name, password in self.passwords.items()))
+        else:
+            places += [("/etc/procure/tls/clerks.pem", 1, f"{folder}/clerks.pem")]
+            self.certify("clerks", None)
+            for name in self.names:
+                self.certify(name, "clerks")
+        self.copy(f"clerks-{self.way}.conf", places)
+
+    def write(self, name: str, text: str) -> None:
+        with open(os.path.join(self.folder, name), "w", encoding="utf-8") as file:
+            file.write(text)
+
+    def copy(self, name: str, changes: Iterable[Change]) -> None:
+        """A file of deploy/, changed."""
+        self.write(name, adapted(name, adapted(name, of_deploy(name), self.faults.get(name, ())), changes))
+
+    def changes(self) -> list[Change]:
+        """The changes of nginx.conf: the `#` before one line is taken out."""
+        name = f"clerks-{self.way}.conf"
+        return [(f"    # include /etc/procure/{name};", 1, f"    include {self.folder}/{name};")]
+
+    def certify(self, name: str, by: str | None, subject: str = "") -> None:
+        """Makes a key and a certificate, signed by another one's or by its own."""
+        place, openssl = f"{self.folder}/{name}", need("openssl", "openssl")
+        words = [openssl, "req", "-newkey", "ec", "-pkeyopt", "ec_paramgen_curve:prime256v1", "-nodes", "-subj", subject or f"/CN={name}",
+                 "-keyout", f"{place}.key"]
+        if by is None:
+            subprocess.run([*words, "-x509", "-days", "2", "-out", f"{place}.pem"], check=True, capture_output=True)
+            return
+        subprocess.run([*words, "-out", f"{place}.csr"], check=True, capture_output=True)
+        authority = ["-CA", f"{self.folder}/{by}.pem", "-CAkey", f"{self.folder}/{by}.key", "-CAcreateserial"]
+        subprocess.run([openssl, "x509", "-req", "-in", f"{place}.csr", *authority, "-days", "2", "-out", f"{place}.pem"], check=True, capture_output=True)
+
+    def fields(self, name: str) -> dict[str, str]:
+        """The fields of the head by which a clerk signs in."""
+        if self.way != "password" or not name:
+            return {}
+        return {"Authorization": "Basic " + base64.b64encode(f"{name}:{self.passwords.get(name, 'wrong')}".encode()).decode()}
+
+    def present_to(self, context: ssl.SSLContext, name: str) -> None:
+        """Has connections of this context come with the clerk's certificate."""
+        if self.way == "certificate" and name:
+            context.load_cert_chain(f"{self.folder}/{name}.pem", f"{self.folder}/{name}.key")

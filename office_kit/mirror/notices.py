@@ -1,0 +1,165 @@
+"""A page of HTML for each procurement: for search engines, previews of links, paper, and readers without scripts. Its texts are those of the screens."""
+import html
+import json
+from xml.sax.saxutils import quoteattr
+
+from office_kit.mirror.events import LANGUAGES, event, money, moment, number, say, state_of
+from office_kit.mirror.feeds import address, author, summary
+from office_kit.mirror.office import Json, Notice
+from office_kit.mirror.tables import Cell, lot_rows, tender_rows
+
+# The style of these pages, on screens and on paper.
+STYLE = """body { font-family: system-ui, sans-serif; line-height: 1.5; margin: 0 auto; max-width: 50rem; padding: 1rem; }
+table { border-collapse: collapse; }
+th, td { border-bottom: 1px solid; padding: 0.25rem 1rem 0.25rem 0; text-align: start; vertical-align: top; }
+td.number, th.number { text-align: end; }
+dt { font-weight: bold; }
+dd { margin: 0 0 0.5rem; }
+@media print {
+  @page { margin: 2cm; }
+  nav { display: none; }
+  body { color: black; background: white; max-width: none; padding: 0; }
+  h2, h3 { break-after: avoid; }
+  tr, li { break-inside: avoid; }
+  .source a::after { content: " (" attr(href) ")"; }
+}
+"""
+# The words of these pages that no screen has.
+WORDS = {"en": {"item": "Item", "quantity": "Quantity", "sum": "Sum after corrections", "portal": "This procurement in the portal", "record": "Record (OCDS)",
+                "terms": "Terms", "minutes": "Minutes of the opening", "evaluation": "Evaluation", "data": "Open data", "what": "What", "value": "Entry"},
+         "de": {"item": "Posten", "quantity": "Menge", "sum": "Summe nach Berichtigung", "portal": "Diese Vergabe im Portal", "record": "Datensatz (OCDS)",
+                "terms": "Bedingungen", "minutes": "Niederschrift der Öffnung", "evaluation": "Wertung", "data": "Offene Daten", "what": "Was",
+                "value": "Angabe"}}
+SOURCES = {"records": "record", "terms": "terms", "minutes": "minutes", "evaluations": "evaluation"}
+# The most letters of a description that a search engine or a preview shows.
+MOST = 300
+
+
+def text(given: Cell) -> str:
+    """A text of the office: in its own direction, and no markup."""
+    return f"<bdi>{html.escape(str(given))}</bdi>"
+
+
+def structured(base: str, language: str, notice: Notice, now: str) -> str:
+    """A procurement as schema.org describes it: a demand of an organization. (A script of this type isn't run; `<` can't end it.)"""
+    tender = notice.compiled["tender"]
+    offered = [{"@type": "Product", "name": item["description"]} for item in tender.get("items", [])]
+    price = {"@type": "PriceSpecification", "price": tender["value"]["amount"], "priceCurrency": tender["value"]["currency"]}
+    demand: Json = {
+        "@type": "Demand", "@id": f"urn:ocds:{notice.compiled['ocid']}", "identifier": notice.compiled["ocid"], "name": notice.row["title"],
+        "description": summary(language, notice, now), "url": address(base, language, notice), "validFrom": notice.row["published"],
+        "availabilityStarts": notice.row["published"], "validThrough": notice.row["deadline"], "availabilityEnds": notice.row["deadline"],
+        "priceSpecification": price, "itemOffered": offered}
+    told = {"@context": "https://schema.org", "@type": "GovernmentOrganization", "name": author([notice]), "seeks": demand}
+    return json.dumps(told, ensure_ascii=False, sort_keys=True).replace("<", "\\u003c")
+
+
+def head(base: str, language: str, notice: Notice, now: str) -> str:
+    title = f"{notice.row['title']} ({notice.name})"
+    bought = ", ".join(item["description"] for item in notice.compiled["tender"].get("items", []))
+    told = f"{summary(language, notice, now)} {say(language, 'see.items')}: {bought}" if bought else summary(language, notice, now)
+    told = told if len(told) <= MOST else told[:MOST - 1] + "…"
+    own = address(base, language, notice)
+    preview = {"og:type": "website", "og:title": title, "og:description": told, "og:url": own, "og:site_name": author([notice]), "og:locale": language}
+    others = "".join(f'<link rel="alternate" hreflang="{tag}" href={quoteattr(address(base, tag, notice))}>\n' for tag in LANGUAGES)
+    return f"""<!DOCTYPE html>
+<html lang="{language}">
+<head>
+<meta charset="utf-8">
+<meta name="viewport" content="width=device-width, initial-scale=1">
+<meta name="color-scheme" content="light dark">
+<title>{html.escape(title)} – {html.escape(author([notice]))}</title>
+<meta name="description" content={quoteattr(told)}>
+{"".join(f'<meta property="{name}" content={quoteattr(value)}>{chr(10)}' for name, value in preview.items())}<meta name="twitter:card" content="summary">
+<link rel="canonical" href={quoteattr(own)}>
+{others}<link rel="alternate" type="application/atom+xml" href="notices.atom">
+<link rel="stylesheet" href="../notices.css">
+<script type="application/ld+json">{structured(base, language, notice, now)}</script>
+</head>
+"""
+
+
+def facts(rows: list[tuple[str, str]]) -> str:
+    return "<dl>\n" + "".join(f"<dt>{html.escape(name)}</dt><dd>{value}</dd>\n" for name, value in rows) + "</dl>\n"
+
+
+def lot(language: str, notice: Notice, row: Json, tenders: list[Json]) -> str:
+    """A lot: its budget line and money, what is bought, and the tenders that were opened."""
+    words = WORDS[language]
+
+    def amount(value: int) -> str:
+        return html.escape(money(language, {"amount": value, "currency": row["currency"]}))
+    told = [(say(language, "see.line"), text(row["line"])), (say(language, "see.estimate"), amount(row["estimate"]))]
+    if row["security"]:
+        told.append((say(language, "see.security.asked"), amount(row["security"])))
+    if row["winner_name"]:
+        told.append((say(language, "see.head.awarded"), f"{text(row['winner_name'])}, {amount(row['price'])}"))
+    if row["contract"]:
+        told += [(say(language, "see.contract", contract=row["contract"]), say(language, "see.runs" if row["contract_status"] == "active" else "see.ended")),
+                 (say(language, "see.worth" if row["contract_status"] == "active" else "see.worth.end"), amount(row["worth"])),
+                 (say(language, "see.paid"), amount(row["paid"]))]
+    elif row["status"] in ("cancelled", "unsuccessful"):
+        told.append((say(language, "see.state"), say(language, f"see.is.{row['status']}")))
+    (items,) = [it["items"] for it in notice.terms["lots"] if it["id"] == row["lot"]]
+    bought = "".join(f'<tr><td>{text(it["id"])}</td><td>{text(it["title"])}</td><td class="number">{number(language, it["quantity"])}</td></tr>\n'
+                     for it in items)
+    made = (f"<h3>{html.escape(say(language, 'see.lot', lot=row['lot']))}: {text(row['title'])}</h3>\n{facts(told)}<table>\n<caption>"
+            f"{say(language, 'see.items')}</caption>\n<thead><tr><th>{words['item']}</th><th>{words['what']}</th>"
+            f"<th class=\"number\">{words['quantity']}</th></tr></thead>\n<tbody>\n{bought}</tbody>\n</table>\n")
+    if not tenders:
+        return made
+    opened = "".join(f'<tr><td>{number(language, int(it["receipt"]))}</td><td>{text(it["name"])}</td>'
+                     f'<td class="number">{price_of(language, it)}</td></tr>\n' for it in tenders)
+    return made + (f"<table>\n<caption>{say(language, 'see.tenders')}</caption>\n<thead><tr><th>{say(language, 'see.tender.receipt', receipt='').strip()}</th>"
+                   f"<th>{say(language, 'see.tenderer')}</th><th class=\"number\">{words['sum']}</th></tr></thead>\n<tbody>\n{opened}</tbody>\n</table>\n")
+
+
+def price_of(language: str, row: Json) -> str:
+    """The sum of a tender, or why it has none."""
+    if row["reading"] != "priced":
+        return html.escape(say(language, f"see.why.{row['reading']}"))
+    return html.escape(money(language, {"amount": row["corrected"], "currency": row["currency"]}))
+
+
+def sources(base: str, language: str, notice: Notice) -> str:
+    """The answers of which the page is made, and the portal."""
+    links = [(f"../{folder}/{notice.name}.{'json' if folder in ('records', 'terms') else 'txt'}", WORDS[language][word])
+             for folder, word in SOURCES.items() if folder in notice.texts]
+    links.append((f"{base}/?language={language}#notice/{notice.name}", WORDS[language]["portal"]))
+    return '<ul class="source">\n' + "".join(f"<li><a href={quoteattr(link)}>{html.escape(name)}</a></li>\n" for link, name in links) + "</ul>\n"
+
+
+def page_of(base: str, language: str, notice: Notice, now: str) -> str:
+    """The page of a procurement in a language. (It has no moment of the run, so it stays the same file while nothing happens.)"""
+    tender, lots, tenders = notice.compiled["tender"], list(lot_rows(notice)), tender_rows(notice)
+    told = [(say(language, "see.notice"), text(notice.name)), (say(language, "see.buyer"), text(author([notice]))),
+            (say(language, "see.state"), html.escape(say(language, f"see.state.{state_of(notice, now)}"))),
+            (say(language, "see.published"), html.escape(moment(language, notice.row["published"]))),
+            (say(language, "see.deadline"), html.escape(moment(language, notice.row["deadline"]))),
+            (say(language, "see.estimate"), html.escape(money(language, tender["value"])))]
+    if tender.get("numberOfTenderers") is not None:
+        told.append((say(language, "see.tenderers"), number(language, tender["numberOfTenderers"])))
+    happened = "".join("<li><b>{}</b>, {}: {}</li>\n".format(html.escape(name), html.escape(moment(language, release["date"])), text(what))
+                       for release in notice.releases for name, what in [event(language, notice, release)])
+    others = ", ".join(f'<a href={quoteattr(f"../{tag}/{notice.name}.html")} hreflang="{tag}" lang="{tag}">{name}</a>'
+                       for tag, name in LANGUAGES.items() if tag != language)
+    each = "".join(lot(language, notice, row, [it for it in tenders if it["lot"] == row["lot"]]) for row in lots)
+    return f"""{head(base, language, notice, now)}<body>
+<nav><a href="../index.html">{WORDS[language]["data"]}</a> · {others}</nav>
+<main>
+<h1>{text(notice.row["title"])}</h1>
+{facts(told)}<h2>{say(language, "see.lots.title")}</h2>
+{each}<h2>{say(language, "see.happened")}</h2>
+<ol>
+{happened}</ol>
+<h2>{say(language, "see.raw")}</h2>
+{sources(base, language, notice)}</main>
+</body>
+</html>
+"""
+
+
+def notice_pages(base: str, notices: list[Notice], now: str) -> dict[str, str]:
+    """The page of each procurement in each language, by their paths, and their style."""
+    pages = {f"{language}/{one.name}.html": page_of(base, language, one, now) for one in notices for language in LANGUAGES}
+    return {**pages, "notices.css": STYLE}

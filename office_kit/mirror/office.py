@@ -1,0 +1,152 @@
+"""Asks an office for `tools/mirror`, and keeps of each notice its row in the list, its record, terms, minutes and evaluation."""
+import json
+import os
+import re
+import time
+from dataclasses import dataclass, field
+from typing import Any
+
+from office_kit.audit.answers import Answers
+from office_kit.audit.office import Unreadable
+
+Json = dict[str, Any]
+IDENTIFIER = re.compile(r"[A-Za-z0-9_.-]{1,32}")
+# How often a notice is asked for again if its record isn't that of the list, because a command came in between.
+TRIES = 5
+# The folders of a mirror with the texts of each notice as the office wrote them, and the endings of their files.
+KEPT = {"records": ".json", "terms": ".json", "minutes": ".txt", "evaluations": ".txt"}
+
+
+def text_of(value: Any) -> str:
+    """A value as the office writes it: compact, its members in the order of their names. Digests are computed of this text."""
+    return json.dumps(value, ensure_ascii=False, sort_keys=True, separators=(",", ":"))
+
+
+def now() -> str:
+    return time.strftime("%Y-%m-%dT%H:%M:%SZ", time.gmtime())
+
+
+@dataclass
+class Notice:
+    """A notice at one moment: its row in the list, that moment, and the office's answers by folder, without those that don't exist."""
+
+    row: Json
+    looked: str
+    texts: dict[str, str]
+    record: Json = field(init=False)
+
+    def __post_init__(self) -> None:
+        try:
+            package = json.loads(self.texts["records"])
+            self.record = package["records"][0]
+            self.record["releases"], self.record["compiledRelease"]["tender"]["lots"]
+        except (KeyError, TypeError, ValueError, LookupError) as why:
+            raise Unreadable(f"the record of {self.row.get('notice')}: {why!r}") from why
+
+    @property
+    def name(self) -> str:
+        return str(self.row["notice"])
+
+    @property
+    def releases(self) -> list[Json]:
+        return list(self.record["releases"])
+
+    @property
+    def compiled(self) -> Json:
+        return dict(self.record["compiledRelease"])
+
+    @property
+    def terms(self) -> Json:
+        return dict(json.loads(self.texts["terms"]))
+
+    def is_moving(self) -> bool:
+        """Whether a notice may still change without a release: by a late withdrawal, before all its lots are decided."""
+        return bool(self.row["state"] == "opened" and any(lot["status"] == "active" for lot in self.compiled["tender"]["lots"]))
+
+
+class Office:
+    """An office at an address, asked for public answers. If it is asked too often, it waits."""
+
+    def __init__(self, base: str) -> None:
+        self.base, self.answers = base.rstrip("/"), Answers(None, base.rstrip("/"))
+
+    def ask(self, path: str) -> str | None:
+        return self.answers.ask(path)
+
+    def must(self, path: str) -> str:
+        text = self.ask(path)
+        if text is None:
+            raise Unreadable(f"{self.base}{path}: the office has no such page")
+        return text
+
+    def notices(self) -> list[Json]:
+        """All notices, page by page."""
+        found: list[Json] = []
+        after = ""
+        while True:
+            page = json.loads(self.must("/notices" + (f"?after={after}" if after else "")))
+            found += page["notices"]
+            # (Names become names of files, and the answers may be anybody's.)
+            names = [after, *(row["notice"] for row in page["notices"])]
+            if not all(IDENTIFIER.fullmatch(name) for name in names[1:]) or names != sorted(set(names)):
+                raise Unreadable(f"{self.base}/notices: these aren't notices sorted by name: {names[:5]}")
+            if page["next"] is None:
+                return found
+            if page["next"] != names[-1]:
+                raise Unreadable(f"{self.base}/notices: the next page begins at {page['next']!r}, and this one ends with {names[-1]!r}")
+            after = page["next"]
+
+    def notice(self, row: Json) -> Notice:
+        """A notice, fetched so that its record has at least as many releases as the list says."""
+        name = row["notice"]
+        paths = {"records": "record", "terms": "terms", "minutes": "minutes", "evaluations": "evaluation"}
+        for _ in range(TRIES):
+            texts = {folder: self.ask(f"/notices/{name}/{path}") for folder, path in paths.items()}
+            if texts["records"] is None or texts["terms"] is None:
+                raise Unreadable(f"{self.base}: {name} is in the list but has no record or no terms")
+            found = Notice(row, now(), {folder: text for folder, text in texts.items() if text is not None})
+            again = json.loads(self.must(f"/notices/{name}/terms"))
+            if again == found.terms and (found.terms["state"] != "opened" or "evaluations" in texts and "minutes" in texts):
+                return found
+        raise Unreadable(f"{self.base}: {name} changed during each of {TRIES} tries: run this again later")
+
+    def budget(self) -> tuple[str, list[Json]]:
+        """The ledger, and its lines, each with its title."""
+        ledger = self.must("/ledger")
+        return ledger, [json.loads(self.must("/lines/" + line.split("\t")[0])) for line in ledger.split("\n")[2:-1]]
+
+
+class Kept:
+    """The files that a folder keeps from the run before; none if there was no run."""
+
+    def __init__(self, folder: str) -> None:
+        self.folder, self.state = folder, Json()
+        path = os.path.join(folder, "mirror.json")
+        if os.path.exists(path):
+            with open(path, encoding="utf-8") as file:
+                self.state = json.load(file)
+
+    @property
+    def base(self) -> str | None:
+        return self.state.get("base")
+
+    def names(self) -> list[str]:
+        return list(self.state.get("notices", {}))
+
+    def looked(self, name: str) -> str:
+        return str(self.state.get("notices", {}).get(name, {}).get("looked", ""))
+
+    def saved(self, *path: str) -> str | None:
+        place = os.path.join(self.folder, *path)
+        if not os.path.exists(place):
+            return None
+        with open(place, encoding="utf-8", newline="") as file:
+            return file.read()
+
+    def notice(self, name: str) -> Notice | None:
+        """The data that is kept of a notice, as it was last fetched."""
+        told = self.state.get("notices", {}).get(name)
+        if told is None:
+            return None
+        texts = {folder: self.saved(folder, name + end) for folder, end in KEPT.items()}
+        return Notice(told["row"], told["looked"], {folder: text for folder, text in texts.items() if text is not None})

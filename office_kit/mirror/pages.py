@@ -1,0 +1,110 @@
+"""The index of `tools/mirror` for readers: a table of all procurements that needs no script, and the files."""
+import html
+import json
+from typing import Any
+from xml.sax.saxutils import quoteattr
+
+from office_kit.mirror.columns import COLUMNS, MEANS, licence_of
+from office_kit.mirror.events import LANGUAGES, moment, say, state_of
+from office_kit.mirror.feeds import author
+from office_kit.mirror.office import Notice
+
+# The number of items that the index names of each procurement.
+MOST = 10
+# The head of the index, a page of HTML.
+HEAD = """<!DOCTYPE html>
+<html lang="en">
+<head>
+<meta charset="utf-8">
+<meta name="viewport" content="width=device-width, initial-scale=1">
+<meta name="color-scheme" content="light dark">
+<title>Open data of the procurement office</title>
+<link rel="stylesheet" href="/page.css">
+<link rel="alternate" type="application/atom+xml" title="New procurements" href="notices.atom">
+<link rel="alternate" type="application/atom+xml" title="What happened" href="feed.atom">
+"""
+WORDS = """<p>Everything that this office has published: the procurements below, and files to download. Amounts are whole units of the currency. Times
+are UTC.</p>
+<p lang="de">Alles, was diese Vergabestelle veröffentlicht hat: unten die Vergaben, dazu Dateien zum Herunterladen. Beträge sind ganze Einheiten der
+Währung. Zeiten sind UTC.</p>"""
+WITNESS = """<p>The chain has a line for each release that was seen here. Each line has the SHA-256 of all lines before it. Keep today's last line, and you can
+show later whether anything published until now was changed. <code>tools/mirror URL FOLDER</code> keeps such a copy for you and reports changes.</p>"""
+
+
+def page(base: str, now: str, files: list[tuple[str, int, str]], notices: list[Notice], head: str, city: dict[str, Any]) -> str:
+    """The index. `files` are names, lengths and digests; `head` is the last digest of the chain; `city` are the city's own words."""
+    rows = [f"<tr><td><a href={quoteattr(name)}>{html.escape(name)}</a></td><td>{length:,}</td><td><code>{digest}</code></td></tr>\n"
+            for name, length, digest in files]
+    return f"""{HEAD}<script type="application/ld+json">{dataset(base, notices, city)}</script>
+</head>
+<body>
+<main>
+<h1>Open data of the procurement office</h1>
+{WORDS}
+<p>From <a href={quoteattr(base)}>{html.escape(base)}</a>, asked at {now}.</p>
+{licence_told(city)}<p>Follow: <a href="en/notices.atom">new procurements</a>, <a href="en/feed.atom">everything that happened</a>.</p>
+<p lang="de">Folgen: <a href="de/notices.atom">neue Vergaben</a>, <a href="de/feed.atom">alles, was geschah</a>.</p>
+<h2>Procurements</h2>
+<table>
+<thead><tr><th>Procurement</th><th>State</th><th>Deadline</th><th>Estimate</th></tr></thead>
+<tbody>
+{"".join(notice_row(one, now) for one in ordered(notices, now))}</tbody>
+</table>
+<h2>Files</h2>
+<table>
+<thead><tr><th>File</th><th>Bytes</th><th>SHA-256</th></tr></thead>
+<tbody>
+{"".join(rows)}</tbody>
+</table>
+<p><a href="datapackage.json">datapackage.json</a> explains each column of each table, for people and for programs (Frictionless Data Package).</p>
+<ul>
+{"".join(f"<li>{html.escape(name)}.csv: {html.escape(means)}</li>{chr(10)}" for name, means in MEANS.items())}</ul>
+<p>There are also <code>records/NOTICE.json</code>, <code>terms/NOTICE.json</code>, <code>minutes/NOTICE.txt</code> and <code>evaluations/NOTICE.txt</code>, as
+the office answered them, and the ledger of each day, <code>ledgers/YYYY-MM-DD.txt</code>. In the tables a text
+that begins with = + - or @ has an apostrophe before it, so that no spreadsheet reads it as a formula.</p>
+<h2>The chain</h2>
+{WITNESS}
+<p>Its last digest: <code>{head}</code></p>
+</main>
+</body>
+</html>
+"""
+
+
+def ordered(notices: list[Notice], now: str) -> list[Notice]:
+    """Open procurements first, with the nearest deadline first, then the others, the newest first."""
+    newest = sorted(notices, key=lambda one: (one.row["published"], one.name), reverse=True)
+    return sorted((one for one in newest if state_of(one, now) == "open"), key=lambda one: str(one.row["deadline"])) + [
+        one for one in newest if state_of(one, now) != "open"]
+
+
+def dataset(base: str, notices: list[Notice], city: dict[str, Any]) -> str:
+    """The data as schema.org describes it: a data set with its files. (A script of this type isn't run; `<` can't end it.)"""
+    files = [{"@type": "DataDownload", "name": name, "contentUrl": f"{base}/data/{name}.csv", "encodingFormat": "text/csv"} for name in COLUMNS]
+    licence = [it.get("path") or it["name"] for it in licence_of(city)]
+    told = {"@context": "https://schema.org", "@type": "Dataset", "name": f"Procurements: {author(notices)}", "url": f"{base}/data/",
+            "description": "Notices, lots, items, tenders, awards, contracts, payments and budget lines of a procurement office, as it published them.",
+            "creator": {"@type": "GovernmentOrganization", "name": author(notices)}, "isAccessibleForFree": True, "distribution": files,
+            **({"license": licence[0]} if licence else {})}
+    return json.dumps(told, ensure_ascii=False, sort_keys=True).replace("<", "\\u003c")
+
+
+def licence_told(city: dict[str, Any]) -> str:
+    """The licence of the data, if the city names one."""
+    for it in licence_of(city):
+        name = html.escape(it.get("title") or it.get("name") or it["path"])
+        path = it.get("path", "")
+        return f"<p>Licence of the data: {f'<a href={quoteattr(path)}>{name}</a>' if path.startswith(('https://', 'http://')) else name}</p>\n"
+    return ""
+
+
+def notice_row(one: Notice, now: str) -> str:
+    value, state = one.compiled["tender"]["value"], say("en", f"see.state.{state_of(one, now)}")
+    link = f"<a href={quoteattr(f'en/{one.name}.html')}>{html.escape(one.name)}</a> <bdi>{html.escape(one.row['title'])}</bdi>"
+    more = [f'<a href={quoteattr(f"{tag}/{one.name}.html")} hreflang="{tag}">{name}</a>' for tag, name in LANGUAGES.items() if tag != "en"]
+    files = (("records", "json", "record"), ("minutes", "txt", "minutes"), ("evaluations", "txt", "evaluation"))
+    more += [f"<a href={quoteattr(f'{folder}/{one.name}.{end}')}>{word}</a>" for folder, end, word in files if folder in one.texts]
+    items = [item["description"] for item in one.compiled["tender"].get("items", [])]
+    bought = html.escape(", ".join(items[:MOST]) + (" …" if len(items) > MOST else ""))
+    return (f"<tr><td>{link}<br><bdi>{bought}</bdi><br>{', '.join(more)}</td><td>{state}</td><td>{html.escape(moment('en', one.row['deadline']))}</td>"
+            f"<td>{value['amount']:,} {html.escape(value['currency'])}</td></tr>\n")

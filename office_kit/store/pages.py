@@ -1,0 +1,50 @@
+"""The page sizes of an office's file: that of a new file, and that of files made earlier.
+
+A file keeps its page size, so a test or a measure tries both. To give a file the other size, it puts an empty database of that size there before the program.
+"""
+import argparse
+import sqlite3
+from collections.abc import Sequence
+
+from office_kit.common import check
+
+# The bytes of a page: of earlier files, and of a new one.
+FORMER, NEW = 4096, 1024
+SIZES = (FORMER, NEW)
+
+
+def begin(path: str, size: int) -> None:
+    """Puts an empty database with pages of this size at the path, unless the program itself makes such a file."""
+    if size != NEW:
+        base = sqlite3.connect(path)
+        base.executescript(f"PRAGMA page_size = {size}; VACUUM;")
+        base.close()
+
+
+def size_of(path: str) -> int:
+    """The size of its pages that a database file names: in two bytes, where 1 means 65,536."""
+    with open(path, "rb") as file:
+        head = file.read(18)
+    check(f"{path} is no database", head.startswith(b"SQLite format 3\0"))
+    named = int.from_bytes(head[16:], "big")
+    return 65_536 if named == 1 else named
+
+
+def check_size(path: str, size: int) -> None:
+    """Checks that a file has pages of this size."""
+    found = size_of(path)
+    check(f"{path} has pages of {found} bytes, and not of {size}", found == size)
+
+
+def sizes_of(words: str) -> list[int]:
+    """The sizes that an option names."""
+    sizes = [int(word) for word in words.split(",")]
+    if not all(512 <= size <= 65_536 and size & (size - 1) == 0 for size in sizes):
+        raise argparse.ArgumentTypeError("a page has 512 to 65536 bytes, a power of two")
+    return sizes
+
+
+def add_sizes(options: argparse.ArgumentParser, sizes: Sequence[int] = SIZES) -> None:
+    """The option that names the sizes."""
+    default = ",".join(map(str, sizes))
+    options.add_argument("--page-sizes", type=sizes_of, default=list(sizes), metavar="BYTES,..", help=f"the page sizes of the files ({default})")

@@ -1,0 +1,194 @@
+"""`tools/check_tender` says of a tender's file what `procure read-tender` reads in it.
+
+The files are the forms of docs/TENDERER-API.md, those at the bounds, and files that hypothesis makes. These are right and written in the ways that are allowed,
+or have a few changes. The tool gets the record or the releases of a notice that the program published. The table of forms in the document shows the forms
+that are tried here. Then rules of the tool are changed, one at a time: the files must show each change.
+"""
+import collections
+import contextlib
+import io
+import re
+import subprocess
+from pathlib import Path
+
+import pytest
+from hypothesis import given, settings
+
+from office_kit.api import tenders
+from office_kit.api.tenders import FORMS, HEAD, KINDS, RIGHT, Case, lines
+from office_kit.client import Blocks, Client, budget, notice
+from office_kit.common import ROOT
+
+BEFORE, DEADLINE = "2026-01-05T09:00:00Z", "2026-03-01T12:00:00Z"
+ARE_FOR = "[(row.name, row.quantity) for row in rows]"
+# The rules that are changed: the text in the tool, and the changed text.
+CHANGED = {
+    "semicolons are taken for commas": ("byte == COMMA", 'byte in b",;"'),
+    "a quotation mark within a field opens one": ('elif byte == QUOTE and state != "inside":', "elif byte == QUOTE:"),
+    "CR ends no line": ("""QUOTE, COMMA, ENDS = b'"', b",", b"\\r\\n\"""", """QUOTE, COMMA, ENDS = b'"', b",", b"\\n\""""),
+    "an empty line is a record": ('elif state != "before":', "else:"),
+    "a byte order mark stays": ("if data.startswith(MARK) else data", "if False else data"),
+    "each byte order mark is dropped": ("data[len(MARK):] if data.startswith(MARK) else data", "data.replace(MARK, b'')"),
+    "spaces beside numbers are dropped": ("    is_one = ", "    field = field.strip()\n    is_one = "),
+    "17 digits are taken": ("MOST_NUMBER, MOST_UNIT, MOST_PRICE = 32768, 16,", "MOST_NUMBER, MOST_UNIT, MOST_PRICE = 32768, 17,"),
+    "numbers above 10^15 are taken": ("10 ** 15, 10 ** 9", "10 ** 16, 10 ** 9"),
+    "`3.0` is taken": ("    is_one = ", '    field = field[:-2] if field.endswith(b".0") else field\n    is_one = '),
+    "a fifth field of an item is dropped": ("    if len(record.fields) != len(HEAD):\n        return None\n    name, *figures = record.fields\n",
+                                            "    if len(record.fields) < len(HEAD):\n        return None\n    name, *figures = record.fields[:4]\n"),
+    "the head may have capitals": ("records[0].fields != HEAD:", "[it.lower() for it in records[0].fields] != HEAD:"),
+    "`Total` is taken": ("record.fields[:3] == SUM else None", "[it.upper() for it in record.fields[:3]] == SUM else None"),
+    "the quantity may stand behind `TOTAL`": ("record.fields[:3] == SUM else None", "record.fields[:1] == SUM[:1] else None"),
+    "no sum is asked for": ("or stated is None:", "or False:"),
+    "the order is free": ("    are_for = ", "    rows, items = sorted(rows, key=lambda it: it.name), sorted(items)\n    are_for = "),
+    "any quantity is taken": (ARE_FOR, "[(row.name, items[at].quantity if at < len(items) else 0) for at, row in enumerate(rows)]"),
+    "the lot may stand in front": (ARE_FOR, '[(row.name.split(b"/")[-1], row.quantity) for row in rows]'),
+    "a unit price of 10^9 is too great": ("row.unit <= MOST_UNIT", "row.unit < MOST_UNIT"),
+    "a price of 10^12 is too great": ("price_of(rows) <= MOST_PRICE", "price_of(rows) < MOST_PRICE"),
+    "the stated sum prevails": ("    price = price_of(rows)\n    return Reading(", "    price = stated\n    return Reading("),
+    "a wrong sum is no correction": (" + (stated != price), rows)", ", rows)"),
+    "32,768 bytes are too many": ("1 <= len(data) <= MOST_BYTES", "1 <= len(data) < MOST_BYTES"),
+    "an empty file is unreadable": ("1 <= len(data) <= MOST_BYTES", "len(data) <= MOST_BYTES"),
+}
+
+
+def said(line):
+    """The tool's first line in the words of the minutes, or None if it has another form."""
+    found = re.search(r", for lot \S+: (?:(priced), (\d+) stated, (\d+) your price, (\d+) corrections?|(unreadable|nonconforming|not taken): .*)$", line)
+    return found and (found[5] or " ".join(found.groups()[:4]))
+
+
+class Trial:
+    """The tool, as a person runs it, with the record or the releases of a notice that has a lot of each kind."""
+
+    def __init__(self, program, folder):
+        self.folder, self.tool, self.reader = folder, tenders.tool(), tenders.Reader(program, str(folder))
+        blocks = Blocks(BEFORE)
+        client = Client(blocks)
+        client.import_budget("B1", budget("1000,add,1000000,All"))
+        client.publish("N1", notice(DEADLINE, *map(tenders.lot_of, range(len(KINDS)))))
+        client.record("N1")
+        client.releases("N1")
+        self.items = [folder / "record.json", folder / "releases.json"]
+        for path, answer in zip(self.items, blocks.answers(program)[2:]):
+            path.write_bytes(answer.body)
+
+    def run(self, file):
+        """The tool's output for a file, and its status."""
+        (path := self.folder / "tender.csv").write_bytes(file.data)
+        with contextlib.redirect_stdout(io.TextIOWrapper(io.BytesIO(), encoding="utf-8")) as out:
+            status = self.tool.main([str(self.items[len(file.data) % 2]), str(path), "--lot", f"K{file.kind}"])
+            out.flush()
+        return out.buffer.getvalue().decode("utf-8", "replace").rstrip("\n").split("\n"), status
+
+    def check(self, file):
+        """It says what the program reads. If the tender would be lost, it gives a reason, for a line that exists."""
+        (told, *more), status = self.run(file)
+        words, digest = self.reader.read(file.kind, file.data)
+        is_priced = words.startswith("priced")
+        assert (said(told), status) == (words, 0 if is_priced else 1)
+        if is_priced:
+            assert more[-1].endswith(digest)
+            return
+        places = [int(it) for line in more for group in re.findall(r"^  lines? ([\d, ]+)", line) for it in re.findall(r"\d+", group)]
+        most = len(re.findall(rb"\r\n|\n|\r", file.data)) + 2
+        assert places and all(1 <= it <= most for it in places), more
+
+
+@pytest.fixture(scope="module")
+def trial(program, tmp_path_factory):
+    return Trial(program, tmp_path_factory.mktemp("tenders"))
+
+
+@pytest.fixture(scope="module", params=[500, pytest.param(5000, marks=[pytest.mark.long, pytest.mark.budget(600)])])
+def files(request):
+    """All forms, the files at the bounds, and so many that are made."""
+    return [*tenders.known(), *tenders.samples(tenders.FILES, request.param)]
+
+
+@pytest.mark.parametrize("name", FORMS)
+def test_form(trial, name):
+    for data in FORMS[name]:
+        trial.check(Case(name, 0, data))
+
+
+def test_bounds(trial):
+    for file in tenders.at_bounds():
+        trial.check(file)
+
+
+@settings(max_examples=500, deadline=None)
+@given(file=tenders.FILES)
+def test_made_file(trial, file):
+    trial.check(file)
+
+
+def test_all_files(trial, files):
+    """Each outcome comes often."""
+    for file in files:
+        trial.check(file)
+    counts = collections.Counter(trial.reader.words(file.kind, file.data).split(" ")[0] for file in files)
+    assert all(counts[kind] >= 20 for kind in ("priced", "unreadable", "nonconforming")) and counts["not"] >= 3, counts
+
+
+def words_by(tool, file):
+    """The reading of a file by a tool, in the words of the minutes."""
+    reading = tool.reading_of(file.data, [tool.Item(item, quantity, "x") for item, quantity in KINDS[file.kind]])
+    return f"priced {reading.stated} {reading.price} {reading.corrections}" if reading.kind == "priced" else reading.kind
+
+
+@pytest.mark.parametrize("old, new", CHANGED.values(), ids=CHANGED)
+def test_changed_rule(trial, files, old, new):
+    """A file shows the difference between the program and the tool with another rule."""
+    tool = tenders.tool((old, new))
+    assert any(words_by(tool, file) != trial.reader.words(file.kind, file.data) for file in files)
+
+
+# ---- The table of forms in docs/TENDERER-API.md.
+
+def table_of_forms():
+    """Its rows: the form, the spans of code that show it, and the word of the minutes."""
+    found = re.search(r"^\| The file has \|.*\n\|[-| ]+\|\n((?:\|.*\n)+)", Path(ROOT, "docs", "TENDERER-API.md").read_text(encoding="utf-8"), re.M)
+    rows = [[cell.strip() for cell in line.strip("|").split("|")] for line in found[1].splitlines()]
+    return [(row[0], re.findall(r"`([^`]+)`", row[1]), row[2].strip("`")) for row in rows]
+
+
+def is_right(rows, reader):
+    """Whether the rows are the forms that are tried here, with lines of them and the program's reading."""
+    if [name for name, _, _ in rows] != list(FORMS):
+        return False
+    there = {name: re.split(r"[\r\n]+", "\n".join(data.decode("utf-8", "replace") for data in files)) for name, files in FORMS.items()}
+    return all({reader.words(0, data) for data in FORMS[name]} == {outcome} and {*spans} <= {*there[name]} for name, spans, outcome in rows)
+
+
+def test_table_of_forms(trial):
+    assert is_right(table_of_forms(), trial.reader)
+
+
+@pytest.mark.parametrize("change", [
+    lambda name, spans, outcome, *more: [(name, spans, "unreadable"), *more],
+    lambda name, spans, outcome, *more: [(name, ["I1,3,150,451"], outcome), *more],
+    lambda name, spans, outcome, *more: [*more],
+    lambda name, spans, outcome, *more: [(name, spans, outcome), *more, ("a stone", [], outcome)],
+], ids=["another_outcome", "another_line", "a_row_less", "a_row_more"])
+def test_wrong_table(trial, change):
+    first, *more = table_of_forms()
+    assert not is_right(change(*first, *more), trial.reader)
+
+
+# ---- The tool as a program: the file to fill in, wrong arguments, and items that don't exist.
+
+@pytest.mark.parametrize("words, status, part", [
+    ("record.json --lot K0", 0, f"{HEAD}\nI1,3,,\nI2,10,,\nTOTAL,,,\n"), ("record.json right.csv --lot K0", 0, "priced, 570 stated"),
+    ("record.json wrong.csv --lot K0", 1, "add the line TOTAL,,,570"), ("utf16.json right.csv --lot K0", 0, "priced, 570 stated"),
+    ("record.json right.csv", 2, "--lot K0 or --lot K1"), ("record.json right.csv --lot L1", 2, "has no lot L1"), ("refusal.json right.csv", 2, "NoSuch"),
+    ("front.json right.csv", 2, "wait a while"), ("none.json", 2, "isn't the record of a notice"), ("right.csv", 2, "isn't the record of a notice"),
+    ("record.json absent.csv --lot K0", 2, "No such file"), ("", 2, "usage"), ("--help", 0, "Exit status"),
+])
+def test_command_line(trial, words, status, part):
+    record = trial.items[0].read_text(encoding="utf-8")
+    given_files = {"utf16.json": record.encode("utf-16"), "refusal.json": b'{"name":"NoSuch","refusal":9,"what":"notice"}',
+                   "front.json": b'{"front":"wait a while"}', "none.json": b"{}", "right.csv": lines(*RIGHT), "wrong.csv": lines(*RIGHT[:3])}
+    for name, data in given_files.items():
+        (trial.folder / name).write_bytes(data)
+    done = subprocess.run([tenders.TOOL, *words.split()], cwd=trial.folder, capture_output=True, text=True)
+    assert done.returncode == status and part in done.stdout + done.stderr

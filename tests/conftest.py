@@ -1,0 +1,261 @@
+"""The parts that all tests share: fixtures, markers, groups and budgets. tests/README.md says how to write a test, and `tools/check --help` how they run.
+
+On a slower machine the budgets, the bounds by the clock and AHEAD grow by a measured factor.
+"""
+import math
+import os
+import shutil
+import signal
+import sys
+import threading
+from collections import Counter
+
+import pytest
+
+from office_kit import processor
+
+# (The workers of xdist and all scripts get these from here. office_kit.client reads AHEAD.)
+sys.dont_write_bytecode = True
+SLOW = float(os.environ.setdefault("SLOWNESS", f"{processor.slowness():.2f}"))
+os.environ.setdefault("AHEAD", str(math.ceil(4 * SLOW)))
+os.environ.setdefault("PYTEST_TIMEOUT", str(math.ceil(600 * SLOW)))
+os.environ.setdefault("PYTHONDONTWRITEBYTECODE", "1")
+
+from office_kit import client, needs  # noqa: E402
+from office_kit.common import NO_PROGRAM, PROGRAM, Missing  # noqa: E402
+from office_kit.desks.browser import Browser  # noqa: E402
+from office_kit.front.nginx import Front  # noqa: E402
+from office_kit.store import large_office as large  # noqa: E402
+from office_kit.store.served import Serving  # noqa: E402
+
+# Seconds of processor that the tests of a module may use, if it has no marker `budget`; how many times as much with --long; and seconds between two readings.
+USUAL, LONGER, BETWEEN = 60, 100, 0.5
+# The tools that a fixture needs, and the marker of its tests.
+OF_FIXTURES = {"front": ("nginx", "openssl"), "browser": ("chromium",)}
+MARKERS = {"front": "nginx", "browser": "browser"}
+
+
+def pytest_addoption(parser):
+    group = parser.getgroup("procure")
+    group.addoption("--long", action="store_true", help="also the long forms of tests, which take hours")
+    group.addoption("--second", action="store_true", help="this is a second try, of those that failed")
+    group.addoption("--pictures", metavar="FOLDER", help="leave pictures of the screens in this folder")
+
+
+# ---- What a test gets.
+
+@pytest.fixture(scope="session")
+def program():
+    """The program: $PROCURE, or build/procure."""
+    return shutil.which(PROGRAM) or pytest.fail(NO_PROGRAM.format(PROGRAM), pytrace=False)
+
+
+@pytest.fixture(scope="session")
+def plain_program(program):
+    """The program, for tests that refuse its memory, bound its addresses or run it in valgrind. One with AddressSanitizer bears none of it."""
+    with open(program, "rb") as file:
+        if b"__asan_init" in file.read():
+            pytest.skip(f"{program} has AddressSanitizer, and this needs one without")
+    return program
+
+
+@pytest.fixture
+def serving(program, tmp_path):
+    """Starts offices, each over a file, `serving(file)`, or over a new one, `serving()`. They end with the test."""
+    with Serving(program, str(tmp_path)) as start:
+        yield start
+
+
+@pytest.fixture
+def office(serving):
+    """An office over a new file, with its client."""
+    return serving()
+
+
+@pytest.fixture
+def front(office, tmp_path_factory):
+    """nginx by deploy/nginx.conf before the office."""
+    with Front(str(tmp_path_factory.mktemp("front")), office.port) as started:
+        yield started
+
+
+@pytest.fixture(scope="module")
+def browser(request, tmp_path_factory):
+    """Chromium without a window, one for the tests of a module."""
+    with Browser(shutil.which("chromium"), str(tmp_path_factory.mktemp("browser")), bool(request.config.getoption("pictures"))) as started:
+        yield started
+
+
+@pytest.fixture(scope="session")
+def ahead():
+    """Seconds to the deadlines for which tests wait."""
+    return client.AHEAD
+
+
+@pytest.fixture
+def large_office(tmp_path):
+    """A copy of the file of a large office, `large_office("lines", 100_000)`; the file itself is made once, and kept under build/large."""
+    return lambda kind, many: shutil.copy(large.file_of(kind, many), tmp_path / "large.db")
+
+
+@pytest.fixture(scope="session")
+def is_long(request):
+    """Whether the long forms of tests run: `tools/soak`."""
+    return request.config.getoption("long")
+
+
+@pytest.fixture(scope="session")
+def pictures(request):
+    """The folder for pictures of screens, or None."""
+    return request.config.getoption("pictures")
+
+
+# ---- What isn't run.
+
+def pytest_runtest_setup(item):
+    tools = [tool for mark in item.iter_markers("needs") for tool in mark.args]
+    missing = [told for tool in tools if (told := needs.lacking(tool))]
+    if missing:
+        pytest.skip("; ".join(missing))
+
+
+@pytest.hookimpl(hookwrapper=True)
+def pytest_runtest_makereport(item, call):
+    """A test that ends by `need` isn't run."""
+    report = (yield).get_result()
+    if call.excinfo and call.excinfo.errisinstance(Missing):
+        report.outcome, report.longrepr = "skipped", (str(item.path), 0, f"Skipped: {call.excinfo.value.told}")
+
+
+@pytest.hookimpl(tryfirst=True)
+def pytest_collection_modifyitems(config, items):
+    """Gives tests the markers of their fixtures, and those of a module one group: they run one after another. The groups with the largest budgets begin."""
+    if not config.getoption("long"):
+        config.hook.pytest_deselected(items=[item for item in items if item.get_closest_marker("long")])
+        items[:] = [item for item in items if not item.get_closest_marker("long")]
+    budgets = {}
+    for item in items:
+        for name in OF_FIXTURES.keys() & {*item.fixturenames}:
+            item.add_marker(pytest.mark.needs(*OF_FIXTURES[name]))
+            item.add_marker(MARKERS[name])
+        if not item.get_closest_marker("xdist_group"):
+            item.add_marker(pytest.mark.xdist_group(module_of(item)))
+        budgets.setdefault(group_of(item), {}).update([budget_of(item)])
+    items.sort(key=lambda item: (-sum(budgets[group_of(item)].values()), group_of(item)))
+
+
+# ---- Budgets.
+
+def module_of(item):
+    return item.nodeid.partition("::")[0]
+
+
+def group_of(item):
+    return item.get_closest_marker("xdist_group").args[0]
+
+
+def budget_of(item):
+    """The owner of a budget, which is the test alone or its module, and the seconds of processor that it may use: more in long forms."""
+    mark = item.get_closest_marker("budget")
+    is_own = any(it.name == "budget" for it in item.own_markers)
+    return item.nodeid if is_own else module_of(item), (mark.args[0] if mark else USUAL) * SLOW * (LONGER if item.config.getoption("long") else 1)
+
+
+class Watch:
+    """Watches the processor use of this process and of all below it, and ends a test that uses more than its budget leaves."""
+
+    def __init__(self):
+        self.used, self.begun, self.until, self.was_ended = Counter(), 0.0, math.inf, False
+        self.never = threading.Event()
+        processor.adopt_orphans()
+        signal.signal(signal.SIGUSR1, self.interrupt)
+        threading.Thread(target=self.run, daemon=True).start()
+
+    def run(self):
+        while not self.never.wait(BETWEEN):
+            if self.until < math.inf and processor.used_by(os.getpid()) > self.until:
+                self.until = math.inf
+                signal.pthread_kill(threading.main_thread().ident, signal.SIGUSR1)
+
+    def interrupt(self, *_):
+        self.was_ended = True
+        pytest.fail("it was ended: it used more seconds of processor than its budget", pytrace=False)
+
+    def begin(self, item):
+        what, budget = budget_of(item)
+        self.begun, self.was_ended = processor.used_by(os.getpid()), False
+        self.until = self.begun + budget - self.used[what]
+
+    def end(self, item):
+        """The seconds that a test used. Too many for the budget are a failure."""
+        what, budget = budget_of(item)
+        self.until, used = math.inf, processor.used_by(os.getpid()) - self.begun
+        self.used[what] += used
+        item.user_properties.append(("processor", used))
+        if self.used[what] > budget and not self.was_ended:
+            pytest.fail(f"{what} used {self.used[what]:.0f} seconds of processor, and may use {budget:.0f}", pytrace=False)
+
+
+def runs_tests(config):
+    """Whether this process runs tests itself: a worker of xdist, or pytest alone."""
+    return hasattr(config, "workerinput") or config.getoption("dist", "no") == "no"
+
+
+def pytest_configure(config):
+    config.watch = Watch() if runs_tests(config) else None
+
+
+@pytest.hookimpl(hookwrapper=True, tryfirst=True)
+def pytest_runtest_protocol(item):
+    item.config.watch.begin(item)
+    yield
+
+
+@pytest.hookimpl(hookwrapper=True, tryfirst=True)
+def pytest_runtest_teardown(item):
+    yield
+    item.config.watch.end(item)
+
+
+@pytest.hookimpl(trylast=True)
+def pytest_sessionfinish(session, exitstatus):
+    """Ends everything that tests left running. In the long form the status is 3 if none failed and one wasn't run."""
+    if session.config.watch:
+        processor.end_below(os.getpid())
+    reporter = session.config.pluginmanager.get_plugin("terminalreporter")
+    if session.config.getoption("long") and reporter and exitstatus == 0 and reporter.stats.get("skipped"):
+        session.exitstatus = 3
+
+
+# ---- What is told.
+
+@pytest.hookimpl(tryfirst=True)
+def pytest_runtest_logreport(report):
+    """(xdist puts the group after the name of a test. In the process that gets the reports of its workers, `--last-failed` needs the name alone.)"""
+    if hasattr(report, "node"):
+        report.nodeid = report.nodeid.rpartition("@")[0]
+
+
+def of_modules(reports):
+    """The modules of tests, each with its seconds of processor and by the clock."""
+    used, seconds = Counter(), Counter()
+    for report in reports:
+        name = report.nodeid if "test_scripts" in report.nodeid else report.nodeid.partition("::")[0]
+        seconds[name] += report.duration
+        used[name] += dict(report.user_properties).get("processor", 0) if report.when == "teardown" else 0
+    return {name: (used[name], seconds[name]) for name in sorted(seconds)}
+
+
+def pytest_terminal_summary(terminalreporter, config):
+    """Prints the use of each module, and at the end the counts. A second try adds to those of the first."""
+    stats = terminalreporter.stats
+    uses = of_modules([it for found in stats.values() for it in found if isinstance(it, pytest.TestReport)])
+    for name, (used, seconds) in uses.items():
+        terminalreporter.write_line(f"{name:<60}{used:>7.1f} s of processor, in {seconds:>6.1f} s")
+    passed, failed, skipped = (len(stats.get(word, ())) for word in ("passed", "failed", "skipped"))
+    failed += len(stats.get("error", ()))
+    before = config.cache.get("check/counts", [0, 0]) if config.getoption("second") else [0, 0]
+    config.cache.set("check/counts", [before[0] + passed, before[1] + skipped])
+    late = f"; {passed} of them passed at a second try" if config.getoption("second") and passed else ""
+    used = sum(used for used, _ in uses.values())
+    terminalreporter.write_line(f"{before[0] + passed} passed, {failed} failed, {before[1] + skipped} not run, by {used:.0f} s of processor{late}")

@@ -1,0 +1,309 @@
+"""`make release`: the archive and the Debian package of the program, and what they have of documents, tools and units. Planted faults are found.
+
+A program that isn't proved is packed as such.
+"""
+import gzip
+import os
+import re
+import shutil
+import subprocess
+import sys
+from pathlib import Path
+
+import pytest
+
+from office_kit.common import ROOT
+from office_kit.docs import documents
+from office_kit.docs.releases import logic_of, newest_entry
+
+pytestmark = [pytest.mark.budget(180), pytest.mark.needs("dh", "dpkg-deb", "lintian", "mandoc", "readelf")]
+SOURCES = ("tools", "office_kit", "debian", "docs", "deploy", "web", "README.md", "CHANGELOG.md", "crates.txt")
+# Documents that a release makes of the sources of the crates.
+LISTED = {"docs/CALLS.md", "docs/INDEX.md"}
+# A line of a script that starts a service, or has it started.
+STARTS = re.compile(r"(?m)^[^#]*\b(systemctl|invoke-rc\.d|service)\b.*\b(start|restart|enable)\b")
+# Lines that a link in a package's document may have, with a link of which each but the last leads to nothing.
+LINKS = ("crates/office_machine/README.md", "../../../../../bin/sh", "/etc/procure/nginx.com", "docs/a.md#a", "../../../../etc/procure/nginx.conf")
+
+
+def run(*words, **how):
+    return subprocess.run(words, capture_output=True, text=True, **how)
+
+
+class Made:
+    """The archive and the package of a program, unpacked: `top`, and `tree` with the control files in `told`."""
+
+    def __init__(self, program, folder, root=ROOT):
+        self.to = folder / "made"
+        flags = [] if logic_of(program) else ["--unproved"]
+        self.ran = run(f"{root}/tools/release", "--to", self.to, *flags, env={**os.environ, "PROCURE": program, "SOURCE_DATE_EPOCH": "1700000000"})
+        if self.ran.returncode == 0:
+            self.version = re.search(r", version (\S+)\n", self.ran.stdout)[1]
+            self.top, self.tree, self.told = folder / f"procure-{self.version}", folder / "tree", folder / "told"
+            self.package = self.to / f"procure_{self.version}_amd64.deb"
+            run("tar", "-xzf", self.to / f"procure-{self.version}.tar.gz", "-C", folder, check=True)
+            run("dpkg-deb", "-x", self.package, self.tree, check=True)
+            run("dpkg-deb", "-e", self.package, self.told, check=True)
+
+    def copy(self, folder):
+        """A copy, into which faults can be planted."""
+        copy = Made.__new__(Made)
+        copy.top, copy.tree, copy.told = (shutil.copytree(it, folder / it.name, symlinks=True) for it in (self.top, self.tree, self.told))
+        return copy
+
+
+def files_in(folder):
+    return {os.path.relpath(f"{at}/{name}", folder) for at, _, names in os.walk(folder) for name in names}
+
+
+@pytest.fixture(scope="module")
+def made(program, tmp_path_factory):
+    made = Made(program, tmp_path_factory.mktemp("release"))
+    assert made.ran.returncode == 0, made.ran
+    return made
+
+
+@pytest.fixture
+def copy(tmp_path):
+    """A copy of the sources of a release."""
+    for name in SOURCES:
+        (shutil.copytree if os.path.isdir(f"{ROOT}/{name}") else shutil.copy)(f"{ROOT}/{name}", tmp_path / name)
+    (tmp_path / "crates").symlink_to(f"{ROOT}/crates")
+    return tmp_path
+
+
+def stand_in(folder, text):
+    """A shell script as a program."""
+    path = folder / "procure"
+    path.write_text(f"#!/bin/sh\n{text}\n")
+    path.chmod(0o755)
+    return str(path)
+
+
+# ---- The version.
+
+def wrong_versions(program):
+    """The faults in the way that it prints its version."""
+    answers = {word: run(program, word) for word in ("--version", "-V")}
+    return [word for word, it in answers.items() if (it.returncode, it.stdout, it.stderr) != (2, "", f"procure {newest_entry()}\n")]
+
+
+def test_version(program):
+    assert wrong_versions(program) == []
+    asked = run(program, "--help")
+    assert asked.returncode == 2 and not asked.stdout and "Print version" in asked.stderr
+
+
+@pytest.mark.parametrize("planted", [f"echo procure {newest_entry()}; exit 2", f"echo procure {newest_entry()} >&2", "echo procure 9.9.9 >&2; exit 2"],
+                         ids=["on_standard_output", "status_0", "another_version"])
+def test_wrong_version(tmp_path, planted):
+    program = stand_in(tmp_path, planted)
+    assert len(wrong_versions(program)) == 2
+    made = Made(program, tmp_path)
+    assert made.ran.returncode == 1 and not made.to.exists()
+
+
+@pytest.mark.parametrize("program, said", [("/absent/procure", "there is no proved program"), (None, "isn't proved")], ids=["none", "unproved"])
+def test_refused(tmp_path, program, said):
+    given = program or stand_in(tmp_path, "echo procure 0.0.0 >&2; exit 2")
+    told = run(f"{ROOT}/tools/release", "--to", tmp_path / "made", env={**os.environ, "PROCURE": given})
+    assert told.returncode == 1 and said in told.stderr and not (tmp_path / "made").exists()
+
+
+def test_another_version_of_the_list_of_changes(program, copy):
+    changes = copy / "CHANGELOG.md"
+    changes.write_text(changes.read_text(encoding="utf-8").replace("\n## ", "\n## 99.0.0\n\n- Nothing.\n\n## ", 1), encoding="utf-8")
+    made = Made(program, copy / "out", copy)
+    assert made.ran.returncode == 1 and "99.0.0" in made.ran.stderr
+
+
+# ---- The archive.
+
+def wrong_sums(top):
+    """The output of `sha256sum` for the files of the archive, and the files that its list doesn't have."""
+    named = {line.split("  ", 1)[1] for line in (top / "SHA256SUMS").read_text().splitlines()}
+    return run("sha256sum", "--check", "--quiet", "--strict", "SHA256SUMS", cwd=top).stdout.splitlines() + sorted(files_in(top) - named - {"SHA256SUMS"})
+
+
+def test_archive(made, program, tmp_path):
+    sources = {f"{kind}/{name}" for kind in ("deploy", "web", "docs") for name in files_in(f"{ROOT}/{kind}")}
+    assert sources | LISTED | {"procure", "procure.1", "README.md", "CHANGELOG.md", "SHA256SUMS"} <= files_in(made.top)
+    assert (made.top / "procure").read_bytes() == Path(program).read_bytes()
+    assert wrong_sums(made.top) == []
+    top = made.copy(tmp_path).top
+    (top / "web" / "index.html").write_bytes((top / "web" / "index.html").read_bytes().replace(b"e", b"f", 1))
+    assert wrong_sums(top) == ["web/index.html: FAILED"]
+
+
+@pytest.mark.parametrize("tool", ["audit", "mirror", "check_tender"])
+def test_tool(made, tool):
+    """It runs in the unpacked archive, from elsewhere."""
+    told = run(sys.executable, "-Es", made.top / "tools" / tool, "--help", cwd="/")
+    assert told.returncode == 0 and "Traceback" not in told.stderr
+
+
+# ---- Manual pages.
+
+def wrong_manual(text):
+    """The findings of mandoc in a manual page."""
+    return run("mandoc", "-Tlint", input=text).stdout
+
+
+def pages_in(tree):
+    """The manual pages, by the names of their commands."""
+    return {path.name[:-len(".1.gz")]: gzip.decompress(path.read_bytes()).decode() for path in tree.glob("usr/share/man/*/*")}
+
+
+def commands_of(tree):
+    return files_in(tree / "usr/bin") | files_in(tree / "usr/sbin")
+
+
+def test_manual(made, program):
+    page, pages = (made.top / "procure.1").read_text(), pages_in(made.tree)
+    # (both say what names the file and the cause of a fault)
+    assert "procure-check" in page and "procure-check" in run(program, "--help").stderr
+    assert wrong_manual(page) == ""
+    assert f"{made.version}." in page and "@" not in page and pages["procure"] == page
+    assert "unknown macro" in wrong_manual(page.replace(".Sh FILES", ".Sx FILES\n.Zz a", 1))
+    for name, text in pages.items():
+        assert wrong_manual(text) == "" and f".Nm {name}\n" in text and len(text) > 1000
+    assert commands_of(made.tree) == pages.keys()
+
+
+# ---- The package.
+
+def wrong_units(made):
+    """Commands of units that the package doesn't have, and its scripts that can't be read or start something."""
+    for unit in sorted((made.tree / "lib/systemd/system").glob("*.*")):
+        text = unit.read_text() if unit.is_file() else ""
+        absent = [path for path in re.findall(r"(?m)^Exec\w+=[-+!@:]*(/\S*procure\S*)", text) if not os.access(f"{made.tree}{path}", os.X_OK)]
+        yield from (unit.name for _ in range(bool(absent) + ("/usr/local" in text)))
+    for script in ("postinst", "prerm", "postrm"):
+        if run("sh", "-n", made.told / script).returncode or STARTS.search((made.told / script).read_text()):
+            yield script
+
+
+def test_units(made, tmp_path):
+    assert list(wrong_units(made)) == []
+    planted = made.copy(tmp_path)
+    (planted.tree / "usr/bin/procure").unlink()
+    with open(planted.told / "postinst", "a") as file:
+        file.write("systemctl enable --now procure\n")
+    assert set(wrong_units(planted)) == {"procure.service", "postinst"}
+
+
+def test_control(made, program):
+    told, is_proved = (made.told / "control").read_text(), bool(logic_of(program))
+    assert f"\nVersion: {made.version}\n" in told and not re.search(r"@[A-Z]+@|\$\{", told)
+    assert {"python3 (>= 3.11)", "sqlite3"} <= {*re.search(r"(?m)^Depends: (.*)$", told)[1].split(", ")}
+    assert (": public procurement office, proved" in told) == is_proved and ("UNPROVED" in told) != is_proved
+    assert logic_of(program)[:16] in told
+
+
+def but_targets(path):
+    """The bytes of a file; of a document without the targets of its links, which lead to other places in a package than in an archive."""
+    return re.sub(rb"\]\([^()\s]+\)", b"]", path.read_bytes()) if path.suffix == ".md" else path.read_bytes()
+
+
+def test_package_has_the_archive(made):
+    have = {but_targets(made.tree / path) for path in files_in(made.tree)}
+    alike = [path for path in files_in(made.top) if path.startswith(("web/", "docs/")) or path in ("README.md", "CHANGELOG.md", "procure")]
+    assert [path for path in alike if but_targets(made.top / path) not in have] == []
+
+
+def test_settings_of_the_package(made, program):
+    kept = {*(made.told / "conffiles").read_text().split()}
+    assert "/etc/procure/nginx.conf" in kept and kept == {f"/etc/{path}" for path in files_in(made.tree / "etc")}
+    shared, units = made.tree / "usr/share/procure", made.tree / "lib/systemd/system"
+    assert all((shared / it).exists() for it in ("web/index.html", "web/tender/main.js", "openapi.yaml"))
+    assert "\nAssertPathExists=/etc/procure/office.toml\n" in (units / "procure.service").read_text()
+    assert (units / "procure.service.d/unproved.conf").exists() != bool(logic_of(program)), "only an unproved program has no bound of addresses"
+
+
+def said_of(package):
+    """The output of lintian about a package."""
+    told = run("lintian", "--allow-root", "--tag-display-limit", "0", package)
+    return told.stdout + "".join(line for line in told.stderr.splitlines(True) if "root privileges" not in line)
+
+
+def test_lintian(made):
+    assert said_of(made.package) == ""
+
+
+def test_lintian_finds_symbols(made, program, tmp_path):
+    """Without the words about them."""
+    planted = made.copy(tmp_path)
+    planted.told.rename(planted.tree / "DEBIAN")
+    (planted.tree / "usr/share/lintian/overrides/procure").unlink()
+    run("dpkg-deb", "--root-owner-group", "--build", planted.tree, tmp_path / "procure_1_amd64.deb", check=True)
+    is_whole = re.search(r"\.symtab\b", run("readelf", "-S", "--wide", program).stdout)
+    assert ("unstripped-binary-or-object" in said_of(tmp_path / "procure_1_amd64.deb")) == bool(is_whole)
+
+
+@pytest.mark.parametrize("is_right", [True, False], ids=["as_it_is", "without_rm"])
+def test_purge(made, tmp_path, is_right):
+    """Of links to the front's settings, to another missing file and to a file, only the first go."""
+    for name in ("conf.d", "sites-enabled"):
+        (tmp_path / "etc/nginx" / name).mkdir(parents=True)
+    (tmp_path / "file").touch()
+    front = tmp_path / "absent/nginx.conf"
+    for name, target in (("procure.conf", front), ("other.conf", tmp_path / "absent/other.conf"), ("file.conf", tmp_path / "file")):
+        (tmp_path / "etc/nginx/conf.d" / name).symlink_to(target)
+    (tmp_path / "etc/nginx/sites-enabled/procure").symlink_to(front)
+    text = (made.told / "postrm").read_text()
+    for old, new in (("/etc/nginx/", f"{tmp_path}/etc/nginx/"), ("/etc/procure/nginx.conf", str(front)), ("/run/systemd/system", f"{tmp_path}/absent")):
+        text = text.replace(old, new)
+    told = run("sh", "-c", text if is_right else text.replace('rm "$link"', "true"), "sh", "purge")
+    assert told.returncode == 0 and "stay" in told.stdout
+    left = {os.path.basename(name) for name in files_in(tmp_path / "etc/nginx")}
+    assert left == {"other.conf", "file.conf", *(() if is_right else ("procure.conf", "procure"))}
+
+
+# ---- Links.
+
+def wrong_links(top):
+    """The links of the documents below a folder that lead to no file below it."""
+    for path in sorted(it for it in files_in(top) if it.endswith(".md")):
+        for line, target in documents.links_of(f"{top}/{path}"):
+            place = target.partition("#")[0]
+            to = os.path.normpath(f"{top}{place}" if place.startswith("/") else f"{top}/{os.path.dirname(path)}/{place}")
+            if place and not (to.startswith(f"{top}/") and os.path.exists(to)):
+                yield f"{path}:{line}: {target}"
+
+
+def wrong_places(tree):
+    """The places that README.Debian names and that aren't in the package."""
+    said = (tree / "usr/share/doc/procure/README.Debian").read_text()
+    assert "/usr/sbin/" in said
+    return [place for place in re.findall(r"(?m) (/\S+)$", said) if not os.path.exists(f"{tree}{place}")]
+
+
+def test_links(made):
+    assert [*wrong_links(made.top), *wrong_links(made.tree), *wrong_places(made.tree)] == []
+
+
+def test_planted_links(made, tmp_path):
+    at = (tree := made.copy(tmp_path).tree) / "usr/share/doc/procure"
+    (at / "README.md").write_text("".join(f"[x]({target})\n" for target in LINKS))
+    wrong = [f"usr/share/doc/procure/README.md:{line}: {target}" for line, target in enumerate(LINKS[:-1], 1)]
+    assert list(wrong_links(tree)) == wrong
+    (at / "docs/STYLE.md").unlink()
+    found = [it for it in wrong_links(tree) if it not in wrong]
+    assert found and all("STYLE.md" in it for it in found)
+    (at / "README.Debian").write_text((at / "README.Debian").read_text().replace("procure-check", "procure-looks"))
+    assert wrong_places(tree) == ["/usr/sbin/procure-looks"]
+
+
+def test_links_as_in_the_checkout(program, copy):
+    """They lead to nothing in a release."""
+    path = copy / "office_kit/docs/releases.py"
+    path.write_text(path.read_text().replace("    return LINK.sub(put, text)\n", "    return text\n"))
+    (copy / "out").mkdir()
+    made = Made(program, copy / "out", copy)
+    assert any("../crates/" in it for top in (made.top, made.tree) for it in wrong_links(top))
+
+
+def test_two_releases_are_alike(made, program, tmp_path):
+    again, names = Made(program, tmp_path), sorted(os.listdir(made.to))
+    assert len(names) == 3 and names == sorted(os.listdir(again.to))
+    assert all((made.to / name).read_bytes() == (again.to / name).read_bytes() for name in names)

@@ -1,0 +1,170 @@
+"""`tools/check` over planted tests: it reports those that fail once or twice, need a missing tool, never end, or use too much of the processor, in themselves
+or in processes that they start. It ends these processes.
+"""
+import os
+import shutil
+import subprocess
+import time
+import xml.etree.ElementTree
+from pathlib import Path
+
+import pytest
+
+from office_kit.common import ROOT
+
+pytestmark = pytest.mark.budget(120)
+PLANTED = r"""
+import os
+import subprocess
+
+import pytest
+
+from office_kit.common import need
+
+BURN = "i=0; while [ $i -lt 100000000 ]; do i=$((i+1)); done"
+OVER, ENDS = pytest.mark.budget(1), pytest.mark.timeout(3)
+
+
+@pytest.fixture
+def sh(request):
+    name = request.node.name
+    return lambda script: subprocess.run(["sh", "-c", f"echo $$ > {name}.pid; {script}".replace("NAME", name)], check=True)
+
+
+def test_passes(sh):
+    sh("echo all is well")
+
+
+@OVER
+def test_waits(sh):
+    sh("sleep 2")
+
+
+def test_fails(sh):
+    sh("exit 7")
+
+
+def test_exits():
+    raise SystemExit("no more of it")
+
+
+@pytest.mark.needs("nothing-of-this-name")
+def test_lacks(sh):
+    sh("exit 1")
+
+
+def test_lacks_within():
+    need("nothing-of-that-name", "nothing")
+
+
+@OVER
+def test_burns(sh):
+    sh(BURN)
+
+
+@OVER
+def test_lets_burn(sh):
+    sh(f"sh -c '{BURN}' & wait")
+
+
+@OVER
+def test_burns_apart(sh):
+    sh(f"setsid sh -c '{BURN}' & echo $! > NAME.pid; wait")
+
+
+@OVER
+def test_leaves_a_process(sh):
+    sh(f"setsid sh -c '{BURN}' & echo $! > NAME.pid")
+
+
+def test_burns_less(sh):
+    sh("i=0; while [ $i -lt 100000 ]; do i=$((i+1)); done")
+
+
+@ENDS
+def test_hangs(sh):
+    sh("sleep 600")
+
+
+def test_fails_once(sh):
+    sh("[ -e NAME.once ] || { touch NAME.once; exit 1; }")
+"""
+OVER = "it used more seconds of processor than its budget"
+# How each ends at the first try, and a part of the words about it.
+ENDS = {"passes": ("passed", ""), "waits": ("passed", ""), "fails": ("failure", "exit status 7"), "exits": ("failure", "no more of it"),
+        "lacks": ("skipped", "missing: nothing-of-this-name"), "lacks_within": ("skipped", "missing: nothing-of-that-name. Get it: apt-get install nothing"),
+        "burns": ("failure", OVER), "lets_burn": ("failure", OVER), "burns_apart": ("failure", OVER), "leaves_a_process": ("passed", ""),
+        "burns_less": ("passed", ""), "hangs": ("failure", "Timeout >3.0s"), "fails_once": ("failure", "exit status 1")}
+
+
+def lay(folder):
+    """A checkout that has the planted tests alone."""
+    for name in ("tools", "tests"):
+        (folder / name).mkdir()
+    for name in ("tools/check", "tests/conftest.py", "pyproject.toml"):
+        shutil.copy(Path(ROOT, name), folder / name)
+    shutil.copytree(Path(ROOT, "office_kit"), folder / "office_kit", ignore=shutil.ignore_patterns("__pycache__"))
+    (folder / "tests" / "test_planted.py").write_text(PLANTED)
+
+
+def check(folder, *words, program="/bin/true"):
+    """The status of tools/check there, and its output."""
+    own = {name: value for name, value in os.environ.items() if not name.startswith("PYTEST_")}
+    run = subprocess.run(["tools/check", *words], cwd=folder, env={**own, "PROCURE": program, "SLOWNESS": "1"}, stdout=subprocess.PIPE,
+                         stderr=subprocess.STDOUT, text=True)
+    return run.returncode, run.stdout
+
+
+@pytest.fixture(scope="module")
+def checked(tmp_path_factory):
+    """A folder, the status and the output of tools/check over all planted tests, and the results of the first try."""
+    lay(folder := tmp_path_factory.mktemp("check"))
+    status, said = check(folder, "--jobs", "2")
+    cases = xml.etree.ElementTree.parse(folder / "build" / "check.xml").iter("testcase")
+    return folder, status, said, {case.get("name").removeprefix("test_").partition("@")[0]: case for case in cases}
+
+
+@pytest.mark.parametrize("name", ENDS)
+def test_result(checked, name):
+    kind, words = ENDS[name]
+    found = [(it.tag, it.get("message") + (it.text or "")) for it in checked[3][name] if it.tag in ("failure", "error", "skipped")]
+    assert [tag for tag, _ in found] == ([] if kind == "passed" else [kind])
+    assert all(words in said for _, said in found)
+
+
+def test_counts(checked):
+    _, status, said, _ = checked
+    assert status == 1
+    assert "\n4 passed, 7 failed, 2 not run, by " in said and "\n5 passed, 6 failed, 2 not run, by " in said
+    assert "; 1 of them passed at a second try\n" in said
+
+
+def runs(pid):
+    """Whether a process still runs a while after it was killed. One that has ended may remain in the list of processes until it is waited for."""
+    for _ in range(50):
+        try:
+            if Path(f"/proc/{pid}/stat").read_text().rpartition(")")[2].split()[0] == "Z":
+                return False
+        except OSError:
+            return False
+        time.sleep(0.1)
+    return True
+
+
+def test_nothing_runs_on(checked):
+    found = [path.name for path in checked[0].glob("*.pid") if runs(path.read_text().strip())]
+    assert found == [] and len(list(checked[0].glob("*.pid"))) >= 10
+
+
+@pytest.mark.parametrize("status, words, program", [
+    (0, ["passes", "waits"], "/bin/true"),
+    (1, ["fails"], "/bin/true"),
+    (2, ["nothing_like_it"], "/bin/true"),
+    (2, ["--what"], "/bin/true"),
+    (2, ["passes"], "/nowhere/procure"),
+    (0, ["--help"], "/nowhere/procure"),
+], ids=["passed", "failed", "no_such_test", "no_such_option", "no_program", "help"])
+def test_status(tmp_path, status, words, program):
+    lay(tmp_path)
+    got, said = check(tmp_path, *words, program=program)
+    assert got == status, said

@@ -1,0 +1,59 @@
+"""The programs that aren't crates of the repository, *.rt.in, compile: otherwise a renamed item in a crate would break them unnoticed. Nothing is proved.
+
+Each is put beside the crates that it uses, as its own script does it. Then `rt try` compiles it and runs it for a second. It compiled if the run begins. One
+with a name changed must not compile.
+"""
+import os
+import shutil
+import subprocess
+from pathlib import Path
+
+import pytest
+
+from office_kit.common import ROOT
+from office_kit.gate.crates import crates_of
+
+RT = os.environ.get("RT", "rt")
+pytestmark = [pytest.mark.budget(300), pytest.mark.proofs, pytest.mark.xdist_group("machine"), pytest.mark.needs(RT)]
+MERGE = "ocds_merge serde_json anyhow"
+# Each program: its files, each with its name in src/, and the crates that it uses.
+TEMPLATES = {
+    "ledger": ({"bench/ledger/ratios.rt.in": "main.rt"}, "office_memory office_base office_commands office_values anyhow"),
+    "merge": ({"bench/merge/ratios.rt.in": "main.rt"}, MERGE),
+    "instructions": ({"bench/merge/instructions.rt.in": "main.rt"}, MERGE),
+    "differences": ({"tests/merge_differences.rt.in": "main.rt"}, MERGE),
+    "refused": ({"tests/merge_refused.rt.in": "main.rt"}, MERGE),
+    "first_run": ({"tools/first_run/main.rt.in": "main.rt", "tools/first_run/office.rt.in": "office.rt"},
+                  "office_memory office_desk office_http office_values office_wire"),
+}
+
+
+def lay_out(folder, name, old, new):
+    """The crate of a program, beside those that it uses."""
+    files, uses = TEMPLATES[name]
+    below = crates_of(ROOT)
+    own = [it for it in uses.split() if it in below]
+    wanted = set(own).union(*(below[it] for it in own))
+    (home := folder / "crates" / "program").joinpath("src").mkdir(parents=True)
+    for crate in wanted:
+        shutil.copytree(os.path.join(ROOT, "crates", crate), folder / "crates" / crate, ignore=shutil.ignore_patterns("out", "must-fail", "BUILD.bazel"))
+    for file, place in files.items():
+        (home / "src" / place).write_text(Path(ROOT, file).read_text(encoding="utf-8").replace(old, new), encoding="utf-8")
+    lines = [line for line in Path(ROOT, "crates.txt").read_text(encoding="utf-8").splitlines(True) if line.partition(":")[0].strip() in wanted]
+    (folder / "crates.txt").write_text("".join([*lines, f"program: {uses}\n"]), encoding="utf-8")
+    shutil.copy(os.path.join(ROOT, "HANDLES"), folder)
+    return home
+
+
+@pytest.mark.parametrize("name, old, new, compiles", [
+    ("first_run", "", "", True),
+    *(pytest.param(name, "", "", True, marks=pytest.mark.long) for name in TEMPLATES if name != "first_run"),
+    ("refused", "merge_into(", "merge_unto(", False),
+], ids=lambda it: it if it in TEMPLATES else None)
+def test_program(tmp_path, name, old, new, compiles):
+    home = lay_out(tmp_path, name, old, new)
+    with open(os.path.join(ROOT, "crates", "procure", "stdin"), "rb") as source:
+        ran = subprocess.run([RT, "try", "--steps", "1000", "--seconds", "1"], cwd=home, stdin=source, stdout=subprocess.PIPE, stderr=subprocess.STDOUT,
+                             text=True, errors="replace")
+    last = ran.stdout.rstrip().rpartition("\n")[2]
+    assert ("proved=no" in last and "run=none" not in last) == compiles, ran.stdout

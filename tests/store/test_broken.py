@@ -1,0 +1,191 @@
+"""Over an office's file in which rows are missing or changed, no command that needs them is accepted, and no budget line is shown that doesn't add up.
+
+The program makes an office with a notice in each state. In a copy of its file SQLite deletes a row or changes a sum; office_kit/store/broken_trials.py has
+the changes for commands. A command is refused: as `Unavailable`, or with the refusal that says what is missing, if the trial names one. Nothing in the file
+changes. A few rows may be missing because the command doesn't need them; `tools/audit` finds that they are missing. A line is shown with the sums that SQLite
+finds, or is `Unavailable` if appropriation = free + reserved + contracted + paid doesn't hold. The ledger is shown if all lines add up. Faults of programs
+are found.
+"""
+import os
+import re
+import shutil
+import sqlite3
+import subprocess
+from contextlib import closing
+
+import pytest
+
+from office_kit.audit.office import SUMS
+from office_kit.client import COMMANDS as METHODS, Client, Port, Requests, answer_of
+from office_kit.common import ROOT, exchange, look
+from office_kit.store.broken_trials import ANEW, COMMANDS, MAY, BrokenLife, trials_of
+from office_kit.store.files import dump, printed, sqlite, wrong
+from office_kit.store.served import Serving, server
+
+pytestmark = [pytest.mark.needs("sqlite3"), pytest.mark.time, pytest.mark.budget(180)]
+AUDIT = os.path.join(ROOT, "tools", "audit")
+LISTENS, UNAVAILABLE = 300, "Unavailable"
+TRIALS = {trial.name: trial for trial in trials_of(*COMMANDS)}
+
+
+class Whole:
+    """The whole file, the life that made it, its rows, and the program."""
+
+    def __init__(self, program, folder):
+        self.program, self.path = program, str(folder / "whole.db")
+        with Serving(program, str(folder)) as serve:
+            self.life = BrokenLife(Port(serve(self.path).port))
+            self.life.live()
+        self.rows = dump(self.path)
+        sqlite(self.path, "PRAGMA wal_checkpoint(TRUNCATE);")
+
+    def request_of(self, command):
+        """The bytes of a command."""
+        method, arguments = COMMANDS[command]
+        return getattr(Client(Requests(), self.life.key_of), method)(*arguments(self.life))
+
+    def copy(self, folder, change=""):
+        """A copy of the file, changed by a script."""
+        path = str(shutil.copy(self.path, folder / "office.db"))
+        sqlite(path, self.life.filled(change))
+        return path
+
+
+@pytest.fixture(scope="module")
+def whole(program, tmp_path_factory):
+    return Whole(program, tmp_path_factory.mktemp("whole"))
+
+
+def served(program, path, *requests):
+    """The answers of a server over a file to requests, one after another."""
+    with server(program, path, len(requests), stderr=subprocess.PIPE) as (process, port):
+        answers = [answer_of(exchange(port, it, LISTENS)[0]) for it in requests]
+        ended = process.wait(LISTENS), process.stderr.read()
+    assert ended == (0, b""), f"the server ended with {ended}"
+    return answers
+
+
+def refusal_of(answer):
+    """The words of a refusal; nothing of an accepted command."""
+    refusal = answer.value()
+    return "" if answer.status == 200 else " ".join([refusal["name"], refusal["what"]] if "what" in refusal else [refusal["name"]])
+
+
+# ---- Commands.
+
+def test_each_command_is_tried():
+    assert {method for method, _ in COMMANDS.values()} == set(METHODS)
+
+
+@pytest.mark.parametrize("command", COMMANDS)
+def test_whole(whole, command, tmp_path):
+    """Over the whole file the command is accepted."""
+    assert refusal_of(*served(whole.program, whole.copy(tmp_path), whole.request_of(command))) == ""
+
+
+def try_trial(whole, trial, program, folder):
+    """A command over a broken file is refused, and changes nothing."""
+    path = whole.copy(folder, trial.change)
+    before = dump(path)
+    assert before != whole.rows, f"{trial.change} changes nothing"
+    if trial.says == MAY:
+        assert subprocess.run([AUDIT, path], capture_output=True).returncode == 1, "tools/audit doesn't find it"
+    refusal = refusal_of(*served(program, path, whole.request_of(trial.command)))
+    assert refusal or trial.says in (MAY, ANEW), "accepted"
+    if refusal:
+        assert dump(path) == before, "refused, and changed"
+        assert refusal in (UNAVAILABLE, trial.says), f"told {refusal}"
+
+
+@pytest.mark.parametrize("name", TRIALS)
+def test_command(whole, name, tmp_path):
+    try_trial(whole, TRIALS[name], whole.program, tmp_path)
+
+
+# The work of a stand-in for the program over a file, $3, before or after it, and the words that the test must say of it.
+WRONG = {
+    "the whole file is served": ('cp WHOLE "$3"; exec PROGRAM "$@"', "accepted"),
+    "a row goes behind a refusal": ('PROGRAM "$@"; sqlite3 "$3" "DELETE FROM lines;"', "refused, and changed"),
+    "another refusal": ('cp "$3" "$3-2"; sqlite3 "$3-2" "DELETE FROM awards;"; exec PROGRAM "$1" "$2" "$3-2" "$4" "$5"', "told NoSuch award"),
+    "another end": ('PROGRAM "$@"; exit 7', "ended with (7"),
+}
+
+
+@pytest.mark.parametrize("what", WRONG)
+def test_planted_in_commands(whole, what, tmp_path):
+    script, said = WRONG[what]
+    with pytest.raises(AssertionError, match=re.escape(said)):
+        try_trial(whole, TRIALS["sign, its lot"], wrong(tmp_path, script.replace("WHOLE", whole.path), whole.program), tmp_path)
+
+
+# ---- Sums.
+
+LINES, NAMES = ("1000", "2000"), ("appropriation", "free", "reserved", "contracted", "paid")
+CHANGES = {
+    "nothing": "",
+    "one more is free": "UPDATE lines SET free = free + 1 WHERE line = '1000'",
+    "one less is free": "UPDATE lines SET free = free - 1 WHERE line = '2000'",
+    "all is free": "UPDATE lines SET free = appropriation",
+    "one less was appropriated": "UPDATE lines SET appropriation = appropriation - 1 WHERE line = '1000'",
+    "one was moved to another line": "UPDATE lines SET free = free + CASE line WHEN '1000' THEN 1 ELSE -1 END",
+    "one more is reserved": "UPDATE lots SET reserved = reserved + 1 WHERE notice = 'R' AND lot = 'L2'",
+    "one more is reserved and one less free": "UPDATE lots SET reserved = reserved + 1 WHERE notice = 'R' AND lot = 'L1'; "
+                                              "UPDATE lines SET free = free - 1 WHERE line = '1000'",
+    "a lot is gone": "DELETE FROM lots WHERE notice = 'A' AND lot = 'L2'",
+    "the lot of the contract is gone": "DELETE FROM lots WHERE notice = 'C' AND lot = 'L1'",
+    "the contract is gone": "DELETE FROM contracts",
+    "one more was signed": "UPDATE contracts SET signed = signed + 1",
+    "one was released": "UPDATE contracts SET released = released + 1",
+    "the raise is gone": "DELETE FROM entries WHERE kind = 'raise'",
+    "the payment is gone": "DELETE FROM entries WHERE kind = 'payment'",
+    "the payment is a cut": "UPDATE entries SET kind = 'cut' WHERE kind = 'payment'",
+    "one more was paid": "UPDATE entries SET amount = amount + 1 WHERE kind = 'payment'",
+    "more was paid than was signed": "UPDATE entries SET amount = 100000 WHERE kind = 'payment'",
+    "a line is gone": "DELETE FROM lines WHERE line = '2000'",
+}
+
+
+def right_answers(path):
+    """The answers to the lines and to the ledger, by the sums that SQLite finds. Lines that don't add up are Unavailable, and the ledger with them."""
+    with closing(sqlite3.connect(path)) as base:
+        base.executescript(SUMS)
+        rows = base.execute(f"SELECT line, {', '.join(NAMES)} FROM pots ORDER BY line").fetchall()
+    sums = {line: sums if sums[0] == sum(sums[1:]) and min(sums) >= 0 else UNAVAILABLE for line, *sums in rows}
+    ledger = "\n".join(["LEDGER", "line\t" + "\t".join(NAMES), *("\t".join([line, *map(str, row)]) for line, row in sums.items()), ""])
+    return [*(sums.get(line, "NoSuch") for line in LINES), UNAVAILABLE if UNAVAILABLE in sums.values() else ledger]
+
+
+def answers_of(program, path):
+    """The answers to the public, and the ledger that the program prints of the same file."""
+    *lines, ledger = served(program, path, *(look(f"/lines/{line}".encode()) for line in LINES), look(b"/ledger"))
+    shown = [[answer[name] for name in NAMES] if answer.status == 200 else answer["name"] for answer in lines]
+    ran = printed(program, path)
+    return [*shown, ledger.body.decode() if ledger.status == 200 else ledger["name"],
+            ran.stdout if not ran.returncode else ran.stderr.strip().removeprefix("procure: ")]
+
+
+def try_sums(whole, change, program, folder):
+    path = whole.copy(folder, change)
+    right = right_answers(path)
+    assert answers_of(program, path) == [*right, right[-1]]
+    return right
+
+
+@pytest.mark.parametrize("change", CHANGES)
+def test_sums(whole, change, tmp_path):
+    try_sums(whole, CHANGES[change], whole.program, tmp_path)
+
+
+def test_sums_that_are_not_shown(whole, tmp_path):
+    assert try_sums(whole, CHANGES["one more is free"], whole.program, tmp_path).count(UNAVAILABLE) == 2
+
+
+WRONG_SUMS = {"the sums of another file": ('cp "WHOLE" "$3"; exec PROGRAM "$@"', "one more is free"),
+              "nothing is shown": ('rm -f "$3"; exec PROGRAM "$@" 2> /dev/null', "nothing")}
+
+
+@pytest.mark.parametrize("what", WRONG_SUMS)
+def test_planted_in_sums(whole, what, tmp_path):
+    script, change = WRONG_SUMS[what]
+    with pytest.raises(AssertionError, match="(?s)assert .*=="):
+        try_sums(whole, CHANGES[change], wrong(tmp_path, script.replace("WHOLE", whole.path), whole.program), tmp_path)

@@ -1,0 +1,276 @@
+"""The disk fails under `procure serve`, or is full. The server is started again, as a supervisor does, and no answered command is lost.
+
+- flush: `fdatasync` or `fsync` fails with EIO, once, at its N-th call, four times for each N. The file then has everything that was written since its last good
+  flush, or nothing of it, or each second write, the even ones or the odd ones.
+- write: a `pwrite` fails with EIO, once, at its N-th call, and writes nothing.
+- full: the disk, a small tmpfs, has space for N more pages. In one run space is made while the server runs. In a second run it is made after the server was
+  restarted on the full disk.
+
+Each run plays over a new file (office_kit/store/fault_plays.py, office_kit/store/faulty_disk.py). The fault shows when the server ends, or when a command
+isn't answered with 200. The test then sends a query and the same command, to find out what the server does, and restarts it. In a copy of the files and by
+the server's answers, each command that was answered with 200 is stored, and none in part; the next one may be. The play continues from there to its end. A
+server whose file is shut, so that it answers 503 to everything, has ended with `procure: store` on its own.
+"""
+import os
+import shutil
+import socket
+import subprocess
+import time
+from collections import Counter
+
+import pytest
+
+from office_kit.common import HOST, free_port, look, read_all, serve_words
+from office_kit.store import pages
+from office_kit.store.fault_plays import PLAYS
+from office_kit.store.faulty_disk import ALL, EVEN, FAILED, FLUSHES, NONE, ODD, WRITES, FaultyDisk, SmallDisk
+from office_kit.store.files import REFUSED, made_line, rows_of
+
+pytestmark = [pytest.mark.needs("cc"), pytest.mark.budget(150)]
+LISTENS, IDLE = 60, look(b"/lines/none")
+# The things that a server did after a fault.
+NOT_OPENED, ENDED, LOOKED, WENT_ON = ("ended before it listened", "ended behind the answer", "answered looks, and 503 to commands, and was killed",
+                                      "did the same command at the next try")
+IN_PLACE, LAST = "did the same command once there was room", "ended with status 1 behind its last answer"
+# The most places at which a fault is tried, in the short form and in the long form.
+MOST, LONG_MOST = 6, {"life": 60, "imports": 20}
+
+
+def rows_in(path, room):
+    """All rows of all tables; none if no database was made yet: until its first page is written, a new file isn't one. (A copy is made in the room, since the
+    disk may be full.)"""
+    if not os.path.exists(path):
+        return {}
+    with open(path, "rb") as file:
+        return rows_of(path, room=room) if file.read(16) == b"SQLite format 3\0" else {}
+
+
+class Office:
+    """An office's file, and the server over it, as a supervisor runs it."""
+
+    def __init__(self, trial, path, count):
+        self.program, self.disk, self.play, self.path, self.count, self.process = trial.program, trial.disk, trial.play, path, count, None
+
+    def start(self):
+        """Whether the server listens; else it has ended with `procure: store`."""
+        self.port, self.taken = free_port(), 0
+        self.process = subprocess.Popen(serve_words(self.program, self.path, self.port, self.count), env=self.disk.environment(), stderr=subprocess.PIPE)
+        end = time.monotonic() + LISTENS
+        while self.ask(IDLE)[0] is None:
+            if self.process.poll() is not None:
+                self.has_failed()
+                return False
+            assert time.monotonic() < end, "the server doesn't listen"
+            time.sleep(0.002)
+        return True
+
+    def ask(self, text):
+        """The status and the whole of a response, or nothing if none came."""
+        try:
+            with socket.create_connection((HOST, self.port), LISTENS) as stream:
+                self.taken += 1
+                stream.sendall(text)
+                response = read_all(stream)
+        except OSError:
+            return None, b""
+        return (int(response.split(b" ", 2)[1]), response) if response.startswith(b"HTTP/1.1 ") else (None, response)
+
+    def send(self, step):
+        self.disk.set_clock(step.second)
+        return self.ask(step.text)
+
+    def looks(self):
+        """The server's answers to all queries."""
+        return [self.ask(it)[1] for it in self.play.looks]
+
+    def end(self):
+        """Waits for a server that ends on its own, and returns its status."""
+        errors = self.process.communicate(timeout=LISTENS)[1].decode().replace(made_line(self.path), "", 1)
+        assert (self.process.returncode, errors) in ((0, ""), (REFUSED[0], REFUSED[2]))
+        return self.process.returncode
+
+    def has_failed(self):
+        """A server that doesn't answer has ended with `procure: store`."""
+        assert self.end() != 0, "the server ended with status 0 before its last connection"
+
+    def use_up(self):
+        """Asks until the server has served all connections, and returns its status."""
+        while self.taken < self.count:
+            self.ask(IDLE)
+        return self.end()
+
+    def kill(self):
+        if self.process and self.process.poll() is None:
+            self.process.kill()
+            self.process.communicate()
+
+
+class Trial:
+    """A play, the states that its commands leave without a fault (answers and rows), and runs with one."""
+
+    def __init__(self, program, play, page_size, room):
+        self.program, self.play, self.page_size, self.room, self.disk = program, PLAYS[play](), page_size, str(room), FaultyDisk(str(room))
+        self.made, self.size, self.small, self.is_patient, self.tally = 0, 0, None, False, Counter()
+        office = self.office(self.room, (len(self.play.steps) + 1) * (len(self.play.looks) + 2))
+        self.disk.begin()
+        try:
+            self.states = [self.reached(office, at) for at in range(len(self.play.steps) + 1)]
+            assert office.use_up() == 0 and rows_in(office.path, self.room) == self.states[-1][1], "without a fault the server doesn't leave what it answered"
+            pages.check_size(office.path, page_size)
+        finally:
+            office.kill()
+
+    def next_path(self, folder):
+        return os.path.join(folder, f"office{self.made + 1}.db")
+
+    def office(self, folder, count=None):
+        """A new file, and its server for so many connections, or for three times those of a run without a fault."""
+        path = self.next_path(folder)
+        if not os.path.exists(path):
+            pages.begin(path, self.page_size)
+        self.made += 1
+        return Office(self, path, count or 3 * (len(self.play.steps) + len(self.play.looks) + 2))
+
+    def reached(self, office, at):
+        """The state after the first commands without a fault."""
+        assert at or office.start()
+        assert not at or office.send(self.play.steps[at - 1])[0] == 200, f"without a fault {self.play.steps[at - 1].name} is refused"
+        self.size = max(self.size, sum(os.path.getsize(it) for it in (office.path, office.path + "-wal") if os.path.exists(it)))
+        return office.looks(), rows_in(office.path, self.room)
+
+    def places(self):
+        """How many flushes and writes a run without a fault has, and how many pages its files had at most."""
+        self.disk.begin()
+        self.run(self.room)
+        return {"flush": self.disk.fields[FLUSHES], "write": self.disk.fields[WRITES], "full": self.size // SmallDisk.PAGE}
+
+    def position(self, office, answered):
+        """How many commands the files have: those that were answered, or the next one too."""
+        rows = rows_in(office.path, self.room)
+        if rows == {} and answered == 0:
+            return 0
+        found = [at for at in (answered, answered + 1) if at < len(self.states) and self.states[at][1] == rows]
+        assert found, f"{answered} commands were answered, and {office.path} has others"
+        return found[0]
+
+    def begins(self, office, at):
+        """Whether the server starts with so many commands in its file, and shows them. Otherwise it has reported that it doesn't."""
+        if not office.start():
+            return False
+        assert office.looks() == self.states[at][0], f"{at} commands are in {office.path}, and the looks are others"
+        return True
+
+    def behaves(self, office, step):
+        """The server's behaviour after a command that it didn't carry out."""
+        looked = office.ask(self.play.looks[0])[0]
+        if looked is None:
+            office.has_failed()
+            return ENDED
+        answers = [office.send(step)[0]]
+        if answers[0] == 503:
+            answers.append(office.send(step)[0])
+        assert looked in (200, 503) and answers[-1] in (200, 503), f"after a fault a look is answered with {looked}, and {step.name} with {answers}"
+        assert (looked, answers[-1]) != (503, 503), "the file is shut, and the server goes on"
+        return WENT_ON if answers[-1] == 200 else LOOKED
+
+    def repaired(self, office, at, did):
+        """How many commands are stored once the server continues after a fault. The fault came after so many commands."""
+        if did == LOOKED and self.small and self.small.is_full() and self.is_patient:
+            self.small.make_room()
+            did = IN_PLACE if office.send(self.play.steps[at])[0] == 200 else did
+        self.tally[did] += 1
+        if did in (WENT_ON, IN_PLACE):
+            self.tally["answered"] += 1
+            return at + 1
+        office.kill()
+        found = self.position(office, at)
+        if self.small and self.small.is_full():
+            self.tally["listened on the full disk"] += self.begins(office, found)
+            office.kill()
+            self.small.make_room()
+        assert self.begins(office, found), f"{office.path} isn't opened again"
+        return found
+
+    def run(self, folder):
+        """A play with the fault that was chosen before. The file of a failed run stays."""
+        office, at = self.office(folder), 0
+        try:
+            if not office.start():
+                at = self.repaired(office, 0, NOT_OPENED)
+            while at < len(self.play.steps):
+                step = self.play.steps[at]
+                status, response = office.send(step)
+                assert status in (200, 503, None), f"{step.name} is answered with {response!r}"
+                self.tally["answered"] += status == 200
+                at = at + 1 if status == 200 else self.repaired(office, at, self.behaves(office, step))
+            self.finish(office)
+        finally:
+            office.kill()
+        self.tally["runs"] += 1
+        for part in filter(os.path.exists, (office.path, office.path + "-wal")):
+            os.remove(part)
+
+    def finish(self, office):
+        """Every command is stored at the end, even after the server has ended."""
+        at = len(self.play.steps)
+        assert office.looks() == self.states[at][0]
+        has_failed = office.use_up() != 0
+        assert self.position(office, at) == at
+        pages.check_size(office.path, self.page_size)
+        if has_failed:
+            self.tally[LAST] += 1
+            assert self.begins(office, at)
+
+    def spread(self, what, is_long):
+        """At most so many numbers of the places of a fault, evenly spread."""
+        count, most = self.places()[what], LONG_MOST[self.play.name] if is_long else MOST
+        self.tally.clear()
+        return range(1, count + 1) if count <= most else [1 + at * (count - 1) // (most - 1) for at in range(most)]
+
+    def fail_once(self, **order):
+        """A play in which a call fails."""
+        self.disk.begin(**order)
+        self.run(self.room)
+        assert self.disk.fields[FAILED] == 1, f"no call failed by {order}"
+        self.tally[f"on {self.disk.place()}"] += 1
+
+
+LONG_PLAYS = [pytest.param(("imports", size), marks=pytest.mark.long, id=f"imports-{size}") for size in pages.SIZES]
+
+
+@pytest.fixture(scope="module", params=[*(pytest.param(("life", size), id=f"life-{size}") for size in pages.SIZES), *LONG_PLAYS])
+def trial(request, program, tmp_path_factory):
+    return Trial(program, *request.param, tmp_path_factory.mktemp("faults"))
+
+
+def test_flush(trial, is_long):
+    for number in trial.spread("flush", is_long):
+        for left in (ALL, NONE, ODD, EVEN):
+            trial.fail_once(flush=number, left=left)
+    print(trial.tally)
+
+
+def test_write(trial, is_long):
+    for number in trial.spread("write", is_long):
+        trial.fail_once(write=number)
+    print(trial.tally)
+
+
+@pytest.mark.long
+def test_full(trial, is_long, tmp_path):
+    try:
+        trial.small = SmallDisk(str(tmp_path))
+    except subprocess.CalledProcessError:
+        pytest.skip("missing: a small disk. Get it: run this as root, or by `unshare --user --map-root-user --mount`")
+    try:
+        for room in trial.spread("full", is_long):
+            for trial.is_patient in (True, False):
+                trial.disk.begin()
+                trial.small.leave(room - 1, lambda: pages.begin(trial.next_path(str(tmp_path)), trial.page_size))
+                trial.run(str(tmp_path))
+    finally:
+        # (The files of a failed run stay, even when the disk is unmounted.)
+        shutil.copytree(tmp_path, f"{tmp_path}-kept", ignore=shutil.ignore_patterns("ballast"))
+        trial.small.close()
+        trial.small = None
+    print(trial.tally)

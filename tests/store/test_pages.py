@@ -1,0 +1,418 @@
+"""The page size of an office's file: a new file has pages of 1,024 bytes, and an existing file keeps its own.
+
+At a path that names nothing the program puts one page, and then the tables. `sqlite3` judges that page and each file that is left. The program is also stopped
+(`kill -9`) before each call that changes a file or a folder. Programs that do otherwise are found.
+"""
+import fcntl
+import os
+import sqlite3
+import subprocess
+import tempfile
+import time
+from contextlib import closing
+from pathlib import Path
+
+import pytest
+
+from office_kit.common import CONFIG, exchange, import_of, look, made_shim, timed_exchange
+from office_kit.store import pages
+from office_kit.store.files import EMPTY, REFUSED, copied, made_line, printed, sqlite, told, wrong
+from office_kit.store.served import server
+
+pytestmark = [pytest.mark.needs("sqlite3", "cc"), pytest.mark.budget(100)]
+LISTENS, BESIDE = 60, "-procure-new"
+# The fields of the header and of the page after it, by the format of SQLite's files: name, length and value.
+FIELDS = (
+    ("what every database begins with", 16, int.from_bytes(b"SQLite format 3\0", "big")),
+    ("the page size", 2, 1024),
+    ("the format for who writes it: with a log", 1, 2),
+    ("the format for who reads it: with a log", 1, 2),
+    ("the bytes of a page that are kept for another use", 1, 0),
+    ("the most of a page that a row may take", 1, 64),
+    ("the least", 1, 32),
+    ("the least in a leaf", 1, 32),
+    ("the count of changes", 4, 0),
+    ("the count of pages", 4, 1),
+    ("the first free page", 4, 0),
+    ("the count of free pages", 4, 0),
+    ("the version of the list of tables", 4, 1),
+    ("the format of tables", 4, 4),
+    ("the size of a cache", 4, 0),
+    ("the largest root page, with auto-vacuum", 4, 0),
+    ("the encoding of texts: UTF-8", 4, 1),
+    ("the version of who uses it", 4, 0),
+    ("incremental vacuum", 4, 0),
+    ("the program that it belongs to", 4, 0),
+    ("what is kept for later", 20, 0),
+    ("the count of changes that the count of pages is of", 4, 0),
+    ("the release of SQLite", 4, 3_045_000),
+    ("the kind of the page: a leaf of a table", 1, 13),
+    ("the first free block", 2, 0),
+    ("the count of rows", 2, 0),
+    ("where the rows' bytes begin", 2, 1024),
+    ("the fragments", 1, 0),
+    ("the rest", 916, 0),
+)
+PAGE = b"".join(value.to_bytes(length, "big") for _, length, value in FIELDS)
+# The answers of sqlite3 about the one page.
+SAYS = {
+    "integrity_check": "ok", "page_size": 1024, "page_count": 1, "freelist_count": 0, "journal_mode": "wal", "encoding": "UTF-8", "auto_vacuum": 0,
+    "schema_version": 1, "user_version": 0, "application_id": 0,
+}
+# Faults that `sqlite3` has to find: the byte that differs, and its value.
+PLANTED = {
+    "another page size": (16, 8), "two pages": (31, 2), "a free page": (39, 1), "another version of the list of tables": (43, 2), "auto-vacuum": (55, 1),
+    "texts in UTF-16": (59, 2), "a version of who uses it": (63, 5), "a program that it belongs to": (71, 9), "a journal, and no log": (19, 1),
+    "an index in place of a table": (100, 10), "a row that isn't there": (104, 1), "fragments": (107, 70), "rows past the page's end": (105, 5),
+}
+SMALL = "PRAGMA journal_mode = delete; PRAGMA page_size = 1024; VACUUM;"
+# A library that comes before the C library and ends the process before its N-th call that changes a file or a folder. All else goes to the C library.
+STOPPING = r"""
+static void step(void) {
+    static long left;
+    if (!left) left = atol(getenv("STOP_AT"));
+    if (!--left) kill(getpid(), SIGKILL);
+}
+int fsync(int fd) { REAL(int, "fsync", int); step(); return real(fd); }
+int fdatasync(int fd) { REAL(int, "fdatasync", int); step(); return real(fd); }
+int fchmod(int fd, mode_t mode) { REAL(int, "fchmod", int, mode_t); step(); return real(fd, mode); }
+int fchown(int fd, uid_t user, gid_t group) { REAL(int, "fchown", int, uid_t, gid_t); step(); return real(fd, user, group); }
+int ftruncate(int fd, off_t length) { REAL(int, "ftruncate", int, off_t); step(); return real(fd, length); }
+int ftruncate64(int fd, off_t length) { return ftruncate(fd, length); }
+int unlink(const char *path) { REAL(int, "unlink", const char *); step(); return real(path); }
+int link(const char *from, const char *to) { REAL(int, "link", const char *, const char *); step(); return real(from, to); }
+int rename(const char *from, const char *to) { REAL(int, "rename", const char *, const char *); step(); return real(from, to); }
+ssize_t pwrite(int fd, const void *bytes, size_t size, off_t at) {
+    REAL(ssize_t, "pwrite", int, const void *, size_t, off_t);
+    step();
+    return real(fd, bytes, size, at);
+}
+ssize_t pwrite64(int fd, const void *bytes, size_t size, off_t at) { return pwrite(fd, bytes, size, at); }
+int open(const char *path, int flags, ...) {
+    REAL(int, "open", const char *, int, ...);
+    va_list rest;
+    va_start(rest, flags);
+    int mode = flags & O_CREAT ? va_arg(rest, int) : 0;
+    va_end(rest);
+    if (flags & O_CREAT) step();
+    return real(path, flags, mode);
+}
+int open64(const char *path, int flags, ...) {
+    va_list rest;
+    va_start(rest, flags);
+    int mode = flags & O_CREAT ? va_arg(rest, int) : 0;
+    va_end(rest);
+    return open(path, flags, mode);
+}
+"""
+# A library by which no file gets a second name, as on a file system without hard links.
+NO_LINKS = "int link(const char *from, const char *to) { (void)from; (void)to; errno = EPERM; return -1; }"
+
+
+class Folder:
+    """A folder for a file, and the program."""
+
+    def __init__(self, program, path):
+        self.program, self.path, self.file = program, str(path), os.path.join(path, "office.db")
+
+    def at(self, name):
+        return os.path.join(self.path, name)
+
+    def put(self, name, content=b"", mode=0o644):
+        with open(self.at(name), "wb") as file:
+            file.write(content)
+        os.chmod(self.at(name), mode)
+
+    def ledger(self, name="office.db", **more):
+        """The program's answer for the file: its status, and its output."""
+        return told(printed(self.program, self.at(name), env={**os.environ, **more}))
+
+    def names(self):
+        return sorted(os.listdir(self.path))
+
+    def is_new(self, name="office.db"):
+        """The program makes an office there, in pages of a new file, and leaves nothing beside it but its log."""
+        self.ledger(name)
+        assert self.ledger(name) == (0, EMPTY, "")
+        pages.check_size(self.at(name), pages.NEW)
+        said = said_of(self.at(name))
+        assert (said["integrity_check"], said["page_size"], said["journal_mode"]) == ("ok", pages.NEW, "wal")
+        assert not any(name.endswith(BESIDE) for name in self.names()), f"something is left: {self.names()}"
+
+
+@pytest.fixture
+def folder(program, tmp_path):
+    return Folder(program, tmp_path)
+
+
+def said_of(path):
+    """The answers of sqlite3 for a copy of a file and its log; `fault` if it doesn't accept it."""
+    with copied(path) as copy, closing(sqlite3.connect(copy)) as base:
+        try:
+            return {name: base.execute(f"PRAGMA {name}").fetchone()[0] for name in SAYS}
+        except sqlite3.DatabaseError as fault:
+            return {"fault": str(fault)}
+
+
+def content(path):
+    """The bytes of a file; none if there is no file."""
+    if not os.path.exists(path):
+        return b""
+    with open(path, "rb") as file:
+        return file.read()
+
+
+# ---- The page that is put there.
+
+def stopped(folder, shim, at):
+    """Starts the program over the file, and stops it before its N-th call. Returns whether it was stopped."""
+    ended = folder.ledger(LD_PRELOAD=shim, STOP_AT=str(at))
+    assert ended[0] == -9 or ended in [(0, EMPTY, made_line(folder.file)), (0, EMPTY, "")]
+    return ended[0] == -9
+
+
+def is_page_alone(folder):
+    """Whether the file is unchanged since it was put there, with nothing written into it or its log."""
+    return len(content(folder.file)) == pages.NEW and not content(folder.file + "-wal")
+
+
+def test_placed(folder):
+    """Each field has the right value."""
+    shim, at = made_shim(STOPPING, folder.path), 1
+    while not is_page_alone(folder):
+        for name in ("", "-wal"):
+            if os.path.exists(folder.file + name):
+                os.remove(folder.file + name)
+        assert stopped(folder, shim, at), "the program ends before it was seen to put a file there"
+        at += 1
+    assert content(folder.file) == PAGE
+
+
+def test_sqlite_takes_the_page(folder):
+    """sqlite3 takes it for a sound database with no table, makes a table in it, and keeps its pages."""
+    folder.put("office.db", PAGE)
+    assert said_of(folder.file) == SAYS
+    sqlite(folder.file, "CREATE TABLE notes (text TEXT); INSERT INTO notes VALUES ('a');")
+    said = said_of(folder.file)
+    assert (said["integrity_check"], said["page_size"], said["page_count"]) == ("ok", pages.NEW, 2)
+
+
+@pytest.mark.parametrize("what", PLANTED)
+def test_planted_in_the_page(folder, what):
+    place, value = PLANTED[what]
+    folder.put("office.db", PAGE[:place] + bytes([value]) + PAGE[place + 1:])
+    assert said_of(folder.file) != SAYS
+
+
+# ---- New files.
+
+def test_new(folder):
+    folder.is_new()
+    others = os.umask(0o022)
+    os.umask(others)
+    assert os.stat(folder.file).st_mode & 0o777 == 0o644 & ~others
+
+
+def test_new_beside_remains(folder):
+    """With the remains of a start that was stopped, and with an empty log and an empty journal."""
+    folder.put("office.db-wal")
+    folder.put("office.db-journal")
+    folder.put("office.db" + BESIDE, b"left by a start that was stopped")
+    folder.is_new()
+
+
+def test_new_by_a_link(folder):
+    """Through a linked folder, whose files only their owners may remove."""
+    os.mkdir(folder.at("office"), 0o1777)
+    os.symlink("office", folder.at("link"))
+    folder.is_new("link/office.db")
+    assert sorted(os.listdir(folder.at("office"))) == ["office.db", "office.db-wal"]
+
+
+def test_new_waits(folder):
+    """A start waits for another one that has the folder locked."""
+    lock = os.open(folder.path, os.O_RDONLY)
+    fcntl.flock(lock, fcntl.LOCK_EX)
+    started = subprocess.Popen([folder.program, "ledger", CONFIG, folder.file], stdout=subprocess.DEVNULL, stderr=subprocess.DEVNULL)
+    try:
+        time.sleep(1)
+        assert started.poll() is None and not folder.names()
+    finally:
+        os.close(lock)
+    assert started.wait(LISTENS) == 0
+    folder.is_new()
+
+
+def test_no_links(program, tmp_path, tmp_path_factory):
+    """On a file system without hard links the office is made with pages of 4,096 bytes, and nothing is left."""
+    folder, shim = Folder(program, tmp_path), made_shim(NO_LINKS, str(tmp_path_factory.mktemp("shim")))
+    assert [folder.ledger(LD_PRELOAD=shim) for _ in range(2)] == [(0, EMPTY, made_line(folder.file)), (0, EMPTY, "")]
+    pages.check_size(folder.file, pages.FORMER)
+    assert folder.names() == ["office.db", "office.db-wal"]
+
+
+@pytest.mark.parametrize("name", ["office.db", "link.db"])
+@pytest.mark.parametrize("what", [b"", b"x"], ids=["empty", "one byte"])
+def test_empty(folder, what, name):
+    """It becomes an office with pages of 4,096 bytes, and stays the same file, with its mode."""
+    folder.put("office.db", what, 0o640)
+    os.symlink("office.db", folder.at("link.db"))
+    found = os.stat(folder.file)
+    folder.ledger(name)
+    assert folder.ledger(name) == (0, EMPTY, "")
+    pages.check_size(folder.file, pages.FORMER)
+    assert said_of(folder.file)["integrity_check"] == "ok"
+    stays = os.stat(folder.file)
+    assert (stays.st_ino, stays.st_mode) == (found.st_ino, found.st_mode)
+    assert folder.names() == ["link.db", "office.db", "office.db-wal"]
+
+
+# ---- What the program leaves alone.
+
+def old_log(folder):
+    """Leaves a log with the import of a server that was killed, and no file to it."""
+    with server(folder.program, folder.file, 10) as (process, port):
+        timed_exchange(port, import_of(b"B1", [b"1000,add,600,Roads"]), LISTENS)
+        process.kill()
+    assert content(folder.file + "-wal")
+    os.remove(folder.file)
+
+
+def empty_file(folder, change):
+    folder.put("office.db")
+    change()
+
+
+ALONE = {
+    "a second name": lambda folder: empty_file(folder, lambda: os.link(folder.file, folder.at("second.db"))),
+    "a journal": lambda folder: empty_file(folder, lambda: folder.put("office.db-journal", b"\xd9\xd5\x05\xf9\x20\xa1\x63\xd7" + bytes(504))),
+    "a link that leads nowhere": lambda folder: os.symlink("absent.db", folder.file),
+    "a log whose file is gone": old_log,
+}
+
+
+@pytest.mark.parametrize("what", ALONE)
+def test_left_alone(folder, what):
+    """Such a file is refused, and stays unchanged."""
+    ALONE[what](folder)
+    before = {it: content(folder.at(it)) for it in folder.names()}
+    assert folder.ledger() == REFUSED
+    after = {it: content(folder.at(it)) for it in folder.names()}
+    # (An empty log may be new.)
+    assert after in (before, {**before, "office.db-wal": b""})
+
+
+def test_second_name_of_a_stopped_start(folder):
+    """The program removes the second name that a stopped start leaves. Another file of that name stays."""
+    ledger = imported(folder, 1, 400)
+    os.link(folder.file, folder.file + BESIDE)
+    assert folder.ledger() == (0, ledger, "")
+    assert not os.path.exists(folder.file + BESIDE)
+    folder.put("office.db" + BESIDE, b"another file")
+    assert folder.ledger() == (0, ledger, "")
+    assert content(folder.file + BESIDE) == b"another file"
+
+
+# ---- Files that exist.
+
+def imported(folder, number, lines):
+    """Serves the file for an import and a query: the ledger then has so many lines."""
+    with server(folder.program, folder.file, 2) as (process, port):
+        timed_exchange(port, import_of(b"B%d" % number, [b"%d,add,600,Roads" % line for line in range(1000 * number, 1000 * number + 400)]), LISTENS)
+        ledger = timed_exchange(port, look(b"/ledger"))[0].decode()
+        assert len(ledger.splitlines()) == 2 + lines
+        assert process.wait(LISTENS) == 0
+    return ledger
+
+
+@pytest.mark.parametrize("size", (512, pages.FORMER, 65_536))
+def test_keeps(folder, size):
+    pages.begin(folder.file, size)
+    for number in (1, 2):
+        imported(folder, number, 400 * number)
+        pages.check_size(folder.file, size)
+    assert said_of(folder.file)["integrity_check"] == "ok"
+
+
+def test_changed_pages(folder):
+    """The commands of docs/OPERATING.md that change a file's page size leave its office unchanged."""
+    pages.begin(folder.file, pages.FORMER)
+    ledger = imported(folder, 1, 400)
+    assert sqlite(folder.file, SMALL) == ["delete"]
+    assert folder.ledger()[1] == ledger
+    imported(folder, 2, 800)
+    pages.check_size(folder.file, pages.NEW)
+
+
+def test_planted_file_that_is_taken_for_a_new_one(folder):
+    pages.begin(folder.file, pages.FORMER)
+    with pytest.raises(AssertionError, match="has pages of 4096 bytes"):
+        folder.is_new()
+
+
+@pytest.mark.parametrize("turn", range(8))
+def test_two_at_once(folder, turn):
+    """Two programs start at once over a file that doesn't exist. One serves, and the other is refused."""
+    with server(folder.program, folder.file, 1, stderr=subprocess.PIPE) as one, server(folder.program, folder.file, 1, stderr=subprocess.PIPE) as other:
+        while (one[0].poll(), other[0].poll()) == (None, None):
+            time.sleep(0.01)
+        (ended, _), (process, port) = (one, other) if one[0].poll() is not None else (other, one)
+        assert (ended.returncode, ended.stderr.read().decode()) == (REFUSED[0], REFUSED[2])
+        assert exchange(port, look(b"/ledger"), LISTENS)[0].endswith(EMPTY.encode())
+        assert process.wait(LISTENS) == 0
+    folder.is_new()
+
+
+def test_stops(program, tmp_path):
+    """After each stop the file is missing, or the one page, or a whole office, and the next start continues from there."""
+    shim, seen, at, runs = made_shim(STOPPING, str(tmp_path)), set(), 1, True
+    while runs:
+        with tempfile.TemporaryDirectory(dir=tmp_path) as place:
+            folder = Folder(program, place)
+            runs = stopped(folder, shim, at)
+            seen.add(state_of(folder))
+            folder.is_new()
+        # Once an office's tables are written a few of its calls are enough.
+        at += 1 if at < 24 else 9
+    assert seen == {"no file", "the page", "more"}
+
+
+def state_of(folder):
+    """The state of the path after a stop. Anything else is a fault."""
+    if not os.path.exists(folder.file):
+        return "no file"
+    if is_page_alone(folder):
+        assert content(folder.file) == PAGE, "the page isn't whole"
+        return "the page"
+    assert len(content(folder.file)) % pages.NEW == 0, "the file ends within a page"
+    said = said_of(folder.file)
+    assert (said.get("integrity_check"), said.get("page_size")) == ("ok", pages.NEW)
+    return "more"
+
+
+# Programs that are wrong: what each does to the file $3 before the program (PAGE has the bytes of a new file), and the test that must find it.
+WRONG = {
+    "pages of 4,096 bytes in a new file": ('[ -s "$3" ] || sqlite3 "$3" "PRAGMA page_size = 4096; VACUUM;"', test_new),
+    "a page beside a log of another file": ('[ ! -s "$3-wal" ] || [ -s "$3" ] || cp PAGE "$3"', lambda folder: test_left_alone(folder, [*ALONE][-1])),
+    "another file in the place of an empty one": ('[ ! -e "$3" ] || [ -s "$3" ] || { cp PAGE "$3.new"; mv "$3.new" "$3"; }',
+                                                  lambda folder: test_empty(folder, b"", "office.db")),
+    "a page in an empty file": ('[ ! -e "$3" ] || [ -s "$3" ] || cp PAGE "$3"', lambda folder: test_empty(folder, b"", "office.db")),
+    "other pages in a file that is there": (f'[ ! -s "$3" ] || sqlite3 "$3" "{SMALL}" > "$3.out"', lambda folder: test_keeps(folder, 512)),
+    "something that is left": (': > "$3-procure-new"', test_new),
+    "half a page": ('[ -s "$3" ] || { head -c 512 PAGE > "$3"; kill -9 $$; }', lambda folder: test_stops(folder.program, Path(folder.path))),
+}
+
+
+def in_front(program, folder, script):
+    """A program that does this before ours."""
+    page = os.path.join(folder, "page")
+    with open(page, "wb") as file:
+        file.write(PAGE)
+    return wrong(folder, script.replace("PAGE", page) + '\nexec PROGRAM "$@"', program)
+
+
+@pytest.mark.parametrize("what", WRONG)
+def test_planted(program, tmp_path, tmp_path_factory, what):
+    script, test = WRONG[what]
+    with pytest.raises((AssertionError, FileNotFoundError)):
+        test(Folder(in_front(program, str(tmp_path_factory.mktemp("wrong")), script), tmp_path))

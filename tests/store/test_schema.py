@@ -1,0 +1,287 @@
+"""The tables in an office's file, as the sqlite3 program sees them (Debian's `sqlite3`): bounds, types, keys, and how each query finds its rows.
+
+That program knows nothing of ours. docs/TABLES.md says the same. Each row is added to a file that the program made, and taken back in a transaction.
+"""
+import re
+from pathlib import Path
+
+import pytest
+
+from office_kit.common import ROOT
+from office_kit.store.files import ledger_of, sqlite
+
+pytestmark = pytest.mark.needs("sqlite3")
+EUROS, TOTAL, MOMENT, NUMBER = 10**12, 10**15, 4102444799, 10**9
+
+
+def number(least, most):
+    return ("INTEGER", [str(least), str(most)], [str(least - 1), str(most + 1)])
+
+
+def text(least, most):
+    return ("TEXT", [f"'{'a' * least}'", f"'{'a' * most}'"], [f"'{'a' * (least - 1)}'", f"'{'a' * (most + 1)}'"])
+
+
+def word(*words):
+    return ("TEXT", [f"'{it}'" for it in words], ["''", "'other'"] + [f"'{it.upper()}'" for it in words])
+
+
+def blob(least, most):
+    return ("BLOB", [f"zeroblob({least})", f"zeroblob({most})"], [f"zeroblob({least - 1})", f"zeroblob({most + 1})"])
+
+
+def perhaps(column):
+    return (*column, "NULL")
+
+
+ID, TITLE, ANY = text(1, 32), text(1, 200), ("TEXT", ["'any'"], [])
+# The columns of notices in version 1, whose table version 2 keeps empty.
+FORMER = {
+    "notice": ID, "title": TITLE, "published": number(0, MOMENT), "deadline": number(0, MOMENT), "validity": number(1, 365), "standstill": number(0, 90),
+    "weight": number(0, 100), "state": word("receiving", "opened", "cancelled"), "opened": perhaps(number(0, MOMENT)), "amendments": number(0, 50),
+    "releases": number(0, 9999)}
+# Each table: its key, and its columns in order, each with its kind, values that it takes, values that it doesn't, and whether it may be NULL.
+TABLES = {
+    "lines": (["line"], {"line": ID, "title": TITLE, "appropriation": number(0, TOTAL), "free": number(0, TOTAL)}),
+    "batches": (["batch"], {"batch": ID, "moment": number(0, MOMENT), "rows": number(0, 500)}),
+    "tenderers": (["tenderer"], {"tenderer": ID, "name": TITLE, "address": TITLE, "key": blob(32, 32)}),
+    "notices": (["notice"], FORMER),
+    "notices_2": (["notice"], FORMER | {"performance": number(0, EUROS)}),
+    "lots": (["notice", "lot"], {
+        "notice": ID, "lot": ID, "title": TITLE, "line": ID, "estimate": number(1, EUROS), "security": number(0, EUROS), "items": ANY,
+        "state": word("undecided", "awarded", "contracted", "unsuccessful", "cancelled"), "reserved": number(0, EUROS)}),
+    "envelopes": (["receipt"], {
+        "receipt": number(1, NUMBER), "notice": ID, "lot": ID, "tenderer": ID, "moment": number(0, MOMENT), "length": number(1, 32768), "digest": blob(32, 32),
+        "security": perhaps(number(1, NUMBER)), "state": word("sealed", "withdrawn", "returned", "opened"),
+        "reading": perhaps(word("unreadable", "nonconforming", "priced")),
+        "stated": perhaps(number(0, TOTAL)), "corrected": perhaps(number(0, EUROS)), "corrections": perhaps(("INTEGER", ["0", str(2**63 - 1)], ["-1"])),
+        "responsive": perhaps(number(0, 1)), "quality": perhaps(number(0, 100)), "failed": number(0, 1)}),
+    "seals": (["receipt"], {"receipt": number(1, NUMBER), "bytes": blob(1, 32768)}),
+    "securities": (["security"], {
+        "security": number(1, NUMBER), "tenderer": ID, "notice": ID, "lot": ID, "reference": ID, "amount": number(1, EUROS),
+        "state": word("held", "returned", "forfeited")}),
+    "awards": (["award"], {
+        "award": number(1, NUMBER), "notice": ID, "lot": ID, "receipt": number(1, NUMBER), "price": number(0, EUROS), "moment": number(0, MOMENT),
+        "state": word("active", "failed", "cancelled", "signed")}),
+    "contracts": (["contract"], {
+        "contract": number(1, NUMBER), "notice": ID, "lot": ID, "tenderer": ID, "signed": number(0, TOTAL), "moment": number(0, MOMENT),
+        "ended": perhaps(number(0, MOMENT)),
+        "how": perhaps(word("regular", "default")), "released": number(0, TOTAL)}),
+    "entries": (["contract", "entry"], {
+        "contract": number(1, NUMBER), "entry": ID, "kind": word("raise", "cut", "payment"), "amount": number(1, EUROS),
+        "moment": number(0, MOMENT), "rationale": perhaps(TITLE)}),
+    "releases": (["notice", "seq"], {"notice": ID, "seq": number(1, 9999), "moment": number(0, MOMENT), "text": ANY}),
+    "compiled": (["notice"], {"notice": ID, "text": ANY}),
+    "late_rules": (["notice"], {"notice": ID}),
+    "performance": (["contract"], {
+        "contract": number(1, NUMBER), "reference": ID, "amount": number(1, EUROS), "state": word("held", "returned", "forfeited")}),
+    "office": (["version"], {"version": number(1, 2**31 - 1), "moment": number(0, MOMENT), "receipts": number(0, NUMBER), "awards": number(0, NUMBER)}),
+}
+INDEXES = {
+    "lots_of_line": ("lots", ["line"]),
+    "envelopes_of_notice": ("envelopes", ["notice", "lot", "tenderer"]),
+    "securities_of_notice": ("securities", ["notice"]),
+    "awards_of_notice": ("awards", ["notice"]),
+    "contracts_of_notice": ("contracts", ["notice"]),
+}
+ROWID, KEY = "INTEGER PRIMARY KEY (rowid=?)", "sqlite_autoindex_{}_1 ({})"
+# How SQLite answers a question of a table with such a test, if not by the key.
+BY_INDEX = {
+    ("notices_2", "notice > ?1"): "sqlite_autoindex_notices_2_1 (notice>?)",
+    ("tenderers", "tenderer > ?1"): "sqlite_autoindex_tenderers_1 (tenderer>?)",
+    ("lots", "line = ?1"): "lots_of_line (line=?)",
+    ("lots", "notice = ?1"): "sqlite_autoindex_lots_1 (notice=?)",
+    ("envelopes", "notice = ?1"): "envelopes_of_notice (notice=?)",
+    ("envelopes", "notice = ?1 AND lot = ?2"): "envelopes_of_notice (notice=? AND lot=?)",
+    ("envelopes", "notice = ?1 AND lot = ?2 AND tenderer = ?3"): "envelopes_of_notice (notice=? AND lot=? AND tenderer=?)",
+    ("securities", "notice = ?1"): "securities_of_notice (notice=?)",
+    # (those of a lot are sought among those of its notice)
+    ("securities", "notice = ?1 AND lot = ?2"): "securities_of_notice (notice=?)",
+    ("awards", "notice = ?1"): "awards_of_notice (notice=?)",
+    ("contracts", "notice = ?1"): "contracts_of_notice (notice=?)",
+    ("entries", "contract = ?1"): "sqlite_autoindex_entries_1 (contract=?)",
+    ("releases", "notice = ?1"): "sqlite_autoindex_releases_1 (notice=?)",
+}
+KINDS = {"INTEGER": ["'a'", "1.5", "x'00'"], "TEXT": ["x'00'"], "BLOB": ["'a'", "1", "1.5"]}
+
+
+def may_be_null(column):
+    return column[-1] == "NULL"
+
+
+def is_rowid(table):
+    key, columns = TABLES[table]
+    return len(key) == 1 and columns[key[0]][0] == "INTEGER"
+
+
+class File:
+    """An office's file that the program made."""
+
+    def __init__(self, program, folder):
+        self.path = str(folder / "office.db")
+        ledger_of(program, self.path)
+
+    def ask(self, script):
+        """The lines that sqlite3 prints for a script; a statement that it refuses is skipped."""
+        return sqlite(self.path, script, may_fail=True)
+
+    def takes(self, table, rows):
+        """Which of these lists of rows, each put alone, the table takes whole."""
+        names = ", ".join(TABLES[table][1])
+        puts = [[f"INSERT INTO {table} ({names}) VALUES ({', '.join(row)});" for row in some] for some in rows]
+        script = "\n".join(f"BEGIN; DELETE FROM {table};\n" + "\n".join(put) + f"\nSELECT count(*) = {len(put)} FROM {table}; ROLLBACK;" for put in puts)
+        told = self.ask(script)
+        assert len(told) == len(rows)
+        return [it == "1" for it in told]
+
+    def judges(self, table, wanted):
+        """Each row, by its column and value, is accepted or refused as expected."""
+        told = self.takes(table, [[with_value(table, name, value)] for name, value, _ in wanted])
+        assert [(*it[:2], taken) for it, taken in zip(wanted, told)] == wanted
+
+
+@pytest.fixture(scope="module")
+def file(program, tmp_path_factory):
+    return File(program, tmp_path_factory.mktemp("schema"))
+
+
+def base(table):
+    """A row that the table takes."""
+    return {name: column[1][0] for name, column in TABLES[table][1].items()}
+
+
+def with_value(table, name, value):
+    """The same row with another value in one column."""
+    return list((base(table) | {name: value}).values())
+
+
+each_table = pytest.mark.parametrize("table", TABLES)
+
+
+@each_table
+def test_table(file, table):
+    """Its columns, the kinds of their values, its key, and which columns may be NULL."""
+    key, columns = TABLES[table]
+    places = {name: key.index(name) + 1 if name in key else 0 for name in columns}
+    wanted = [f"{at}|{name}|{column[0]}|{0 if may_be_null(column) else 1}||{places[name]}" for at, (name, column) in enumerate(columns.items())]
+    assert file.ask(f"PRAGMA table_info({table});") == wanted
+
+
+def test_tables(file):
+    """There are these tables and indexes, and all tables are STRICT."""
+    assert file.ask("SELECT name FROM pragma_table_list WHERE schema = 'main' AND strict = 1 ORDER BY name;") == sorted(TABLES)
+    assert file.ask("SELECT name FROM sqlite_master WHERE name NOT LIKE 'sqlite!_%' ESCAPE '!' ORDER BY name;") == sorted([*TABLES, *INDEXES])
+    for index, (table, columns) in INDEXES.items():
+        told = file.ask(f"SELECT tbl_name FROM sqlite_master WHERE name = '{index}'; SELECT name FROM pragma_index_info('{index}') ORDER BY seqno;")
+        assert told == [table, *columns]
+
+
+@each_table
+def test_bounds(file, table):
+    """A column accepts the least and the most that its record has, and each word. It refuses one below, one above, another word, and, if need be, NULL."""
+    key, columns = TABLES[table]
+    wanted = []
+    for name, column in columns.items():
+        wanted += [(name, value, True) for value in column[1]] + [(name, value, False) for value in column[2]]
+        # SQLite chooses a rowid for NULL, so the table accepts it.
+        if may_be_null(column) or not (is_rowid(table) and name in key):
+            wanted.append((name, "NULL", may_be_null(column)))
+    file.judges(table, wanted)
+
+
+@each_table
+def test_kinds(file, table):
+    """No column accepts a value of another kind."""
+    file.judges(table, [(name, value, False) for name, column in TABLES[table][1].items() for value in KINDS[column[0]]])
+
+
+@each_table
+def test_key(file, table):
+    """No two rows have the same key. A key that is a number is the rowid."""
+    key, columns = TABLES[table]
+    one = list(base(table).values())
+    others = [with_value(table, name, columns[name][1][1]) for name in key]
+    assert file.takes(table, [[one, one], *([one, other] for other in others)]) == [False] + [True] * len(key)
+    if is_rowid(table):
+        same = file.ask(f"BEGIN; INSERT OR REPLACE INTO {table} VALUES ({', '.join(one)}); SELECT min(rowid = {key[0]}) FROM {table}; ROLLBACK;")
+        assert same == ["1"]
+
+
+# ---- Queries.
+
+def asked():
+    """The queries and the deletions in the program's sources."""
+    sources = [path.read_text(encoding="utf-8") for name in ("office_tables", "office_ledger", "office_store")
+               for path in sorted(Path(ROOT, "crates", name, "src").rglob("*.rt"))]
+    return sorted({it for source in sources for it in re.findall(r'"((?:SELECT|DELETE) [^"]*)"', source)})
+
+
+def step_of(table, test, columns):
+    """How a query of one table with this test is answered. `columns`: those of a SELECT, or nothing."""
+    key = TABLES[table][0]
+    # An index that has all columns of the table, or all that are asked for, answers alone.
+    index = "COVERING INDEX" if key == list(TABLES[table][1]) or (columns and set(columns) <= set(key)) else "INDEX"
+    if (table, test) in BY_INDEX:
+        by = BY_INDEX[table, test]
+        return f"SEARCH {table} USING {index if by.startswith('sqlite_autoindex_') else 'INDEX'} {by}"
+    assert test == " AND ".join(f"{name} = ?{at + 1}" for at, name in enumerate(key)), "a query that isn't listed"
+    by = ROWID if is_rowid(table) else f"{index} {KEY.format(table, ' AND '.join(f'{name}=?' for name in key))}"
+    return f"SEARCH {table} USING {by}"
+
+
+@pytest.mark.parametrize("query", asked())
+def test_query(file, query):
+    """`EXPLAIN QUERY PLAN` uses the key or the index that is listed here."""
+    steps = [line.lstrip(" |`-") for line in file.ask(f"EXPLAIN QUERY PLAN {query};") if line != "QUERY PLAN"]
+    plain = re.fullmatch(r"(?:SELECT (.*)|DELETE) FROM (\w+) WHERE (.*?)(?: ORDER BY .*)?", query)
+    first = re.fullmatch(r"SELECT .* FROM (\w+) ORDER BY (\w+) LIMIT \?1", query)
+    if "JOIN" in query:
+        # Each table that is joined is searched, and that of one line's lots too.
+        for table in re.findall(r"LEFT JOIN (\w+)", query) + (["lots"] if "WHERE" in query else []):
+            assert any(step.startswith(f"SEARCH {table} USING ") for step in steps), steps
+    elif plain:
+        # A page isn't sorted.
+        assert steps[:None if "LIMIT" in query else 1] == [step_of(plain[2], plain[3], (plain[1] or "").split(", "))]
+    elif first:
+        # The first page isn't either: the key's index begins it and LIMIT ends it.
+        assert TABLES[first[1]][0] == [first[2]] and steps == [f"SCAN {first[1]} USING INDEX sqlite_autoindex_{first[1]}_1"]
+    else:
+        # The ledger's lines, the version, and the rows that a migration reads and drops whole.
+        whole = ("SCAN lines USING INDEX sqlite_autoindex_lines_1", "SCAN office", "SCAN notices USING INDEX sqlite_autoindex_notices_1")
+        assert steps[0].startswith(whole) if steps else query.startswith("DELETE FROM")
+
+
+def test_queries_are_found():
+    assert len(asked()) > 20
+
+
+# ---- docs/TABLES.md.
+
+def sections():
+    """The rows of each table of columns, as cells, by the name of the table."""
+    found = {}
+    for part in Path(ROOT, "docs", "TABLES.md").read_text(encoding="utf-8").split("\n## ")[1:]:
+        head, _, *rows = [[cell.strip() for cell in line.split("|")[1:-1]] for line in part.split("\n") if line.startswith("|")]
+        assert head == ["Column", "Type", "Key", "Unit", "Meaning"]
+        found[part.partition("\n")[0]] = rows
+    return found
+
+
+def test_dictionary(file):
+    """docs/TABLES.md has each table of the file."""
+    assert sections().keys() == TABLES.keys()
+
+
+@each_table
+def test_dictionary_of(file, table):
+    """docs/TABLES.md has each column in order. Type, place in the key, whether it may be NULL, and the words of a column are those of the file."""
+    rows, columns = sections()[table], [line.split("|") for line in file.ask(f"PRAGMA table_info({table});")]
+    wanted = [(name, kind, key if key != "0" else "", needed == "0") for _, name, kind, needed, _, key in columns]
+    assert [(name, kind, key, unit.endswith("or empty")) for name, kind, key, unit, _ in rows] == wanted
+    assert all(unit and meaning for *_, unit, meaning in rows)
+    made = "\n".join(file.ask(f"SELECT sql FROM sqlite_master WHERE name = '{table}';"))
+    for name, _, _, unit, meaning in rows:
+        words = re.search(rf"\({name} IN \(([^)]*)\)", made)
+        assert bool(words) == unit.startswith("word")
+        if words and not meaning.startswith("as in"):
+            assert set(re.findall("'([a-z]+)'", words[1])) == set(re.findall("`([a-z]+)`", meaning))

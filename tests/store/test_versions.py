@@ -1,0 +1,248 @@
+"""Files of earlier programs open to their own content, in version 2. Files that can't, or that are no version 2 as they claim, are refused and stay unchanged.
+
+The files are those of tests/version_1, the first of them as the program itself left it (version_1.db.xz), and an older one of crates/tests_of_stores, which
+has no table of late withdrawals. Some have tables of other software beside them. Each row of each table is unchanged, except for notices: they are in
+`notices_2`, with no performance security required. Queries are answered as tools/audit computes it from the rows. If PROCURE_1 names a program of version 1,
+it must refuse a file that ours migrated.
+"""
+import json
+import lzma
+import os
+import re
+import sqlite3
+import subprocess
+import time
+from contextlib import closing
+from pathlib import Path
+
+import pytest
+
+from office_kit.audit import looks as audit_looks
+from office_kit.audit.office import Office
+from office_kit.client import Client, Port, data_of
+from office_kit.common import ROOT
+from office_kit.store import pages
+from office_kit.store.files import REFUSED, VERSION_1, ledger_of, printed, rows_of, told
+from office_kit.store.life import Life, key_of, offer, part
+from office_kit.store.served import Serving
+
+pytestmark = [pytest.mark.time, pytest.mark.budget(90)]
+STORES = Path(ROOT, "crates", "tests_of_stores", "src")
+TEXT = re.compile(r'pub const (\w+): &str =\s*(?:r##"(.*?)"##|("(?:[^"\\]|\\.)*"));', re.S)
+EARLIER = os.environ.get("PROCURE_1")
+# Tables of others, whose foreign keys lead to one another and to tables that a migration leaves as they are; an index, a view and a trigger of theirs.
+OTHERS = """CREATE TABLE audits (audit INTEGER PRIMARY KEY, title TEXT NOT NULL);
+CREATE TABLE findings (audit INTEGER NOT NULL REFERENCES audits ON DELETE CASCADE, finding TEXT NOT NULL);
+CREATE INDEX findings_of_audit ON findings (audit);
+INSERT INTO audits VALUES (1, 'first'), (2, 'second');
+INSERT INTO findings VALUES (1, 'none'), (2, 'late'), (2, 'paid twice');
+CREATE TABLE owners (line TEXT NOT NULL REFERENCES lines ON DELETE CASCADE, owner TEXT NOT NULL);
+INSERT INTO owners SELECT line, 'Ada' FROM lines;
+CREATE VIEW late AS SELECT audit FROM findings WHERE finding = 'late';
+CREATE TABLE notes (text TEXT NOT NULL);
+INSERT INTO notes VALUES ('a');
+CREATE TRIGGER noted AFTER INSERT ON notes BEGIN UPDATE notes SET text = 'seen'; END;
+"""
+# Obstacles to version 2.
+IN_THE_WAY = {
+    "a foreign key to the notices": "CREATE TABLE remarks (notice TEXT NOT NULL REFERENCES notices, remark TEXT NOT NULL);"
+                                    "INSERT INTO remarks SELECT notice, 'seen' FROM notices;",
+    "rows that would go with the notices": "CREATE TABLE remarks (notice TEXT NOT NULL REFERENCES Notices ON DELETE CASCADE, remark TEXT NOT NULL);"
+                                           "INSERT INTO remarks SELECT notice, 'seen' FROM notices;",
+    "a column that would be emptied": "CREATE TABLE remarks (notice TEXT REFERENCES notices ON DELETE SET NULL, remark TEXT NOT NULL);"
+                                      "INSERT INTO remarks SELECT notice, 'seen' FROM notices;",
+    "rows that would go with the version": "CREATE TABLE remarks (version INTEGER REFERENCES office ON DELETE CASCADE); INSERT INTO remarks VALUES (1);",
+    "a view of the notices": "CREATE VIEW titles AS SELECT title FROM main.[Notices];",
+    "a trigger on the lots": "CREATE TRIGGER seen AFTER UPDATE ON lots BEGIN SELECT 1; END;",
+    "no table of securities": "DROP TABLE securities;",
+    "a column more in the seals": "ALTER TABLE seals ADD COLUMN place TEXT;",
+    "a table of the name performance": "CREATE TABLE performance (play TEXT NOT NULL); INSERT INTO performance VALUES ('Hamlet');",
+    "a view of the name notices_2": "CREATE VIEW notices_2 AS SELECT notice FROM notices;",
+    "an index of the name late_rules": "CREATE TABLE rules (rule TEXT NOT NULL); CREATE INDEX late_rules ON rules (rule);",
+    "a notice in a state that is none": "PRAGMA ignore_check_constraints = ON; UPDATE notices SET state = 'closed';",
+    "a clock past its last moment": "PRAGMA ignore_check_constraints = ON; UPDATE office SET moment = 4102444800;",
+}
+
+
+def texts_of(file):
+    """The texts of a file of constants, by their names."""
+    return {name: raw or json.loads(text) for name, raw, text in TEXT.findall((STORES / file).read_text(encoding="utf-8"))}
+
+
+def text_of(name):
+    return (VERSION_1 / name).read_text(encoding="utf-8")
+
+
+def earliest(more=""):
+    """The statements that make the file from before late withdrawals, and its ledger."""
+    texts = texts_of("earlier_file.rt")
+    return texts["EARLIER_TABLES"] + texts["EARLIER_ROWS"] + texts["EARLIER_LOTS"] + more, texts["EARLIER_LEDGER"]
+
+
+# The files: the statements that make each, or its bytes, and its ledger.
+KEPT = {
+    "before late withdrawals": earliest,
+    "before late withdrawals, beside tables of others": lambda: earliest(OTHERS),
+    **{path.stem: lambda name=path.stem: (text_of(f"{name}.sql"), text_of(f"{name}.ledger")) for path in sorted(VERSION_1.glob("*.sql"))},
+    "version_1.db.xz": lambda: (lzma.decompress((VERSION_1 / "version_1.db.xz").read_bytes()), text_of("running.ledger")),
+}
+
+
+def made(path, content, size=pages.FORMER):
+    """Makes a file of statements, in pages of this size, or of bytes."""
+    if isinstance(content, bytes):
+        path.write_bytes(content)
+    else:
+        with closing(sqlite3.connect(path)) as base:
+            base.executescript(f"PRAGMA page_size = {size}; PRAGMA journal_mode = WAL; {content}")
+    return str(path)
+
+
+def dump(path):
+    """The statements that make all of a file."""
+    with closing(sqlite3.connect(path)) as base:
+        return list(base.iterdump())
+
+
+@pytest.mark.parametrize("name", ["running", "ten"])
+def test_copies(name, tmp_path):
+    """The constants of crates/tests_of_stores make the same rows as the files here."""
+    texts, upper = texts_of("first_files.rt"), name.upper()
+    ours = made(tmp_path / "ours.db", text_of(f"{name}.sql"))
+    theirs = made(tmp_path / "theirs.db", texts["FIRST_TABLES"] + texts[f"{upper}_ROWS"] + texts[f"{upper}_LOTS"])
+    assert rows_of(ours) == rows_of(theirs)
+    assert text_of(f"{name}.ledger") == texts[f"{upper}_LEDGER"]
+
+
+def line_of(row):
+    """The line that is printed of a notice of the list."""
+    names = ("notice", "state", "published", "deadline", "opened", "amendments", "releases", "title")
+    return "\t".join("-" if row[name] is None else str(row[name]) for name in names) + "\n"
+
+
+def try_looks(program, path, folder):
+    """The list of notices, and the terms and evaluation of each, are answered and printed as tools/audit makes them of the rows."""
+    audited = Office(path, str(folder))
+    notices, rows = audited.notices(), audit_looks.listed_of(audited)
+    evaluations = {it: audit_looks.evaluation_of(audited, it) for it in notices}
+    with Serving(program, str(folder)) as serve:
+        looks = Client(Port(serve(path, stdout=subprocess.DEVNULL).port, strict=False), key_of)
+        assert looks.notices().value() == {"next": None, "notices": [rows[it] for it in notices]}
+        for notice in notices:
+            assert looks.terms(notice).value() == audit_looks.terms_of(audited, notice)
+            answer = looks.evaluation(notice)
+            assert (answer.body.decode() if answer.status == 200 else answer["name"]) == (evaluations[notice] or "NotOpened")
+    assert printed(program, path, "notices").stdout == "".join(line_of(rows[it]) for it in notices)
+    for notice, text in evaluations.items():
+        assert told(printed(program, path, "evaluation", notice)) == ((0, text, "") if text else (1, "", "procure: NotOpened\n"))
+
+
+# (A file that is kept as bytes has its own page size.)
+@pytest.mark.parametrize("name, size", [(name, size) for name in KEPT for size in pages.SIZES if size == pages.FORMER or not name.endswith(".xz")])
+def test_opened(program, name, size, tmp_path):
+    """Each file is opened twice. The first time a line says that it was migrated. Then it is queried."""
+    content, ledger = KEPT[name]()
+    path = made(tmp_path / "office.db", content, size)
+    before = rows_of(path)
+    (_, *clock), = before["office"]
+    later = {"late_rules": [], "performance": [], **before, "notices": [], "notices_2": [(*row, 0) for row in before["notices"]], "office": [(2, *clock)]}
+    for line in (f"procure: an office of version 1 in {path} was migrated to version 2\n", ""):
+        assert told(printed(program, path)) == (0, ledger, line)
+        assert rows_of(path) == later
+    try_looks(program, path, tmp_path)
+    pages.check_size(path, size)
+
+
+class Migrated(Life):
+    """The office of tests/version_1/running.sql, in version 2: a contract of 750 of which 300 are paid, and nothing else."""
+
+    def __init__(self, port):
+        super().__init__(Port(port))
+        self.looks = Client(Port(port, strict=False), key_of)
+
+    def has_line(self, **pots):
+        shown = {"appropriation": 1000, "contracted": 0, "free": 0, "line": "1000", "paid": 0, "reserved": 0, "title": "Roads", **pots}
+        assert self.looks.line("1000").body == data_of(shown)
+
+    def has_security(self, contract, who, status, body):
+        answer = self.looks.performance_security(who, contract)
+        assert (answer.status, answer.body) == (status, data_of(body))
+
+    def has_looks(self):
+        """The notice as it is shown in the list, in its terms, in its evaluation and with its contract."""
+        terms, seen = self.looks.terms("N1"), self.looks.contract_seen("T1", 1)
+        assert [terms[name] for name in ("late_withdrawal", "performance", "price_weight", "state")] == ["refused", 0, None, "opened"]
+        assert terms["lots"][0]["items"] == [{"id": "I1", "quantity": 1, "title": "Paving"}]
+        assert [(it["notice"], it["releases"], it["state"]) for it in self.looks.notices()["notices"]] == [("N1", 6, "opened")]
+        lines = self.looks.evaluation("N1").body.decode().split("\n")
+        assert (lines[:2], lines[-3:]) == (["EVALUATION\tN1", "lot\tL1\tcontracted"], ["award\t1\t1\t700\tsigned", "END", ""])
+        assert [seen[name] for name in ("how", "outstanding", "paid", "released", "signed")] == [None, 450, 300, 0, 700]
+
+    def settle(self):
+        """Queries the office, and ends its contract."""
+        self.has_line(free=250, contracted=450, paid=300)
+        self.has_looks()
+        for who in ("clerk", "T1"):
+            self.has_security(1, who, 404, {"name": "NoSuch", "refusal": 9, "what": "security"})
+        ended = self.end(1)
+        assert (ended["contract"], ended["outstanding"], ended["release"]) == (1, 0, 7)
+        self.has_line(free=700, paid=300)
+
+    def begin(self):
+        """Publishes another notice, makes a contract of it, and ends that."""
+        self.announce("N2", self.deadline, part("L1", "1000", 500, 0), performance=70)
+        self.submit("A", "T1", "N2", "L1", offer(20, 30))
+        self.wait()
+        self.open("N2")
+        self.judge("A")
+        contract = self.contract_of(self.award_of("N2", "L1"), security=70)
+        held = {"amount": 70, "contract": 2, "reference": "P2", "state": "held", "tenderer": "T1"}
+        self.has_security(contract, "T1", 200, held)
+        self.end(contract, "default")
+        self.has_security(contract, "clerk", 200, {**held, "state": "forfeited"})
+
+
+def test_served(program, size, tmp_path):
+    """The office of a running contract is served. Its contract is ended, and another procurement is done, with a security. The audit finds nothing."""
+    path = made(tmp_path / "office.db", text_of("running.sql"), size)
+    (_, moment, *_), = rows_of(path)["office"]
+    with Serving(program, str(tmp_path)) as serve:
+        port = serve(path, stdout=subprocess.DEVNULL).port
+        Migrated(port).settle()
+        assert time.time() > moment, "this machine's clock is before the office's"
+        Migrated(port).begin()
+    assert ledger_of(program, path) == "LEDGER\nline\tappropriation\tfree\treserved\tcontracted\tpaid\n1000\t1000\t700\t0\t0\t300\n"
+    rows = rows_of(path)
+    assert ([row[0] for row in rows["office"]], rows["notices"], rows["performance"]) == ([2], [], [(2, "P2", 70, "forfeited")])
+    assert sorted((row[0], row[-1]) for row in rows["notices_2"]) == [("N1", 0), ("N2", 70)]
+    audit = subprocess.run([os.path.join(ROOT, "tools", "audit"), path], capture_output=True, text=True)
+    assert audit.returncode == 0, audit.stdout + audit.stderr
+    pages.check_size(path, size)
+
+
+@pytest.mark.parametrize("what", IN_THE_WAY)
+def test_refused(program, what, size, tmp_path):
+    path = made(tmp_path / "office.db", earliest(IN_THE_WAY[what])[0], size)
+    before = dump(path)
+    assert told(printed(program, path)) == REFUSED
+    assert dump(path) == before
+
+
+@pytest.mark.parametrize("table", ["late_rules", "notices_2", "performance"])
+def test_version_2_without_a_table(program, table, size, tmp_path):
+    """The program doesn't make the table of a file that claims version 2."""
+    path = made(tmp_path / "office.db", earliest()[0], size)
+    ledger_of(program, path)
+    with closing(sqlite3.connect(path)) as base:
+        base.executescript(f"DROP TABLE {table};")
+    before = dump(path)
+    assert told(printed(program, path)) == REFUSED
+    assert dump(path) == before
+
+
+if EARLIER:
+    def test_an_earlier_program(program, tmp_path):
+        path = made(tmp_path / "office.db", earliest()[0])
+        ledger, before = ledger_of(program, path), dump(path)
+        assert told(printed(EARLIER, path)) == REFUSED
+        assert dump(path) == before and ledger_of(program, path) == ledger
