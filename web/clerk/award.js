@@ -34,7 +34,7 @@ function undecided(notice, lot, again) {
   const { stage, currency } = notice;
   const outlook = outlookOf(lot);
   const isOver = stage.isExpired && outlook.code !== "nobody";
-  const award = button(say("award.send"), () => sendThen(awardOrder(notice, lot, outlook), again));
+  const award = button(say(outlook.code === "nobody" ? "award.nobody.send" : "award.send"), () => sendThen(awardOrder(notice, lot, outlook), again));
   award.disabled = outlook.code === "waits" || isOver;
   const lacking = element("p", { class: "wrong", role: "status" });
   if (outlook.code === "best" && outlook.tender.corrected > lot.reserved) {
@@ -56,8 +56,11 @@ async function tellLacking(lot, more, currency, award, place) {
 
 /** The result of an award, as a sentence. */
 function outlookText(lot, { code, count = 0, tender }, currency) {
-  const values = { count, lot: lot.id, name: given(tender?.name ?? ""), price: tender ? money(tender.corrected, currency) : "" };
-  return sayParts(`award.${code}`, values);
+  const values = { count, lot: lot.id, name: given(tender?.name ?? ""), price: tender ? money(tender.corrected, currency) : "",
+    freed: money(lot.reserved, currency) };
+  const isAlone = code === "nobody" && lot.tenders.length === 0;
+  return [...sayParts(isAlone ? "award.none" : `award.${code}`, values),
+    ...(code === "nobody" && !isAlone && lot.security > 0 ? [" ", say("award.securities")] : [])];
 }
 
 function awardOrder(notice, lot, outlook) {
@@ -65,9 +68,18 @@ function awardOrder(notice, lot, outlook) {
   const told = element("span", {}, outlookText(lot, outlook, currency));
   const standstill = notice.terms.standstill_days > 0 ? [say("award.standstill")] : [];
   const more = outlook.code === "best" ? [moneyText(lot, outlook.tender, currency), ...standstill] : [];
-  const values = { lot: lot.id, notice: name, name: outlook.tender?.name ?? (outlook.code === "nobody" ? say("award.nobody.name") : "…") };
-  return { kind: "award", values, path: `/notices/${name}/lots/${lot.id}/award`, body: null, isFinal: true,
+  const isNobody = outlook.code === "nobody";
+  const values = { lot: lot.id, notice: name, ...(isNobody ? {} : { name: outlook.tender?.name ?? "…" }) };
+  return { kind: isNobody ? "endlot" : "award", values, told: (value) => awardText(lot, value, currency),
+    path: `/notices/${name}/lots/${lot.id}/award`, body: null, isFinal: true,
     says: [told, ...more], again: "AlreadyDecided", find: () => ofRelease(name, releases.length, own.award(lot.id)) };
+}
+
+/** The result of an award by the office's answer. */
+function awardText(lot, { tender: receipt, price }, currency) {
+  const winner = lot.tenders.find((one) => one.receipt === receipt);
+  return winner ? say("order.award.done", { lot: lot.id, name: winner.name, price: money(price, currency), receipt: String(receipt) })
+    : say("order.endlot.done", { lot: lot.id, freed: money(lot.reserved, currency) });
 }
 
 function moneyText(lot, tender, currency) {

@@ -23,6 +23,13 @@ const COLUMNS = POTS.toReversed();
 // The titles of budget lines. Only a budget file changes them, so they are fetched once: nginx limits queries
 // per second. All lines are searched by the titles in the mirror's table, which can be some minutes old.
 const titles = new Map(), mirrored = new Map();
+// The currency of all amounts, from the mirror; "" if there is no mirror or no lot yet.
+let currency = "";
+
+/** A caption with the currency, if it is known. */
+function captionOf(name) {
+  return currency ? `${say(name)}. ${say("see.money.what", { currency })}` : say(name);
+}
 
 /** The title of a budget line, or null if it can't be fetched. */
 async function titleOf(name) {
@@ -33,7 +40,8 @@ async function titleOf(name) {
 }
 
 export async function drawBudget(again) {
-  const [lines, known] = await Promise.all([ledger(caller()), tableOf("budget").catch(() => null)]);
+  const [lines, known, lots] = await Promise.all([ledger(caller()), ...["budget", "lots"].map((name) => tableOf(name).catch(() => null))]);
+  currency = lots?.[0]?.currency ?? "";
   for (const { line: name, title: text } of known ?? []) {
     mirrored.set(name, text);
   }
@@ -61,7 +69,7 @@ function lineTable(lines) {
   const heads = [say("see.line"), say("see.appropriation"), ...COLUMNS.map((name) => say(`see.pot.${name}`)), say("budget.bar")];
   const rowOf = (one) => [titled(one.line), number(one.appropriation), ...COLUMNS.map((name) => number(one[name])),
     bar(`${say("see.line")} ${one.line}`, pots((kind) => one[kind]))];
-  return [searched(say("budget.search"), lines, wordsOf, (some) => growingTable(say("budget.table"), heads, some, rowOf, { figures: [1, 2, 3, 4, 5] })),
+  return [searched(say("budget.search"), lines, wordsOf, (some) => growingTable(captionOf("budget.table"), heads, some, rowOf, { figures: [1, 2, 3, 4, 5] })),
     sums(lines)];
 }
 
@@ -73,7 +81,7 @@ function wordsOf({ line: name }) {
 /** The sums over all budget lines, as long as a Number holds them exactly. */
 function sums(lines) {
   const all = pots((kind) => lines.reduce((sum, one) => sum + one[kind], 0));
-  return all.every(({ amount }) => Number.isSafeInteger(amount)) ? [element("p", { class: "quiet" }, say("budget.sums")), legend(all, "")] : [];
+  return all.every(({ amount }) => Number.isSafeInteger(amount)) ? [element("p", { class: "quiet" }, say("budget.sums")), legend(all, currency && ` ${currency}`)] : [];
 }
 
 /** A budget line's identifier, and its title when that has arrived. */
@@ -159,7 +167,7 @@ function changeTable(changes) {
     return [name, step(change.before.appropriation, change.appropriation), signed(difference), step(change.before.free, change.free), newTitle(change)];
   };
   return element("div", {}, searched(say("budget.search.changes"), changes, ({ id, title: text }) => `${id} ${text}`,
-    (some) => growingTable(say("budget.changes"), heads, some, rowOf, { figures: [1, 2, 3] })));
+    (some) => growingTable(captionOf("budget.changes"), heads, some, rowOf, { figures: [1, 2, 3] })));
 }
 
 /** The title that a budget line gets, after the one that it has, if that is another one. */

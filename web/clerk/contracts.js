@@ -50,7 +50,8 @@ function paymentsOf(contract) {
 
 function idFault(one, contract) {
   const typed = one.value();
-  return !isId(typed) ? say("id.wrong") : [...paymentsOf(contract), ...(contract.amendments ?? [])].some(({ id }) => id === typed) ? say("contract.used") : "";
+  const mended = typed.replace(/[^A-Za-z0-9_.-]+/g, "-").slice(0, 32);
+  return !isId(typed) ? (isId(mended) ? say("contract.id.wrong", { mended }) : say("contract.id.none")) : [...paymentsOf(contract), ...(contract.amendments ?? [])].some(({ id }) => id === typed) ? say("contract.used") : "";
 }
 
 /** A warning if a payment's number or amount was used before, or ''. `paid` are the payments of all contracts
@@ -67,8 +68,7 @@ function payPart(contracted) {
   if (outstanding === 0) {
     return element("p", {}, say("pay.nothing"));
   }
-  const most = say("pay.most", { amount: amount(outstanding) });
-  const [id, sum] = [idField(), amountField(most)];
+  const [id, sum] = [idField(), amountField(say("pay.most", { amount: amount(outstanding) }))];
   const warning = element("p", { class: "wrong", role: "status" });
   const here = (notice.compiled.contracts ?? []).flatMap((one) => paymentsOf(one).map((it) => ({ payment: it.id, contract: one.id })));
   let paid = here;
@@ -78,7 +78,8 @@ function payPart(contracted) {
   sum.input.addEventListener("input", warn);
   const run = () => {
     const units = unitsOf(sum);
-    if (areRight([[id, idFault(id, contract)], [sum, amountFault(units, outstanding, most)]])) {
+    const tooMuch = say("contract.over", { amount: amount(outstanding) });
+    if (areRight([[id, idFault(id, contract)], [sum, amountFault(units, outstanding, tooMuch)]])) {
       return sendThen(payOrder(contracted, { id: id.value(), amount: units }, warning.textContent), again);
     }
   };
@@ -97,7 +98,8 @@ function payOrder(contracted, body, warning) {
   const { contract, outstanding, amount } = contracted;
   const says = [say("pay.does", { amount: amount(body.amount), id: body.id }), say("pay.left", { amount: amount(outstanding - body.amount) }),
     ...(warning ? [element("span", { class: "wrong" }, warning)] : [])];
-  return orderOf(contracted, "pay", "pay", body, own.pay(contract.id, body.id), { says, isFinal: true, again: "Exists" });
+  const told = (value) => say("order.pay.done", { outstanding: amount(value.outstanding) });
+  return orderOf(contracted, "pay", "pay", body, own.pay(contract.id, body.id), { says, told, isFinal: true, again: "Exists" });
 }
 
 /** A raise takes free money of the budget line; a cut frees outstanding money. */
@@ -110,7 +112,7 @@ function changePart(contracted) {
   const run = () => {
     const units = unitsOf(sum);
     const most = kind.value() === "cut" ? outstanding : Infinity;
-    const tooMuch = say("pay.most", { amount: amount(outstanding) });
+    const tooMuch = say("contract.over", { amount: amount(outstanding) });
     if (areRight([[id, idFault(id, contract)], [sum, amountFault(units, most, tooMuch)], [why, lineText(why.value())]])) {
       return sendThen(changeOrder(contracted, { id: id.value(), kind: kind.value(), amount: units, rationale: why.value() }), again);
     }
@@ -130,7 +132,8 @@ function changeOrder(contracted, body) {
   const { contract, worth, amount } = contracted;
   const after = worth + (body.kind === "cut" ? -body.amount : body.amount);
   const says = [say(`change.does.${body.kind}`, { amount: amount(body.amount), after: amount(after) }), say("published.reason")];
-  return orderOf(contracted, "change", "amend", body, own.change(contract.id, body.id), { says, isFinal: true, again: "Exists" });
+  const told = (value) => say("order.change.done", { contract: contract.id, outstanding: amount(value.outstanding) });
+  return orderOf(contracted, "change", "amend", body, own.change(contract.id, body.id), { says, told, isFinal: true, again: "Exists" });
 }
 
 function endPart(contracted) {

@@ -92,7 +92,7 @@ export default {
   "budget.mend.past": "Weniger hinzufügen",
   "budget.mend.size": "Die Datei teilen: höchstens 65.536 Byte",
   "budget.mend.many": "Die Datei teilen: höchstens 500 Zeilen",
-  "editor.intro": "Nach der Veröffentlichung können Sie nur die Frist ändern. Nichts wird gesendet, bevor Sie es bestätigen. Der Entwurf bleibt in diesem Tab, auch nach dem Neuladen.",
+  "editor.intro": "Nach der Veröffentlichung können Sie nur die Frist ändern. Nichts wird gesendet, bevor Sie es bestätigen. Der Entwurf bleibt in diesem Tab, auch nach dem Neuladen, selbst wenn der Browser erst fragt.",
   "editor.fromearlier": "Eine frühere Bekanntmachung kopieren",
   "editor.take": "Bekanntmachung kopieren",
   "draft.former": "Ihr Entwurf wurde ersetzt, bevor er gespeichert war.",

@@ -33,7 +33,7 @@ function place() {
 }
 
 function around([page]) {
-  drawAround({ site: say("site"), foot: say("foot"), current: `#${page}`,
+  drawAround({ site: say("site"), foot: say(way() === "key" ? "foot" : "foot.name"), current: `#${page}`,
     pages: [...MENU.filter((name) => !FOR_ROLE[name] || may(FOR_ROLE[name])).map((name) => [`#${name}`, say(`page.${name}`)]), ["/", say("frame.public")]] });
   if (page !== "key") {
     keepPlace(location.hash);

@@ -92,7 +92,7 @@ export default {
   "budget.mend.past": "Add less",
   "budget.mend.size": "Divide the file: at most 65,536 bytes",
   "budget.mend.many": "Divide the file: at most 500 rows",
-  "editor.intro": "After publication you can change only the deadline. Nothing is sent before you confirm. The draft stays in this tab, also after a reload.",
+  "editor.intro": "After publication you can change only the deadline. Nothing is sent before you confirm. The draft stays in this tab, also after a reload, even if the browser asks first.",
   "editor.fromearlier": "Copy an earlier notice",
   "editor.take": "Copy the notice",
   "draft.former": "Your draft was replaced before it was saved.",

@@ -35,7 +35,9 @@ function answersOf(notice, lot, waiting, again) {
       again();
     }
   };
-  return [element("p", {}, say("examine.what")), parts.map(({ made }) => made), none, steps(button(say("examine.send"), run))];
+  const all = () => parts.filter((part) => part.answer() === "later").forEach((part) => part.meets());
+  return [element("p", {}, say("examine.what")), waiting.length === 1 ? null : [steps(button(say("examine.all"), all, "second")),
+    element("p", { class: "quiet" }, say("examine.all.what"))], parts.map(({ made }) => made), none, steps(button(say("examine.send"), run))];
 }
 
 /** A tender with its answers, and with the points for quality if points decide. */
@@ -61,7 +63,8 @@ function examination({ terms, stage: { byPoints }, currency }, one) {
   const points = () => (byPoints && own.answer === "yes" ? wholeNumber(own.quality, 0, most) : 0);
   return { made: element("div", { class: "examination", role: "group", "aria-label": say("examine.of", { name: one.name, receipt: String(one.receipt) }) },
     element("p", {}, element("b", {}, given(one.name)), " ", element("span", { class: "quiet below" }, told)), element("div", { class: "choices" }, answers),
-    byPoints ? quality.made : null), answer: () => own.answer, faults: () => [[quality, points() === null ? say("examine.quality.wrong", { most }) : ""]],
+    byPoints ? quality.made : null), answer: () => own.answer, meets: () => answers[0].querySelector("input").click(),
+    faults: () => [[quality, points() === null ? say("examine.quality.wrong", { most }) : ""]],
     given: () => ({ one, responsive: own.answer === "yes", ...(byPoints && own.answer === "yes" ? { quality: points() } : {}) }) };
 }
 

@@ -33,7 +33,7 @@ export async function drawLetter(again, name, lotId) {
 
 /** A letter to each tenderer of an opened lot; none while the lot is undecided. */
 function lettersOf(notice, lot) {
-  const tell = lot.active ? (one) => (isWinner(lot, one) ? won(notice, lot) : lost(notice, lot, one)) : endingOf(notice, lot);
+  const tell = lot.active ? (one) => (isWinner(lot, one) ? won(notice, lot, one) : lost(notice, lot, one)) : endingOf(notice, lot);
   return tell === null ? [] : lot.tenders.toSorted((one, other) => isWinner(lot, other) - isWinner(lot, one))
     .map((one) => letter(notice, lot, one, tell(one), !isWinner(lot, one)));
 }
@@ -42,10 +42,11 @@ function isWinner({ active }, { tenderer }) {
   return `T-${tenderer}` === active?.suppliers[0].id;
 }
 
-/** The sentences for the winner. */
-function won({ terms, currency }, { active, standstillUntil }) {
-  const required = terms.performance ? say("letter.performance", { amount: money(terms.performance, currency) }) : "";
-  return [sayParts("letter.won", { price: money(active.value.amount, currency), moment: moment(active.date) }), standstill(active, standstillUntil), required];
+/** The sentences for the winner, before or after the signing. */
+function won({ terms, currency }, { active, standstillUntil, state }, one) {
+  const required = terms.performance && state === "awarded" ? say("letter.performance", { amount: money(terms.performance, currency) }) : "";
+  return [sayParts("letter.won", { price: money(active.value.amount, currency), moment: moment(active.date) }), corrected(one, currency),
+    standstill(active, standstillUntil), required];
 }
 
 /** The sentences for the others. */
@@ -56,7 +57,12 @@ function lost({ currency, stage }, { active, standstillUntil, shown }, one) {
 }
 
 function ownPrice(one, currency) {
-  return one.reading === "priced" ? say("letter.own", { price: money(one.corrected, currency) }) : "";
+  return one.reading === "priced" ? [say("letter.own", { price: money(one.corrected, currency) }), corrected(one, currency)].filter(Boolean).join(" ") : "";
+}
+
+/** Why a price isn't the sum that the tender states. */
+function corrected({ stated, corrections }, currency) {
+  return corrections > 0 ? say("letter.corrected", { stated: money(stated, currency), count: corrections }) : "";
 }
 
 /** Makes the sentences for a lot that ended without a winner; null if it didn't. */

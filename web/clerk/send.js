@@ -17,7 +17,8 @@ const LONGEST_SHOWN = 6000;
 /** Shows an order and sends it. `kind` names its texts and `values` fill them; `says` lists what it will do;
  * `path` and `body` (bytes, or null) are sent. An `isFinal` order can't be undone and is confirmed by a
  * tick; one with a `word` by typing the word. `shows(leave)` makes more content; `leave` closes the window. An
- * `isSad` order isn't shown in green when it is done. `find` queries whether an unanswered order was done
+ * `isSad` order isn't shown in green when it is done. `told(answer)` makes the sentence of the result, if the
+ * text of the kind isn't enough. `find` queries whether an unanswered order was done
  * (true, false, or null if unknown). `again` is the refusal that proves it when the same request is sent
  * again; null if that would do it twice. An order with `orders` sends these one after another. Returns the
  * office's answer if it is done, else null. */
@@ -73,10 +74,15 @@ async function drawAsked(state) {
   const sure = confirmation(order);
   const sending = button(say(`order.${order.kind}.send`), () => (order.orders ? transmitAll(state) : transmit(state)), order.isFinal || order.word ? "harm" : "");
   sending.disabled = sure !== null;
-  sure?.input.addEventListener("input", () => { sending.disabled = !sure.isGiven(); });
+  const why = sure ? element("p", { id: "order-why", class: "quiet" }, say(order.word ? "order.why.word" : "order.why.tick")) : null;
+  sure?.input.addEventListener("input", () => {
+    sending.disabled = !sure.isGiven();
+    why.hidden = sure.isGiven();
+  });
+  sure && sending.setAttribute("aria-describedby", "order-why");
   const says = element("ul", {}, order.says.map((part) => element("li", {}, part)));
   const request = await (order.orders ? requestsShown(order.orders) : requestShown(order));
-  draw(state, says, [sending, closing(state, say("order.back"))], [order.shows?.(() => state.dialog.close()), sure?.made, request]);
+  draw(state, says, [sure?.made, why, sending, closing(state, say("order.back"))].filter(Boolean), [order.shows?.(() => state.dialog.close()), request]);
   // (a window with much to read begins at its top)
   (order.shows ? state.dialog.querySelector("h2") : sure?.input ?? sending).focus();
 }
@@ -130,8 +136,9 @@ async function transmitAll(state) {
   const list = element("ol", {}, parts.map((part) => element("li", {}, partText(part))));
   const unsent = orders.length - parts.length;
   state.value = done > 0 ? { done } : null;
-  draw(state, last.isDone ? note("good", say(`order.${kind}.done`, { count: done }), list)
-    : note("bad", say("order.stopped", { done, count: done }), list, unsent > 0 ? say("order.unsent", { count: unsent }) : "", say("order.stopped.do")), [closing(state)]);
+  draw(state, last.isDone ? note("good", say(`order.${kind}.done`, { count: done }), list, keptPart())
+    : note("bad", say("order.stopped", { done, count: done }), list, unsent > 0 ? say("order.unsent", { count: unsent }) : "", say("order.stopped.do"),
+      keptPart()), [closing(state)]);
   focusFirst(state);
 }
 
@@ -211,8 +218,14 @@ function folded(name, text, ...content) {
   return element("details", {}, element("summary", {}, name), element("pre", { tabindex: "0" }, text), content);
 }
 
+/** Says how to keep the journal. */
+function keptPart() {
+  return element("p", { class: "quiet" }, say("order.kept.save"));
+}
+
 function receipt(state, text) {
-  return [element("p", { class: "quiet" }, say("order.kept", { number: String(state.entry.number) })), text ? folded(say("order.answer"), text) : ""];
+  return [element("p", { class: "quiet" }, say("order.kept", { number: String(state.entry.number) })), keptPart(),
+    text ? folded(say("order.answer"), text) : ""];
 }
 
 /** When the office accepted a command: the moment in its answer, else by the server's clock. */
@@ -223,7 +236,8 @@ function takenIn({ entry }, value) {
 function drawDone(state, { value, answer }) {
   state.value = value;
   const { kind, values = {}, isSad = false } = state.order;
-  draw(state, note(isSad ? "look" : "good", say(`order.${kind}.done`, { ...values, ...flat(value), count: value.opened ?? 0 }),
+  const told = state.order.told?.(value) ?? say(`order.${kind}.done`, { ...values, ...flat(value), count: value.opened ?? 0 });
+  draw(state, note(isSad ? "look" : "good", told,
     takenIn(state, value), receipt(state, answer.text)), [closing(state)]);
   focusFirst(state);
 }

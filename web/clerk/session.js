@@ -134,8 +134,15 @@ if (Array.isArray(before?.draft?.lots)) {
 // (each view has an entry of its own)
 globalThis.addEventListener?.("hashchange", write);
 globalThis.addEventListener?.("pagehide", () => timer !== null && write());
+// A reload by its keys keeps the draft. It counts as one for so many milliseconds.
+const RELOAD = 1000;
+let reloaded = -RELOAD;
+globalThis.addEventListener?.("keydown", ({ key, ctrlKey, metaKey, timeStamp }) => {
+  reloaded = key === "F5" || ((ctrlKey || metaKey) && key.toLowerCase() === "r") ? timeStamp : reloaded;
+});
 globalThis.addEventListener?.("beforeunload", (event) => {
-  if (session.journal.entries.length > session.journal.saved || session.isUnsaved) {
+  const isDraftLost = session.isUnsaved && event.timeStamp >= reloaded + RELOAD;
+  if (session.journal.entries.length > session.journal.saved || isDraftLost) {
     event.preventDefault();
   }
 });

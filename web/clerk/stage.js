@@ -97,7 +97,7 @@ export function tasksOf(stage, now) {
 /** The groups of notices, the most urgent first: a date has passed; something is to be done now or within seven
  * days; later; and only to wait. */
 export const GROUPS = ["overdue", "week", "later", "waiting"];
-const OVERDUE = ["open", "sign", "expired"], NOW = ["examine", "award", "unsigned"], RUNNING = ["contract", "end"];
+const OVERDUE = ["open", "sign", "expired"], NOW = ["examine", "award", "endlot", "unsigned"], RUNNING = ["contract", "end"];
 
 /** The group of a notice by its tasks. */
 export function groupOf(stage, now) {
@@ -106,10 +106,10 @@ export function groupOf(stage, now) {
   return has(OVERDUE) ? "overdue" : has(NOW) || all.some(({ until }) => until < now + 7 * DAY) ? "week" : has(RUNNING) ? "later" : "waiting";
 }
 
-function tasksOfLot({ id, state, tenders, contract, standstillUntil, hasStandstill }, now) {
+function tasksOfLot({ id, state, tenders, shown, contract, standstillUntil, hasStandstill }, now) {
   if (state === "undecided") {
-    const waiting = tenders.filter(isWaiting).length;
-    return [waiting > 0 ? { code: "examine", lot: id, count: waiting } : { code: "award", lot: id }];
+    const { code, count } = outlookOf({ tenders, shown });
+    return [code === "waits" ? { code: "examine", lot: id, count } : { code: code === "nobody" ? "endlot" : "award", lot: id }];
   }
   if (state === "awarded") {
     return [{ code: !hasStandstill ? "unsigned" : now >= standstillUntil ? "sign" : "standstill", lot: id, until: standstillUntil }];

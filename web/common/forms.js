@@ -94,10 +94,11 @@ export function form(name, fields, text, act, kind = "") {
 export function drop(label, hint, take, { id = fresh("file"), ...attributes } = {}) {
   const input = element("input", { id, type: "file", "aria-describedby": `${id}-hint`, ...attributes });
   const made = element("div", { class: "drop" }, element("label", { for: id }, label), element("p", { id: `${id}-hint`, class: "quiet" }, hint), input);
+  // (The name of a file that was read stays in sight. The same file can be chosen again.)
+  input.addEventListener("click", () => { input.value = ""; });
   input.addEventListener("change", async () => {
     if (input.files.length > 0) {
       await take(input.files[0]);
-      input.value = "";
     }
   });
   for (const [kind, isOver] of [["dragover", true], ["dragleave", false], ["drop", false]]) {
@@ -109,6 +110,7 @@ export function drop(label, hint, take, { id = fresh("file"), ...attributes } = 
   made.addEventListener("drop", async (event) => {
     const [file] = event.dataTransfer?.files ?? [];
     if (file) {
+      input.files = event.dataTransfer.files;
       await take(file);
     }
   });

@@ -80,6 +80,8 @@ export function showViews({ place, around, view, site, back = () => null }) {
     const turn = turns;
     const where = place();
     const { hash } = location;
+    // The previous view stays in sight, and nothing of it can be pressed or typed into.
+    main.inert ||= isMoved;
     drawLanguages(() => show(false));
     await around(where);
     byId("status").textContent = say("frame.asking");
@@ -111,6 +113,7 @@ function put({ content, told, title: name, isSheet = false }, sentence, isWrong)
   document.body.classList.toggle("one-sheet", isSheet);
   main.replaceChildren(...content.flat(Infinity).filter(Boolean));
   main.setAttribute("aria-busy", "false");
+  main.inert = false;
   performance.mark("shown");
   // A result is visible in the view below, so it is only read out here; a completed action is shown too.
   byId("status").textContent = sentence || (told ?? name);

@@ -21,10 +21,11 @@ export function keyFile({ caller, key }) {
   return `Office-Caller: ${caller}\nOffice-Key: ${key}\n`;
 }
 
+/** Reads a key file. Prices that were typed without a key stay. */
 async function take(file, { redraw }) {
   const found = file.size <= 4096 ? keyIn(new TextDecoder().decode(await bytesOfFile(file))) : null;
   if (found) {
-    putAway();
+    session.caller && putAway();
     session.caller = found;
     session.registration.isSaved = session.registration.digest === await sha256(bytesOf(found.key));
   }
@@ -42,18 +43,24 @@ async function ask(where) {
       return;
     }
   }
-  where.replaceChildren(note("good", say("key.registered", { name: session.caller.caller }), link(say("offer.title"), "#offer", "button")));
+  where.replaceChildren(note("good", say("key.registered", { name: session.caller.caller })));
+}
+
+/** The place for the key file. */
+export function keyPlace(context) {
+  return drop(say("key.drop"), say("key.drop.hint"), (file) => take(file, context), { id: "key-file" });
 }
 
 function ofKey(context) {
   if (!session.caller) {
-    return [element("p", {}, say("key.drop.why")), drop(say("key.drop"), say("key.drop.hint"), (file) => take(file, context), { id: "key-file" }),
+    return [element("p", {}, say("key.drop.why")), keyPlace(context),
       element("details", {}, element("summary", {}, say("key.lost")), element("p", {}, say("key.lost.what")))];
   }
   const answer = element("div", { "aria-live": "polite" });
   return [note("good", say("key.there", { name: session.caller.caller }), say("key.there.why")),
     session.registration.isSaved ? element("p", { class: "right" }, say("key.saved")) : null, answer,
-    steps(button(say("key.ask"), () => ask(answer), "", say("key.asking")), button(say("key.away"), () => { putAway(); context.redraw(say("key.away.done")); }, "second"))];
+    steps(link(say("tenders.title"), "#tenders", "button"), link(say("offer.title"), "#offer", "button"),
+      button(say("key.ask"), () => ask(answer), "second", say("key.asking")), button(say("key.away"), () => { putAway(); context.redraw(say("key.away.done")); }, "second"))];
 }
 
 async function make(fields, context) {
@@ -104,6 +111,6 @@ export function drawKey(context) {
   const isMade = registration.digest !== "";
   return { title: say("key.title"), isSheet: isMade, content: [title(say("key.title")),
     isMade && !registration.isSaved ? note("look", say("key.dropMade", { file: `${registration.tenderer}.key` }), say("key.dropMade.why")) : null,
-    session.caller || isMade ? null : section(say("key.new"), ofMaking(context)), section(say("key.use"), ofKey(context)),
+    section(say("key.use"), ofKey(context)), session.caller || isMade ? null : section(say("key.new"), ofMaking(context)),
     isMade ? registrationSheet(context) : null] };
 }

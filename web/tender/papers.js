@@ -1,6 +1,6 @@
 // The reading of a tender's file at the opening, to the letter (crates/tender_papers/specs, Files and
-// Tender). This module decides; faults.js explains. It runs in node too: tests/tender_files compares it
-// with tools/check_tender, which is compared with the office.
+// Tender). This module decides; faults.js explains. It runs in node too:
+// tests/desks/test_tender_files.py compares it with `procure read-tender`.
 import { binaryOf, contentOf, numberOf, recordsOf } from "../common/csv.js";
 
 export const HEAD = ["item", "quantity", "unit", "total"];

@@ -1,6 +1,6 @@
 // Receipts: compared with the digest that this tab computed, printed and saved; and whether a file and a
 // receipt belong together.
-import { cityFile, letterhead, remedyOf } from "../common/city.js";
+import { cityFile, letterhead } from "../common/city.js";
 import { rows } from "../common/data.js";
 import { bytesOfFile, inGroups, sha256 } from "../common/digest.js";
 import { below, element, facts, given, link, placeOf, title } from "../common/draw.js";
@@ -65,11 +65,10 @@ async function sheetOf(sent, known) {
     firm.textContent = session.firm;
   });
   const head = element("h2", {}, say("receipt.sheet"));
-  const remedy = remedyOf(city);
   return [typed.made, sheet(letterhead(city), head, element("p", {}, element("b", {}, say("receipt.secret"))),
     factsOf({ ...receipt, tenderer: session.caller?.caller }, { ...known, firm, titled: given(terms.title), lotTitle: sent.lotTitle }),
     element("p", {}, say("receipt.digest")), element("p", { class: "code" }, inGroups(receipt.digest)),
-    element("p", { class: "quiet" }, say("receipt.guess")), remedy ? [element("h3", {}, say("receipt.remedy")), remedy] : null,
+    element("p", { class: "quiet" }, say("receipt.guess")),
     element("p", { class: "quiet" }, sourceOf()))];
 }
 

@@ -6,6 +6,7 @@ import { button, note, steps, table, tick } from "../common/forms.js";
 import { money, number } from "../common/money.js";
 import { Refused, modify, officeNow, ownTenders, present, security, sentenceOf, tender } from "../common/office.js";
 import { hasText, say } from "../common/texts.js";
+import { keyPlace } from "./key.js";
 import { deadlineOf, securityFaults, securityOf } from "./offer.js";
 import { drawReceipt } from "./receipt.js";
 import { keep, keptOf, noticeOf, readyOf, session } from "./session.js";
@@ -188,7 +189,7 @@ async function drawBefore(offer, { redraw }) {
   const where = element("div", { "aria-live": "polite" }, isOf ? sentPart(sent, redraw) : null);
   return { title: say("send.title"), content: [title(say("send.title")), where, what,
     ready ? readingTable(ready.reading, offer) : null, ready ? bytesPart(ready.bytes, digest) : null,
-    hindered.length > 0 ? hindered : isOf && sent.isGoing ? null : sendButton(offer, ready, digest, where, redraw)] };
+    hindered, session.caller ? null : keyPlace({ redraw }), hindered.length > 0 ? null : isOf && sent.isGoing ? null : sendButton(offer, ready, digest, where, redraw)] };
 }
 
 /** The view at `#send`: before the submission, or the receipt after it. */
@@ -200,5 +201,5 @@ export function drawSend(context) {
     return drawReceipt(session.sent);
   }
   return { title: say("send.title"), content: [title(say("send.title")), element("p", {}, say("send.nothing")),
-    element("p", {}, link(say("offer.title"), "#offer", "button"))] };
+    steps(link(say("tenders.title"), "#tenders", "button"), link(say("offer.title"), "#offer", "button second"))] };
 }

@@ -7,6 +7,7 @@ import { growingTable } from "../common/many.js";
 import { clock, money, moment } from "../common/money.js";
 import { Refused, notices, officeNow, security, sentenceOf, tender, withdraw } from "../common/office.js";
 import { hasText, say } from "../common/texts.js";
+import { keyPlace } from "./key.js";
 import { factsOf } from "./receipt.js";
 import { drawResults } from "./results.js";
 import { found, left, lookFirst, lookOn, planOf } from "./search.js";
@@ -72,14 +73,14 @@ function ask() {
   return made;
 }
 
-function withoutKey() {
-  return { title: say("tenders.title"), content: [title(say("tenders.title")), note("bad", say("who.none"), link(say("key.title"), "#key"))] };
+function withoutKey(context) {
+  return { title: say("tenders.title"), content: [title(say("tenders.title")), note("look", say("who.none"), link(say("key.title"), "#key")), keyPlace(context)] };
 }
 
 /** The view of all tenders. It is shown after the first queries, and grows with the results of the others. */
 export async function drawTenders({ redraw }) {
   if (!session.caller) {
-    return withoutKey();
+    return withoutKey({ redraw });
   }
   const [list, data] = await Promise.all([notices(), tables("notices", "tenders").catch(() => null)]);
   const plan = planOf(list, data, session.caller.caller, officeNow());
@@ -197,7 +198,7 @@ function securityPart(held, currency) {
 /** The view of one tender, always fetched again. */
 export async function drawTender({ redraw }, receipt) {
   if (!session.caller) {
-    return withoutKey();
+    return withoutKey({ redraw });
   }
   const found = await tender(receipt, session.caller);
   const [one, held] = await Promise.all([noticeOf(found.notice), found.security === null ? null : security(found.security, session.caller)]);
