@@ -226,17 +226,17 @@ pub fn print_from<S: Start, W: Write>(
     }
 }
 
-/// `serve_from` for `main`, over the computer's sockets and clock, with `Unknown`, of which no contract says anything unless the file is empty. The proof is that
-/// of `serve_from`, whose code is the same for every content of the files and for every network.
-pub fn serve_file(
+/// `serve_from` with `Unknown`, of which no contract says anything unless the file is empty. The proof is that of `serve_from`, whose code is the same for every
+/// content of the files. Whatever is left of the files is closed.
+pub fn serve_path<N: Network>(
     rt: &HostRuntime,
+    network: &N,
     settings: Settings,
     path: &str,
     port: u16,
     count: u32,
 ) -> Result<(), ProgramFault> {
-    let computer = Computer { network: rt };
-    match serve_from(rt, &computer, settings, path, Unknown, port, count) {
+    match serve_from(rt, network, settings, path, Unknown, port, count) {
         Ok((_files, served)) => served,
         Err((fault, store)) => {
             let_go(store);
@@ -245,7 +245,36 @@ pub fn serve_file(
     }
 }
 
-/// `print_from` for `main`, on the standard output.
+/// `serve_path` for `main`, over the computer's sockets and clock.
+pub fn serve_file(
+    rt: &HostRuntime,
+    settings: Settings,
+    path: &str,
+    port: u16,
+    count: u32,
+) -> Result<(), ProgramFault> {
+    let computer = Computer { network: rt };
+    serve_path(rt, &computer, settings, path, port, count)
+}
+
+/// `print_from` with `Unknown`, as `serve_path` serves.
+pub fn print_path<W: Write>(
+    rt: &HostRuntime,
+    settings: Settings,
+    path: &str,
+    printout: Printout,
+    output: &mut WatchedWriter<W>,
+) -> Result<(), ProgramFault> {
+    match print_from(rt, settings, path, Unknown, printout, output) {
+        Ok((_files, printed)) => printed,
+        Err((fault, store)) => {
+            let_go(store);
+            Err(fault)
+        }
+    }
+}
+
+/// `print_path` for `main`, on the standard output.
 pub fn print_file(
     rt: &HostRuntime,
     settings: Settings,
@@ -253,11 +282,5 @@ pub fn print_file(
     printout: Printout,
 ) -> Result<(), ProgramFault> {
     let mut output = WatchedWriter::new(rt.stdout());
-    match print_from(rt, settings, path, Unknown, printout, &mut output) {
-        Ok((_files, printed)) => printed,
-        Err((fault, store)) => {
-            let_go(store);
-            Err(fault)
-        }
-    }
+    print_path(rt, settings, path, printout, &mut output)
 }

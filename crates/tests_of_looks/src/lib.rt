@@ -22,6 +22,8 @@ mod read_files;
 #[cfg(test)]
 mod served;
 #[cfg(test)]
+mod served_files;
+#[cfg(test)]
 mod showing;
 #[cfg(test)]
 mod sockets;

@@ -1,6 +1,6 @@
 //! Sockets and a clock that a test defines, below the computer that serves an office. They record which address is asked for, how long a read and a write may
-//! wait, at which second a connection is answered, and the output.
-use crate::served::{BEGIN, CAME, TOLD, office};
+//! wait, at which second a connection is answered, and the output. (`served_files` serves an office in a file over them.)
+use crate::served::{BEGIN, CAME, TOLD, TOLD_LATER, office};
 use office_base::stored::StoredShelf;
 use office_http::office::Office;
 use office_store::shelf::SqlShelf;
@@ -17,9 +17,25 @@ use std::os::fd::{AsRawFd, RawFd};
 use std::rc::Rc;
 use std::time::{Clock, Duration};
 
+/// The day of an office: its first, or a later one.
+#[derive(Clone, Copy)]
+pub(crate) enum Day {
+    First,
+    Later,
+}
+
+// The output that is expected on a day.
+fn expected_on(day: Day) -> &'static [u8] {
+    match day {
+        Day::First => TOLD,
+        Day::Later => TOLD_LATER,
+    }
+}
+
 /// The calls of the sockets, and the output over them.
 #[derive(Clone, Copy)]
 struct Seen {
+    day: Day,
     /// The number of connections that were to be taken.
     taken: usize,
     /// How often a read was limited to ten seconds.
@@ -30,17 +46,10 @@ struct Seen {
     told: Option<usize>,
 }
 
-const NOTHING: Seen = Seen {
-    taken: 0,
-    reads: 0,
-    writes: 0,
-    told: Some(0),
-};
-
 // How much of the expected output is written after these bytes too.
-fn told_behind(told: Option<usize>, bytes: &[u8]) -> Option<usize> {
-    let told = told?;
-    let (_, left) = TOLD.split_at_checked(told)?;
+fn told_behind(seen: Seen, bytes: &[u8]) -> Option<usize> {
+    let told = seen.told?;
+    let (_, left) = expected_on(seen.day).split_at_checked(told)?;
     if left.starts_with(bytes) {
         Some(told.saturating_add(bytes.len()))
     } else {
@@ -70,7 +79,7 @@ fn rest_of(taken: usize, read: usize) -> Option<&'static [u8]> {
 /// A handle of a connection: how many were taken before it, and how many of its bytes were read. It holds no reference to these bytes, because the prover's
 /// borrow checker doesn't cover a bound on a type that holds one.
 #[derive(Drop)]
-struct Stream {
+pub(crate) struct Stream {
     number: usize,
     read: usize,
     seen: Rc<Cell<Seen>>,
@@ -90,7 +99,7 @@ impl Read for Stream {
 impl Write for Stream {
     fn write(&mut self, buf: &[u8]) -> io::Result<usize> {
         let mut seen = self.seen.get();
-        seen.told = told_behind(seen.told, buf);
+        seen.told = told_behind(seen, buf);
         self.seen.set(seen);
         Ok(buf.len())
     }
@@ -133,8 +142,30 @@ impl AsRawFd for Stream {
 
 /// The sockets of a computer, where one port is free, and its clock, which shows the last billionth of a second. They take the connections themselves.
 #[derive(Drop)]
-struct Sockets {
+pub(crate) struct Sockets {
     seen: Rc<Cell<Seen>>,
+}
+
+/// Sockets of a day over which nothing came yet. None if memory is too small.
+pub(crate) fn new_sockets(alloc: Global, day: Day) -> Option<Sockets> {
+    let nothing = Seen {
+        day,
+        taken: 0,
+        reads: 0,
+        writes: 0,
+        told: Some(0),
+    };
+    let seen = Rc::new(alloc, Cell::new(nothing)).ok()?;
+    Some(Sockets { seen })
+}
+
+/// Whether each of the three connections was answered after its limits for waiting were set. The one that can't be taken counts among the four.
+pub(crate) fn is_all_told(sockets: &Sockets) -> bool {
+    let seen = sockets.seen.get();
+    seen.taken == 4
+        && seen.reads == 3
+        && seen.writes == 3
+        && seen.told == Some(expected_on(seen.day).len())
 }
 
 impl OpenListener for Sockets {
@@ -217,19 +248,15 @@ fn is_served<H: StoredShelf + Drop>(
     is_refused && serve_at(alloc, &computer, office, 8083, 4).is_ok()
 }
 
-// Whether an office is served, and each of its three connections is answered after its limits for waiting are set. The connection that can't be taken counts.
+// Whether an office is served, and each of its connections is answered.
 fn serves_at_sockets<H: StoredShelf + Drop>(alloc: Global, shelf: H) -> bool {
-    let Ok(seen) = Rc::new(alloc, Cell::new(NOTHING)) else {
+    let Some(sockets) = new_sockets(alloc, Day::First) else {
         return false;
     };
     let Ok(mut office) = office(alloc, shelf) else {
         return false;
     };
-    let sockets = Sockets { seen };
-    let is_served = is_served(alloc, &sockets, &mut office);
-    let seen = sockets.seen.get();
-    let is_asked = seen.taken == 4 && seen.reads == 3 && seen.writes == 3;
-    is_served && is_asked && seen.told == Some(TOLD.len())
+    is_served(alloc, &sockets, &mut office) && is_all_told(&sockets)
 }
 
 // Generic in the store, so that the prover doesn't compare the facts about any store again at this one.
