@@ -1,5 +1,5 @@
 -- A command that was asked for is done as a whole, or nothing is done.
-use Rattle.std.specs.Prelude.{◌≡◌, ℕ, ◌⊎◌, List, Result, Ok, Err, IsErr, IfErr}
+use Rattle.std.specs.Prelude.{◌≡◌, ℕ, ◌⊎◌, true, List, Result, Ok, Err, IsErr, IfErr}
 use Rattle.std.proofs.Common.{ap, ◌∙◌, subst, inl, inr}
 use Rattle.office_commands.specs.declared.command.Caller.{Caller}
 use Rattle.office_commands.specs.declared.commands.Command.{Command}
@@ -13,6 +13,7 @@ use Rattle.office_publications.specs.Keeping.{KeepsItsReleases, next_with_merges
 use Rattle.office_plans.specs.Asking.{given}
 use Rattle.office_plans.specs.Plans.{Plan}
 use Rattle.office_plans.specs.Published.{IsPlan}
+use Rattle.office_desk.specs.MovedLines.{moved_lines_add_up}
 use Rattle.office_desk.specs.Steps.{Does, IsOfficeAfter}
 
 module _ {S : Type 0} (M : Meaning S) (publisher : Publisher) (moment : ℕ) (caller : Caller) (command : Command) where
@@ -25,6 +26,7 @@ module _ {S : Type 0} (M : Meaning S) (publisher : Publisher) (moment : ℕ) (ca
     all = λ honest t held keeps. tt;
     none = λ honest t held. kept.same honest t held;
     whole = λ honest t held. tt;
+    moved = λ honest t held. tt;
     stop_all = λ honest t held keeps. tt;
     stop_none = λ honest u left. inl (kept.stop honest u left);
     sound = λ honest was. kept.sound honest was;
@@ -32,7 +34,8 @@ module _ {S : Type 0} (M : Meaning S) (publisher : Publisher) (moment : ℕ) (ca
 
   -- The command was planned, and then carried out or not.
   module _ (old mid new : S) (planned : Plan) (kept : Keeps M old mid)
-      (plan : M.honest mid → (t : Tables) → M.holds old t → IsPlan publisher (given t moment caller command) planned) where
+      (plan : M.honest mid → (t : Tables) → M.holds old t → IsPlan publisher (given t moment caller command) planned)
+      (moved : M.honest mid → (t : Tables) → M.holds old t → moved_lines_add_up command t ≡ true) where
     next_is : (t : Tables) → IsPlan publisher (given t moment caller command) planned → KeepsItsReleases (given t moment caller command)
         → after_puts planned.puts t ≡ next_with_merges publisher (given t moment caller command)
     next_is t is keeps = ap (λ (ps : List Put). after_puts ps t) (is.put keeps).puts
@@ -45,6 +48,7 @@ module _ {S : Type 0} (M : Meaning S) (publisher : Publisher) (moment : ℕ) (ca
           (alters.all honest t (kept.same (alters.before honest) t held));
       none = λ honest t held. tt;
       whole = λ honest t held. (plan (alters.before honest) t held).whole;
+      moved = λ honest t held. moved (alters.before honest) t held;
       stop_all = λ honest t held keeps u left.
           alters.stop_all honest t (kept.same (alters.before honest) t held) u left ∙ next_is t (plan (alters.before honest) t held) keeps;
       stop_none = λ honest. tt;
@@ -55,6 +59,7 @@ module _ {S : Type 0} (M : Meaning S) (publisher : Publisher) (moment : ℕ) (ca
       all = λ honest t held keeps. tt;
       none = λ honest t held. alters.none honest t (kept.same (alters.before honest) t held);
       whole = λ honest t held. tt;
+      moved = λ honest t held. tt;
       stop_all = λ honest t held keeps. tt;
       stop_none = λ honest u left. stopped u (alters.before honest) (alters.stop_none honest u left);
       sound = λ honest was. alters.sound honest (kept.sound (alters.before honest) was);

@@ -1,5 +1,5 @@
 -- The answers of a desk: the specification's step, or `Unavailable` if memory is too small or the store fails.
-use Rattle.std.specs.Prelude.{◌≡◌, ℕ, false, ◌⊎◌, List, Option, ◌∷◌, Some, None, Result, Ok, Err, IfErr, OnOk, OnErr, Vec}
+use Rattle.std.specs.Prelude.{◌≡◌, ℕ, true, false, ◌⊎◌, List, Option, ◌∷◌, Some, None, Result, Ok, Err, IfErr, OnOk, OnErr, Vec}
 use Rattle.std.specs.declared.alloc.Global.{Global}
 use Rattle.office_commands.specs.declared.command.Caller.{Caller}
 use Rattle.office_commands.specs.declared.queries.Query.{Query}
@@ -27,6 +27,7 @@ use Rattle.office_publications.specs.Told.{HasReleases}
 use Rattle.office_plans.specs.Published.{accepted_reply}
 use Rattle.office_plans.specs.Replies.{reply_text, text_of}
 use Rattle.office_desk.specs.Balances.{LedgerAddsUp, LineAddsUp}
+use Rattle.office_desk.specs.MovedLines.{moved_lines_add_up}
 
 -- The text as the list of its bytes.
 abbrev pub read_text : Result (Vec ℕ Global) Refusal → Result (List ℕ) Refusal
@@ -43,13 +44,14 @@ abbrev pub IsOfficeAfter : {S : Type 0} → Meaning S → Publisher → S → (T
 IsOfficeAfter M publisher old x u = (t : Tables) → M.holds old t → KeepsItsReleases (x t) → (refusal_of (x t) ≡ None) × (u ≡ next_with_merges publisher (x t))
 
 -- The effect of a command that was asked for. After Ok the command is done, if the notice for which it publishes keeps its releases, and no row that it needs
--- was missing. After a refusal nothing has changed. A stop leaves the tables without the command or with all of it. After a refusal it leaves only what it could leave before, and after
+-- was missing, and each line adds up whose money it moved. After a refusal nothing has changed. A stop leaves the tables without the command or with all of it. After a refusal it leaves only what it could leave before, and after
 -- `Unavailable` perhaps the tables with the command.
 pub record Does {S T : Type 0} (M : Meaning S) (publisher : Publisher) (old new : S) (result : Result T Refusal) (x : Tables → Given) : Type 0 where
   pub before : M.honest new → M.honest old
   pub all : M.honest new → (t : Tables) → M.holds old t → KeepsItsReleases (x t) → OnOk result (M.holds new (next_with_merges publisher (x t)))
   pub none : M.honest new → (t : Tables) → M.holds old t → OnErr result (M.holds new t)
   pub whole : M.honest new → (t : Tables) → M.holds old t → OnOk result (is_lacking (x t) ≡ false)
+  pub moved : M.honest new → (t : Tables) → M.holds old t → OnOk result (moved_lines_add_up (x t).command t ≡ true)
   pub stop_all : M.honest new → (t : Tables) → M.holds old t → KeepsItsReleases (x t)
       → OnOk result ((u : Tables) → M.may_leave new u → u ≡ next_with_merges publisher (x t))
   pub stop_none : M.honest new → IfErr result (λ why. (u : Tables) → M.may_leave new u → M.may_leave old u ⊎ ((why ≡ Unavailable) × IsOfficeAfter M publisher old x u))

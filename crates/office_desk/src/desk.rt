@@ -13,11 +13,14 @@ ghost use Rattle.office_values.specs.declared.settings.Publisher.{Publisher as P
 ghost use Rattle.office_plans.specs.Asking.{given};
 ghost use Rattle.office_base.specs.Shutting.{TellsShut};
 ghost use Rattle.office_desk.specs.Callers.{caller_of, names_no_tenderer};
+ghost use Rattle.office_desk.specs.MovedLines.{moved_lines_add_up};
 ghost use Rattle.office_plans.specs.Published.{IsPlan, IsPlanned, TellsRefusal, gathers_lines};
 ghost use Rattle.office_desk.specs.Steps.{Does, HasShown, IsReplyOrRefusal, IsSeen, Joins, TellsQuery, read_text};
 
 use crate::callers::{clerk_with_key, is_clerk_name, tenderer_named};
+use crate::moved_lines::moved_lines_add_up;
 use crate::queries::look_at;
+use office_base::laws::looks_follow;
 use office_base::puts::Put;
 use office_base::shelf::{Lookups, Shelf, ShelfFault};
 use office_base::stored::StoredShelf;
@@ -118,8 +121,9 @@ impl<H: Shelf + Drop> Desk<H> {
         }
     }
 
-    /// The plan of a command, which changes nothing. A refused command gets its refusal, or the store has counted another fault. This isn't promised of an
-    /// import and a publication, because they gather budget lines first.
+    /// The plan of a command, which changes nothing. A command that moves money has a plan only if the lines add up whose money it moves; if one doesn't, the
+    /// answer is `Unavailable`. A refused command gets its refusal, or the store has counted another fault. This isn't promised of an import and a publication,
+    /// because they gather budget lines first.
     pub fn plan(
         &mut self,
         moment: Moment,
@@ -128,17 +132,25 @@ impl<H: Shelf + Drop> Desk<H> {
     ) -> Result<Planned, Refusal>
         ensures looks { Looks H.meaning self.old.shelf self.new.shelf (λ s.
             IsPlanned self.old.settings.publisher (given s moment caller.now command.entry) result) }
+        ensures moved { H.meaning.honest self.new.shelf → (s : Tables) → H.meaning.holds self.old.shelf s → IfOk result (λ _. moved_lines_add_up command.entry s ≡ true) }
         ensures settings { self.new.settings ≡ self.old.settings }
         ensures forbidden { may caller.now (commands.kind_of command.entry) ≡ false → result ≡ Err Refusal.Forbidden }
         ensures tells { gathers_lines command.entry ≡ false → TellsRefusal H.meaning self.old.shelf self.new.shelf (λ s. given s moment caller.now command.entry) result }
     {
+        looks_follow::<H>();
         if !may(caller, command.kind()) {
             return Err(Refusal::Forbidden);
         }
         let asking = Asking { moment, caller };
         let publisher = &self.settings.publisher;
         let shelf = &mut self.shelf;
-        plan_command(self.alloc, shelf, publisher, &asking, command)
+        let adds_up = moved_lines_add_up(shelf, &command)?;
+        let planned = plan_command(self.alloc, shelf, publisher, &asking, command)?;
+        if adds_up {
+            Ok(planned)
+        } else {
+            Err(Refusal::Unavailable)
+        }
     }
 
     /// Makes these changes, all of them or none. An error says whether memory was too small or the store failed. Nothing is allocated after the changes are made.

@@ -4,4 +4,5 @@
 mod balances;
 mod callers;
 pub mod desk;
+mod moved_lines;
 mod queries;

@@ -18,6 +18,7 @@ use Rattle.office_publications.specs.Publishing.{publishing}
 use Rattle.office_publications.specs.Standing.{IsReached, office_kept}
 use Rattle.office_plans.specs.Asking.{given}
 use Rattle.office_desk.specs.Desks.{DeskOf}
+use Rattle.office_desk.specs.MovedLines.{moved_lines_add_up}
 use Rattle.office_desk.specs.Steps.{HasShown, Needs}
 use Rattle.office_plans.specs.Replies.{reply_text}
 use Rattle.office_requests.specs.declared.route.Allow.{Allow}
@@ -145,14 +146,14 @@ IsAnswered M settings old new moment m text =
     → (busy : Bool) × (text ≡ answer_bytes settings busy s moment (m s)) × M.holds new (tables_left settings busy s moment (m s))
     × IsReached settings.publisher (tables_left settings busy s moment (m s)) × StopsAfter M settings old new busy s moment (m s)
 
--- A command is given, and these tables have each row that it needs
+-- A command is given, these tables have each row that it needs, and each line adds up whose money it moves.
 abbrev pub GivesWhole : Tables → Meant → Type 0
 GivesWhole s (Refuses why method) = ⊥
-GivesWhole s (Gives caller command) = (rule_of command).lacks s ≡ false
+GivesWhole s (Gives caller command) = ((rule_of command).lacks s ≡ false) × (moved_lines_add_up command s ≡ true)
 GivesWhole s (Sees caller query) = ⊥
 
--- The store still holds the tables that it held. Otherwise a command is given, no row that it needs is missing, and the answer is a 200 in JSON, like that to an
--- accepted command. The new tables aren't said here.
+-- The store still holds the tables that it held. Otherwise a command is given, no row that it needs is missing, each line adds up whose money it moves, and the
+-- answer is a 200 in JSON, like that to an accepted command. The new tables aren't said here.
 abbrev pub ChangesOnlyAccepting : {S : Type 0} → Meaning S → S → S → (Tables → Meant) → List ℕ → Type 0
 ChangesOnlyAccepting M old new m text =
     M.honest new → (s : Tables) → M.holds old s → M.holds new s ⊎ (GivesWhole s (m s) × ((reply : List ℕ) × (text ≡ response_of (Json reply))))

@@ -28,7 +28,7 @@ returns-in-Ok-carry_out-clause-answered g c honest s held stands can =
 pub returns-in-Ok-carry_out-clause-changes : goal.returns-in-Ok-carry_out-clause-changes
 returns-in-Ok-carry_out-clause-changes g c honest s held =
     let plan = c.in-Ok.ensures.looks.1 (c.in-Ok-carry_out.ensures.alters.before honest) s held in
-    inr (plan.whole, (_, c.built.ensures ∙ c.in-Ok-accepted_response.ensures))
+    inr ((plan.whole, c.in-Ok.ensures.moved (c.in-Ok-carry_out.ensures.alters.before honest) s held), (_, c.built.ensures ∙ c.in-Ok-accepted_response.ensures))
 
 pub returns-in-Err-carry_out-clause-answered : goal.returns-in-Err-carry_out-clause-answered
 returns-in-Err-carry_out-clause-answered g c honest s held stands can =

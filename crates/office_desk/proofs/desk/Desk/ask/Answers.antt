@@ -11,6 +11,7 @@ returns-in_err-planned-clause-does g c =
 pub returns-clause-does : goal.returns-clause-does
 returns-clause-does g c =
     does_what_was_planned _ _ c.args.moment c.args.caller.now c.args.command _ _ _ _ c.in_ok-planned.ensures.looks.0 c.in_ok-planned.ensures.looks.1
+    c.in_ok-planned.ensures.moved
     c.commit.result c.commit.ensures.alters c.commit.ensures.refused
 
 pub returns-in_err-planned-clause-joins : goal.returns-in_err-planned-clause-joins
