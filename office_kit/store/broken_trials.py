@@ -83,6 +83,16 @@ COMMANDS: dict[str, tuple[str, Callable[[BrokenLife], tuple[Any, ...]]]] = {
 }
 
 
+# For each of these commands, the budget lines whose money it moves, by SQL.
+OF_AWARD, OF_CONTRACT = (f"SELECT line FROM lots JOIN {name}s USING (notice, lot) WHERE {name} = {{{name}}}" for name in ("award", "contract"))
+MOVES = {
+    "import": "'1000'", "import, adding": "'1000'", "import, a new line": "'3000'", "publish": "'1000', '2000'",
+    "cancel": "SELECT line FROM lots WHERE notice = 'R'", "cancel, awarded": "SELECT line FROM lots WHERE notice = 'W'",
+    "award": "SELECT line FROM lots WHERE notice = 'A' AND lot = 'L1'", "award, to nobody": "SELECT line FROM lots WHERE notice = 'A' AND lot = 'L2'",
+    "fail": OF_AWARD, "sign": OF_AWARD, "raise": OF_CONTRACT, "cut": OF_CONTRACT, "pay": OF_CONTRACT, "end": OF_CONTRACT,
+}
+
+
 def publication(life: BrokenLife) -> dict[str, Any]:
     """A notice with a lot of each line."""
     head = {"title": "Notice N", "deadline": text_of(life.deadline + 30 * DAY), "validity_days": 90, "standstill_days": 0, "criteria": "price"}

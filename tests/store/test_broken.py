@@ -1,4 +1,5 @@
-"""Over an office's file in which rows are missing or changed, no command that needs them is accepted, and no budget line is shown that doesn't add up.
+"""Over an office's file in which rows are missing or changed, no command that needs them is accepted. No budget line is shown that doesn't add up, and no command
+moves money of it.
 
 The program makes an office with a notice in each state. In a copy of its file SQLite deletes a row or changes a sum; office_kit/store/broken_trials.py has
 the changes for commands. A command is refused: as `Unavailable`, or with the refusal that says what is missing, if the trial names one. Nothing in the file
@@ -18,7 +19,7 @@ import pytest
 from office_kit.audit.office import SUMS
 from office_kit.client import COMMANDS as METHODS, Client, Port, Requests, answer_of
 from office_kit.common import ROOT, exchange, look
-from office_kit.store.broken_trials import ANEW, COMMANDS, MAY, BrokenLife, trials_of
+from office_kit.store.broken_trials import ANEW, COMMANDS, MAY, MOVES, BrokenLife, trials_of
 from office_kit.store.files import dump, printed, sqlite, wrong
 from office_kit.store.served import Serving, server
 
@@ -145,12 +146,17 @@ CHANGES = {
 }
 
 
-def right_answers(path):
-    """The answers to the lines and to the ledger, by the sums that SQLite finds. Lines that don't add up are Unavailable, and the ledger with them."""
+def sums_of(path, lines="SELECT line FROM lines"):
+    """The sums of lines, as SQLite finds them. A line that doesn't add up is Unavailable."""
     with closing(sqlite3.connect(path)) as base:
         base.executescript(SUMS)
-        rows = base.execute(f"SELECT line, {', '.join(NAMES)} FROM pots ORDER BY line").fetchall()
-    sums = {line: sums if sums[0] == sum(sums[1:]) and min(sums) >= 0 else UNAVAILABLE for line, *sums in rows}
+        rows = base.execute(f"SELECT line, {', '.join(NAMES)} FROM pots WHERE line IN ({lines}) ORDER BY line").fetchall()
+    return {line: sums if sums[0] == sum(sums[1:]) and min(sums) >= 0 else UNAVAILABLE for line, *sums in rows}
+
+
+def right_answers(path):
+    """The answers to the lines and to the ledger. Lines that don't add up are Unavailable, and the ledger with them."""
+    sums = sums_of(path)
     ledger = "\n".join(["LEDGER", "line\t" + "\t".join(NAMES), *("\t".join([line, *map(str, row)]) for line, row in sums.items()), ""])
     return [*(sums.get(line, "NoSuch") for line in LINES), UNAVAILABLE if UNAVAILABLE in sums.values() else ledger]
 
@@ -189,3 +195,31 @@ def test_planted_in_sums(whole, what, tmp_path):
     script, change = WRONG_SUMS[what]
     with pytest.raises(AssertionError, match="(?s)assert .*=="):
         try_sums(whole, CHANGES[change], wrong(tmp_path, script.replace("WHOLE", whole.path), whole.program), tmp_path)
+
+
+# ---- Moves.
+
+def try_moves(whole, change, program, folder):
+    """A command that moves money of a line that doesn't add up is refused, and changes nothing. Returns how many such commands there are."""
+    path = whole.copy(folder, change)
+    wrongly = [command for command, lines in MOVES.items() if UNAVAILABLE in sums_of(path, whole.life.filled(lines)).values()]
+    for number, command in enumerate(wrongly):
+        file = str(shutil.copy(path, folder / f"{number}.db"))
+        before = dump(file)
+        assert refusal_of(*served(program, file, whole.request_of(command))), f"{command}: accepted"
+        assert dump(file) == before, f"{command}: refused, and changed"
+    return len(wrongly)
+
+
+@pytest.mark.parametrize("change", CHANGES)
+def test_moves(whole, change, tmp_path):
+    try_moves(whole, CHANGES[change], whole.program, tmp_path)
+
+
+def test_moves_that_are_refused(whole, tmp_path):
+    assert try_moves(whole, CHANGES["all is free"], whole.program, tmp_path) == len(MOVES) - 1
+
+
+def test_planted_in_moves(whole, tmp_path):
+    with pytest.raises(AssertionError, match="import: accepted"):
+        try_moves(whole, CHANGES["all is free"], wrong(tmp_path, f'cp {whole.path} "$3"; exec PROGRAM "$@"', whole.program), tmp_path)

@@ -43,7 +43,7 @@ IsReplyOrRefusal publisher x (Err why) = (refusal_of x ≡ Some why) ⊎ (why �
 abbrev pub IsOfficeAfter : {S : Type 0} → Meaning S → Publisher → S → (Tables → Given) → Tables → Type 0
 IsOfficeAfter M publisher old x u = (t : Tables) → M.holds old t → KeepsItsReleases (x t) → (refusal_of (x t) ≡ None) × (u ≡ next_with_merges publisher (x t))
 
--- The effect of a command that was asked for. After Ok the command is done, if the notice for which it publishes keeps its releases, and no row that it needs
+-- The effect of a command that was asked for. After Ok the command is done, if the notice for which it publishes keeps its releases. No row that it needs
 -- was missing, and each line adds up whose money it moved. After a refusal nothing has changed. A stop leaves the tables without the command or with all of it. After a refusal it leaves only what it could leave before, and after
 -- `Unavailable` perhaps the tables with the command.
 pub record Does {S T : Type 0} (M : Meaning S) (publisher : Publisher) (old new : S) (result : Result T Refusal) (x : Tables → Given) : Type 0 where

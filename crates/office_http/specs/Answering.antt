@@ -152,8 +152,8 @@ GivesWhole s (Refuses why method) = ⊥
 GivesWhole s (Gives caller command) = ((rule_of command).lacks s ≡ false) × (moved_lines_add_up command s ≡ true)
 GivesWhole s (Sees caller query) = ⊥
 
--- The store still holds the tables that it held. Otherwise a command is given, no row that it needs is missing, each line adds up whose money it moves, and the
--- answer is a 200 in JSON, like that to an accepted command. The new tables aren't said here.
+-- The store still holds the tables that it held. Otherwise a command is given, with its rows and lines as `GivesWhole` says, and the answer is a 200 in JSON,
+-- like that to an accepted command. The new tables aren't said here.
 abbrev pub ChangesOnlyAccepting : {S : Type 0} → Meaning S → S → S → (Tables → Meant) → List ℕ → Type 0
 ChangesOnlyAccepting M old new m text =
     M.honest new → (s : Tables) → M.holds old s → M.holds new s ⊎ (GivesWhole s (m s) × ((reply : List ℕ) × (text ≡ response_of (Json reply))))
