@@ -66,6 +66,21 @@ fn begins_object(body: &[u8]) -> bool
     false
 }
 
+// The JSON object in a body, read with memory.
+fn read_object(alloc: Global, body: &[u8]) -> Result<Value, Refusal>
+    ensures { ReadsObject result (object_in_body body.now) }
+{
+    let value = match Value::from_slice(alloc, body) {
+        Ok(value) => value,
+        Err(error) => return Err(json_fault(&error)),
+    };
+    if value.is_object() {
+        Ok(value)
+    } else {
+        Err(Refusal::BadBody(BadPart::Body))
+    }
+}
+
 /// The JSON object in a body. `BadBody` of the body if it isn't an object. A body that doesn't begin as one takes no memory; for the others, `Unavailable` if
 /// memory is too small.
 #[tactic(auto, using(crate::proofs::Begun::not_begun))]
@@ -73,15 +88,8 @@ pub fn object_in_body(alloc: Global, body: &[u8]) -> Result<Value, Refusal>
     ensures object { ReadsObject result (object_in_body body.now) }
     ensures at_once { begins_object body.now ≡ false → result ≡ Err (BadBody Body) }
 {
-    if !begins_object(body) {
-        return Err(Refusal::BadBody(BadPart::Body));
-    }
-    let value = match Value::from_slice(alloc, body) {
-        Ok(value) => value,
-        Err(error) => return Err(json_fault(&error)),
-    };
-    if value.is_object() {
-        Ok(value)
+    if begins_object(body) {
+        read_object(alloc, body)
     } else {
         Err(Refusal::BadBody(BadPart::Body))
     }
