@@ -15,7 +15,6 @@ use Rattle.serde_json.specs.Data.{Data}
 use Rattle.serde_json.specs.Data as data_of
 use Rattle.serde_json.specs.Read.{read, of_json, of_items, number_of, max_depth}
 use Rattle.office_values.specs.declared.refusal.BadPart.TheVariants.{Body}
-use Rattle.office_values.specs.declared.refusal.Refusal.{Refusal}
 use Rattle.office_values.specs.declared.refusal.Refusal.TheVariants.{BadBody}
 use Rattle.office_requests.specs.Bodies.{begins_object, object_if, object_in_body}
 
