@@ -5,6 +5,7 @@ pub mod ParameterSteps
 pub mod AfterAsked
 pub mod ElementSteps
 pub mod BodySteps
+pub mod Begun
 pub mod SegmentSteps
 pub mod RouteSteps
 pub mod OnLiterals

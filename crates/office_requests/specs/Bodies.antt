@@ -1,7 +1,8 @@
 -- The bodies of requests, as commands. The fields are read in their order, and the first that is missing or wrong is named.
-use Rattle.std.specs.Prelude.{ℕ, ◌^◌, ◌&&◌, not, nat_eq, List, length, if◌then◌else◌, Option, Some, None, is_some, Result, Ok, Err}
+use Rattle.std.specs.Prelude.{ℕ, ◌^◌, Bool, false, ◌&&◌, ◌||◌, not, nat_eq, List, [], ◌∷◌, length, if◌then◌else◌, Option, Some, None, is_some, Result, Ok, Err}
 use Rattle.std.specs.Option.{option_map_or}
 use Rattle.std.specs.Str.{is_utf8}
+use Rattle.json.specs.Word.{is_space}
 use Rattle.serde_json.specs.Data.{Data}
 use Rattle.serde_json.specs.Find.{as_object}
 use Rattle.serde_json.specs.Read.{read}
@@ -17,17 +18,18 @@ use Rattle.office_requests.specs.Forms.{identifier_of, digest_of, change_of, end
 use Rattle.office_requests.specs.Moments.{moment_of}
 use Rattle.office_requests.specs.Fields.{◌>>=◌, has, text_in, text_line_in, flag_in, number_in, perhaps_number_in}
 
--- The JSON value of a body. A body that isn't UTF-8 has none.
-abbrev pub json_of : List ℕ → Option Data
-json_of body = if is_utf8 body then read body else None
-
 -- The value, if it is an object.
 abbrev pub object_if : Data → Result Data Refusal
 object_if value = if is_some (as_object value) then Ok value else Err (BadBody Body)
 
--- The JSON object in a body.
+-- The JSON object in a body. A body that isn't UTF-8 has none.
 unfoldable pub object_in_body : List ℕ → Result Data Refusal
-object_in_body body = option_map_or object_if (json_of body) (Err (BadBody Body))
+object_in_body body = option_map_or object_if (if is_utf8 body then read body else None) (Err (BadBody Body))
+
+-- The body begins as an object: its first byte that isn't a space, a tab or the end of a line is `{`.
+abbrev pub begins_object : List ℕ → Bool
+begins_object [] = false
+begins_object (b ∷ bs) = nat_eq b 123 || (is_space b && begins_object bs)
 
 -- The import of a budget file's rows, or the refusal that names its first faulty record.
 abbrev pub import_of : List ℕ → Result (List BudgetRow) ℕ → Result Command Refusal

@@ -1,5 +1,6 @@
 //! The bodies of requests. Each reader reads the fields in their order, and names the first that is missing or wrong.
-ghost use Rattle.std.specs.Prelude.{◌≡◌, ◌≤◌, ◌⊎◌, true, nat_eq, IfOk, length};
+ghost use Rattle.std.specs.Prelude.{◌≡◌, ◌≤◌, ◌⊎◌, true, false, nat_eq, Err, IfOk, length};
+ghost use Rattle.json.specs.Word.{is_space};
 ghost use Rattle.serde_json.specs.Errors.{IsMemory};
 ghost use Rattle.serde_json.specs.View.{view};
 ghost use Rattle.office_values.specs.declared.refusal.Refusal.TheVariants.{BadBody, Unavailable};
@@ -8,7 +9,7 @@ ghost use Rattle.office_commands.specs.Commands.{kind_of};
 ghost use Rattle.tender_papers.specs.Budget.{budget_of};
 ghost use Rattle.tender_papers.specs.Files.{csv_records};
 ghost use Rattle.office_requests.specs.Inside.Answers.{ReadsAs, ReadsObject};
-ghost use Rattle.office_requests.specs.Bodies.{object_in_body, import_of, registration_in, notice_amendment_in, cancellation_in, examination_in, contract_amendment_in, named_in, performance_of, payment_in, ending_in, sealed_in};
+ghost use Rattle.office_requests.specs.Bodies.{begins_object, object_in_body, import_of, registration_in, notice_amendment_in, cancellation_in, examination_in, contract_amendment_in, named_in, performance_of, payment_in, ending_in, sealed_in};
 
 use crate::fields::{flag, has, line, number, perhaps_number, text};
 use office_commands::command::CommandKind;
@@ -35,8 +36,38 @@ fn json_fault(error: &serde_json::Error) -> Refusal
     }
 }
 
-/// The JSON object in a body. `BadBody` of the body if it isn't an object, and `Unavailable` if memory is too small.
-pub fn object_in_body(alloc: Global, body: &[u8]) -> Result<Value, Refusal>
+// Whether a byte may be before the value of a JSON text.
+fn is_space(byte: u8) -> bool
+    ensures { result ≡ is_space byte }
+{
+    match byte {
+        b' ' => true,
+        b'\n' => true,
+        b'\r' => true,
+        b'\t' => true,
+        _ => false,
+    }
+}
+
+// Whether a body begins as an object. It takes no memory, and reads no further than the first byte that isn't a space.
+fn begins_object(body: &[u8]) -> bool
+    ensures { result ≡ begins_object body.now }
+{
+    let mut left = body;
+    while let Some((first, rest)) = left.split_first() {
+        if *first == b'{' {
+            return true;
+        }
+        if !is_space(*first) {
+            return false;
+        }
+        left = rest;
+    }
+    false
+}
+
+// The JSON object in a body, read with memory.
+fn read_object(alloc: Global, body: &[u8]) -> Result<Value, Refusal>
     ensures { ReadsObject result (object_in_body body.now) }
 {
     let value = match Value::from_slice(alloc, body) {
@@ -45,6 +76,20 @@ pub fn object_in_body(alloc: Global, body: &[u8]) -> Result<Value, Refusal>
     };
     if value.is_object() {
         Ok(value)
+    } else {
+        Err(Refusal::BadBody(BadPart::Body))
+    }
+}
+
+/// The JSON object in a body. `BadBody` of the body if it isn't an object. A body that doesn't begin as one takes no memory; for the others, `Unavailable` if
+/// memory is too small.
+#[tactic(auto, using(crate::proofs::Begun::not_begun))]
+pub fn object_in_body(alloc: Global, body: &[u8]) -> Result<Value, Refusal>
+    ensures object { ReadsObject result (object_in_body body.now) }
+    ensures at_once { begins_object body.now ≡ false → result ≡ Err (BadBody Body) }
+{
+    if begins_object(body) {
+        read_object(alloc, body)
     } else {
         Err(Refusal::BadBody(BadPart::Body))
     }

@@ -236,7 +236,7 @@ fn is_about(why: &Refusal, number: u8, name: &str) -> bool {
 }
 
 // Requests of the clerk, each with the number and the name of its refusal; the number is 0 if there is none.
-const REFUSED: [(&str, &[u8], (u8, &str)); 28] = [
+const REFUSED: [(&str, &[u8], (u8, &str)); 36] = [
     ("GET /lines/1000/", b"", (4, "")),
     ("GET /tenders/01", b"", (4, "")),
     ("GET /notices/N1/releases/1", b"", (4, "")),
@@ -248,6 +248,14 @@ const REFUSED: [(&str, &[u8], (u8, &str)); 28] = [
     ("POST /notices/N1", b"", (8, "body")),
     ("POST /notices/N1", b"[]", (8, "body")),
     ("POST /notices/N1", b"{}", (8, "title")),
+    ("POST /tenderers/T1", b"", (8, "body")),
+    ("POST /tenderers/T1", b"x", (8, "body")),
+    ("POST /tenderers/T1", b"[]", (8, "body")),
+    ("POST /tenderers/T1", b" \t{", (8, "body")),
+    ("POST /tenderers/T1", b" \t\r\n{}", (8, "name")),
+    ("POST /tenderers/T1", b"\x0C{}", (8, "body")),
+    ("POST /awards/1/sign", b" ", (8, "body")),
+    ("POST /awards/1/sign", b"[{}]", (8, "body")),
     (
         "POST /notices/N1/cancel",
         b"{\"rationale\":1e999}",

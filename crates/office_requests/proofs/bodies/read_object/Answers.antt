@@ -1,6 +1,6 @@
 use Rattle.std.proofs.Common.{inl, inr, sym}
 use Rattle.office_requests.proofs.BodySteps.{object_read, no_json}
-use Rattle.office_requests.proofs.bodies.object_in_body.Goals as goal
+use Rattle.office_requests.proofs.bodies.read_object.Goals as goal
 
 pub returns-in-Err : goal.returns-in-Err
 returns-in-Err c = elim c.json_fault.ensures.either [
