@@ -1,5 +1,5 @@
 -- The command or query that a request asks for, by its route, its query string and its body.
-use Rattle.std.specs.Prelude.{ℕ, Bool, true, false, nat_eq, if◌then◌else◌, List, length, Result, Ok, Err, IfOk}
+use Rattle.std.specs.Prelude.{ℕ, Bool, true, false, not, if◌then◌else◌, List, Result, Ok, Err, IfOk}
 use Rattle.office_values.specs.declared.refusal.Refusal.{Refusal}
 use Rattle.office_values.specs.declared.refusal.Refusal.TheVariants.{NoRoute, Forbidden}
 use Rattle.office_commands.specs.Commands as of_commands
@@ -19,7 +19,7 @@ use Rattle.office_commands.specs.declared.queries.Query.TheVariants as queries
 use Rattle.office_wire.specs.Request.{RequestView}
 use Rattle.tender_papers.specs.Budget.{budget_of}
 use Rattle.tender_papers.specs.Files.{csv_records}
-use Rattle.office_requests.specs.Bodies.{object_in_body, import_of, registration_in, notice_amendment_in, cancellation_in, examination_in, contract_amendment_in, payment_in, performance_of, ending_in, sealed_in}
+use Rattle.office_requests.specs.Bodies.{begins_object, object_in_body, import_of, registration_in, notice_amendment_in, cancellation_in, examination_in, contract_amendment_in, payment_in, performance_of, ending_in, sealed_in}
 use Rattle.office_requests.specs.Fields.{◌>>=◌}
 use Rattle.office_requests.specs.Parameters.{query_of, after_in, security_in}
 use Rattle.office_requests.specs.Publications.{publication_in}
@@ -36,20 +36,19 @@ abbrev pub may_ask : Caller → Endpoint → Bool
 may_ask caller (Commands kind) = may caller kind
 may_ask caller (Queries kind) = may_look caller kind
 
--- Neither the query string nor the body is read.
-abbrev pub reads_nothing : Reads → Bool
-reads_nothing table.Nothing = true
-reads_nothing table.Query = false
-reads_nothing table.Body = false
-reads_nothing table.QueryAndBody = false
+-- These parts of a request are read without memory: none at all, or a body that must be a JSON object and doesn't begin as one.
+abbrev pub take_no_memory : Reads → List ℕ → Bool
+take_no_memory table.Nothing body = true
+take_no_memory table.Body body = not (begins_object body)
+take_no_memory _ body = false
 
 -- The request is read without memory. Its path alone says what is asked, and neither the query string nor the body is read. Or it is a modification, whose sealed
--- bytes are borrowed, or a signing without a body.
+-- bytes are borrowed. Or its body must be a JSON object and doesn't begin as one, such as the empty body of a signing. An import's body isn't JSON.
 abbrev pub is_read_at_once : Endpoint → List ℕ → Bool
 is_read_at_once (Commands kinds.Modify) body = true
-is_read_at_once (Commands kinds.Sign) body = nat_eq (length body) 0
-is_read_at_once (Commands kind) body = reads_nothing (command_row kind).reads
-is_read_at_once (Queries kind) body = reads_nothing (query_row kind).reads
+is_read_at_once (Commands kinds.Import) body = false
+is_read_at_once (Commands kind) body = take_no_memory (command_row kind).reads body
+is_read_at_once (Queries kind) body = take_no_memory (query_row kind).reads body
 
 -- The command of a route, with this query string and this body. A path with the parameters of another command has no route.
 unfoldable pub command_at : CommandKind → Place → List ℕ → List ℕ → Result Command Refusal

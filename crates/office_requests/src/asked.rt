@@ -1,5 +1,5 @@
 //! The command or query that a request asks for.
-ghost use Rattle.std.specs.Prelude.{◌≡◌, ◌≤◌, ◌⊎◌, true, false, [], length, Err, IfOk};
+ghost use Rattle.std.specs.Prelude.{◌≡◌, ◌≤◌, ◌⊎◌, ℕ, true, false, List, length, Err, IfOk};
 ghost use Rattle.office_values.specs.declared.refusal.Refusal.TheVariants.{Forbidden, Unavailable};
 ghost use Rattle.office_commands.specs.Commands.{kind_of};
 ghost use Rattle.office_commands.specs.Queries as queries;
@@ -44,7 +44,7 @@ fn may_ask(caller: &Caller, endpoint: Endpoint) -> bool
 }
 
 // The command of a route, with this query string and this body.
-#[tactic(auto, unfolding(crate::specs::Asking::command_at))]
+#[tactic(auto, using(crate::proofs::Begun::not_begun), unfolding(crate::specs::Asking::command_at))]
 fn command_at<'a>(
     alloc: Global,
     kind: CommandKind,
@@ -122,7 +122,7 @@ fn command_at<'a>(
 #[tactic(auto, unfolding(crate::specs::Asking::query_at))]
 fn query_at(alloc: Global, kind: QueryKind, place: Place, query: &[u8]) -> Result<Query, Refusal>
     ensures read { ReadsAs result (query_at kind place query.now) }
-    ensures at_once { is_read_at_once (Queries kind) [] ≡ true → result ≡ query_at kind place query.now }
+    ensures at_once { (body : List ℕ) → is_read_at_once (Queries kind) body ≡ true → result ≡ query_at kind place query.now }
     ensures kind { IfOk result (λ look. queries.query_kind_of look ≡ kind) }
 {
     match (kind, place) {
@@ -173,8 +173,8 @@ fn asked_by<'a>(
 
 /// The command or query that the caller asks for, by a request and its route. `Forbidden` if the caller may not ask for it, without taking memory. `BadBody` if
 /// the query string or the body is wrong.
-/// `Unavailable` if memory is too small. Most routes say alone what is asked; then no memory is taken, nor for a modification and for a signing without a body
-/// (`is_read_at_once`). The route must be that of the request.
+/// `Unavailable` if memory is too small. No memory is taken if the route alone says what is asked, for a modification, and for a body that must be an object and
+/// doesn't begin as one (`is_read_at_once`). The route must be that of the request.
 #[tactic(auto, using(crate::proofs::FieldSteps::read_or_wanting, crate::proofs::AskedCommands::read_is))]
 pub fn command_of<'a>(
     alloc: Global,

@@ -1,5 +1,5 @@
 //! The bodies of requests. Each reader reads the fields in their order, and names the first that is missing or wrong.
-ghost use Rattle.std.specs.Prelude.{◌≡◌, ◌≤◌, ◌⊎◌, true, false, nat_eq, Err, IfOk, length};
+ghost use Rattle.std.specs.Prelude.{◌≡◌, ◌≤◌, ◌⊎◌, false, Err, IfOk, length};
 ghost use Rattle.json.specs.Word.{is_space};
 ghost use Rattle.serde_json.specs.Errors.{IsMemory};
 ghost use Rattle.serde_json.specs.View.{view};
@@ -194,10 +194,10 @@ fn named(body: &Value) -> Result<Option<NamedSecurity>, Refusal>
 }
 
 /// The performance security that the body of a signing names; None if the body is empty or has neither a security nor an amount.
-#[tactic(auto, unfolding(crate::specs::Bodies::performance_of))]
+#[tactic(auto, using(crate::proofs::Begun::not_begun), unfolding(crate::specs::Bodies::performance_of))]
 pub fn performance_of(alloc: Global, body: &[u8]) -> Result<Option<NamedSecurity>, Refusal>
     ensures body { ReadsAs result (performance_of body.now) }
-    ensures none { nat_eq (length body.now) 0 ≡ true → result ≡ performance_of body.now }
+    ensures at_once { begins_object body.now ≡ false → result ≡ performance_of body.now }
 {
     if body.len() == 0 {
         return Ok(None);
