@@ -1,5 +1,5 @@
 -- The budget lines whose money a command moves. The other commands move none.
-use Rattle.std.specs.Prelude.{◌≡◌, ℕ, Bool, true, List, Option, Result, Ok, Err}
+use Rattle.std.specs.Prelude.{◌≡◌, ℕ, Bool, true, List, Result, Ok, Err}
 use Rattle.std.specs.List.{list_all}
 use Rattle.std.specs.Option.{option_map_or}
 use Rattle.office_commands.specs.declared.budget.BudgetRow.{BudgetRow}

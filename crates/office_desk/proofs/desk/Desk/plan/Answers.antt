@@ -1,11 +1,19 @@
-use Rattle.std.proofs.Common.{◌≡◌, false, subst}
+use Rattle.std.proofs.Common.{rules, ◌≡◌, ℕ, false, inl, inr, subst}
+use Rattle.office_base.specs.Faults.{HasRisen}
 use Rattle.office_plans.specs.Asking.{given}
 use Rattle.office_plans.specs.Published.{TellsRefusal, gathers_lines}
 use Rattle.office_desk.specs.Desks.{DeskOf}
 use Rattle.office_desk.proofs.desk.Desk.plan.Goals as goal
 
-pub returns-clause-tells : goal.returns-clause-tells
-returns-clause-tells g c =
+pub returns-in_err-planned-clause-tells : goal.returns-in_err-planned-clause-tells
+returns-in_err-planned-clause-tells g c =
     let family : DeskOf g.row.H.Denot → Type 0 = λ d. gathers_lines c.args.command ≡ false
-    → TellsRefusal g.H.Lookups.meaning d.shelf c.plan_command.new.shelf (λ s. given s c.args.moment c.args.caller.now c.args.command) c.plan_command.result in
-    subst family c.self.view_is c.plan_command.ensures.tells
+    → TellsRefusal g.H.Lookups.meaning d.shelf c.plan_command.new.shelf (λ s. given s c.args.moment c.args.caller.now c.args.command) c.from_residual-in_err-planned.result in
+    subst family c.self.view_is (λ small honest s held why is.
+        let planned = c.in_err-planned.ensures in
+        let tested = c.in_ok-adds_up.ensures in
+        let before = planned.looks.0.before honest in
+        elim (planned.tells small honest s (tested.0.same before s held) why is) [
+          | inl told ↦ inl (search rules)
+          | inr risen ↦ inr (subst (λ (n : ℕ). HasRisen n (g.H.Lookups.meaning.fault_count c.plan_command.new.shelf)) (tested.1 before s held).0 risen)
+        ])
