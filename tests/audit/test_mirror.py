@@ -402,6 +402,12 @@ def test_dictionary(copy):
         fields = found[f"{name}.csv"]["schema"]["fields"]
         first = next(csv.reader(copy.text(f"{name}.csv").splitlines(True)))
         assert [it["name"] for it in fields] == first and all(it["description"].endswith(".") for it in fields), f"{name} has {first}"
+        missing = [it["name"] for it in fields if f"<code>{it['name']}</code></dt><dd>{html.escape(it['description'])}</dd>" not in copy.text("index.html")]
+        assert not missing, f"the index doesn't explain {missing} of {name} to people"
+    people, programs = copy.text("index.html").split("<h2>Tables</h2>")[1].split("<h2>Files for programs</h2>")
+    listed = [re.findall(r'<tr><td><a href="([^"]+)"', part) for part in (people, programs)]
+    wanted = [[f"{it}.csv" for it in TABLES], ["releases.jsonl", "compiled.jsonl", "datapackage.json", "ledger.txt", "chain.txt"]]
+    assert listed == wanted, f"the files for people and for programs are {listed}"
     copy.office.day = 1
     city = os.path.join(copy.room, "city.json")
     with open(city, "w", encoding="utf-8") as file:
