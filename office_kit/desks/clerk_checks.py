@@ -165,7 +165,7 @@ def countdowns(scene: Scene) -> None:
         document.querySelector("main").append(clock(deadline));
       }))""")
     shown = "[...document.querySelectorAll('main [role=timer]')].map((at) => at.textContent)"
-    desk.page.wait(f"({shown}).length === 2 && ({shown}).every((text) => text.includes('seconds'))")
+    desk.page.wait(f"({shown}).length === 2 && ({shown}).every((text) => / 4[01] seconds/.test(text))")
     check(f"the countdowns are {desk.page.run(shown)}", desk.page.run(shown) == ["(in 41 seconds)", "closes in 41 seconds"])
     desk.leave()
 

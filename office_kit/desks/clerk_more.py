@@ -145,6 +145,7 @@ def letterheads(scene: Scene) -> None:
         tells(desk, "City of Example", "1 Town Hall Square")
         check(f"letters with a remedy: {desk.page.run(objections)}", desk.page.run(objections) == [True])
         desk.picture("letters-city")
+        reasons(desk)
         signed(desk)
         check(f"letters with a remedy: {desk.page.run(objections)}", desk.page.run(objections) == [False, False])
         desk.go("minutes/N1")
@@ -152,6 +153,20 @@ def letterheads(scene: Scene) -> None:
         check("a table has no caption", desk.page.run("[...document.querySelectorAll('main table')].every((at) => at.caption?.textContent)"))
     finally:
         os.remove(path)
+
+
+def reasons(desk: Desk) -> None:
+    """A reason that was typed into a letter is printed in it, and stays after a reload. The page asks before it is lost, unless it was printed."""
+    check("an empty reason is asked for", not desk.page.run(ASKS))
+    desk.field("More reasons", "A sentence is no price list.")
+    check("a reason is lost without a question", desk.page.run(ASKS))
+    time.sleep(0.6)
+    desk.reload()
+    printed = "[...document.querySelectorAll('.sheet p')].some((at) => at.textContent === 'A sentence is no price list.')"
+    kept = desk.page.run(f"{printed} && hands.field('More reasons').value === 'A sentence is no price list.'")
+    check("a reason is lost by a reload", kept and desk.page.run(ASKS))
+    desk.page.run("void dispatchEvent(new Event('afterprint'))")
+    check("a printed reason is asked for", not desk.page.run(ASKS))
 
 
 def signed(desk: Desk) -> None:

@@ -70,8 +70,8 @@ def signed_in(scene: Scene, front: Front, name: str) -> Desk:
 def finds_own(desk: Desk, name: str) -> None:
     """The bar names the clerk and the roles. Each screen has the buttons of these roles, and says what the others need."""
     roles = ROLES[name].split()
-    bar = desk.page.run("document.getElementById('who').innerText")
-    check(f"the bar says {bar}", bar.strip() == f"Signed in as {name}. Roles: {', '.join(TITLES[role] for role in roles)}.")
+    bar = desk.page.run("[...document.getElementById('who').children].map((at) => at.innerText)")
+    check(f"the bar says {bar}", bar == [f"Signed in as {name}. Roles: {', '.join(TITLES[role] for role in roles)}.", "How to sign out"])
     for screen, buttons in SCREENS.items():
         desk.go(screen)
         texts = desk.page.run(TEXTS)
@@ -158,8 +158,10 @@ def does_own(scene: Scene, front: Front, contract: int) -> None:
     desk.confirm("Register the tenderer", "T9 is registered.")
     desk.go("journal")
     desk.says("anna")
-    desk.go("key")
+    desk.page.run("document.querySelector('#who a').click()")
+    desk.settle("key")
     desk.says("Signed in as anna.")
+    desk.says("To sign out, close all windows of the browser.")
     desk.picture("signed-in")
     desk.leave()
     desk = signed_in(scene, front, "dora")

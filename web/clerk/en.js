@@ -48,6 +48,7 @@ export default {
   "signed.title": "Who has signed in",
   "signed.in": "Signed in as {who}. Roles: {roles}.",
   "signed.nobody": "You haven't signed in, or your name has no role. You see only what is public. Ask the operator.",
+  "signed.out": "How to sign out",
   "signed.leave": "To sign out, close all windows of the browser. Until then anyone at this browser can act in your name.",
   "role.budget": "Budget",
   "role.notices": "Notices",

@@ -130,7 +130,7 @@ export default {
   "letter.signed": "The contract was signed on {moment}.",
   "letter.look": "All published tenders and results are at {address}.",
   "letter.more": "More reasons",
-  "letter.more.hint": "This text is printed in the letter. The office doesn't store it.",
+  "letter.more.hint": "This text is printed in the letter. The office doesn't store it: keep a copy.",
   "letter.sign": "Signature: {sender}",
   "letter.from": "From: {sender}",
   "letter.security.held": "We hold your security {security}, of {amount}, until the contract for the lot is signed. Then we return it.",

@@ -8,12 +8,10 @@ import { day, money, moment } from "../common/money.js";
 import { officeNow, registerText, securities } from "../common/office.js";
 import { say, sayParts } from "../common/texts.js";
 import { backTo } from "./printed.js";
-import { caller, who } from "./session.js";
+import { caller, keepReason, reasonOf, who } from "./session.js";
 import { momentText } from "./values.js";
 import { stagedOf } from "./whole.js";
 
-// The reasons that were typed for each letter, as long as the tab is open.
-const typed = new Map();
 // Outcomes that are the tender's own, whatever became of its lot.
 const OWN = ["unreadable", "nonconforming", "unresponsive", "late", "passed", "awardended"];
 
@@ -132,10 +130,10 @@ function letter(notice, lot, one, told, isLoser) {
 
 /** More reasons: typed on the screen, and printed in the letter. */
 function reasons(key) {
-  const more = field(say("letter.more"), { hint: say("letter.more.hint"), kind: "lines", rows: "2", spellcheck: "true", value: typed.get(key) ?? "" });
-  const printed = element("p", {}, typed.get(key) ?? "");
+  const more = field(say("letter.more"), { hint: say("letter.more.hint"), kind: "lines", rows: "2", spellcheck: "true", value: reasonOf(key) });
+  const printed = element("p", {}, reasonOf(key));
   more.input.addEventListener("input", () => {
-    typed.set(key, more.input.value);
+    keepReason(key, more.input.value);
     printed.textContent = more.input.value;
   });
   more.made.classList.add("noprint");

@@ -63,7 +63,7 @@ export function isOwn(task) {
   return roles.length === 0 || roles.some(may);
 }
 
-/** What is left to other roles, as one sentence; '' if nothing is. `all` are tasks of one notice or of several. */
+/** How many of these tasks are left to other roles, as a sentence; '' for none. */
 export function othersText(all) {
   const others = all.filter((task) => !isOwn(task));
   const names = [...new Set(others.map((task) => rolesOf(task)[0]))].map((role) => say(`role.${role}`));

@@ -83,7 +83,7 @@ export function inOrder(entries, now, isOwn = () => true) {
   return entries.toSorted((one, other) => due(one) - due(other));
 }
 
-// The roles that each task concerns. Those without one are dates, for everybody. After the validity only a cancellation is left.
+// The roles that each task concerns. The others are dates, for everybody.
 const ROLES = { open: ["evaluation"], examine: ["evaluation"], award: ["evaluation"], endlot: ["evaluation"], sign: ["contracts"], unsigned: ["contracts"],
   contract: ["contracts"], end: ["contracts"], expired: ["notices", "evaluation", "contracts"] };
 

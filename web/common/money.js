@@ -81,8 +81,8 @@ export function secondsTo(milliseconds) {
   return Math.ceil((milliseconds - officeNow()) / 1000);
 }
 
-/** An element with the time to a moment, updated each second while it is on the page. `tell(element, seconds)` writes it,
- * and returns whether the time still runs. After its last second `over` is called. */
+/** An element with the time to a moment, updated each second. `tell(element, seconds)` writes it, and returns whether it
+ * runs on; then `over` is called. */
 export function countdown(milliseconds, tell, over = () => {}) {
   const shown = element("span", { role: "timer", "aria-live": "off" });
   const next = () => tell(shown, secondsTo(milliseconds));
