@@ -36,7 +36,8 @@ SCREENS = {
 TODAY = {"anna": (["This week: 1", "Waiting: 3"], 4, {"Evaluation", "Contracts"}), "bert": (["This week: 1", "Waiting: 3"], 4, {"Evaluation", "Contracts"}),
          "cora": (["This week: 2", "Waiting: 2"], 2, {"Contracts"}), "dora": (["This week: 2", "Later: 1", "Waiting: 1"], 2, {"Evaluation"}),
          "emil": (["This week: 3", "Later: 1"], 0, set()), "fred": (["This week: 2", "Later: 1", "Waiting: 1"], 2, {"Evaluation"})}
-PLANTS = [("bert", "load.js", "roles.some(may)", "true"), ("anna", "today.js", "now, isOwn)", "now)"), ("bert", "session.js", "session.roles.includes(role)", "true"), ("bert", "desk.js", "!FOR_ROLE[name] || may(FOR_ROLE[name])", "true"),
+PLANTS = [("bert", "load.js", "roles.some(may)", "true"), ("anna", "today.js", "now, isOwn)", "now)"),
+          ("bert", "session.js", "session.roles.includes(role)", "true"), ("bert", "desk.js", "!FOR_ROLE[name] || may(FOR_ROLE[name])", "true"),
           ("cora", "contracts.js", 'forRole("contracts"', 'forRole("evaluation"'), ("anna", "deadline.js", 'forRole("evaluation"', 'forRole("notices"'),
           ("dora", "award.js", 'forRole("contracts"', 'forRole("evaluation"'), ("fred", "tenderers.js", 'forRole("notices"', 'forRole("all"')]
 TEXTS = "[...document.querySelectorAll('main button, main summary, main label, nav a')].map((at) => at.textContent.trim())"
@@ -94,8 +95,8 @@ def today(desk: Desk, name: str) -> None:
     heads = desk.page.run("[...document.querySelectorAll('main h2')].map((at) => at.textContent)")
     check(f"{name}: the groups are {heads}", heads == groups)
     lines = desk.page.run("[...document.querySelectorAll('main > p')].map((at) => at.textContent).filter((text) => text.startsWith('Left'))")
-    told = re.fullmatch(r"Left to others: (\d+) tasks \((.*)\)\.", lines[0]) if lines else None
-    check(f"{name}: left to others are {lines}", (int(told[1]), set(told[2].split(", "))) == (count, roles) if told else (lines, count) == ([], 0))
+    found = re.fullmatch(r"Left to others: (\d+) tasks \((.*)\)\.", lines[0]) if lines else None
+    check(f"{name}: left to others are {lines}", (int(found[1]), set(found[2].split(", "))) == (count, roles) if found else (lines, count) == ([], 0))
     for notice, task, role in (("N2", "examine 1 tender", "evaluation"), ("N3", "sign the contract", "contracts")):
         desk.go(f"notice/{notice}")
         is_own = role in ROLES[name].split() or name == "emil"

@@ -95,7 +95,7 @@ def feeds(scene: Scene, page: Page) -> None:
               "de": {"Neue Vergaben als Feed": "Neue Vergaben: ", "Alles, was geschieht, als Feed": "Was in allen Vergaben geschah: "}}
     for language, titles in wanted.items():
         page.go(scene.front.address(f"?language={language}"))
-        links = dict(page.run("[...document.querySelectorAll('main a')].filter((at) => at.pathname.endsWith('.atom')).map((at) => [at.textContent, at.pathname])"))
+        links = dict(page.run("[...document.querySelectorAll('main a[href$=\".atom\"]')].map((at) => [at.textContent, at.pathname])"))
         check(f"the links are {links}", list(links) == list(titles))
         for text, title in titles.items():
             feed = scene.front.ask("GET", links[text]).body.decode()

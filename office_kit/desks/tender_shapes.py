@@ -227,8 +227,8 @@ def cannot_send(scene: Scene, desk: Desk) -> None:
 
 
 def opened(scene: Scene) -> None:
-    """A deadline passes while My tenders is shown, and then the clerk opens the tenders. The list says both without a reload, and so does the view of one tender.
-    (Here the desk asks every second, in place of every twenty.)"""
+    """A deadline passes while My tenders is shown, and then the clerk opens the tenders. The list says both without a reload, and so does the view of one
+    tender. (Here the desk asks every second, in place of every twenty.)"""
     deadline = int(time.time()) + 3 * AHEAD
     scene.client.publish("N5", notice(text_of(deadline), lot("L1", "1000", 600, 0, *ITEMS), title="A short deadline"))
     receipt = int(scene.client.present("T2", "N5", "L1", RIGHT)["receipt"])

@@ -57,7 +57,7 @@ export function momentAndSpan(milliseconds) {
 // This long before the validity of the tenders ends, its date is marked as urgent.
 const CLOSE = 14 * DAY;
 
-/** Whether a task is this clerk's own: one of the own roles, or only a date. */
+/** Whether a task is this clerk's own, or only a date. */
 export function isOwn(task) {
   const roles = rolesOf(task);
   return roles.length === 0 || roles.some(may);
