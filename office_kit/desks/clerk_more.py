@@ -243,6 +243,7 @@ def views(desk: Desk) -> None:
     timed(desk, "notice/N005", "document.querySelector('main form')")
     desk.go(f"notice/{clerk_large.name_of(clerk_large.OPENED + 2)}")
     desk.says("No tender came.")
+    desk.says("The tenders are sealed until the clerk opens them.")
     timed(desk, "notice/N001", "[...document.querySelectorAll('main button')].find((at) => at.textContent === 'Record the results …')")
     examination(desk)
     timed(desk, "letter/N003/L1", "document.querySelector('.sheet')")

@@ -88,7 +88,7 @@ export default {
   "award.made": "Awarded",
   "award.to": "To {name} for {price} (award {award}).",
   "standstill.until": "The standstill lasts until {until}",
-  "standstill.over": "The standstill ended {until}",
+  "standstill.over": "The standstill ended on {until}",
   "sign.security": "Reference of the performance security",
   "sign.security.hint": "The number that the bank gave it: 1 to 32 letters, digits, _ . or -",
   "sign.amount": "Amount of the performance security",

@@ -75,8 +75,7 @@ export function span(seconds) {
     .filter(([, count], place) => place === 0 || count > 0).map(([name, count]) => say(`span.${name}`, { count })).join(", ");
 }
 
-/** The seconds until a moment (in milliseconds) by the server's clock; negative after it. All countdowns use this: a
- * second that has begun counts. */
+/** The seconds until a moment (in milliseconds) by the server's clock. A second that has begun counts. */
 export function secondsTo(milliseconds) {
   return Math.ceil((milliseconds - officeNow()) / 1000);
 }
