@@ -48,7 +48,7 @@ export default {
   "signed.title": "Wer angemeldet ist",
   "signed.in": "Angemeldet als {who}. Rollen: {roles}.",
   "signed.nobody": "Sie sind nicht angemeldet, oder Ihr Name hat keine Rolle. Sie sehen nur, was öffentlich ist. Fragen Sie den Betreiber.",
-  "signed.out": "So melden Sie sich ab",
+  "signed.out": "Abmeldung",
   "signed.leave": "Zum Abmelden schließen Sie alle Fenster des Browsers. Bis dahin kann jeder an diesem Browser in Ihrem Namen handeln.",
   "role.budget": "Haushalt",
   "role.notices": "Bekanntmachungen",

@@ -1,4 +1,4 @@
-// The stages of notices, and the next tasks as sentences.
+// Stages of notices, and the next tasks as sentences.
 import { badge, element, given, link, placeOf } from "../common/draw.js";
 import { evaluationOf } from "../common/findings.js";
 import { countdown, moment, span } from "../common/money.js";
