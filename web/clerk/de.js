@@ -102,7 +102,7 @@ export default {
   "task.contract": "Los {lot}: Vertrag {contract} läuft",
   "task.end": "Los {lot}: Vertrag {contract} beenden, denn er ist ganz bezahlt",
   "task.binds": "Die Bindefrist der Angebote läuft bis {until}",
-  "task.expired": "Die Bindefrist der Angebote endete am {until}: Sie können weder zuschlagen noch unterzeichnen",
+  "task.expired": "Sie können weder zuschlagen noch unterzeichnen: Die Bindefrist der Angebote endete am {until}",
   "tenderer.intro": "Eine Firma macht einen Schlüssel und gibt Ihnen dessen SHA-256, mit Name und Anschrift. Sie müssen prüfen, ob die Firma die ist, die sie zu sein angibt. Eine Eintragung lässt sich nicht ändern.",
   "tenderer.drop": "Datei von der Seite „Für Bieter“",
   "tenderer.drop.hint": "Sie heißt registration-….json. Vergleichen Sie ihren Inhalt mit dem unterschriebenen Blatt.",

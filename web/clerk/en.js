@@ -102,7 +102,7 @@ export default {
   "task.contract": "Lot {lot}: contract {contract} is running",
   "task.end": "Lot {lot}: end contract {contract}, which is paid in full",
   "task.binds": "Tenders are valid until {until}",
-  "task.expired": "The validity of the tenders ended on {until}: you can't award or sign any more",
+  "task.expired": "You can't award or sign any more: the validity of the tenders ended on {until}",
   "tenderer.intro": "A firm makes a key and gives you its SHA-256, with a name and an address. You must verify that the firm is who it says it is. A registration can't be changed.",
   "tenderer.drop": "File from the tenderer's desk",
   "tenderer.drop.hint": "Its name is registration-….json. Compare its content with the signed sheet.",

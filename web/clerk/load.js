@@ -73,12 +73,12 @@ export function othersText(all) {
 /** The next tasks of this clerk, each as a sentence that leads to its lot, and what is left to others. */
 export function tasks(name, stage) {
   const now = officeNow();
-  const shown = (milliseconds) => (milliseconds ? element("span", {}, momentAndSpan(milliseconds)) : "");
   const all = tasksOf(stage, now);
   const others = othersText(all);
   return [...all.filter(isOwn).map(({ code, lot = "", count = 0, contract: number = "", until, since }) => {
     const isClose = code === "expired" || (code === "binds" && until - now < CLOSE);
-    const told = sayParts(`task.${code}`, { lot: given(lot), count, contract: number, until: shown(until), since: shown(since) });
-    return element("li", isClose ? { class: "wrong" } : {}, lot ? link(told, placeOf("notice", name, lot)) : told);
+    const [when, ...away] = momentAndSpan(until ?? since ?? 0);
+    const told = sayParts(`task.${code}`, { lot: given(lot), count, contract: number, until: when, since: when });
+    return element("li", isClose ? { class: "wrong" } : {}, lot ? link(told, placeOf("notice", name, lot)) : told, told.includes(when) ? away : "");
   }), ...(others ? [element("li", { class: "quiet" }, others)] : [])];
 }
