@@ -94,7 +94,8 @@ export async function drawFirm(tenderer) {
     const { title: text, opened } = notices.get(tender.notice);
     const lot = lots.get(`${tender.notice}/${tender.lot}`);
     const found = outcome(tender, lot, ofTender(data.awards, tender), contract);
-    return [[link(given(text), placeOf("notice", tender.notice, tender.lot)), below(say("see.lot", { lot: tender.lot }), ": ", given(lot.title)), below(day(opened))],
+    const bought = [say("see.lot", { lot: tender.lot }), ": ", given(lot.title)];
+    return [[link(given(text), placeOf("notice", tender.notice, tender.lot)), below(bought), below(day(opened))],
     amount(tender.corrected), found, amount(contract ? worthNow(contract) : null), amount(contract?.paid ?? null)];
   });
   const currency = data.notices[0].currency;

@@ -52,7 +52,8 @@ function terms(editor) {
     editor.changed();
   });
   editor.inputs.set("deadline", deadline);
-  return element("div", { class: "fields" }, [hinted("name", ID), boundTitle(editor, "title", draft, say("editor.title")), deadline, hinted("validity", DIGITS), hinted("standstill", DIGITS), criteria,
+  return element("div", { class: "fields" }, [hinted("name", ID), boundTitle(editor, "title", draft, say("editor.title")), deadline,
+    hinted("validity", DIGITS), hinted("standstill", DIGITS), criteria,
     weight, own("late", { kind: "choice", options: pairs("late.refused", "late.forfeits") }), hinted("performance", DIGITS)].map(({ made }) => made));
 }
 

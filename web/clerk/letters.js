@@ -26,7 +26,8 @@ export async function drawLetter(again, name, lotId) {
     return { title: head, content: [title(head), note("look", say("letters.none")), backTo(name)] };
   }
   return { title: head, isSheet: true, content: [title(head), element("p", {}, say("letters.what", { count: letters.length })),
-    isSealed ? note("look", say("letters.open")) : lot.contract && remedyOf(city) ? note("look", say("letters.signed")) : null, backTo(name), steps(printButton()), letters.map((parts) => sheet(parts))] };
+    isSealed ? note("look", say("letters.open")) : lot.contract && remedyOf(city) ? note("look", say("letters.signed")) : null, backTo(name),
+    steps(printButton()), letters.map((parts) => sheet(parts))] };
 }
 
 /** A letter to each tenderer of an opened lot; none while the lot is undecided. */

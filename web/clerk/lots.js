@@ -114,7 +114,8 @@ function lotPart(editor, lot, at) {
     editor.draft.lots.splice(at, 1);
     editor.redrawLots();
   }, "second");
-  const fields = [own("id", "lot", ID), titled(boundTitle(editor, `${path}.title`, lot, say("column.lotTitle"))), element("div", {}, own("line", "line", lineOptions(editor, lot.line)), money),
+  const fields = [own("id", "lot", ID), titled(boundTitle(editor, `${path}.title`, lot, say("column.lotTitle"))),
+    element("div", {}, own("line", "line", lineOptions(editor, lot.line)), money),
     own("estimate", "estimate", DIGITS), own("security", "security", { hint: say("lots.security.hint"), ...DIGITS })];
   const isOpen = editor.draft.lots.length <= UNFOLDED ? { open: "" } : {};
   return element("details", { class: "card", ...isOpen }, summary, element("div", { class: "fields" }, fields), itemTable(editor, lot, path),
