@@ -92,8 +92,10 @@ export async function drawFirm(tenderer) {
   const cells = own.map((tender) => {
     const contract = ofTender(data.contracts, tender);
     const { title: text, opened } = notices.get(tender.notice);
-    const found = outcome(tender, lots.get(`${tender.notice}/${tender.lot}`), ofTender(data.awards, tender), contract);
-    return [[link(given(text), placeOf("notice", tender.notice)), below(say("see.lot", { lot: tender.lot }), " ", day(opened))],
+    const lot = lots.get(`${tender.notice}/${tender.lot}`);
+    const found = outcome(tender, lot, ofTender(data.awards, tender), contract);
+    const bought = [say("see.lot", { lot: tender.lot }), ": ", given(lot.title)];
+    return [[link(given(text), placeOf("notice", tender.notice, tender.lot)), below(bought), below(day(opened))],
     amount(tender.corrected), found, amount(contract ? worthNow(contract) : null), amount(contract?.paid ?? null)];
   });
   const currency = data.notices[0].currency;

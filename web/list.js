@@ -7,7 +7,7 @@ import { field, form, growing, jumpTo } from "./common/forms.js";
 import { clock, day, money, moment } from "./common/money.js";
 import { notices, officeNow } from "./common/office.js";
 import { stateBadge } from "./common/states.js";
-import { say } from "./common/texts.js";
+import { language, say } from "./common/texts.js";
 
 // So many of each part are shown at first, so that the next part isn't far down; and with each press of its button.
 const FIRST = 12, AT_ONCE = 100;
@@ -92,7 +92,8 @@ export async function drawList(text) {
   return { title: "", told: say("see.list.all", { count: list.length }), content: [title(say("see.page.list")),
     element("p", { class: "intro" }, say("see.list.intro")), data ? null : element("p", { class: "note" }, say("see.nodata")),
     list.length === 0 ? element("p", {}, say("see.list.empty")) : search(filtersOf(text), entries, data),
-    data ? element("p", {}, link(say("see.list.feed"), "/data/notices.atom"), " · ", link(say("see.about.data"), "/data/")) : null] };
+    data ? element("p", {}, link(say("see.list.feed.notices"), `/data/${language()}/notices.atom`), " · ",
+      link(say("see.list.feed"), `/data/${language()}/feed.atom`), " · ", link(say("see.about.data"), "/data/")) : null] };
 }
 
 /** The notice whose number differs from this one only in case, or null. */

@@ -146,11 +146,28 @@ def tenders_part(desk: Desk, scene: Scene) -> None:
     tenderers.present("T2", "N1", "L1", tender((3, 140), (10, 12), wrong=20), "G2", 60)
     tenderers.present("T1", "N1", "L2", "290 for all of it")
     desk.go("today")
+    countdowns(scene)
     desk.go("notice/N1")
     desk.says("Tenders in time, by lot: L1: 2, L2: 1.")
     desk.says("2 securities")
     check(f"whose they are is told: {desk.told()}", "G1" in desk.told() and "shown after the opening" in desk.told() and "Beta" not in desk.told())
     desk.picture("receiving")
+
+
+def countdowns(scene: Scene) -> None:
+    """All countdowns to a deadline say the same: that of a task, and that of a clock. A second that has begun counts."""
+    desk = Desk(scene)
+    desk.says("Wait for tenders until")
+    desk.page.run("""Promise.all(["office", "money"].map((name) => import(`/common/${name}.js`))).then(([{ notices, officeNow }, { clock }]) =>
+      notices().then(([{ deadline }]) => {
+        const at = Date.parse(deadline) - 40_300 - (officeNow() - Date.now());
+        Date.now = () => at;
+        document.querySelector("main").append(clock(deadline));
+      }))""")
+    shown = "[...document.querySelectorAll('main [role=timer]')].map((at) => at.textContent)"
+    desk.page.wait(f"({shown}).length === 2 && ({shown}).every((text) => / 4[01] seconds/.test(text))")
+    check(f"the countdowns are {desk.page.run(shown)}", desk.page.run(shown) == ["(in 41 seconds)", "closes in 41 seconds"])
+    desk.leave()
 
 
 def opening_part(desk: Desk, deadline: float) -> None:
@@ -201,7 +218,9 @@ def examination_part(desk: Desk) -> None:
     other.settle("today")
     other.says("Lot L1: examine 2 tenders")
     other.says("Tenders are valid until")
-    other.go("notice/N1")
+    other.press("Lot L1: examine 2 tenders")
+    other.settle("notice/N1/L1")
+    check("a task of Today doesn't lead to its lot", other.page.run("document.activeElement.id") == "lot-L1")
     other.says("2 tenders to examine")
     desk.tick("Requirements not met", place="Examination of Beta Ltd, receipt 2")
     desk.press("All tenders here meet the requirements", place="Lot L1")
@@ -376,12 +395,13 @@ def moved_and_cancelled(scene: Scene) -> None:
     desk.field("New deadline", local(desk, time.time() + 200_000))
     desk.press("Move the deadline \u2026")
     desk.confirm("Move the deadline", "The deadline of notice N2 is moved.")
+    desk.says("No tender has arrived yet.")
     firms(scene).present("T1", "N2", "L1", tender((3, 150), (10, 12)), "G7", 50)
     desk.go("letter/N2/L1")
     desk.says("There are no letters to print")
     desk.go("notice/N2")
     desk.press("Cancel the notice")
-    desk.field("Reason", "No need")
+    desk.field("Reason", "No need.")
     desk.press("Cancel the notice \u2026")
     desk.says("To confirm, type: cancel")
     check("without the word nothing is sent", desk.page.run("hands.button('Cancel the notice').disabled"))
@@ -391,6 +411,7 @@ def moved_and_cancelled(scene: Scene) -> None:
     desk.go("letter/N2/L1")
     tells(desk, "To everybody who tendered for lot L1", "Thank you for your tender (receipt ", "Our reason: No need.", "No tender for the lot was opened.")
     check(f"a firm whose tender stayed sealed is named: {desk.told()}", "Alpha" not in desk.told())
+    check(f"a reason that ends with a full stop gets another one: {desk.told()}", "No need.." not in desk.told())
 
 
 def stops(scene: Scene) -> None:

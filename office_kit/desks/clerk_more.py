@@ -69,6 +69,7 @@ def answers(scene: Scene) -> None:
     desk.give_key()
     desk.settle("today")
     write_notice(desk, "N7", time.time() + 86_400 * 40, "Answers")
+    titles(desk)
     desk.field("Deadline", "2027-03-28T02:30")
     desk.says("Clocks go forward that day, and the time 02:30 doesn't exist. The deadline would be 03:30.")
     desk.field("Deadline", "2027-10-31T02:30")
@@ -95,6 +96,16 @@ def answers(scene: Scene) -> None:
         desk.press("Publish the notice …")
         desk.page.wait("document.querySelector('dialog[open] .answers')")
     desk.press("Don't send")
+
+
+def titles(desk: Desk) -> None:
+    """The fields of titles show all of 200 letters. A line end that is pasted becomes a space."""
+    for label, place, after in (("Title", "Terms", "Answers"), ("Title of the lot", "", "South")):
+        where = f"hands.field('{label}'{f', hands.part({place!r})' if place else ''})"
+        desk.field(label, f"{'Repair of roads '.upper() * 12}and more\n north", place=place)
+        check(f"{label} is {desk.page.run(f'{where}.value')!r}", desk.page.run(f"{where}.value").endswith("ROADS and more north"))
+        check(f"{label} shows a part of its text", desk.page.run(f"{where}.scrollHeight <= {where}.clientHeight && {where}.value.length > 200"))
+        desk.field(label, after, place=place)
 
 
 def idle(scene: Scene) -> None:
@@ -129,16 +140,55 @@ def letterheads(scene: Scene) -> None:
             json.dump({"letterhead": {"en": ["City of Example", "1 Town Hall Square"], "de": []},
                        "remedy": {"en": ["Object within ten days at the chamber."]}}, file)
         desk = Desk(scene)
-        desk.go("letter/N1/L1")
+        objections = "[...document.querySelectorAll('.sheet')].map((at) => at.innerText.includes('Object within ten days'))"
+        desk.go("letter/N1/L2")
         tells(desk, "City of Example", "1 Town Hall Square")
-        objections = desk.page.run("[...document.querySelectorAll('.sheet')].map((at) => at.innerText.includes('Object within ten days'))")
-        check(f"letters with a remedy: {objections}", objections == [False, True])
+        check(f"letters with a remedy: {desk.page.run(objections)}", desk.page.run(objections) == [True])
         desk.picture("letters-city")
+        reasons(desk)
+        signed(desk)
+        check(f"letters with a remedy: {desk.page.run(objections)}", desk.page.run(objections) == [False, False])
         desk.go("minutes/N1")
         tells(desk, "City of Example", "2 tenders for lot L1")
         check("a table has no caption", desk.page.run("[...document.querySelectorAll('main table')].every((at) => at.caption?.textContent)"))
     finally:
         os.remove(path)
+
+
+def reasons(desk: Desk) -> None:
+    """A reason that was typed into a letter is printed in it, and stays after a reload. The page asks before it is lost, unless it was printed."""
+    check("an empty reason is asked for", not desk.page.run(ASKS))
+    desk.field("More reasons", "A sentence is no price list.")
+    check("a reason is lost without a question", desk.page.run(ASKS))
+    time.sleep(0.6)
+    desk.reload()
+    printed = "[...document.querySelectorAll('.sheet p')].some((at) => at.textContent === 'A sentence is no price list.')"
+    kept = desk.page.run(f"{printed} && hands.field('More reasons').value === 'A sentence is no price list.'")
+    check("a reason is lost by a reload", kept and desk.page.run(ASKS))
+    desk.page.run("void dispatchEvent(new Event('afterprint'))")
+    check("a printed reason is asked for", not desk.page.run(ASKS))
+
+
+def signed(desk: Desk) -> None:
+    """Letters that are printed after the signing say when the standstill ended and when the contract was signed. They don't say how to object."""
+    record, terms = (json.loads(desk.scene.front.ask("GET", f"/notices/N1/{name}").body) for name in ("record", "terms"))
+    terms["standstill_days"] = 10
+    for award in record["records"][0]["compiledRelease"]["awards"]:
+        award["date"] = "2026-01-05T10:00:00Z"
+    desk.page.answer_for({"/notices/N1/terms": (200, json.dumps(terms).encode()), "/notices/N1/record": (200, json.dumps(record).encode())})
+    desk.go("letter/N1/L1")
+    tells(desk, "The contract is signed. So these letters don't say how to object.",
+          "The standstill, the time to object before the signing, ended on 15 January 2026", "The contract was signed on ")
+    check(f"a standstill is told that is over: {desk.told()}", "No contract will be signed before" not in desk.told())
+    desk.picture("letters-signed")
+    del record["records"][0]["compiledRelease"]["contracts"]
+    desk.page.answer_for({"/notices/N1/terms": (200, json.dumps(terms).encode()), "/notices/N1/record": (200, json.dumps(record).encode())})
+    desk.go("today")
+    desk.go("letter/N1/L1")
+    check(f"a contract is told: {desk.told()}", "ended on 15 January 2026" in desk.told() and "The contract was signed" not in desk.told())
+    desk.page.ask("Fetch.disable")
+    desk.go("today")
+    desk.go("letter/N1/L1")
 
 
 def phone(scene: Scene) -> None:
@@ -191,6 +241,9 @@ def views(desk: Desk) -> None:
     timed(desk, "tenderers", "[...document.querySelectorAll('main button')].find((at) => at.textContent === 'Show more (35 left)')")
     timed(desk, "new", "[...document.querySelectorAll('main button')].find((at) => at.textContent === 'Publish the notice …')")
     timed(desk, "notice/N005", "document.querySelector('main form')")
+    desk.go(f"notice/{clerk_large.name_of(clerk_large.OPENED + 2)}")
+    desk.says("No tender came.")
+    desk.says("The tenders are sealed until the clerk opens them.")
     timed(desk, "notice/N001", "[...document.querySelectorAll('main button')].find((at) => at.textContent === 'Record the results …')")
     examination(desk)
     timed(desk, "letter/N003/L1", "document.querySelector('.sheet')")

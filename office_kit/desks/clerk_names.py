@@ -3,6 +3,7 @@ other ones."""
 import contextlib
 import json
 import os
+import re
 import tempfile
 
 from office_kit.client import Port, budget
@@ -31,7 +32,12 @@ SCREENS = {
     "notice/N4": {"Record the payment …": "contracts", "Change the contract …": "contracts", "End the contract by default …": "contracts"},
 }
 # A name, a module that is made wrong for it, the text, and the changed text.
-PLANTS = [("bert", "session.js", "session.roles.includes(role)", "true"), ("bert", "desk.js", "!FOR_ROLE[name] || may(FOR_ROLE[name])", "true"),
+# On Today: the groups of each clerk with their counts, the number of tasks that are left to others, and the roles that these need.
+TODAY = {"anna": (["This week: 1", "Waiting: 3"], 4, {"Evaluation", "Contracts"}), "bert": (["This week: 1", "Waiting: 3"], 4, {"Evaluation", "Contracts"}),
+         "cora": (["This week: 2", "Waiting: 2"], 2, {"Contracts"}), "dora": (["This week: 2", "Later: 1", "Waiting: 1"], 2, {"Evaluation"}),
+         "emil": (["This week: 3", "Later: 1"], 0, set()), "fred": (["This week: 2", "Later: 1", "Waiting: 1"], 2, {"Evaluation"})}
+PLANTS = [("bert", "load.js", "roles.some(may)", "true"), ("anna", "today.js", "now, isOwn)", "now)"),
+          ("bert", "session.js", "session.roles.includes(role)", "true"), ("bert", "desk.js", "!FOR_ROLE[name] || may(FOR_ROLE[name])", "true"),
           ("cora", "contracts.js", 'forRole("contracts"', 'forRole("evaluation"'), ("anna", "deadline.js", 'forRole("evaluation"', 'forRole("notices"'),
           ("dora", "award.js", 'forRole("contracts"', 'forRole("evaluation"'), ("fred", "tenderers.js", 'forRole("notices"', 'forRole("all"')]
 TEXTS = "[...document.querySelectorAll('main button, main summary, main label, nav a')].map((at) => at.textContent.trim())"
@@ -65,8 +71,8 @@ def signed_in(scene: Scene, front: Front, name: str) -> Desk:
 def finds_own(desk: Desk, name: str) -> None:
     """The bar names the clerk and the roles. Each screen has the buttons of these roles, and says what the others need."""
     roles = ROLES[name].split()
-    bar = desk.page.run("document.getElementById('who').innerText")
-    check(f"the bar says {bar}", bar.strip() == f"Signed in as {name}. Roles: {', '.join(TITLES[role] for role in roles)}.")
+    bar = desk.page.run("[...document.getElementById('who').children].map((at) => at.innerText)")
+    check(f"the bar says {bar}", bar == [f"Signed in as {name}. Roles: {', '.join(TITLES[role] for role in roles)}.", "How to sign out"])
     for screen, buttons in SCREENS.items():
         desk.go(screen)
         texts = desk.page.run(TEXTS)
@@ -77,8 +83,25 @@ def finds_own(desk: Desk, name: str) -> None:
             says = f"Only clerks with the role “{TITLES[role]}” can do this." in desk.told()
             check(f"{name}: {screen} doesn't say that {role} is needed", may or hidden or says)
         check(f"{name}: the menu of {screen}", ("New notice" in texts) == ("notices" in roles or "all" in roles))
+    today(desk, name)
     check("the desk asks for a key", "key" not in desk.page.run("document.getElementById('who').innerText").lower())
     page_checks.is_quiet(desk.page)
+
+
+def today(desk: Desk, name: str) -> None:
+    """Today counts and shows the tasks of the own roles, and says in one line what is left to others. So does the screen of a notice."""
+    groups, count, roles = TODAY[name]
+    desk.go("today")
+    heads = desk.page.run("[...document.querySelectorAll('main h2')].map((at) => at.textContent)")
+    check(f"{name}: the groups are {heads}", heads == groups)
+    lines = desk.page.run("[...document.querySelectorAll('main > p')].map((at) => at.textContent).filter((text) => text.startsWith('Left'))")
+    found = re.fullmatch(r"Left to others: (\d+) tasks \((.*)\)\.", lines[0]) if lines else None
+    check(f"{name}: left to others are {lines}", (int(found[1]), set(found[2].split(", "))) == (count, roles) if found else (lines, count) == ([], 0))
+    for notice, task, role in (("N2", "examine 1 tender", "evaluation"), ("N3", "sign the contract", "contracts")):
+        desk.go(f"notice/{notice}")
+        is_own = role in ROLES[name].split() or name == "emil"
+        told = desk.page.run("document.querySelector('main .look').innerText")
+        check(f"{name}: {notice} says {told}", (task in told) == is_own and ("Left to others: " in told) != is_own)
 
 
 def by_name(scene: Scene) -> None:
@@ -136,8 +159,10 @@ def does_own(scene: Scene, front: Front, contract: int) -> None:
     desk.confirm("Register the tenderer", "T9 is registered.")
     desk.go("journal")
     desk.says("anna")
-    desk.go("key")
+    desk.page.run("document.querySelector('#who a').click()")
+    desk.settle("key")
     desk.says("Signed in as anna.")
+    desk.says("To sign out, close all windows of the browser.")
     desk.picture("signed-in")
     desk.leave()
     desk = signed_in(scene, front, "dora")

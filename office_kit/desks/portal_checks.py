@@ -86,6 +86,20 @@ def open_data(scene: Scene) -> None:
     has_contrast("the index", page)
     page.picture(os.path.join(scene.pictures, "data.png"))
     is_quiet(page)
+    feeds(scene, page)
+
+
+def feeds(scene: Scene, page: Page) -> None:
+    """The list leads to a feed of new procurements and to one of everything that happens, each in the spoken language."""
+    wanted = {"en": {"New procurements as a feed": "New procurements: ", "Everything that happens, as a feed": "What happened in all procurements: "},
+              "de": {"Neue Vergaben als Feed": "Neue Vergaben: ", "Alles, was geschieht, als Feed": "Was in allen Vergaben geschah: "}}
+    for language, titles in wanted.items():
+        page.go(scene.front.address(f"?language={language}"))
+        links = dict(page.run("[...document.querySelectorAll('main a[href$=\".atom\"]')].map((at) => [at.textContent, at.pathname])"))
+        check(f"the links are {links}", list(links) == list(titles))
+        for text, title in titles.items():
+            feed = scene.front.ask("GET", links[text]).body.decode()
+            check(f"{text} leads to {feed[:200]}", f"<title>{title}" in feed and f'xml:lang="{language}"' in feed)
 
 
 def type_words(page: Page, words: str, field: str = "by-words") -> None:

@@ -120,6 +120,8 @@ def names_all(desk: Desk) -> None:
               "G1, 50 EUR"]
     missing = [text for text in wanted if text not in sheet]
     check(f"the sheet says {sheet!r}, and not {missing}", not missing and "Write to the review chamber." not in sheet)
+    above = "document.querySelector('main .steps').getBoundingClientRect().bottom <= document.querySelector('.sheet').getBoundingClientRect().top"
+    check("the buttons stand below the sheet", desk.page.run(above))
 
 
 def finds_notice(desk: Desk) -> None:

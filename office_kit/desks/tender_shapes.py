@@ -2,12 +2,14 @@
 import base64
 import json
 import os
+import time
 from collections.abc import Callable
 
+from office_kit.client import AHEAD, lot, notice, text_of, wait_until
 from office_kit.common import check
 from office_kit.desks.browser import Page
-from office_kit.desks.page_checks import focused, has_contrast, is_within, keeps_nothing
-from office_kit.desks.tender_office import Scene
+from office_kit.desks.page_checks import focused, has_contrast, is_quiet, is_within, keeps_nothing
+from office_kit.desks.tender_office import ITEMS, Scene
 from office_kit.desks.tender_page import MADE, RIGHT, SHEET, Desk
 
 WIDTHS = (320, 375, 768, 1280, 1920)
@@ -224,6 +226,32 @@ def cannot_send(scene: Scene, desk: Desk) -> None:
     check("a file without a price can be sent", not desk.can_press("Check before submitting") and desk.has("bad", "can't be used"))
 
 
+def opened(scene: Scene) -> None:
+    """A deadline passes while My tenders is shown, and then the clerk opens the tenders. The list says both without a reload, and so does the view of one
+    tender. (Here the desk asks every second, in place of every twenty.)"""
+    deadline = int(time.time()) + 3 * AHEAD
+    scene.client.publish("N5", notice(text_of(deadline), lot("L1", "1000", 600, 0, *ITEMS), title="A short deadline"))
+    receipt = int(scene.client.present("T2", "N5", "L1", RIGHT)["receipt"])
+    desk, other = (planted_desk(scene, "T2", "search", "AGAIN = 20_000", "AGAIN = 1_000") for _ in range(2))
+    other.at(f"tender/{receipt}", "Tender with receipt")
+    desk.at("tenders", "My tenders")
+    row = f"[...document.querySelectorAll('main tbody tr')].find((at) => at.cells[0].textContent === '{receipt}')?.innerText"
+    desk.page.wait(f"{row}?.includes('Change or withdraw {receipt}')")
+    desk.page.run("document.getElementById('tenders-receipt').value = '123'")
+    wait_until(deadline + 0.1)
+    desk.page.wait(f"{row}.includes('View {receipt}') && {row}.includes('the deadline has passed')")
+    desk.says("This page asks every 1 seconds whether the tenders are opened.")
+    check(f"it is shown as {desk.page.run(row)}", "sealed" in desk.page.run(row))
+    desk.page.picture(os.path.join(scene.pictures, "tenders-due-desktop-light.png"))
+    wait_until(deadline + 1.05)
+    scene.client.open("N5")
+    desk.page.wait(f"{row}.includes('opened')")
+    check("what was typed is gone", desk.page.run("document.getElementById('tenders-receipt').value") == "123")
+    other.says("The tender is now opened.")
+    other.says("The office read a price of 570 EUR.")
+    is_quiet(desk.page)
+
+
 def stores_nothing(scene: Scene, desk: Desk) -> None:
     keeps_nothing(scene, desk.page)
 
@@ -267,4 +295,4 @@ def plants(scene: Scene) -> None:
     check(f"these are passed over: {passed_over}", not passed_over)
 
 
-CHECKS: list[Callable[[Scene], None]] = [keyboard, shapes, printed, without_scripts, plants]
+CHECKS: list[Callable[[Scene], None]] = [opened, keyboard, shapes, printed, without_scripts, plants]

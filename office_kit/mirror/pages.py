@@ -4,13 +4,16 @@ import json
 from typing import Any
 from xml.sax.saxutils import quoteattr
 
-from office_kit.mirror.columns import COLUMNS, MEANS, licence_of
+from office_kit.mirror.columns import COLUMNS, MEANS, OTHERS, TABLES, licence_of
 from office_kit.mirror.events import LANGUAGES, moment, say, state_of
 from office_kit.mirror.feeds import author
 from office_kit.mirror.office import Notice
 
 # The number of items that the index names of each procurement.
 MOST = 10
+# What the mirror's own files have.
+OWN = {"datapackage.json": "The type and the meaning of each column of each table (Frictionless Data Package).",
+       "ledger.txt": "The ledger, as the office answered it.", "chain.txt": "A line for each release that was seen here, with digests."}
 # The head of the index, a page of HTML.
 HEAD = """<!DOCTYPE html>
 <html lang="en">
@@ -33,8 +36,6 @@ show later whether anything published until now was changed. <code>tools/mirror 
 
 def page(base: str, now: str, files: list[tuple[str, int, str]], notices: list[Notice], head: str, city: dict[str, Any]) -> str:
     """The index. `files` are names, lengths and digests; `head` is the last digest of the chain; `city` are the city's own words."""
-    rows = [f"<tr><td><a href={quoteattr(name)}>{html.escape(name)}</a></td><td>{length:,}</td><td><code>{digest}</code></td></tr>\n"
-            for name, length, digest in files]
     return f"""{HEAD}<script type="application/ld+json">{dataset(base, notices, city)}</script>
 </head>
 <body>
@@ -50,18 +51,12 @@ def page(base: str, now: str, files: list[tuple[str, int, str]], notices: list[N
 <tbody>
 {"".join(notice_row(one, now) for one in ordered(notices, now))}</tbody>
 </table>
-<h2>Files</h2>
-<table>
-<thead><tr><th>File</th><th>Bytes</th><th>SHA-256</th></tr></thead>
-<tbody>
-{"".join(rows)}</tbody>
-</table>
-<p><a href="datapackage.json">datapackage.json</a> explains each column of each table, for people and for programs (Frictionless Data Package).</p>
-<ul>
-{"".join(f"<li>{html.escape(name)}.csv: {html.escape(means)}</li>{chr(10)}" for name, means in MEANS.items())}</ul>
-<p>There are also <code>records/NOTICE.json</code>, <code>terms/NOTICE.json</code>, <code>minutes/NOTICE.txt</code> and <code>evaluations/NOTICE.txt</code>, as
-the office answered them, and the ledger of each day, <code>ledgers/YYYY-MM-DD.txt</code>. In the tables a text
-that begins with = + - or @ has an apostrophe before it, so that no spreadsheet reads it as a formula.</p>
+<h2>Tables</h2>
+<p>For people: any spreadsheet opens them. A text that begins with = + - or @ has an apostrophe before it, so that no spreadsheet reads it as a formula.</p>
+{files_table([it for it in files if it[0].endswith(".csv")])}{"".join(columns_told(name) for name in COLUMNS)}<h2>Files for programs</h2>
+{files_table([it for it in files if not it[0].endswith(".csv")])}<p>There are also <code>records/NOTICE.json</code>, <code>terms/NOTICE.json</code>,
+<code>minutes/NOTICE.txt</code> and <code>evaluations/NOTICE.txt</code>, as the office answered them, and the ledger of each day,
+<code>ledgers/YYYY-MM-DD.txt</code>.</p>
 <h2>The chain</h2>
 {WITNESS}
 <p>Its last digest: <code>{head}</code></p>
@@ -69,6 +64,21 @@ that begins with = + - or @ has an apostrophe before it, so that no spreadsheet 
 </body>
 </html>
 """
+
+
+def files_table(files: list[tuple[str, int, str]]) -> str:
+    """A table of files, each with what it has."""
+    means = {**{f"{name}.csv": text for name, text in MEANS.items()}, **OTHERS, **OWN}
+    rows = [f"<tr><td><a href={quoteattr(name)}>{html.escape(name)}</a></td><td>{html.escape(means[name])}</td><td>{length:,}</td>"
+            f"<td><code>{digest}</code></td></tr>\n" for name, length, digest in files]
+    return ("<table>\n<thead><tr><th>File</th><th>What it has</th><th>Bytes</th><th>SHA-256</th></tr></thead>\n<tbody>\n"
+            f"{''.join(rows)}</tbody>\n</table>\n")
+
+
+def columns_told(name: str) -> str:
+    """The meaning of each column of a table, folded."""
+    rows = "".join(f"<dt><code>{html.escape(column)}</code></dt><dd>{html.escape(means)}</dd>\n" for column, (_, means) in TABLES[name].items())
+    return f"<details><summary>The columns of {html.escape(name)}.csv</summary>\n<dl>\n{rows}</dl>\n</details>\n"
 
 
 def ordered(notices: list[Notice], now: str) -> list[Notice]:

@@ -392,6 +392,14 @@ def test_many(copy):
     assert sorted(places) == sorted(f"{READERS}/data/{tag}/N{n}.html" for tag in LANGUAGES for n in range(1, 7)), f"the sitemaps have {places}"
 
 
+def lists_files(copy):
+    """The index parts the tables, which are for people, from the files for programs."""
+    people, programs = copy.text("index.html").split("<h2>Tables</h2>")[1].split("<h2>Files for programs</h2>")
+    listed = [re.findall(r'<tr><td><a href="([^"]+)"', part) for part in (people, programs)]
+    wanted = [[f"{it}.csv" for it in TABLES], ["releases.jsonl", "compiled.jsonl", "datapackage.json", "ledger.txt", "chain.txt"]]
+    assert listed == wanted, f"the files for people and for programs are {listed}"
+
+
 def test_dictionary(copy):
     copy.run(0)
     told = json.loads(copy.text("datapackage.json"))
@@ -402,6 +410,9 @@ def test_dictionary(copy):
         fields = found[f"{name}.csv"]["schema"]["fields"]
         first = next(csv.reader(copy.text(f"{name}.csv").splitlines(True)))
         assert [it["name"] for it in fields] == first and all(it["description"].endswith(".") for it in fields), f"{name} has {first}"
+        missing = [it["name"] for it in fields if f"<code>{it['name']}</code></dt><dd>{html.escape(it['description'])}</dd>" not in copy.text("index.html")]
+        assert not missing, f"the index doesn't explain {missing} of {name} to people"
+    lists_files(copy)
     copy.office.day = 1
     city = os.path.join(copy.room, "city.json")
     with open(city, "w", encoding="utf-8") as file:

@@ -104,7 +104,7 @@ export function registerPart({ name, currency, stage }) {
       // If nothing changed, the tables stay, so that a selection in them stays too.
       if (text + JSON.stringify(held) !== shown) {
         shown = text + JSON.stringify(held);
-        place.replaceChildren(...registerTable(text), ...securityTable(held, currency));
+        place.replaceChildren(...registerTable(text, stage.kind === "receiving"), ...securityTable(held, currency));
       }
       looked.replaceChildren(say("register.looked"), " ", moment(momentText(officeNow())));
     } catch (fault) {
@@ -125,10 +125,10 @@ export function registerPart({ name, currency, stage }) {
     : element("details", {}, element("summary", {}, say("register.show")), told));
 }
 
-function registerTable(text) {
+function registerTable(text, isOpen) {
   const rows = text.split("\n").slice(1).filter((line) => line !== "").map((line) => line.split("\t"));
   if (rows.length === 0) {
-    return [element("p", {}, say("register.empty"))];
+    return [element("p", {}, say(isOpen ? "register.empty" : "register.none"))];
   }
   const counts = new Map();
   for (const [, lot, , , state] of rows) {

@@ -53,7 +53,8 @@ function drawBar(state = "held", left = 0) {
   if (way() !== "key") {
     const isIn = way() === "name";
     bar.setAttribute("aria-label", say("signed.title"));
-    bar.replaceChildren(element("span", { class: isIn ? "right" : "wrong" }, say(isIn ? "signed.in" : "signed.nobody", { who: who(), roles: ownRoles() })));
+    bar.replaceChildren(element("span", { class: isIn ? "right" : "wrong" }, say(isIn ? "signed.in" : "signed.nobody", { who: who(), roles: ownRoles() })),
+      isIn ? link(say("signed.out"), "#key") : "");
     return;
   }
   const isHeld = caller() !== null;

@@ -1,14 +1,14 @@
 // The editor of a notice: its terms and lots, what the office would refuse, warnings, and its size.
 import { element, link, placeOf, section, title } from "../common/draw.js";
 import { DIGITS, ID, button, growing, steps } from "../common/forms.js";
-import { moment, span } from "../common/money.js";
+import { moment, secondsTo, span } from "../common/money.js";
 import { ledger, notices, officeNow } from "../common/office.js";
 import { say } from "../common/texts.js";
 import { answers, warningList } from "./answers.js";
 import { momentField } from "./deadline.js";
 import { beginnings, saving } from "./drafts.js";
 import { ofNotice } from "./fate.js";
-import { bound, drawLots, drawMoney, pasting } from "./lots.js";
+import { bound, boundTitle, drawLots, drawMoney, pasting } from "./lots.js";
 import { bodyBytes, faultsOf, newDraft, warningsOf } from "./notice.js";
 import { sendThen } from "./send.js";
 import { caller, draft as kept, draftSaved, keepDraft, touchDraft } from "./session.js";
@@ -52,7 +52,8 @@ function terms(editor) {
     editor.changed();
   });
   editor.inputs.set("deadline", deadline);
-  return element("div", { class: "fields" }, [hinted("name", ID), own("title"), deadline, hinted("validity", DIGITS), hinted("standstill", DIGITS), criteria,
+  return element("div", { class: "fields" }, [hinted("name", ID), boundTitle(editor, "title", draft, say("editor.title")), deadline,
+    hinted("validity", DIGITS), hinted("standstill", DIGITS), criteria,
     weight, own("late", { kind: "choice", options: pairs("late.refused", "late.forfeits") }), hinted("performance", DIGITS)].map(({ made }) => made));
 }
 
@@ -135,7 +136,7 @@ function focusOn(editor, fault) {
 /** The warnings as sentences. */
 function warningTexts(draft, now) {
   return warningsOf(draft, now).map(({ code, value = "", amount = 0, least = 0 }) =>
-    say(`warning.${code}`, { value: code === "near" ? span(value) : value, amount, least, count: amount }));
+    say(`warning.${code}`, { value: code === "near" ? span(secondsTo(draft.deadline)) : value, amount, least, count: amount }));
 }
 
 function publish(editor, faults) {

@@ -7,13 +7,11 @@ import { field, note, printButton, sheet, signs, steps } from "../common/forms.j
 import { day, money, moment } from "../common/money.js";
 import { officeNow, registerText, securities } from "../common/office.js";
 import { say, sayParts } from "../common/texts.js";
-import { stagedOf } from "./load.js";
 import { backTo } from "./printed.js";
-import { caller, who } from "./session.js";
+import { caller, keepReason, reasonOf, who } from "./session.js";
 import { momentText } from "./values.js";
+import { stagedOf } from "./whole.js";
 
-// The reasons that were typed for each letter, as long as the tab is open.
-const typed = new Map();
 // Outcomes that are the tender's own, whatever became of its lot.
 const OWN = ["unreadable", "nonconforming", "unresponsive", "late", "passed", "awardended"];
 
@@ -28,7 +26,8 @@ export async function drawLetter(again, name, lotId) {
     return { title: head, content: [title(head), note("look", say("letters.none")), backTo(name)] };
   }
   return { title: head, isSheet: true, content: [title(head), element("p", {}, say("letters.what", { count: letters.length })),
-    isSealed ? note("look", say("letters.open")) : null, backTo(name), steps(printButton()), letters.map((parts) => sheet(parts))] };
+    isSealed ? note("look", say("letters.open")) : lot.contract && remedyOf(city) ? note("look", say("letters.signed")) : null, backTo(name),
+    steps(printButton()), letters.map((parts) => sheet(parts))] };
 }
 
 /** A letter to each tenderer of an opened lot; none while the lot is undecided. */
@@ -43,17 +42,17 @@ function isWinner({ active }, { tenderer }) {
 }
 
 /** The sentences for the winner, before or after the signing. */
-function won({ terms, currency }, { active, standstillUntil, state }, one) {
+function won({ terms, currency }, { active, standstillUntil, state, contract }, one) {
   const required = terms.performance && state === "awarded" ? say("letter.performance", { amount: money(terms.performance, currency) }) : "";
   return [sayParts("letter.won", { price: money(active.value.amount, currency), moment: moment(active.date) }), corrected(one, currency),
-    standstill(active, standstillUntil), required];
+    standstill(active, standstillUntil, contract), required];
 }
 
 /** The sentences for the others. */
-function lost({ currency, stage }, { active, standstillUntil, shown }, one) {
+function lost({ currency, stage }, { active, standstillUntil, shown, contract }, one) {
   const winner = sayParts("letter.winner", { name: given(active.suppliers[0].name), price: money(active.value.amount, currency), moment: moment(active.date) });
   const why = say(`see.why.${outcomeOf(one, shown, stage.byPoints)[1]}`);
-  return [say("letter.thanks", { receipt: String(one.receipt), why }), winner, ownPrice(one, currency), standstill(active, standstillUntil)];
+  return [say("letter.thanks", { receipt: String(one.receipt), why }), winner, ownPrice(one, currency), standstill(active, standstillUntil, contract)];
 }
 
 function ownPrice(one, currency) {
@@ -86,12 +85,17 @@ function nobodyWon(notice, lot) {
 
 function cancelled(notice, lot) {
   const { date, tender } = releaseOf(notice, "tenderCancellation", lot);
-  return sayParts("letter.cancelled", { moment: moment(date), reason: given(tender.amendments[0].rationale) });
+  const text = tender.amendments[0].rationale.trim();
+  // (a reason that is a sentence has its own full stop)
+  const stop = /[.!?…]["”“’)]?$/.test(text) ? "" : ".";
+  return sayParts("letter.cancelled", { moment: moment(date), reason: element("span", {}, given(text), stop) });
 }
 
-/** Until when nothing is signed, if there is a standstill. */
-function standstill({ date }, until) {
-  return until <= Date.parse(date) ? "" : sayParts("letter.standstill", { until: moment(momentText(until)) });
+/** Until when nothing is signed, if there is a standstill; or that it is over, and when the contract was signed. */
+function standstill({ date }, until, contract) {
+  const name = until <= Date.parse(date) ? "none" : officeNow() < until ? "" : "over";
+  const told = name === "none" ? "" : sayParts(name ? "letter.standstill.over" : "letter.standstill", { until: moment(momentText(until)) });
+  return contract ? [told, told ? " " : "", sayParts("letter.signed", { moment: moment(contract.dateSigned) })] : told;
 }
 
 /** The state of a tender's security, if this tab may see it. */
@@ -111,13 +115,13 @@ async function openLetter(notice, lot) {
   return [letter(notice, lot, one, told, true)];
 }
 
-/** A letter. For anyone who lost it has the remedy, if the city's file has one. */
+/** A letter. For anyone who lost it has the remedy, if the city's file has one and no contract is signed. */
 function letter(notice, lot, one, told, isLoser) {
   const { name, compiled, city } = notice;
   const sender = [compiled.buyer.name, who()].filter(Boolean).join(", ");
   const subject = sayParts("letter.subject", { notice: name, title: given(compiled.tender.title), lot: lot.id, lottitle: given(lot.title) });
   const address = element("p", { class: "address" }, given(one.name), element("span", { class: "below" }, given(one.address)));
-  const objection = isLoser ? remedyOf(city) : "";
+  const objection = isLoser && !lot.contract ? remedyOf(city) : "";
   return [letterhead(city), element("p", {}, sayParts("letter.from", { sender: given(sender) })), address, element("p", {}, day(momentText(officeNow()))),
     element("h2", {}, subject),
     [...told, one.tenderer ? secured(notice, lot, one) : ""].filter((part) => part !== "").map((part) => element("p", {}, part)),
@@ -127,10 +131,10 @@ function letter(notice, lot, one, told, isLoser) {
 
 /** More reasons: typed on the screen, and printed in the letter. */
 function reasons(key) {
-  const more = field(say("letter.more"), { hint: say("letter.more.hint"), kind: "lines", rows: "2", spellcheck: "true", value: typed.get(key) ?? "" });
-  const printed = element("p", {}, typed.get(key) ?? "");
+  const more = field(say("letter.more"), { hint: say("letter.more.hint"), kind: "lines", rows: "2", spellcheck: "true", value: reasonOf(key) });
+  const printed = element("p", {}, reasonOf(key));
   more.input.addEventListener("input", () => {
-    typed.set(key, more.input.value);
+    keepReason(key, more.input.value);
     printed.textContent = more.input.value;
   });
   more.made.classList.add("noprint");

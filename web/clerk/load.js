@@ -1,19 +1,12 @@
-// A notice as the desk sees it: what the queries return (with the clerk's key, everything), and its stage.
-import { badge, element, given } from "../common/draw.js";
+// Stages of notices, and the next tasks as sentences.
+import { badge, element, given, link, placeOf } from "../common/draw.js";
 import { evaluationOf } from "../common/findings.js";
-import { moment, span } from "../common/money.js";
-import { contract, evaluationText, officeNow, performance, record, securities, terms } from "../common/office.js";
-import { seenOf } from "../common/seen.js";
+import { countdown, moment, span } from "../common/money.js";
+import { evaluationText, officeNow, record, terms } from "../common/office.js";
 import { say, sayParts } from "../common/texts.js";
-import { caller } from "./session.js";
-import { stageOf, stepOf, tasksOf } from "./stage.js";
+import { caller, may } from "./session.js";
+import { rolesOf, stageOf, stepOf, tasksOf } from "./stage.js";
 import { DAY, momentText } from "./values.js";
-
-/** Everything about a notice, and its stage. */
-export async function stagedOf(name) {
-  const seen = await seenOf(name, caller());
-  return { ...seen, currency: seen.compiled.tender.value.currency, stage: stageOf(seen, officeNow()) };
-}
 
 // The results of queries for an opened notice are used for a minute, unless the notice has a new release or
 // this tab sent a command. An examination by another clerk has no release.
@@ -44,29 +37,6 @@ async function openedOf(name) {
   return { compiled, terms: own, tenders, evaluation };
 }
 
-/** The performance security of a contract, or null. */
-async function heldOf(number) {
-  try {
-    return await performance(number, caller());
-  } catch (fault) {
-    if (fault.name === "NoSuch") {
-      return null;
-    }
-    throw fault;
-  }
-}
-
-/** The same with the parts that only the clerk may see: the securities, and the contracts with theirs. */
-export async function loadNotice(name) {
-  const notice = await stagedOf(name);
-  if (caller() === null) {
-    return { ...notice, securities: null, contracts: new Map() };
-  }
-  const contracts = (notice.compiled.contracts ?? []).map(async ({ id }) => [id, { seen: await contract(id, caller()), held: await heldOf(id) }]);
-  const [held, ...seen] = await Promise.all([securities(name, caller()), ...contracts]);
-  return { ...notice, securities: held, contracts: new Map(seen) };
-}
-
 const KINDS = { receiving: "open", due: "running", opened: "running", cancelled: "stopped" };
 
 /** The stage as a badge. */
@@ -76,21 +46,39 @@ export function stageBadge(stage) {
 
 /** A moment (in milliseconds), with the time until or since it. */
 export function momentAndSpan(milliseconds) {
-  const seconds = Math.round((milliseconds - officeNow()) / 1000);
-  const away = seconds >= 0 ? say("in", { span: span(seconds) }) : say("ago", { span: span(-seconds) });
-  return [moment(momentText(milliseconds) ?? ""), " ", element("span", { class: "quiet" }, away)];
+  const away = countdown(milliseconds, (shown, seconds) => {
+    shown.textContent = seconds > 0 ? say("in", { span: span(seconds) }) : say("ago", { span: span(-seconds) });
+    shown.className = "quiet";
+    return true;
+  });
+  return [moment(momentText(milliseconds) ?? ""), " ", away];
 }
 
 // This long before the validity of the tenders ends, its date is marked as urgent.
 const CLOSE = 14 * DAY;
 
-/** The next tasks, each as a sentence. */
-export function tasks(stage) {
+/** Whether a task is this clerk's own, or only a date. */
+export function isOwn(task) {
+  const roles = rolesOf(task);
+  return roles.length === 0 || roles.some(may);
+}
+
+/** How many of these tasks are left to other roles, as a sentence; '' for none. */
+export function othersText(all) {
+  const others = all.filter((task) => !isOwn(task));
+  const names = [...new Set(others.map((task) => rolesOf(task)[0]))].map((role) => say(`role.${role}`));
+  return others.length === 0 ? "" : say("task.others", { count: others.length, roles: names.join(", ") });
+}
+
+/** The next tasks of this clerk, each as a sentence that leads to its lot, and what is left to others. */
+export function tasks(name, stage) {
   const now = officeNow();
-  const shown = (milliseconds) => (milliseconds ? element("span", {}, momentAndSpan(milliseconds)) : "");
-  return tasksOf(stage, now).map(({ code, lot = "", count = 0, contract: number = "", until, since }) => {
+  const all = tasksOf(stage, now);
+  const others = othersText(all);
+  return [...all.filter(isOwn).map(({ code, lot = "", count = 0, contract: number = "", until, since }) => {
     const isClose = code === "expired" || (code === "binds" && until - now < CLOSE);
-    return element("li", isClose ? { class: "wrong" } : {},
-      sayParts(`task.${code}`, { lot: given(lot), count, contract: number, until: shown(until), since: shown(since) }));
-  });
+    const [when, ...away] = momentAndSpan(until ?? since ?? 0);
+    const told = sayParts(`task.${code}`, { lot: given(lot), count, contract: number, until: when, since: when });
+    return element("li", isClose ? { class: "wrong" } : {}, lot ? link(told, placeOf("notice", name, lot)) : told, told.includes(when) ? away : "");
+  }), ...(others ? [element("li", { class: "quiet" }, others)] : [])];
 }

@@ -25,6 +25,15 @@ export function bound(editor, path, object, name, label, options) {
   return made;
 }
 
+/** The same for a title: wide enough for its 200 letters. Line ends become spaces. */
+export function boundTitle(editor, path, object, label) {
+  const made = bound(editor, path, object, "title", label, { kind: "lines", rows: "2" });
+  made.made.classList.add("wide");
+  made.input.addEventListener("keydown", (event) => event.key === "Enter" && event.preventDefault());
+  made.input.addEventListener("input", () => { made.input.value = made.input.value.replace(/\s*[\r\n]+\s*/g, " "); }, { capture: true });
+  return made;
+}
+
 /** A pasted table, which replaces the lots. */
 export function pasting(editor) {
   const columns = Object.keys(COLUMNS).map((name) => say(`column.${name}`)).join(", ");
@@ -93,11 +102,11 @@ function lotPart(editor, lot, at) {
   const path = `lots.${at}`;
   const summary = element("summary", {});
   const entitle = () => summary.replaceChildren(say("lots.lot", { lot: lot.id, title: lot.title, items: lot.items.length, count: lot.items.length }));
-  const own = (name, column, options = {}) => {
-    const { input, made } = bound(editor, `${path}.${name}`, lot, name, say(`column.${column}`), options);
+  const titled = ({ input, made }) => {
     input.addEventListener("input", entitle);
     return made;
   };
+  const own = (name, column, options = {}) => titled(bound(editor, `${path}.${name}`, lot, name, say(`column.${column}`), options));
   entitle();
   const money = element("p", { class: "quiet" });
   editor.money.set(at, money);
@@ -105,7 +114,8 @@ function lotPart(editor, lot, at) {
     editor.draft.lots.splice(at, 1);
     editor.redrawLots();
   }, "second");
-  const fields = [own("id", "lot", ID), own("title", "lotTitle"), element("div", {}, own("line", "line", lineOptions(editor, lot.line)), money),
+  const fields = [own("id", "lot", ID), titled(boundTitle(editor, `${path}.title`, lot, say("column.lotTitle"))),
+    element("div", {}, own("line", "line", lineOptions(editor, lot.line)), money),
     own("estimate", "estimate", DIGITS), own("security", "security", { hint: say("lots.security.hint"), ...DIGITS })];
   const isOpen = editor.draft.lots.length <= UNFOLDED ? { open: "" } : {};
   return element("details", { class: "card", ...isOpen }, summary, element("div", { class: "fields" }, fields), itemTable(editor, lot, path),

@@ -8,11 +8,12 @@ import { awardPart, letters } from "./award.js";
 import { contractPart } from "./contracts.js";
 import { cancelPart, movePart, openingPart, registerPart } from "./deadline.js";
 import { examinations } from "./examine.js";
-import { loadNotice, tasks } from "./load.js";
+import { tasks } from "./load.js";
 import { may } from "./session.js";
 import { STEPS, stepOf } from "./stage.js";
+import { loadNotice } from "./whole.js";
 
-export async function drawProcurement(again, name) {
+export async function drawProcurement(again, name, asked = "") {
   const notice = await loadNotice(name);
   const { compiled, stage } = notice;
   const lotOf = ({ id }) => stage.lots.find((lot) => lot.id === id);
@@ -23,9 +24,10 @@ export async function drawProcurement(again, name) {
   const firstOfLot = (lot) => (isOpened ? examinations(notice, lotOf(lot), behind(lot)) : null);
   const ofLot = (lot) => (isOpened ? awardPart(notice, lotOf(lot), behind(lot)) : null);
   const ofContract = (one) => ({ ...notice.contracts.get(one.id), more: contractPart(notice, one, behind) });
-  const isPressing = (lot) => isOpened && ["undecided", "awarded"].includes(lotOf(lot).state);
-  const content = drawProcess({ ...notice, above: [path(stage), doing(stage), parts(notice, again)], firstOfLot, ofLot, ofContract, isPressing });
-  return { title: `${name}: ${compiled.tender.title}`, content: [content, stage.canCancel && may("notices") ? cancelPart(notice, again) : null] };
+  const isPressing = (lot) => lot.id === asked || (isOpened && ["undecided", "awarded"].includes(lotOf(lot).state));
+  const content = drawProcess({ ...notice, above: [path(stage), doing(name, stage), parts(notice, again)], firstOfLot, ofLot, ofContract, isPressing });
+  return { title: `${name}: ${compiled.tender.title}`, content: [content, stage.canCancel && may("notices") ? cancelPart(notice, again) : null],
+    part: lotOf({ id: asked }) && `lot-${asked}` };
 }
 
 /** The steps, with the current one marked. */
@@ -35,9 +37,9 @@ function path(stage) {
   return at === null ? null : element("ol", { class: "path", "aria-label": say("step.title") }, steps);
 }
 
-/** The next tasks. */
-function doing(stage) {
-  const list = tasks(stage);
+/** The next tasks, and what is left to others. */
+function doing(name, stage) {
+  const list = tasks(name, stage);
   return list.length === 0 ? element("p", { class: "note" }, say("task.none")) : note("look", say("today.next"), element("ul", {}, list));
 }
 

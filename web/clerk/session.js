@@ -1,10 +1,10 @@
 // The data that only this tab has: the key, the clerk's name, the journal and a draft. Nothing of it is
-// stored. Only the draft is also in this tab's history, so that a reload keeps it.
+// stored. Only the draft and the reasons in letters are also in this tab's history: a reload keeps them.
 import { Refused, lookJson, registerText } from "../common/office.js";
 import { newJournal } from "./journal.js";
 
 const session = { caller: null, who: "", way: "key", roles: [], journal: newJournal(globalThis.location?.origin ?? null), draft: null, isUnsaved: false, former: null,
-  place: "" };
+  place: "", reasons: new Map(), isUnprinted: false };
 
 export function journal() {
   return session.journal;
@@ -115,6 +115,18 @@ export function keepFormer(other) {
   session.former = null;
 }
 
+/** The reason that was typed for a letter. */
+export function reasonOf(letter) {
+  return session.reasons.get(letter) ?? "";
+}
+
+/** Keeps it. Until something is printed, the page asks before it is lost. */
+export function keepReason(letter, text) {
+  session.reasons.set(letter, text);
+  session.isUnprinted = true;
+  timer ??= setTimeout(write, BETWEEN);
+}
+
 // Milliseconds between two writings of the draft into the history.
 const BETWEEN = 400;
 let timer = null;
@@ -123,14 +135,18 @@ let timer = null;
 function write() {
   clearTimeout(timer);
   timer = null;
-  const { draft: own, isUnsaved } = session;
-  globalThis.history?.replaceState({ ...history.state, draft: own, isUnsaved }, "");
+  const { draft: own, isUnsaved, reasons, isUnprinted } = session;
+  globalThis.history?.replaceState({ ...history.state, draft: own, isUnsaved, reasons: [...reasons], isUnprinted }, "");
 }
 
 const before = globalThis.history?.state;
 if (Array.isArray(before?.draft?.lots)) {
   [session.draft, session.isUnsaved] = [before.draft, before.isUnsaved === true];
 }
+if (Array.isArray(before?.reasons)) {
+  [session.reasons, session.isUnprinted] = [new Map(before.reasons), before.isUnprinted === true];
+}
+globalThis.addEventListener?.("afterprint", () => { session.isUnprinted = false; });
 // (each view has an entry of its own)
 globalThis.addEventListener?.("hashchange", write);
 globalThis.addEventListener?.("pagehide", () => timer !== null && write());
@@ -141,7 +157,7 @@ globalThis.addEventListener?.("keydown", ({ key, ctrlKey, metaKey, timeStamp }) 
   reloaded = key === "F5" || ((ctrlKey || metaKey) && key.toLowerCase() === "r") ? timeStamp : reloaded;
 });
 globalThis.addEventListener?.("beforeunload", (event) => {
-  const isDraftLost = session.isUnsaved && event.timeStamp >= reloaded + RELOAD;
+  const isDraftLost = (session.isUnsaved || session.isUnprinted) && event.timeStamp >= reloaded + RELOAD;
   if (session.journal.entries.length > session.journal.saved || isDraftLost) {
     event.preventDefault();
   }

@@ -77,10 +77,19 @@ export function stageOfEntry({ state, deadline, stage }) {
   return stage ?? { kind: state === "open" ? "receiving" : "due", deadline: Date.parse(deadline), lots: [] };
 }
 
-/** Notices in the order in which their first task is due. */
-export function inOrder(entries, now) {
-  const due = (entry) => Math.min(...tasksOf(stageOfEntry(entry), now).map(momentOf));
+/** Notices in the order in which their first task is due, of the clerk's own ones. */
+export function inOrder(entries, now, isOwn = () => true) {
+  const due = (entry) => Math.min(...tasksOf(stageOfEntry(entry), now).filter(isOwn).map(momentOf));
   return entries.toSorted((one, other) => due(one) - due(other));
+}
+
+// The roles that each task concerns. The others are dates, for everybody.
+const ROLES = { open: ["evaluation"], examine: ["evaluation"], award: ["evaluation"], endlot: ["evaluation"], sign: ["contracts"], unsigned: ["contracts"],
+  contract: ["contracts"], end: ["contracts"], expired: ["notices", "evaluation", "contracts"] };
+
+/** The roles that a task concerns, the one that acts first. */
+export function rolesOf({ code }) {
+  return ROLES[code] ?? [];
 }
 
 /** The next tasks for a notice, the earliest first: codes with a lot, a contract or a moment. */
@@ -99,9 +108,9 @@ export function tasksOf(stage, now) {
 export const GROUPS = ["overdue", "week", "later", "waiting"];
 const OVERDUE = ["open", "sign", "expired"], NOW = ["examine", "award", "endlot", "unsigned"], RUNNING = ["contract", "end"];
 
-/** The group of a notice by its tasks. */
-export function groupOf(stage, now) {
-  const all = tasksOf(stage, now);
+/** The group of a notice by those of its tasks that are this clerk's own. */
+export function groupOf(stage, now, isOwn = () => true) {
+  const all = tasksOf(stage, now).filter(isOwn);
   const has = (codes) => all.some(({ code }) => codes.includes(code));
   return has(OVERDUE) ? "overdue" : has(NOW) || all.some(({ until }) => until < now + 7 * DAY) ? "week" : has(RUNNING) ? "later" : "waiting";
 }

@@ -7,9 +7,9 @@ import { areRight, button, field, form, jumpTo, note, steps } from "../common/fo
 import { notices, officeNow, sentenceOf } from "../common/office.js";
 import { stateBadge } from "../common/states.js";
 import { say } from "../common/texts.js";
-import { stageBadge, stageOfOpened, tasks } from "./load.js";
+import { isOwn, othersText, stageBadge, stageOfOpened, tasks } from "./load.js";
 import { growingTable } from "../common/many.js";
-import { GROUPS, groupOf, inOrder, stageOfEntry, stepOf } from "./stage.js";
+import { GROUPS, groupOf, inOrder, stageOfEntry, stepOf, tasksOf } from "./stage.js";
 
 const OVER = ["complete", "unsuccessful", "cancelled"];
 // This many opened notices are queried at once, those first whose validity ends first; this many rows of a group are shown at first.
@@ -25,7 +25,7 @@ function tasksOfEntry(entry, group) {
   if (entry.fault) {
     return sentenceOf(entry.fault);
   }
-  const found = group === "others" ? [] : tasks(stageOfEntry(entry));
+  const found = group === "others" ? [] : tasks(entry.notice, stageOfEntry(entry));
   return found.length === 0 ? say(entry.isLeft ? "today.left" : "task.none") : element("ul", {}, found);
 }
 
@@ -36,7 +36,7 @@ export async function drawToday(again) {
   const opened = entries.filter((entry) => !coming.includes(entry) && !OVER.includes(entry.state))
     .sort((one, other) => (one.state === "running") - (other.state === "running") || (one.deadline < other.deadline ? -1 : 1));
   const found = await Promise.all(opened.slice(0, asked.count).map(staged));
-  const shown = inOrder([...coming, ...found.filter(({ stage }) => !stage || stepOf(stage) !== "over")], officeNow());
+  const shown = inOrder([...coming, ...found.filter(({ stage }) => !stage || stepOf(stage) !== "over")], officeNow(), isOwn);
   const left = opened.slice(asked.count).map((entry) => ({ ...entry, isLeft: true }));
   const known = new Set([...shown, ...left].map(({ notice }) => notice));
   const others = [...left, ...entries.filter(({ notice }) => !known.has(notice))];
@@ -53,8 +53,9 @@ export async function drawToday(again) {
     place.replaceChildren(...(some.length + rest.length > 0 ? groups(some, rest) : [words ? element("p", {}, say("search.none")) : none]));
     return [...some, ...rest];
   };
+  const rest = othersText(shown.filter(({ fault }) => !fault).flatMap((entry) => tasksOf(stageOfEntry(entry), officeNow())));
   return { title: say("page.today"), content: [title(say("page.today")), element("p", { class: "intro" }, say("today.intro")), list.length > 0
-    ? seeking(list, draw) : null, place, left.length > 0 ? steps(more) : null] };
+    ? seeking(list, draw) : null, rest ? element("p", { class: "quiet" }, rest) : null, place, left.length > 0 ? steps(more) : null] };
 }
 
 /** The field for a number or words: while somebody types, the groups show what matches; the button opens the
@@ -76,7 +77,7 @@ function seeking(list, draw) {
 /** The groups that have notices, each with its heading; above them a button for each. */
 function groups(shown, others) {
   const now = officeNow();
-  const of = (name) => (name === "others" ? others : shown.filter((entry) => (entry.fault ? "week" : groupOf(stageOfEntry(entry), now)) === name));
+  const of = (name) => (name === "others" ? others : shown.filter((entry) => (entry.fault ? "week" : groupOf(stageOfEntry(entry), now, isOwn)) === name));
   const parts = [...GROUPS, "others"].map((name) => [name, of(name)]).filter(([, entries]) => entries.length > 0)
     .map(([name, entries]) => groupPart(name, entries));
   return parts.length > 1 ? [element("div", { class: "jumps", role: "group", "aria-label": say("today.groups") }, parts.map(({ jump }) => jump)),

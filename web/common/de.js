@@ -177,6 +177,7 @@ export default {
   "see.award.passed": "Übergangen",
   "see.tenders": "Angebote",
   "see.unopened": "Die Angebote sind verschlossen. Vor Ablauf der Frist kann sie niemand öffnen.",
+  "see.unopened.due": "Die Angebote sind verschlossen, bis die Vergabestelle sie öffnet.",
   "see.unopened.cancelled": "Es wurde kein Angebot geöffnet.",
   "see.notenders": "Für dieses Los wurde kein Angebot geöffnet.",
   "see.hidden": "Das Ergebnis der Prüfung wird veröffentlicht, sobald über das Los entschieden ist.",

@@ -177,6 +177,7 @@ export default {
   "see.award.passed": "Passed over",
   "see.tenders": "Tenders",
   "see.unopened": "The tenders are sealed. Nobody can open them before the deadline.",
+  "see.unopened.due": "The tenders are sealed until the clerk opens them.",
   "see.unopened.cancelled": "No tender was opened.",
   "see.notenders": "No tender for this lot was opened.",
   "see.hidden": "The results of the examination are published once the lot is decided.",

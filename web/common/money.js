@@ -75,28 +75,37 @@ export function span(seconds) {
     .filter(([, count], place) => place === 0 || count > 0).map(([name, count]) => say(`span.${name}`, { count })).join(", ");
 }
 
-// From this many seconds on, a deadline is marked as urgent.
-const CLOSE = 600;
+/** The seconds until a moment (in milliseconds) by the server's clock. A second that has begun counts. */
+export function secondsTo(milliseconds) {
+  return Math.ceil((milliseconds - officeNow()) / 1000);
+}
 
-/** The time to a deadline by the server's clock, updated each second while it is on the page. `over` is
- * called after the deadline. The office still takes tenders in its last second. */
-export function clock(deadline, over = () => {}) {
+/** An element with the time to a moment, updated each second. `tell(element, seconds)` writes it, and returns whether it
+ * runs on; then `over` is called. */
+export function countdown(milliseconds, tell, over = () => {}) {
   const shown = element("span", { role: "timer", "aria-live": "off" });
-  const tell = () => {
-    const left = Math.ceil((Date.parse(deadline) - officeNow()) / 1000);
-    shown.textContent = left > 0 ? say("clock.left", { span: span(left) }) : say("clock.over");
-    shown.className = left < CLOSE ? "clock wrong" : "clock";
-    return left > 0;
-  };
-  if (tell()) {
+  const next = () => tell(shown, secondsTo(milliseconds));
+  if (next()) {
     const timer = setInterval(() => {
       if (!shown.isConnected) {
         clearInterval(timer);
-      } else if (!tell()) {
+      } else if (!next()) {
         clearInterval(timer);
         over();
       }
     }, 1000);
   }
   return shown;
+}
+
+// From this many seconds on, a deadline is marked as urgent.
+const CLOSE = 600;
+
+/** The time to a deadline. The office still takes tenders in its last second. */
+export function clock(deadline, over) {
+  return countdown(Date.parse(deadline), (shown, left) => {
+    shown.textContent = left > 0 ? say("clock.left", { span: span(left) }) : say("clock.over");
+    shown.className = left < CLOSE ? "clock wrong" : "clock";
+    return left > 0;
+  }, over);
 }

@@ -36,7 +36,8 @@ function awardPart({ compiled, passed }, lot, award) {
 function tenderPart(notice, lot) {
   const tenders = notice.tenders?.filter((tender) => tender.lot === lot.id) ?? null;
   if (tenders === null) {
-    return say(lot.status === "cancelled" ? "see.unopened.cancelled" : "see.unopened");
+    const isDue = stateOf(notice.compiled, officeNow())[1] === "waiting";
+    return say(lot.status === "cancelled" ? "see.unopened.cancelled" : isDue ? "see.unopened.due" : "see.unopened");
   }
   const shown = notice.evaluation?.get(lot.id);
   return tenders.length === 0 ? element("p", {}, say("see.notenders"))

@@ -208,6 +208,8 @@ export default {
   "tenders.change": "Angebot mit der Quittung {receipt} ändern",
   "tenders.others": ["Eine weitere Bekanntmachung wurde geöffnet oder aufgehoben. Ein Angebot, das Sie zurückgezogen haben oder das zurückgegeben wurde, kann unten fehlen.", "{count} weitere Bekanntmachungen wurden geöffnet oder aufgehoben. Angebote, die Sie zurückgezogen haben oder die zurückgegeben wurden, können unten fehlen."],
   "tenders.all": "Alle Bekanntmachungen, die noch nicht geöffnet sind, wurden durchsucht.",
+  "tenders.due": ["Eine dieser Fristen ist abgelaufen. Die Seite fragt alle {seconds} Sekunden nach, ob die Angebote geöffnet sind.", "{count} dieser Fristen sind abgelaufen. Die Seite fragt alle {seconds} Sekunden nach, ob die Angebote geöffnet sind."],
+  "tenders.news": "Das Angebot ist jetzt {state}.",
   "security.amount": "Betrag",
   "security.held.why": "Die Vergabestelle gibt sie zurück, wenn der Vertrag über das Los unterzeichnet ist oder das Los ohne Vertrag endet. Auch bei Rückzug vor Ablauf der Frist gibt sie sie zurück.",
   "security.returned.why": "Das ist endgültig.",

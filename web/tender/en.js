@@ -208,6 +208,8 @@ export default {
   "tenders.change": "Change the tender with receipt {receipt}",
   "tenders.others": ["Another notice was opened or cancelled. A tender that you withdrew, or that was returned, may be missing below.", "{count} other notices were opened or cancelled. Tenders that you withdrew, or that were returned, may be missing below."],
   "tenders.all": "All notices that aren't opened yet are searched.",
+  "tenders.due": ["One of these deadlines has passed. This page asks every {seconds} seconds whether the tenders are opened.", "{count} of these deadlines have passed. This page asks every {seconds} seconds whether the tenders are opened."],
+  "tenders.news": "The tender is now {state}.",
   "security.amount": "Amount",
   "security.held.why": "The office returns it when the contract for the lot is signed, or when the lot ends without one. It also returns it if you withdraw before the deadline.",
   "security.returned.why": "This is final.",

@@ -90,10 +90,10 @@ export async function drawReceipt(sent) {
       : note(isSame ? "good" : "look", say("receipt.sealed"), old && say("receipt.replaced", { receipt: old }),
         isSame ? say("receipt.sealed.what") : null),
     compared(sent.digest, receipt.digest),
-    await sheetOf(sent, { ...sent, more }),
     steps(keep, button(say("receipt.saveFile"), () => save(nameOf, sent.bytes, "text/csv")), printButton(),
       sent.lots > 1 ? link(say("receipt.lots"), placeOf("offer", receipt.notice), "button second") : null,
-      link(say("tenders.title"), "#tenders", "button second"))] };
+      link(say("tenders.title"), "#tenders", "button second")),
+    await sheetOf(sent, { ...sent, more })] };
 }
 
 /** The receipt in a file: an object with a digest and a number; null if there is none. */

@@ -10,7 +10,7 @@ import { hasText, say } from "../common/texts.js";
 import { keyPlace } from "./key.js";
 import { factsOf } from "./receipt.js";
 import { drawResults } from "./results.js";
-import { found, left, lookFirst, lookOn, planOf } from "./search.js";
+import { AGAIN, follow, found, left, lookFirst, lookOn, planOf, repeat, waiting } from "./search.js";
 import { becameOf, openPart, refusedPart } from "./send.js";
 import { keep, keptOf, noticeOf, session } from "./session.js";
 
@@ -38,11 +38,15 @@ function whenOf({ state, moment: came, deadline }) {
     came === null ? null : below(say("receipt.moment"), " ", moment(came))];
 }
 
+/** Whether a tender can be changed or withdrawn for nothing. */
+function isOpen({ state, deadline }) {
+  return state === "sealed" && Date.parse(deadline) > officeNow();
+}
+
 function rowOf({ receipt, state, deadline, ...one }) {
-  const isOpen = state === "sealed" && Date.parse(deadline) > officeNow();
   return [String(receipt), [given(one.title), below(given(one.notice), ", ", say("see.lot", { lot: one.lot }))], whenOf({ ...one, state, deadline }),
     stateBadge({ ...one, receipt, state }),
-    link(say(isOpen ? "tenders.do.change" : "tenders.do.look", { receipt: String(receipt) }), placeOf("tender", String(receipt)))];
+    link(say(isOpen({ state, deadline }) ? "tenders.do.change" : "tenders.do.look", { receipt: String(receipt) }), placeOf("tender", String(receipt)))];
 }
 
 /** The tenders that are known so far. */
@@ -85,15 +89,19 @@ export async function drawTenders({ redraw }) {
   const [list, data] = await Promise.all([notices(), tables("notices", "tenders").catch(() => null)]);
   const plan = planOf(list, data, session.caller.caller, officeNow());
   await lookFirst(plan);
-  const [shown, told] = [element("div", {}), element("div", {})];
-  let last = "";
-  const draw = (count, rows = plan.order) => {
-    const all = found(plan, list);
-    const now = JSON.stringify([all.map(({ receipt, state }) => [receipt, state]), all.length > 0 || count === 0]);
+  const [shown, told, due] = [element("div", {}), element("div", {}), element("div", { role: "status" })];
+  let [last, isWhole, known] = ["", false, list];
+  const drawList = () => {
+    const all = found(plan, known);
+    const now = JSON.stringify([all.map((one) => [one.receipt, one.state, one.deadline, isOpen(one)]), all.length > 0 || isWhole]);
     if (now !== last) {
-      replaced(shown, listOf(all, count === 0));
+      replaced(shown, listOf(all, isWhole));
       last = now;
     }
+  };
+  const draw = (count, rows = plan.order) => {
+    isWhole = count === 0;
+    drawList();
     told.replaceChildren(...(count > 0 ? [element("p", { class: "quiet" }, say("tenders.looks", { at: rows.length - count, count: rows.length }))]
       : othersPart(plan.rest, () => search(plan.rest))));
   };
@@ -106,11 +114,27 @@ export async function drawTenders({ redraw }) {
   };
   const count = left(plan.order).length;
   draw(count);
-  if (count > 0) {
-    // (once the view is shown)
-    setTimeout(() => search(plan.order));
+  const tell = (rows, fault) => {
+    known = rows;
+    drawList();
+    tellDue(due, rows, fault);
+  };
+  tell(list, null);
+  // (once the view is shown)
+  setTimeout(() => {
+    follow(list, () => due.isConnected, tell);
+    count > 0 && search(plan.order);
+  });
+  return { title: say("tenders.title"), content: [title(say("tenders.title")), told, due, shown, ask()] };
+}
+
+/** How many tenders wait for their opening, and that the page asks for them again. */
+function tellDue(place, rows, fault) {
+  const count = waiting(rows).length;
+  const text = count === 0 ? "" : `${say("tenders.due", { count, seconds: AGAIN / 1000 })} ${fault ? sentenceOf(fault) : ""}`.trim();
+  if (place.textContent !== text) {
+    place.replaceChildren(...(text ? [element("p", { class: fault ? "wrong" : "quiet" }, text)] : []));
   }
-  return { title: say("tenders.title"), content: [title(say("tenders.title")), told, shown, ask()] };
 }
 
 /** The notices that were opened or cancelled: only tenders that were withdrawn or returned can be missing. */
@@ -186,13 +210,25 @@ function changePart(found, one) {
     location.hash = placeOf("offer", found.notice, found.lot);
   });
   return section(say("change.title"), element("p", {}, say("change.why"),
-    found.security === null ? "" : ` ${say("change.security")}`, " ", clock(one.deadline)), steps(press));
+    found.security === null ? "" : ` ${say("change.security")}`, " ", clock(one.deadline, () => { press.disabled = true; })), steps(press));
 }
 
 /** The state of a tender's security. */
 function securityPart(held, currency) {
   return section(say("see.security"), facts([[say("offer.reference"), given(held.reference)], [say("security.amount"), money(held.amount, currency)],
     [say("see.state"), say(`security.${held.state}`)]]), element("p", { class: "quiet" }, say(`security.${held.state}.why`)));
+}
+
+/** Draws the view of a sealed tender again when it is opened or returned. */
+function watch(found, { deadline }, shown, redraw) {
+  const ask = async () => {
+    // (a fault is no news: it asks again)
+    const now = await tender(found.receipt, session.caller).catch(() => found);
+    if (now.state !== found.state && shown.isConnected) {
+      await redraw(say("tenders.news", { state: say(`state.${now.state}`) }));
+    }
+  };
+  setTimeout(() => repeat(() => shown.isConnected, () => Date.parse(deadline) <= officeNow(), ask));
 }
 
 /** The view of one tender, always fetched again. */
@@ -208,7 +244,11 @@ export async function drawTender({ redraw }, receipt) {
   const named = held ? { security: held.reference, amount: held.amount } : null;
   keep(found.receipt, { named });
   const head = say("tenders.one", { receipt: String(receipt) });
-  return { title: head, content: [title(head), element("p", {}, stateBadge(found)), element("p", {}, given(one.title), " – ", given(lot.title)),
+  const state = element("p", {}, stateBadge(found));
+  if (found.state === "sealed") {
+    watch(found, one, state, redraw);
+  }
+  return { title: head, content: [title(head), state, element("p", {}, given(one.title), " – ", given(lot.title)),
     factsOf(found, { named, currency: one.currency }), element("p", {}, say("tenders.digest", { count: found.length })),
     element("p", { class: "code" }, inGroups(found.digest)),
     found.state === "opened" ? await drawResults(found) : null, held ? securityPart(held, one.currency) : null,
