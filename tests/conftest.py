@@ -20,6 +20,7 @@ SLOW = float(os.environ.setdefault("SLOWNESS", f"{processor.slowness():.2f}"))
 os.environ.setdefault("AHEAD", str(math.ceil(4 * SLOW)))
 os.environ.setdefault("PYTEST_TIMEOUT", str(math.ceil(600 * SLOW)))
 os.environ.setdefault("PYTHONDONTWRITEBYTECODE", "1")
+os.environ.setdefault("HYPOTHESIS_STORAGE_DIRECTORY", "build/hypothesis")
 
 from office_kit import client, needs  # noqa: E402
 from office_kit.common import NO_PROGRAM, PROGRAM, Missing  # noqa: E402
