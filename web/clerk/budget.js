@@ -6,7 +6,8 @@ import { MOST } from "./values.js";
 
 export const HEAD = ["line", "kind", "amount", "title"];
 const SEPARATORS = { ";": "separator.semicolons", "\t": "separator.tabs", "|": "separator.strokes" };
-// How files begin that aren't CSV.
+/** How files begin that aren't CSV.
+ * @type {[number[], string][]} */
 const KINDS = [[[0x50, 0x4b, 3, 4], "workbook"], [[0xd0, 0xcf, 0x11, 0xe0], "workbook"], [[0x25, 0x50, 0x44, 0x46], "pdf"], [[0xff, 0xfe], "utf16"],
   [[0xfe, 0xff], "utf16"]];
 // Faults of the whole file. If there is one, the faults of single rows are only its echo.
@@ -36,7 +37,8 @@ export function readBudget(bytes) {
   return { bytes: bytes.length, rows, faults };
 }
 
-/** Why the first record isn't the header, or nothing. */
+/** Why the first record isn't the header, or nothing.
+ * @returns {any[]} */
 function headFaults(bytes, records) {
   const kind = KINDS.find(([sign]) => sign.every((byte, at) => bytes[at] === byte))?.[1];
   const [first] = records;

@@ -13,7 +13,8 @@ export function binaryOf(bytes) {
   return text;
 }
 
-/** The bytes of such a text. */
+/** The bytes of such a text.
+ * @param {string} text */
 export function bytesOfBinary(text) {
   return Uint8Array.from(text, (sign) => sign.charCodeAt(0));
 }
@@ -90,8 +91,9 @@ export function isUtf8(binary) {
   }
 }
 
-// The forms of fields that aren't numbers. (Spreadsheets put a space, a no-break space or a narrow no-break
-// space between digits.)
+/** The forms of fields that aren't numbers. (Spreadsheets put a space, a no-break space or a narrow no-break
+ * space between digits.)
+ * @type {[string, RegExp][]} */
 const NO_NUMBERS = [
   ["empty", /^$/],
   ["great", /^\d{16,}$/],

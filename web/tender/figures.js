@@ -7,6 +7,7 @@ const TWICE_GROUPED = /^\d{1,3}(?:\.\d{3}){2,}$|^\d{1,3}(?:,\d{3}){2,}$/;
 const BOTH = /^(\d{1,3}(?:\.\d{3})+),(\d+)$|^(\d{1,3}(?:,\d{3})+)\.(\d+)$/;
 const PLACES = new RegExp(`^(\\d+|\\d{1,3}(?:${GAP}\\d{3})+)[.,](\\d+)$`);
 const MOST_DIGITS = 15;
+/** @type {[string, RegExp][]} */
 const NO_FIGURES = [["empty", /^$/], ["formula", /^=/], ["sheet", /^#/], ["sign", /^[-+\u2212]|-$/], ["exponent", /^\d+(?:[.,]\d+)?[eE][-+]?\d+$/],
   ["beside", /\d/]];
 
@@ -50,7 +51,7 @@ function read(text) {
 /** The whole number in a field, and whether the field had to be changed; or `why` it isn't one, as the name
  * of a text (`number.NAME`, `number.ambiguous`). `isRight` returns whether only this reading agrees with other
  * figures. Then a figure with two readings is no guess. */
-export function figureOf(field, currency = "", isRight = () => false) {
+export function figureOf(field, currency = "", isRight = (_grouped) => false) {
   const got = read(bareOf(field, currency));
   if (got.why === "ambiguous" && isRight(got.grouped)) {
     return { value: got.grouped, changed: true };

@@ -38,7 +38,7 @@ function whenOf({ state, moment: came, deadline }) {
     came === null ? null : below(say("receipt.moment"), " ", moment(came))];
 }
 
-function rowOf({ receipt, state, deadline, ...one }) {
+function rowOf(/** @type {any} */ { receipt, state, deadline, ...one }) {
   const isOpen = state === "sealed" && Date.parse(deadline) > officeNow();
   return [String(receipt), [given(one.title), below(given(one.notice), ", ", say("see.lot", { lot: one.lot }))], whenOf({ ...one, state, deadline }),
     stateBadge({ ...one, receipt, state }),
