@@ -1,4 +1,5 @@
 """The modules of the screens (web/), run by node: copies of them with one text changed, and scripts that ask them."""
+import contextlib
 import json
 import os
 import shutil
@@ -58,8 +59,10 @@ class Node:
     def ask(self, value: Any) -> Any:
         """The answer to a value."""
         assert self.process.stdin and self.process.stdout
-        self.process.stdin.write(json.dumps(value) + "\n")
-        self.process.stdin.flush()
-        line = self.process.stdout.readline()
+        line = ""
+        with contextlib.suppress(BrokenPipeError):
+            self.process.stdin.write(json.dumps(value) + "\n")
+            self.process.stdin.flush()
+            line = self.process.stdout.readline()
         assert line, "node ended"
         return json.loads(line)

@@ -18,7 +18,7 @@ HERE = Path(ROOT, "tests", "desks")
 # A module, a text in it, and the wrong text.
 PLANTS = [("common/filters.js", "noticeOf(list, text) {", "noticeOf(list) {"), ("common/money.js", "units.slice(-1)", "units.slize(-1)"),
           ("clerk/letters.js", "drawLetter(_again, name", "drawLetter(again, name"), ("common/csv.js", "(numberOf(field) ", "(numberOf(field, 10) "),
-          ("common/office.js", 'this.kind === "away"', 'this.kynd === "away"'), ("tender/search.js", "session.seen.has(", "session.seen.hass(")]
+          ("common/office.js", 'this.kind === "away"', 'this.kynd === "away"'), ("tender/search.js", "session.seen.has(", "session.seen.hast(")]
 
 
 def findings(project):
