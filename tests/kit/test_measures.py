@@ -22,7 +22,6 @@ MEASURES = {
     "frames": "bench/frames --lines 100 --tenderers 4 --notices 2 --tenders 2 --rounds 2 --pages --page-sizes 4096,1024",
     "present": "bench/present --many 4 --few 2 --rounds 3 --times 1 --page-sizes 4096,1024",
     "looks": "bench/looks --few 110 --many 220 --count 3 --rounds 1 --notices 1 --lots 2 --tenders 2",
-    "sums": "bench/sums --contracts 4 --lines 2 --bare 1000 --count 2 --rounds 1 --payments 2",
     "open": "bench/open --tenders 0,2 --rounds 1",
     "copies": "bench/copies 2",
 }
