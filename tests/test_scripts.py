@@ -17,9 +17,6 @@ from office_kit.docs import documents
 DOCUMENTS = " ".join(path for path in documents.documents() if path != "README.md")
 GROUPS = [
     {"documents": (f"tools/check_docs {DOCUMENTS}", 60)},
-    {"page": ("tests/page", 420)},
-    {"desk": ("tests/tender_desk", 240)},
-    {"clerk": ("tests/clerk", 300), "desks": ("tests/desks/all", 240)},
     {"copies": ("bench/copies 20 --kills 5", 120)},
     {"reading": ("tools/reading --check",), "pictures": ("tools/pictures --check",), "names": ("tools/check_names",), "promises": ("tools/check_promises",),
      "crates": ("tools/check_crates",), "lengths": ("tools/check_lengths",), "words": ("tools/check_words",), "gate": ("bench/gate --table --check",)},

@@ -1,5 +1,4 @@
-"""The questions of `tests/clerk` to a desk whose clerks sign in at the front by name. It needs no key. Each clerk finds the steps of the own roles, and no
-other ones."""
+"""The check of tests/desks/test_clerk.py for clerks who sign in at the front by name. The desk needs no key. Each clerk finds the own steps alone."""
 import contextlib
 import json
 import os
