@@ -3,3 +3,8 @@ interface Array<T> {
   toReversed(): T[];
   toSorted(compare?: (one: T, other: T) => number): T[];
 }
+
+// A page has the elements that its modules ask for.
+interface Document {
+  getElementById(id: string): any;
+}

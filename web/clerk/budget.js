@@ -6,8 +6,7 @@ import { MOST } from "./values.js";
 
 export const HEAD = ["line", "kind", "amount", "title"];
 const SEPARATORS = { ";": "separator.semicolons", "\t": "separator.tabs", "|": "separator.strokes" };
-/** How files begin that aren't CSV.
- * @type {[number[], string][]} */
+// How files begin that aren't CSV.
 const KINDS = [[[0x50, 0x4b, 3, 4], "workbook"], [[0xd0, 0xcf, 0x11, 0xe0], "workbook"], [[0x25, 0x50, 0x44, 0x46], "pdf"], [[0xff, 0xfe], "utf16"],
   [[0xfe, 0xff], "utf16"]];
 // Faults of the whole file. If there is one, the faults of single rows are only its echo.
@@ -38,9 +37,9 @@ export function readBudget(bytes) {
 }
 
 /** Why the first record isn't the header, or nothing.
- * @returns {any[]} */
+ * @returns {any} */
 function headFaults(bytes, records) {
-  const kind = KINDS.find(([sign]) => sign.every((byte, at) => bytes[at] === byte))?.[1];
+  const kind = KINDS.find(([sign]) => [...sign].every((byte, at) => bytes[at] === byte))?.[1];
   const [first] = records;
   const place = { record: 1, line: first?.line ?? 1 };
   if (!first) {

@@ -12,8 +12,8 @@ import { drawToday } from "./today.js";
 
 await Promise.all([addTexts({ en: () => import("./en.js"), de: () => import("./de.js") }), signIn()]);
 const MENU = ["today", "budget", "tenderers", "new", "journal"];
-/** Screens that are loaded on demand, each with the function that draws it.
- * @type {Record<string, [() => Promise<any>, string]>} */
+// Screens that are loaded on demand, each with the function that draws it.
+/** @type {any} */
 const LATER = { budget: [() => import("./budgets.js"), "drawBudget"], tenderers: [() => import("./tenderers.js"), "drawTenderers"],
   new: [() => import("./editor.js"), "drawEditor"], preview: [() => import("./preview.js"), "drawPreview"],
   journal: [() => import("./journals.js"), "drawJournal"], notice: [() => import("./procurement.js"), "drawProcurement"],

@@ -32,8 +32,8 @@ export function addedTo(contract, award) {
   return contract.value.amount - award.value.amount;
 }
 
-/** The state of the whole process, as a badge kind and the name of a text; `now` in milliseconds. It isn't
- * published how a contract ended, and it may have been by default. So no end is shown in green. */
+/** The state of the whole process, as a badge kind and the name of a text; `now` in milliseconds. No end is
+ * shown in green: how a contract ended isn't published. */
 export function stateOf(compiled, now) {
   const { status, numberOfTenderers, tenderPeriod, lots } = compiled.tender;
   if (status === "cancelled" || status === "unsuccessful") {

@@ -4,7 +4,6 @@ import { button, note, steps } from "./forms.js";
 import { sentenceOf } from "./office.js";
 import { chooseLanguage, language, languages, say } from "./texts.js";
 
-/** @returns {any} */
 const byId = (id) => document.getElementById(id);
 const main = byId("content");
 
@@ -135,7 +134,7 @@ function tellSource() {
 const unfolded = new Set();
 addEventListener("beforeprint", () => {
   tellSource();
-  for (const at of /** @type {NodeListOf<HTMLDetailsElement>} */ (main.querySelectorAll("details:not([open], .noprint)"))) {
+  for (const at of main.querySelectorAll("details:not([open], .noprint)")) {
     at.open = true;
     unfolded.add(at);
   }

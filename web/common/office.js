@@ -64,7 +64,7 @@ function refusalOf(answer, text) {
 
 /** The text of an answer. A caller is `{ caller, key }`, or nothing for the public. Without a key it is somebody whom
  * nginx knows: the browser then sends the name and the password, or the certificate. */
-async function send(path, /** @type {Record<string, any>} */ { method = "GET", caller = null, body = undefined, cache = "no-store", longest = LONGEST } = {}) {
+async function send(path, /** @type {any} */ { method = "GET", caller = null, body = undefined, cache = "no-store", longest = LONGEST } = {}) {
   const isKnown = caller !== null && caller.key === null;
   const headers = caller ? { "Office-Caller": caller.caller, ...(isKnown ? {} : { "Office-Key": caller.key }) } : {};
   const credentials = isKnown ? "same-origin" : "omit";
@@ -86,15 +86,14 @@ function pause(seconds) {
   return new Promise((done) => { setTimeout(done, seconds * 1000); });
 }
 
-// nginx keeps public answers for three seconds, counted in whole seconds. So for four seconds after a command they can be older
-// than the command. It keeps the ledger for longer; the clerk gets the office's current ledger.
+// nginx keeps public answers for three whole seconds, so for four seconds after a command they can be older than it. It keeps the
+// ledger for longer; the clerk gets the current one.
 const KEPT = 4100;
 let changed = 0;
 
 /** If the office doesn't answer a public query in `longest` milliseconds, `find` gives a text for its path, or null. Only
- * the portal has more than this (mirror.js): the desks show what the office has now.
- * @type {{ find: (path: string) => Promise<string | null>, longest: number }} */
-export const substitute = { find: async () => null, longest: LONGEST };
+ * the portal has more than this (mirror.js): the desks show what the office has now. */
+export const substitute = { find: async (_path) => null, longest: LONGEST };
 
 /** A query: repeated as long as nginx answers that queries come too fast. */
 export async function look(path, caller = null) {

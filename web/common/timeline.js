@@ -5,7 +5,7 @@ import { changeOf, reason } from "./contract.js";
 import { element, given } from "./draw.js";
 import { paidOf } from "./findings.js";
 
-/** @type {[string, (...given: any[]) => any[]][]} */
+/** @type {any[]} */
 const TOLD = [
   ["tenderCancellation", cancelled],
   ["awardCancellation", failed],

@@ -7,7 +7,6 @@ const TWICE_GROUPED = /^\d{1,3}(?:\.\d{3}){2,}$|^\d{1,3}(?:,\d{3}){2,}$/;
 const BOTH = /^(\d{1,3}(?:\.\d{3})+),(\d+)$|^(\d{1,3}(?:,\d{3})+)\.(\d+)$/;
 const PLACES = new RegExp(`^(\\d+|\\d{1,3}(?:${GAP}\\d{3})+)[.,](\\d+)$`);
 const MOST_DIGITS = 15;
-/** @type {[string, RegExp][]} */
 const NO_FIGURES = [["empty", /^$/], ["formula", /^=/], ["sheet", /^#/], ["sign", /^[-+\u2212]|-$/], ["exponent", /^\d+(?:[.,]\d+)?[eE][-+]?\d+$/],
   ["beside", /\d/]];
 
@@ -45,7 +44,7 @@ function read(text) {
   if (places) {
     return parted(places[1], places[2], false);
   }
-  return { why: NO_FIGURES.find(([, form]) => form.test(text))?.[0] ?? "none" };
+  return { why: NO_FIGURES.find(([, form]) => new RegExp(form).test(text))?.[0] ?? "none" };
 }
 
 /** The whole number in a field, and whether the field had to be changed; or `why` it isn't one, as the name
