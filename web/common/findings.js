@@ -1,5 +1,4 @@
-// The results of a procurement, its lots and its tenders, as badge kinds and names of texts. Runs in node
-// too.
+// The results of a procurement, its lots and its tenders, as badge kinds and names of texts. Also runs in node.
 
 /** The awards of a lot, in the order in which they were made. */
 export function awardsOf(compiled, lot) {

@@ -135,7 +135,7 @@ export function table(caption, heads, rows, /** @type {any} */ { figures = [], f
     element("tbody", { role: "rowgroup" }, rows.map(rowOf)), foot ? element("tfoot", { role: "rowgroup" }, rowOf(foot)) : null);
 }
 
-/** A list of entries, of which so many are shown first, and a button that shows more of them. */
+/** A list of entries, of which so many are shown first, and a button for more. */
 export function growing(list, all, make, many, first = many) {
   const more = element("button", { type: "button", class: "more second" });
   let shown = 0;
