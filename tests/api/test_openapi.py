@@ -1,8 +1,8 @@
 """docs/openapi.yaml is valid OpenAPI 3.1, and docs/API.md says the same. tests/api/test_answers.py compares it with the program.
 
-Its version is that of the newest entry of CHANGELOG.md. Each of its examples meets its schema and occurs in a transcript of crates/tests_of_runs/data, which
-the gate plays. docs/API.md has the document's routes, with the callers that may ask and the members of answers, and its refusals. Each example there occurs in
-a transcript. Faults that are planted in copies of the document are found.
+Its version is that of the newest entry of CHANGELOG.md. Each of its examples meets its schema and occurs in a transcript that the gate plays
+(crates/tests_of_runs/data). The page docs/API.md has the document's routes, with their callers and the members of answers, and its refusals. Each example there
+occurs in a transcript. Faults that are planted in copies of the document are found.
 """
 import copy
 import json

@@ -196,7 +196,7 @@ CHANGED = [
 
 @pytest.fixture(scope="module")
 def answers():
-    """Many cases, each with what is expected."""
+    """Many cases, each with the expected answer."""
     return [(case, expected(case)) for case in samples(CASES, 1000)]
 
 

@@ -1,5 +1,4 @@
-"""The modules of the screens (web/) without a browser, in Node.js: the results of a search, the states of procurements, lots, tenders and securities, and the
-computation of points; the mirror's tables, and the clerk's next tasks. Each text must exist in English and in German.
+"""The modules of the screens (web/) without a browser, in Node.js: search, states, points, the mirror's tables, the clerk's next tasks, and texts.
 
 - texts: each text exists in both languages, has the same values in both, and is used. Each text that a module asks for exists. All pages use one word for one
   thing. The windows of awards name the lot and the firm. German counts the days to a deadline in the right case.

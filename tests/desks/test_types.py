@@ -1,4 +1,4 @@
-"""TypeScript (`tsc --checkJs`) finds nothing in the modules of the screens (web/), by their JSDoc and by what it infers; faults planted there are found.
+"""TypeScript (`tsc --checkJs`) finds nothing in the modules of the screens (web/), by their JSDoc. Faults that are planted there are found.
 
 [tsconfig.json](tsconfig.json) has its options. These are off: `noImplicitAny` and `strictNullChecks` (the modules don't give the types of answers),
 `strictPropertyInitialization` and `useUnknownInCatchVariables`.
