@@ -9,6 +9,7 @@ import signal
 import sys
 import threading
 from collections import Counter
+from pathlib import Path
 
 import pytest
 
@@ -20,6 +21,7 @@ SLOW = float(os.environ.setdefault("SLOWNESS", f"{processor.slowness():.2f}"))
 os.environ.setdefault("AHEAD", str(math.ceil(4 * SLOW)))
 os.environ.setdefault("PYTEST_TIMEOUT", str(math.ceil(600 * SLOW)))
 os.environ.setdefault("PYTHONDONTWRITEBYTECODE", "1")
+os.environ.setdefault("HYPOTHESIS_STORAGE_DIRECTORY", "build/hypothesis")
 
 from office_kit import client, needs  # noqa: E402
 from office_kit.common import NO_PROGRAM, PROGRAM, Missing  # noqa: E402
@@ -39,7 +41,7 @@ def pytest_addoption(parser):
     group = parser.getgroup("procure")
     group.addoption("--long", action="store_true", help="also the long forms of tests, which take hours")
     group.addoption("--second", action="store_true", help="this is a second try, of those that failed")
-    group.addoption("--pictures", metavar="FOLDER", help="leave pictures of the screens in this folder")
+    group.addoption("--pictures", metavar="FOLDER", help="leave pictures of the screens in a folder of each module below this one")
 
 
 # ---- What a test gets.
@@ -104,10 +106,13 @@ def is_long(request):
     return request.config.getoption("long")
 
 
-@pytest.fixture(scope="session")
-def pictures(request):
-    """The folder for pictures of screens, or None."""
-    return request.config.getoption("pictures")
+@pytest.fixture(scope="module")
+def pictures(request, tmp_path_factory):
+    """The folder for pictures of a module's screens, below the one that is named."""
+    named = request.config.getoption("pictures")
+    folder = Path(named, request.path.stem).absolute() if named else tmp_path_factory.mktemp("pictures")
+    folder.mkdir(parents=True, exist_ok=True)
+    return str(folder)
 
 
 # ---- What isn't run.

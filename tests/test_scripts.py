@@ -6,7 +6,6 @@ processor seconds; without one it is USUAL of conftest.py.
 import os
 import signal
 import subprocess
-import sys
 
 import pytest
 
@@ -18,11 +17,6 @@ from office_kit.docs import documents
 DOCUMENTS = " ".join(path for path in documents.documents() if path != "README.md")
 GROUPS = [
     {"documents": (f"tools/check_docs {DOCUMENTS}", 60)},
-    {"api": ("{python} tools/check_api", 90)},
-    {"front": ("tests/front/limits", 120), "clerks": ("tests/clerks", 120), "page": ("tests/page", 420), "page_rules": ("tests/page_rules",)},
-    {"desk": ("tests/tender_desk", 240)},
-    {"clerk": ("tests/clerk", 300), "desks": ("tests/desks/all", 240)},
-    {"merging": ("tests/merge_cost",), "throttled": ("tests/throttled",)},
     {"copies": ("bench/copies 20 --kills 5", 120)},
     {"reading": ("tools/reading --check",), "pictures": ("tools/pictures --check",), "names": ("tools/check_names",), "promises": ("tools/check_promises",),
      "crates": ("tools/check_crates",), "lengths": ("tools/check_lengths",), "words": ("tools/check_words",), "gate": ("bench/gate --table --check",)},
@@ -34,7 +28,7 @@ def rows():
     for number, group in enumerate(GROUPS):
         for name, (line, *budget) in group.items():
             marks = [pytest.mark.xdist_group("machine" if "deadline" in group else f"scripts-{number}"), pytest.mark.budget(*budget or [60])]
-            yield pytest.param(line.replace("{python}", sys.executable).split(), id=name, marks=marks)
+            yield pytest.param(line.split(), id=name, marks=marks)
 
 
 def end(process):

@@ -1,8 +1,7 @@
-"""Serves an office and compares its answers with docs/openapi.yaml. Used by tools/check_api."""
+"""Serves an office and compares its answers with docs/openapi.yaml. Used by tests/api/."""
 import json
 import os
 import re
-import sys
 from collections.abc import Iterable, Iterator, Sequence
 from typing import Any
 
@@ -11,7 +10,7 @@ import yaml
 from jsonschema.exceptions import best_match
 
 from office_kit.client import Client, data_of
-from office_kit.common import ROOT, Caller, exchange
+from office_kit.common import ROOT, Caller, exchange, fail
 from office_kit.gate.transcripts import PHRASES
 
 DOCUMENT = os.path.join(ROOT, "docs", "openapi.yaml")
@@ -36,7 +35,7 @@ class Operation:
     def __init__(self, document: "Document", template: str, method: str, item: dict[str, Any]) -> None:
         node = item[method]
         if lacking := {"operationId", "x-callers", "responses"} - set(node):
-            sys.exit(f"check_api: {method} {template} has no {', '.join(sorted(lacking))}")
+            fail(f"{method} {template} has no {', '.join(sorted(lacking))}")
         self.name, self.template, self.method, self.node = node["operationId"], template, method.upper(), node
         self.callers = node["x-callers"]
         parameters = [document.resolved(part) for part in item.get("parameters", [])]
@@ -71,7 +70,7 @@ class Document:
             with open(path, encoding="utf-8") as file:
                 self.tree = yaml.load(file, getattr(yaml, "CSafeLoader", yaml.SafeLoader))
         except (OSError, yaml.YAMLError) as error:
-            sys.exit(f"check_api: {path}: {error}")
+            fail(f"{path}: {error}")
         self.validators: dict[int, Any] = {}
         self.operations: dict[str, Operation] = {}
         for template, item in self.tree["paths"].items():
@@ -87,7 +86,7 @@ class Document:
             node = self.tree
             for word in words:
                 if word not in node:
-                    sys.exit(f"check_api: the document has no {'/'.join(words)}")
+                    fail(f"the document has no {'/'.join(words)}")
                 node = node[word]
         return node
 
@@ -104,7 +103,7 @@ class Document:
         for operation in self.operations.values():
             if operation.method == method and (found := operation.form.fullmatch(path)):
                 return operation, found.groups()
-        sys.exit(f"check_api: the document has no operation {method} {path}")
+        fail(f"the document has no operation {method} {path}")
 
     def refusals(self) -> Iterator[tuple[str, str, str, str | None]]:
         """Each operation's name with the status and the name of each refusal that it lists, and the first word of each `what`."""
@@ -186,7 +185,7 @@ class Asker:
 
     def operation(self, name: str) -> Operation:
         if name not in self.document.operations:
-            sys.exit(f"check_api: the document has no operation {name}")
+            fail(f"the document has no operation {name}")
         return self.document.operations[name]
 
     def send(self, method: str, target: str, who: str = "public", body: bytes = b"", fields: Sequence[str] | None = None) -> Answer:

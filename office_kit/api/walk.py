@@ -1,6 +1,7 @@
-"""Walks through all commands of an office that is served, by the clock, with all requests that the office refuses. `tools/check_api` sends these requests
-besides those that it makes from schemas. `want` is the expected refusal; without it the command must be accepted. The examples are those of docs/openapi.yaml.
-In a notice the deadline is different, and so is the standstill if a contract will be signed.
+"""Walks through all commands of an office that is served, by the clock, with all requests that the office refuses. Used by tests/api/test_answers.py.
+
+`want` is the expected refusal; without it the command must be accepted. The examples are those of docs/openapi.yaml. In a notice the deadline is different, and
+so is the standstill if a contract will be signed.
 
 There are eight notices. N1 is that of the examples, from its publication to the end of its contract. N2 has ten days of standstill. N3 requires no security. N4
 is cancelled unopened. N5 has a winner who is passed over and a contract with a performance security. N6 has points. N7 has too little money. N8 has a tender
@@ -34,7 +35,7 @@ def refused(asker: Asker, name: str, who: str, *rows: tuple[Any, ...]) -> None:
         asker.ask(name, who, *place, want=want, **dict(zip(("body", "query"), rest)))
 
 
-def begin(asker: Asker) -> str:
+def begin(asker: Asker) -> None:
     """Money and tenderers."""
     office, like, sent = asker.office(), asker.office, asker.sent
     like("roads").import_budget("B1", sent("import", "roads"))
@@ -55,7 +56,6 @@ def begin(asker: Asker) -> str:
             ("NoSuch line", ["B4"], budget("9,cut,1,Roads")), ("InsufficientFunds", ["B4"], budget("3000,cut,601,Bridges")),
             ("LimitReached", ["B4"], budget(*["1000,add,1,Roads"] * 501)), ("LimitReached", ["B4"], budget("1000,add,1000000000000000,Roads")))
     office.import_budget("B4", budget(*["1000,add,1,Roads"] * 500))
-    return "budget files and tenderers"
 
 
 def publish(asker: Asker, now: int, deadline: str) -> None:
@@ -257,7 +257,7 @@ def look(asker: Asker, receipts: Receipts) -> None:
         refused(asker, name, who, ("NoSuch notice", ["N9"]))
 
 
-def walk(asker: Asker) -> str:
+def walk(asker: Asker) -> None:
     now = int(time.time())
     deadline = text_of(now + SECONDS)
     publish(asker, now, deadline)
@@ -270,4 +270,3 @@ def walk(asker: Asker) -> str:
     decide_first(asker)
     pay(asker, decide(asker, receipts))
     look(asker, receipts)
-    return "a walk through all commands, whose examples are answered by the examples, moments apart"

@@ -1,5 +1,5 @@
-"""The questions of `tests/desks`: a procurement from the budget to the last payment, by the screens of the clerk, of three firms and of the public, and nothing
-else. One firm then loses its key."""
+"""The checks of tests/desks/test_together.py: a procurement from the budget to the last payment, by the screens of the clerk, of three firms and of the public
+alone. One firm then loses its key."""
 import time
 from collections.abc import Callable
 

@@ -1,4 +1,4 @@
-"""The questions of `tests/clerk` to the clerk's desk in a browser: a procurement from the budget to the last payment on its screens, and faults around it."""
+"""The first checks of tests/desks/test_clerk.py: a procurement from the budget to the last payment on the clerk's screens, and faults around it."""
 import base64
 import contextlib
 import hashlib

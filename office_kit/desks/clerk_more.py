@@ -1,4 +1,4 @@
-"""What `tests/clerk` asks besides: that nothing is lost or forgotten on the desk's screens, and that they do in an office of 400 notices."""
+"""What tests/desks/test_clerk.py asks besides: that nothing is lost or forgotten on the desk's screens, and that they do in an office of 400 notices."""
 import json
 import os
 import tempfile
@@ -6,12 +6,11 @@ import time
 
 from office_kit import client
 from office_kit.client import AHEAD, Client
-from office_kit.common import check, connect, free_port, running, serve_words
+from office_kit.common import check
 from office_kit.desks import clerk_large, page_checks
 from office_kit.desks.clerk_checks import local, tells, write_notice
 from office_kit.desks.clerk_desk import Desk
-from office_kit.desks.scene import Scene
-from office_kit.front.nginx import PATIENCE, Front
+from office_kit.desks.scene import Scene, staged
 from office_kit.mirror.tables import table
 
 # Whether the page would ask somebody who leaves it.
@@ -19,7 +18,6 @@ ASKS = "(() => { const leave = new Event('beforeunload', { cancelable: true }); 
 TITLE = "hands.field('Title', hands.part('Terms')).value"
 # A view must be there after so many seconds, and what the reader came for above so many pixels.
 SECONDS, PIXELS = 2 * max(1.0, AHEAD / 4), 3000
-CONNECTIONS = 1_000_000
 
 
 def drafts(scene: Scene) -> None:
@@ -219,17 +217,12 @@ def timed(desk: Desk, screen: str, place: str) -> None:
 
 def large(scene: Scene) -> None:
     """In an office of 400 notices, 125 budget lines and 60 firms each view comes at once, and everything in it can be found."""
-    with tempfile.TemporaryDirectory() as folder:
-        port = free_port()
-        with running(serve_words(scene.program, os.path.join(folder, "office.db"), port, CONNECTIONS)) as office:
-            connect(port, PATIENCE).close()
-            clerk_large.fill(Client(client.Port(port), clerk_large.key_of))
-            with Front(folder, port) as front:
-                titles = [{"line": clerk_large.line_of(at), "title": f"Upkeep of district {at}"} for at in range(clerk_large.LINES)]
-                os.makedirs(os.path.join(folder, "mirror", "data"))
-                with open(os.path.join(folder, "mirror", "data", "budget.csv"), "w") as file:
-                    file.write(table("budget", titles))
-                views(Desk(Scene(front, scene.browser, office, scene.pictures, scene.program)))
+    with staged(scene.program, scene.browser, scene.pictures, lambda port: clerk_large.fill(Client(client.Port(port), clerk_large.key_of))) as made:
+        titles = [{"line": clerk_large.line_of(at), "title": f"Upkeep of district {at}"} for at in range(clerk_large.LINES)]
+        os.makedirs(folder := os.path.join(made.front.folder, "mirror", "data"))
+        with open(os.path.join(folder, "budget.csv"), "w") as file:
+            file.write(table("budget", titles))
+        views(Desk(made))
 
 
 def views(desk: Desk) -> None:

@@ -1,5 +1,4 @@
-"""The questions of `tests/clerk` to a desk whose clerks sign in at the front by name. It needs no key. Each clerk finds the steps of the own roles, and no
-other ones."""
+"""The check of tests/desks/test_clerk.py for clerks who sign in at the front by name. The desk needs no key. Each clerk finds the own steps alone."""
 import contextlib
 import json
 import os
@@ -11,8 +10,7 @@ from office_kit.common import ROOT, check, connect, free_port, running, serve_wo
 from office_kit.desks import page_checks
 from office_kit.desks.clerk_desk import HANDS, Desk
 from office_kit.desks.scene import Scene
-from office_kit.front.clerks import Signing
-from office_kit.front.life import read_lines
+from office_kit.front.clerks import Signing, lines_of_log
 from office_kit.front.nginx import PATIENCE, Front
 from office_kit.store.life import Life, offer, part
 
@@ -172,7 +170,7 @@ def does_own(scene: Scene, front: Front, contract: int) -> None:
     desk.press("Record the payment …", place="Payment")
     desk.confirm("Record the payment", "Paid. Outstanding: 10 EUR.")
     desk.leave()
-    told = [(line["name"], line["route"], line["status"]) for line in read_lines(os.path.join(front.folder, "clerks.log"), 2)]
+    told = [(line["name"], line["route"], line["status"]) for line in lines_of_log(os.path.join(front.folder, "clerks.log"), 2)]
     check(f"the log has {told}", told == [("anna", "POST /tenderers/T9", 200), ("dora", f"POST /contracts/{contract}/pay", 200)])
 
 

@@ -1,5 +1,5 @@
-"""What `tests/page` and `tests/tender_desk` ask in an office of 400 notices (`office_kit/desks/clerk_large.py`), with its mirror beside it: each view comes at
-once, what the reader came for isn't far down, and everything can be found. Faults that are planted in the views must be found."""
+"""Checks of the portal and of the tenderer's desk in an office of 400 notices (clerk_large.py), with its mirror beside it: each view comes at once, what the
+reader came for isn't far down, and everything can be found. Faults that are planted in the views must be found."""
 import contextlib
 import json
 import os

@@ -1,4 +1,4 @@
-"""The questions that `tests/page` asks the page in a browser: what each view says to eyes, keyboards and screen readers, and that no input breaks it."""
+"""Checks of tests/desks/test_portal.py: what each view says to eyes, keyboards and screen readers, and that no input breaks it."""
 import contextlib
 import difflib
 import json

@@ -1,29 +1,26 @@
-"""The questions of `tests/page` about the portal beyond its single views: German, open data, the search, many notices, paper, and an office without a
-mirror."""
+"""The questions of tests/desks/test_portal.py beyond single views: German, open data, the search, many notices, paper, and an office without a mirror."""
 import base64
 import json
 import os
 import subprocess
-import tempfile
 import time
 from typing import Any
 
 from office_kit import client
-from office_kit.common import ROOT, check, connect, free_port, running, serve_words
+from office_kit.common import ROOT, check
 from office_kit.desks import large_checks
 from office_kit.desks.browser import Page
 from office_kit.desks.page_checks import NARROWEST, VIEWS, has_contrast, is_quiet, is_within, page_of
 from office_kit.desks.page_office import SCRIPT
-from office_kit.desks.scene import Scene
-from office_kit.front.nginx import PATIENCE, Front
+from office_kit.desks.scene import Scene, staged
 from office_kit.mirror.tables import table
 
 WIDEST = 1920
 # The notices of an office that has run for some years, and the seconds of the page's own work within which they are shown.
 MANY, LONGEST = 500, 1.0
 NAMES = [f"M{number:04}" for number in range(MANY)]
-# Seconds until a deadline, and how many connections an office takes before it ends.
-DAY, SOON, CONNECTIONS = 86_400, 2, 100_000
+# Seconds until a deadline.
+DAY, SOON = 86_400, 2
 FOUND = "[...document.querySelectorAll('.entry-of-list h3')].map((at) => at.textContent)"
 # The paths below /data/ that the test asks for, each with its type.
 FILES = {"": "text/html; charset=utf-8", "notices.csv": "text/csv; charset=utf-8", "releases.jsonl": "application/jsonl; charset=utf-8",
@@ -178,24 +175,21 @@ def with_tables(data: str) -> None:
 
 def many(scene: Scene) -> None:
     """Five hundred notices are shown within a second of the page's work, those that take tenders above, and searched as one types."""
-    with tempfile.TemporaryDirectory() as folder:
-        port = free_port()
-        with_tables(os.path.join(folder, "mirror", "data"))
-        with (running(serve_words(scene.program, os.path.join(folder, "office.db"), port, CONNECTIONS)), Front(folder, port) as front):
-            connect(port, PATIENCE).close()
-            titles = publish_many(port)
-            page = Page(scene.browser, 1280)
-            page.ask("Performance.enable", timeDomain="threadTicks")
-            page.go(front.address("#list?order=published"))
-            took = {it["name"]: it["value"] for it in page.ask("Performance.getMetrics")["metrics"]}["TaskDuration"]
-            check(f"{MANY} notices take {took:.2f} s", took < LONGEST)
-            check("all are told of", page.run("document.querySelector('.count').textContent") == f"{MANY} procurements")
-            page.run("document.querySelector('.more').click()")
-            check("open ones come first, and newest first", page.run(FOUND)[:MANY // 10] == titles[:MANY // 10])
-            type_words(page, "m012")
-            check("ten are found", page.run(f"{FOUND}.length") == 10)
-            page.picture(os.path.join(scene.pictures, "many.png"))
-            is_quiet(page)
+    with staged(scene.program, scene.browser, scene.pictures) as made:
+        with_tables(os.path.join(made.front.folder, "mirror", "data"))
+        titles = publish_many(made.front.office)
+        page = Page(scene.browser, 1280)
+        page.ask("Performance.enable", timeDomain="threadTicks")
+        page.go(made.front.address("#list?order=published"))
+        took = {it["name"]: it["value"] for it in page.ask("Performance.getMetrics")["metrics"]}["TaskDuration"]
+        check(f"{MANY} notices take {took:.2f} s", took < LONGEST)
+        check("all are told of", page.run("document.querySelector('.count').textContent") == f"{MANY} procurements")
+        page.run("document.querySelector('.more').click()")
+        check("open ones come first, and newest first", page.run(FOUND)[:MANY // 10] == titles[:MANY // 10])
+        type_words(page, "m012")
+        check("ten are found", page.run(f"{FOUND}.length") == 10)
+        page.picture(os.path.join(scene.pictures, "many.png"))
+        is_quiet(page)
 
 
 CITY = {"name": {"en": "Example City", "de": "Beispielstadt"}, "imprint": {"en": ["1 <b>Town</b> Square", "See https://example.org/x, or ask a@example.org."]},

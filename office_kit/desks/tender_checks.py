@@ -1,4 +1,4 @@
-"""The questions of `tests/tender_desk` in a browser: a tender's life at the desk alone, files that can't be sent, and answers that are lost."""
+"""The questions of tests/desks/test_tender_desk.py in a browser: a tender's life at the desk alone, files that can't be sent, and answers that are lost."""
 import json
 import os
 import signal

@@ -1,15 +1,19 @@
-"""The office that `tests/tender_desk` uses: notices to which the desk submits tenders, and two whose deadline comes meanwhile. T1 and T2 are registered, with
-their keys in files. T9 isn't, until the test of the key registers it.
+"""The office of tests/desks/test_tender_desk.py: notices to which the desk submits tenders, and two whose deadline comes meanwhile. T1 and T2 are registered,
+with their keys in files. T9 isn't, until the test of the key registers it.
 """
+import contextlib
 import hashlib
 import os
 import subprocess
+import tempfile
 import time
+from collections.abc import Iterator
 from dataclasses import dataclass
 
 from office_kit.client import AHEAD, Answer, Client, budget, lot, notice, tender, text_of, Front as Transport
-from office_kit.common import connect, serve_words
+from office_kit.common import connect, free_port, serve_words
 from office_kit.desks import scene
+from office_kit.desks.browser import Browser
 from office_kit.front.nginx import PATIENCE, Front
 
 CONNECTIONS = 100_000
@@ -56,8 +60,17 @@ class Scene(scene.Scene):
         return self.path(name)
 
 
-def asking(front: Front) -> Client[Answer]:
-    return Client(Transport(front.address().rstrip("/"), front.context), key_of)
+@contextlib.contextmanager
+def staged(program: str, browser: Browser, pictures: str) -> Iterator[Scene]:
+    """A scene over a new office."""
+    port = free_port()
+    with tempfile.TemporaryDirectory() as folder, Front(folder, port) as front:
+        file, client = os.path.join(folder, "office.db"), Client(Transport(front.address().rstrip("/"), front.context), key_of)
+        made = Scene(front, browser, serving(program, file, port), pictures, program, file, client, folder)
+        try:
+            yield made
+        finally:
+            made.stop()
 
 
 def prepare(desk: Scene) -> None:

@@ -1,4 +1,4 @@
-"""The questions of `tests/page` to the front alone: its own answers, the requests that it lets through, and the clients that it makes wait."""
+"""The questions of tests/desks/test_portal.py to the front alone: its own answers, the requests that it lets through, and the clients that it makes wait."""
 import contextlib
 import hashlib
 import http.client

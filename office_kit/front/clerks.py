@@ -2,11 +2,14 @@
 and OPERATING.md say."""
 import base64
 import ctypes
+import json
 import os
 import secrets
 import ssl
 import subprocess
+import time
 from collections.abc import Iterable, Mapping
+from typing import Any
 
 from office_kit.common import CLERK, ROOT, fail, need
 
@@ -100,3 +103,14 @@ class Signing:
         """Has connections of this context come with the clerk's certificate."""
         if self.way == "certificate" and name:
             context.load_cert_chain(f"{self.folder}/{name}.pem", f"{self.folder}/{name}.key")
+
+
+def lines_of_log(path: str, least: int) -> list[dict[str, Any]]:
+    """The lines of the clerks' log, as soon as there are so many."""
+    end, lines = time.monotonic() + 5, list[dict[str, Any]]()
+    while len(lines) < least and time.monotonic() < end:
+        time.sleep(0.05)
+        if os.path.exists(path):
+            with open(path, encoding="utf-8", errors="surrogateescape") as file:
+                lines = [json.loads(line) for line in file]
+    return lines

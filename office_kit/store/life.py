@@ -1,5 +1,6 @@
-"""Makes the office that `tests/audit` audits: procurements with every possible end, made by a program that serves. It takes five seconds, mostly waiting for a
-deadline.
+"""Makes the office that tests/audit/test_audit.py audits: procurements with every possible end, made by a program that serves.
+
+It takes five seconds, mostly waiting for a deadline.
 """
 import math
 import time
@@ -83,7 +84,7 @@ class Life(Client[Answer]):
 
 
 class AuditedLife(Life):
-    """The office that `tests/audit` audits."""
+    """The office that tests/audit/test_audit.py audits."""
 
     running = cancelled = active = broken = failed = contract = 0
 

@@ -1,4 +1,4 @@
-"""The faults that `tests/audit` plants in an office that `life.py` made, and the rule and row by which `tools/audit` must find each.
+"""The faults that tests/audit/test_audit.py plants in an office that `life.py` made, and the rule and row by which `tools/audit` must find each.
 
 A plain fault is one change of the file, or of an answer. A forgery changes all related rows, releases and merges, so that the file alone shows nothing. The
 test tries that too, and tries which witnesses expose it. These forgeries show that the facts which docs/AUDITOR.md calls unseen are unseen.

@@ -1,5 +1,7 @@
-"""The log that a front would write of an office's life, for `tests/audit`, with the faults that are planted in it. Each has the rule and the row by which
-`tools/audit` must find it. (`tests/clerks` has a real front write such a log.)"""
+"""The log that a front would write of an office's life, for tests/audit/test_audit.py, with the faults that are planted in it.
+
+Each has the rule and the row by which `tools/audit` must find it. (tests/front/test_clerks.py has a real front write such a log.)
+"""
 import json
 import re
 import time

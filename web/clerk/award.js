@@ -55,7 +55,7 @@ async function tellLacking(lot, more, currency, award, place) {
 }
 
 /** The result of an award, as a sentence. */
-function outlookText(lot, { code, count = 0, tender }, currency) {
+function outlookText(lot, { code, count = 0, tender = null }, currency) {
   const values = { count, lot: lot.id, name: given(tender?.name ?? ""), price: tender ? money(tender.corrected, currency) : "",
     freed: money(lot.reserved, currency) };
   const isAlone = code === "nobody" && lot.tenders.length === 0;

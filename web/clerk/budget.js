@@ -36,9 +36,10 @@ export function readBudget(bytes) {
   return { bytes: bytes.length, rows, faults };
 }
 
-/** Why the first record isn't the header, or nothing. */
+/** Why the first record isn't the header, or nothing.
+ * @returns {any} */
 function headFaults(bytes, records) {
-  const kind = KINDS.find(([sign]) => sign.every((byte, at) => bytes[at] === byte))?.[1];
+  const kind = KINDS.find(([sign]) => [...sign].every((byte, at) => bytes[at] === byte))?.[1];
   const [first] = records;
   const place = { record: 1, line: first?.line ?? 1 };
   if (!first) {

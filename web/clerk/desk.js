@@ -12,7 +12,8 @@ import { drawToday } from "./today.js";
 
 await Promise.all([addTexts({ en: () => import("./en.js"), de: () => import("./de.js") }), signIn()]);
 const MENU = ["today", "budget", "tenderers", "new", "journal"];
-// Screens that are loaded on demand, each with the function that draws it.
+// Screens that are loaded on demand, each with its function.
+/** @type {any} */
 const LATER = { budget: [() => import("./budgets.js"), "drawBudget"], tenderers: [() => import("./tenderers.js"), "drawTenderers"],
   new: [() => import("./editor.js"), "drawEditor"], preview: [() => import("./preview.js"), "drawPreview"],
   journal: [() => import("./journals.js"), "drawJournal"], notice: [() => import("./procurement.js"), "drawProcurement"],

@@ -39,7 +39,7 @@ function savedNote(count, saved) {
 
 /** Puts the entries of a file before those of this tab. */
 async function taken(text, again) {
-  const { journal: earlier, fault } = text === null ? { fault: { line: 1, code: "none" } } : await readFile(text);
+  const { journal: earlier, fault } = text === null ? { journal: null, fault: { line: 1, code: "none" } } : await readFile(text);
   if (fault) {
     return note("bad", say(`journal.fault.${fault.code}`, { line: String(fault.line) }), say("journal.fault.do"));
   }

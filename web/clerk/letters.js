@@ -15,7 +15,7 @@ import { stagedOf } from "./whole.js";
 // Outcomes that are the tender's own, whatever became of its lot.
 const OWN = ["unreadable", "nonconforming", "unresponsive", "late", "passed", "awardended"];
 
-export async function drawLetter(again, name, lotId) {
+export async function drawLetter(_again, name, lotId) {
   const [staged, held, city] = await Promise.all([stagedOf(name), caller() ? securities(name, caller()) : [], cityFile()]);
   const notice = { ...staged, held, city };
   const lot = notice.stage.lots.find(({ id }) => id === lotId);
@@ -33,7 +33,7 @@ export async function drawLetter(again, name, lotId) {
 /** A letter to each tenderer of an opened lot; none while the lot is undecided. */
 function lettersOf(notice, lot) {
   const tell = lot.active ? (one) => (isWinner(lot, one) ? won(notice, lot, one) : lost(notice, lot, one)) : endingOf(notice, lot);
-  return tell === null ? [] : lot.tenders.toSorted((one, other) => isWinner(lot, other) - isWinner(lot, one))
+  return tell === null ? [] : lot.tenders.toSorted((one, other) => Number(isWinner(lot, other)) - Number(isWinner(lot, one)))
     .map((one) => letter(notice, lot, one, tell(one), !isWinner(lot, one)));
 }
 

@@ -12,7 +12,7 @@ export function backTo(name) {
   return element("p", { class: "noprint" }, link(say("back", { notice: name }), placeOf("notice", name)));
 }
 
-export async function drawMinutes(again, name) {
+export async function drawMinutes(_again, name) {
   const [compiled, text, city] = await Promise.all([record(name), minutesText(name), cityFile()]);
   const back = backTo(name);
   if (text === null) {

@@ -184,7 +184,8 @@ async function transmit(state) {
   }
 }
 
-/** The office's answer and its value, or the fault. */
+/** The office's answer and its value, or the fault.
+ * @returns {Promise<any>} */
 async function outcomeOf({ path, body }) {
   touch();
   try {

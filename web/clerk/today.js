@@ -34,7 +34,7 @@ export async function drawToday(again) {
   const entries = entriesOf(list, data, officeNow());
   const coming = entries.filter(({ state }) => state === "open" || state === "waiting");
   const opened = entries.filter((entry) => !coming.includes(entry) && !OVER.includes(entry.state))
-    .sort((one, other) => (one.state === "running") - (other.state === "running") || (one.deadline < other.deadline ? -1 : 1));
+    .sort((one, other) => Number(one.state === "running") - Number(other.state === "running") || (one.deadline < other.deadline ? -1 : 1));
   const found = await Promise.all(opened.slice(0, asked.count).map(staged));
   const shown = inOrder([...coming, ...found.filter(({ stage }) => !stage || stepOf(stage) !== "over")], officeNow(), isOwn);
   const left = opened.slice(asked.count).map((entry) => ({ ...entry, isLeft: true }));

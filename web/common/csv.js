@@ -15,7 +15,7 @@ export function binaryOf(bytes) {
 
 /** The bytes of such a text. */
 export function bytesOfBinary(text) {
-  return Uint8Array.from(text, (sign) => sign.charCodeAt(0));
+  return Uint8Array.from(text, (sign) => String(sign).charCodeAt(0));
 }
 
 /** Such a text as a person reads it, in UTF-8, with a mark for each byte that isn't. */
@@ -90,8 +90,7 @@ export function isUtf8(binary) {
   }
 }
 
-// The forms of fields that aren't numbers. (Spreadsheets put a space, a no-break space or a narrow no-break
-// space between digits.)
+// The forms of fields that aren't numbers. (Spreadsheets put three kinds of spaces between digits.)
 const NO_NUMBERS = [
   ["empty", /^$/],
   ["great", /^\d{16,}$/],
@@ -112,5 +111,5 @@ export function whyNoNumber(field) {
     return null;
   }
   const text = textOf(field);
-  return NO_NUMBERS.find(([, form]) => form.test(text))?.[0] ?? "none";
+  return NO_NUMBERS.find(([, form]) => new RegExp(form).test(text))?.[0] ?? "none";
 }

@@ -47,8 +47,7 @@ export function placeOf(page, ...rest) {
   return `#${[page, ...rest].map(encodeURIComponent).join("/")}`;
 }
 
-/** A text that somebody gave, such as a title or a name. Its writing direction doesn't affect the text around
- * it. */
+/** A text that somebody gave, such as a name. Its writing direction doesn't affect the text around it. */
 export function given(text) {
   return element("bdi", {}, text);
 }
@@ -64,8 +63,7 @@ export function badge(kind, text) {
   return element("span", { class: `badge ${kind}` }, element("span", { "aria-hidden": "true" }, signs[kind] ?? "", " "), text);
 }
 
-/** A bar of parts, each with a kind (its pattern), a name and an amount. Its label and the key below it say
- * what it shows. */
+/** A bar of parts, each with a kind (its pattern), a name and an amount. Its label says what it shows. */
 export function bar(label, parts) {
   const whole = parts.reduce((sum, part) => sum + part.amount, 0);
   const told = parts.map((part) => `${part.name} ${number(part.amount)}`).join(", ");

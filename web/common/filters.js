@@ -96,7 +96,7 @@ export function ordered(entries, order) {
   const sign = (one, other) => (one < other ? -1 : one > other ? 1 : 0);
   const by = { published: newest, amount: (one, other) => sign(other.known?.estimate ?? -1, one.known?.estimate ?? -1) }[order]
     ?? ((one, other) => sign(one.deadline, other.deadline) * (one.state === "open" ? 1 : -1));
-  return entries.toSorted((one, other) => (other.state === "open") - (one.state === "open") || by(one, other) || newest(one, other));
+  return entries.toSorted((one, other) => Number(other.state === "open") - Number(one.state === "open") || by(one, other) || newest(one, other));
 }
 
 function isWithin(estimate, from, to) {

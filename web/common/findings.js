@@ -1,5 +1,4 @@
-// The results of a procurement, its lots and its tenders, as badge kinds and names of texts. Runs in node
-// too.
+// The results of a procurement, its lots and its tenders, as badge kinds and names of texts. Also runs in node.
 
 /** The awards of a lot, in the order in which they were made. */
 export function awardsOf(compiled, lot) {
@@ -32,8 +31,8 @@ export function addedTo(contract, award) {
   return contract.value.amount - award.value.amount;
 }
 
-/** The state of the whole process, as a badge kind and the name of a text; `now` in milliseconds. It isn't
- * published how a contract ended, and it may have been by default. So no end is shown in green. */
+/** The state of the whole process, as a badge kind and the name of a text; `now` in milliseconds. No end is
+ * shown in green: how a contract ended isn't published. */
 export function stateOf(compiled, now) {
   const { status, numberOfTenderers, tenderPeriod, lots } = compiled.tender;
   if (status === "cancelled" || status === "unsuccessful") {

@@ -1,5 +1,4 @@
-// The parts of forms: fields with a label and a fault beside them, files that are dropped or chosen, buttons;
-// tables, growing lists; saving and printing.
+// The parts of forms: fields, files that are dropped or chosen, buttons, tables, growing lists; saving, printing.
 import { element, fresh } from "./draw.js";
 import { lineFault } from "./csv.js";
 import { say } from "./texts.js";
@@ -7,7 +6,7 @@ import { say } from "./texts.js";
 /** A field below its label: the elements (`made`), its `input`, its `value()`, and `tell(sentence)`, which
  * shows a fault, or none if it is empty. `kind` is a type of input, `lines` (several lines of text), or
  * `choice` with `options`, which are pairs of value and text. */
-export function field(label, { id = fresh("field"), kind = "text", hint = "", value = "", options = [], ...attributes } = {}) {
+export function field(label, /** @type {any} */ { id = fresh("field"), kind = "text", hint = "", value = "", options = [], ...attributes } = {}) {
   const about = [hint ? `${id}-hint` : "", `${id}-wrong`].filter(Boolean).join(" ");
   const own = { id, name: id, "aria-describedby": about, spellcheck: "false", ...attributes };
   const input = kind === "choice" ? element("select", own, options.map(([name, text]) => element("option", { value: name }, text)))
@@ -91,7 +90,7 @@ export function form(name, fields, text, act, kind = "") {
 }
 
 /** A place for a file, which can be dropped there or chosen by its field. */
-export function drop(label, hint, take, { id = fresh("file"), ...attributes } = {}) {
+export function drop(label, hint, take, /** @type {any} */ { id = fresh("file"), ...attributes } = {}) {
   const input = element("input", { id, type: "file", "aria-describedby": `${id}-hint`, ...attributes });
   const made = element("div", { class: "drop" }, element("label", { for: id }, label), element("p", { id: `${id}-hint`, class: "quiet" }, hint), input);
   // (The name of a file that was read stays in sight. The same file can be chosen again.)
@@ -125,7 +124,7 @@ export function note(kind, head, ...content) {
 
 /** A table. On a phone each row is a block, and browsers then drop the roles of a table, so they are written
  * out. `figures` are the columns with numbers. */
-export function table(caption, heads, rows, { figures = [], foot = null, kind = "figures" } = {}) {
+export function table(caption, heads, rows, /** @type {any} */ { figures = [], foot = null, kind = "figures" } = {}) {
   const kindOf = (at) => (figures.includes(at) ? { class: "figure" } : {});
   const rowOf = (cells) => element("tr", { role: "row" }, cells.map((cell, at) => (at === 0
     ? element("th", { scope: "row", role: "rowheader", "data-name": heads[at], ...kindOf(at) }, cell)
@@ -136,7 +135,7 @@ export function table(caption, heads, rows, { figures = [], foot = null, kind = 
     element("tbody", { role: "rowgroup" }, rows.map(rowOf)), foot ? element("tfoot", { role: "rowgroup" }, rowOf(foot)) : null);
 }
 
-/** A list of entries, of which so many are shown first, and a button that shows more of them. */
+/** A list of entries, of which so many are shown first, and a button for more. */
 export function growing(list, all, make, many, first = many) {
   const more = element("button", { type: "button", class: "more second" });
   let shown = 0;

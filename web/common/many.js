@@ -9,7 +9,7 @@ export const FIRST = 25;
 const MORE = 100;
 
 /** A table of the first entries, and a button that shows more. `rowOf` makes the cells of an entry. */
-export function growingTable(caption, heads, all, rowOf, { first = FIRST, ...options } = {}) {
+export function growingTable(caption, heads, all, rowOf, /** @type {any} */ { first = FIRST, ...options } = {}) {
   const made = table(caption, heads, all.slice(0, first).map(rowOf), options);
   const more = element("button", { type: "button", class: "more second" });
   let shown = Math.min(first, all.length);

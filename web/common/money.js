@@ -70,8 +70,8 @@ export function moment(text) {
 export function span(seconds) {
   const units = [["days", 86400], ["hours", 3600], ["minutes", 60], ["seconds", 1]];
   const at = Math.max(0, units.findIndex(([, unit]) => seconds >= unit));
-  const told = seconds < 1 ? [["seconds", 1]] : units.slice(at, at + 2);
-  return told.map(([name, unit], place) => [name, Math.floor((place === 0 ? seconds : seconds % units[at][1]) / unit)])
+  const told = seconds < 1 ? units.slice(-1) : units.slice(at, at + 2);
+  return told.map(([name, unit], place) => [name, Math.floor((place === 0 ? seconds : seconds % Number(units[at][1])) / Number(unit))])
     .filter(([, count], place) => place === 0 || count > 0).map(([name, count]) => say(`span.${name}`, { count })).join(", ");
 }
 

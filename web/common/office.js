@@ -11,6 +11,8 @@ let ahead = 0;
 /** A request without a normal answer. `name` is the office's refusal, or empty; `what`, `status` and `text`
  * are as they came. `isOpen`: it isn't known whether a command was done. */
 export class Refused extends Error {
+  what; status; kind; wait; text;
+
   constructor({ name = "", what = "", status = 0, kind = "", wait = 0, text = "" }) {
     super(name || kind || String(status));
     Object.assign(this, { name, what, status, kind, wait, text });
@@ -62,13 +64,13 @@ function refusalOf(answer, text) {
 
 /** The text of an answer. A caller is `{ caller, key }`, or nothing for the public. Without a key it is somebody whom
  * nginx knows: the browser then sends the name and the password, or the certificate. */
-async function send(path, { method = "GET", caller = null, body = undefined, cache = "no-store", longest = LONGEST } = {}) {
+async function send(path, /** @type {any} */ { method = "GET", caller = null, body = undefined, cache = "no-store", longest = LONGEST } = {}) {
   const isKnown = caller !== null && caller.key === null;
   const headers = caller ? { "Office-Caller": caller.caller, ...(isKnown ? {} : { "Office-Key": caller.key }) } : {};
   const credentials = isKnown ? "same-origin" : "omit";
   let answer, text;
   try {
-    answer = await fetch(path, { method, headers, body, credentials, cache, redirect: "error", signal: AbortSignal.timeout(longest) });
+    answer = await fetch(path, { method, headers, body, credentials, cache, redirect: "error", signal: /** @type {any} */ (AbortSignal).timeout(longest) });
     text = await answer.text();
   } catch {
     throw new Refused({ kind: "away" });
@@ -84,14 +86,14 @@ function pause(seconds) {
   return new Promise((done) => { setTimeout(done, seconds * 1000); });
 }
 
-// nginx keeps public answers for three seconds, counted in whole seconds. So for four seconds after a command they can be older
-// than the command. It keeps the ledger for longer; the clerk gets the office's current ledger.
+// nginx keeps public answers for three whole seconds, so for four seconds after a command they can be older than it. It keeps the
+// ledger for longer; the clerk gets the current one.
 const KEPT = 4100;
 let changed = 0;
 
 /** If the office doesn't answer a public query in `longest` milliseconds, `find` gives a text for its path, or null. Only
  * the portal has more than this (mirror.js): the desks show what the office has now. */
-export const substitute = { find: async () => null, longest: LONGEST };
+export const substitute = { find: async (_path) => null, longest: LONGEST };
 
 /** A query: repeated as long as nginx answers that queries come too fast. */
 export async function look(path, caller = null) {

@@ -16,7 +16,7 @@ import { timeline } from "./timeline.js";
 const FEW = 3;
 const unfolded = new Set();
 
-function stateBadge([kind, name]) {
+function stateBadge(/** @type {any[]} */ [kind, name]) {
   return badge(kind, say(`see.is.${name}`));
 }
 

@@ -5,6 +5,7 @@ import { changeOf, reason } from "./contract.js";
 import { element, given } from "./draw.js";
 import { paidOf } from "./findings.js";
 
+/** @type {any[]} */
 const TOLD = [
   ["tenderCancellation", cancelled],
   ["awardCancellation", failed],
@@ -76,7 +77,7 @@ function paid({ contracts: [contract] }) {
 }
 
 /** (the release has only the contract's number) */
-function ended({ contracts: [{ id }] }, lots, compiled) {
+function ended({ contracts: [{ id }] }, _lots, compiled) {
   const { value, ...contract } = compiled.contracts.find((one) => one.id === id);
   return ["ended", [say("see.told.ended", { contract: id, paid: money(paidOf(contract), value.currency), amount: amountOf(value) })]];
 }

@@ -85,7 +85,8 @@ function recordsIn(text, items) {
 }
 
 /** The rows below the header. The header is found by its words; without one, four columns are read if the
- * rows are those of the items. */
+ * rows are those of the items.
+ * @returns {any} */
 function tableIn(found) {
   const { records, at, separator, rows } = found;
   const changes = separator === "," ? [] : [fault(1, "separator", { sign: SEPARATORS[separator] ?? separator })];

@@ -44,13 +44,13 @@ function read(text) {
   if (places) {
     return parted(places[1], places[2], false);
   }
-  return { why: NO_FIGURES.find(([, form]) => form.test(text))?.[0] ?? "none" };
+  return { why: NO_FIGURES.find(([, form]) => new RegExp(form).test(text))?.[0] ?? "none" };
 }
 
 /** The whole number in a field, and whether the field had to be changed; or `why` it isn't one, as the name
  * of a text (`number.NAME`, `number.ambiguous`). `isRight` returns whether only this reading agrees with other
  * figures. Then a figure with two readings is no guess. */
-export function figureOf(field, currency = "", isRight = () => false) {
+export function figureOf(field, currency = "", isRight = (_grouped) => false) {
   const got = read(bareOf(field, currency));
   if (got.why === "ambiguous" && isRight(got.grouped)) {
     return { value: got.grouped, changed: true };

@@ -21,7 +21,7 @@ function securityOf(number, { named, currency }) {
 
 /** The facts of a receipt. `known` has what else is known: the security (`named`, in a `currency`), elements
  * that name the `firm`, the notice (`titled`) and the lot (`lotTitle`), and `more` facts. */
-export function factsOf(receipt, known = {}) {
+export function factsOf(receipt, /** @type {any} */ known = {}) {
   const { tenderer, notice, lot, state, security } = receipt;
   const named = (id, text) => (text ? [text, below(given(String(id)))] : given(String(id)));
   return facts([[say("receipt.number"), String(receipt.receipt)], tenderer ? [say("see.tenderer"), named(tenderer, known.firm)] : null,

@@ -67,7 +67,7 @@ export async function lookFirst({ order, rest }) {
 /** Searches the other notices once, as long as `goes` says so: those first that were never searched. `tell` is
  * called after each step with the number of notices that are left. */
 export async function lookOn(rows, goes, tell) {
-  const rest = left(rows).sort((one, other) => session.seen.has(one.notice) - session.seen.has(other.notice));
+  const rest = left(rows).sort((one, other) => Number(session.seen.has(one.notice)) - Number(session.seen.has(other.notice)));
   for (let at = 0; at < rest.length && goes(); at += TOGETHER) {
     const begun = Date.now();
     await lookInto(rest.slice(at, at + TOGETHER));

@@ -39,11 +39,11 @@ function whenOf({ state, moment: came, deadline }) {
 }
 
 /** Whether a tender can be changed or withdrawn for nothing. */
-function isOpen({ state, deadline }) {
+function isOpen(/** @type {any} */ { state, deadline }) {
   return state === "sealed" && Date.parse(deadline) > officeNow();
 }
 
-function rowOf({ receipt, state, deadline, ...one }) {
+function rowOf(/** @type {any} */ { receipt, state, deadline, ...one }) {
   return [String(receipt), [given(one.title), below(given(one.notice), ", ", say("see.lot", { lot: one.lot }))], whenOf({ ...one, state, deadline }),
     stateBadge({ ...one, receipt, state }),
     link(say(isOpen({ state, deadline }) ? "tenders.do.change" : "tenders.do.look", { receipt: String(receipt) }), placeOf("tender", String(receipt)))];

@@ -1,8 +1,6 @@
-#!/usr/bin/env python3
-"""Tests clerks who sign in at the front by name (deploy/clerks*.conf), by password and by certificate, with nginx and a server in place of the office.
+"""Clerks who sign in at the front by name (deploy/clerks*.conf), by password and by certificate, with nginx and a server in place of the office.
 
-    tests/clerks                    runs all tests. Each also runs over files in which a fault was planted: there it must fail
-    tests/clerks roles              runs this test only; an unknown name prints the list of names
+Each check also runs over files in which a fault was planted: there it must fail.
 
 - roles: each role gives exactly its commands, and all queries. The office sees an allowed request, and no other one. The table of docs/OPERATING.md has the
   same roles.
@@ -16,23 +14,33 @@
   line.
 - secrets: neither the office's key nor a password is in a log or in a response.
 - too_often: an address that guesses passwords must wait.
-- audited: an office is made through the front, from the budget to the last payment, by clerks with four roles. `tools/audit --front-log` finds nothing in it.
-  It finds each forgery: a line that is gone, one too many, a refused one of another name as accepted, an accepted one as refused. It finds a command that was
-  given past the front. (This test needs the program.)
 - by_key: as long as nobody signs in, each clerk sends the key, /front/who doesn't exist, and no log of the clerks is written.
 
-It prints a line for each test. Exit status: 0 all passed, 1 one failed or there is no program, 2 wrong arguments, 3 a tool is missing.
+At last an office is made through the front, from the budget to the last payment, by clerks with four roles. `tools/audit --front-log` finds nothing in it. It
+finds each forgery: a line that is gone, one too many, a refused one of another name as accepted, an accepted one as refused. It finds a command that was given
+past the front.
 """
-import contextlib, json, os, re, subprocess, sys, tempfile, time
+import contextlib
+import json
+import os
+import re
+import subprocess
+import time
 
-sys.dont_write_bytecode = True
-from office_kit.common import HOST, ROOT, check, need, need_program, options_of
-from office_kit.front import life as front_life
+import pytest
+
+from office_kit import client
+from office_kit.client import Answer, Port
+from office_kit.common import HOST, ROOT, check, connect, need
 from office_kit.front.checks import routes
-from office_kit.front.clerks import WAYS, Signing
-from office_kit.front.nginx import OUTSIDE, Front, exchange
+from office_kit.front.clerks import WAYS, Signing, lines_of_log
+from office_kit.front.nginx import OUTSIDE, PATIENCE, Front, exchange
 from office_kit.front.office import Office
+from office_kit.store.life import AuditedLife
+from office_kit.store.planted_lines import NAMES as NAMED, at, text_of
+from office_kit.store.served import server
 
+pytestmark = [pytest.mark.needs("nginx", "openssl", "curl"), pytest.mark.nginx, pytest.mark.budget(120)]
 ROLES = {"anna": "notices", "bert": "budget", "cora": "evaluation", "dora": "contracts", "emil": "all", "fred": "notices contracts"}
 # A name with a password and a certificate, and without a role.
 NOBODY = "gerd"
@@ -239,18 +247,6 @@ def who(front, office):
 BODIES = [b'{"title":"a \\"b\\" \\u00e9 \xc3\xa9"}\n', b"", bytes(range(256)), b"\xff\xfe\x00\r\n\\", b"x" * 65_536, bytes(range(256)) * 256]
 
 
-def log_lines(front, least=0):
-    """The lines of the clerks' log, as soon as there are so many."""
-    end, lines, path = time.monotonic() + 5, [], os.path.join(front.folder, "clerks.log")
-    while time.monotonic() < end and len(lines) <= least - 1:
-        if os.path.exists(path):
-            with open(path, encoding="utf-8", errors="surrogateescape") as file:
-                lines = file.read().splitlines()
-        time.sleep(0.02)
-    time.sleep(0.2 if not least else 0.05)
-    return [json.loads(line) for line in lines]
-
-
 def lines(front, office):
     due = []
     for number, body in enumerate(BODIES):
@@ -281,7 +277,7 @@ def lines(front, office):
     office.end()
     front.ask("POST", "/budget/B9", b"lost", name="bert", **AS_CLERK)
     due.append(("bert", "budget", "POST /budget/B9", 502, b"lost"))
-    told = log_lines(front, len(due))
+    told = lines_of_log(os.path.join(front.folder, "clerks.log"), len(due))
     read = [(it["name"], it["roles"], it["route"], it["status"], it["body"].encode("utf-8", "surrogateescape")) for it in told]
     # (Each of two workers of nginx writes its lines.)
     wrong = [(*it[:4], f"{len(it[4])} bytes: {it[4][:40]!r}") for it in {*read} ^ {*due}]
@@ -312,7 +308,7 @@ def secrets(front, office):
                 answers.append(front.ask(method, path.replace(" ", "%20"), b"" if method == "GET" else b"{}", name=name, **AS_CLERK))
     office.end()
     answers.append(front.ask("POST", "/budget/B1", b"{}", name="emil", **AS_CLERK))
-    log_lines(front, 1)
+    lines_of_log(os.path.join(front.folder, "clerks.log"), 1)
     logs = {name: front.logged(name) for name in ("access.log", "counts.log", "errors.log", "clerks.log")}
     answers_text = "".join(f"{dict(it.head)} {it.body.decode('latin-1')}" for it in answers)
     for secret in (front.signing.key, *front.signing.passwords.values(), "Office-Key", "Authorization: "):
@@ -343,8 +339,8 @@ def by_key(front, office):
 
 
 MAIN, NAMES, PASSWORD, CERTIFICATE = "nginx.conf", "clerks.conf", "clerks-password.conf", "clerks-certificate.conf"
-# Each test, with its ways of signing in, and faults that are planted in a file: the text that is replaced, how often it occurs, and its replacement.
-TESTS = {
+# Each check, with its ways of signing in, and faults that are planted in a file: the text that is replaced, how often it occurs, and its replacement.
+CHECKS = {
     roles: (WAYS, [
         (NAMES, '"~^POST /budget/[^/]+$" budget;', 1, '"~^POST /budget/[^/]+$" notices;'),
         (NAMES, "(open|lots/[^/]+/award)", 1, "open"),
@@ -412,25 +408,8 @@ TESTS = {
 }
 
 
-# For this test the front's own limit is too large.
+# For this check the front's own limit is too large.
 SMALLER = {too_often: [("zone=signing:1m rate=30r/s;", 1, "zone=signing:1m rate=1r/s;"), ("zone=signing burst=300", 4, "zone=signing burst=30")]}
-
-
-def run_test(test, way, fault=None):
-    """Runs a test over a front and a server of its own."""
-    office = Office()
-    faults = {MAIN: list(SMALLER.get(test, []))}
-    if fault:
-        faults.setdefault(fault[0], []).append(fault[1:])
-    signing = Signing(way, ROLES, [NOBODY], faults=faults) if way else None
-    with tempfile.TemporaryDirectory(prefix="office-clerks-") as folder:
-        if not way:
-            # (the names are read, whether or not somebody signs in)
-            signing = Unsigned(folder, faults)
-        with Front(folder, office.port, faults.get(MAIN, ()), signing) as front, contextlib.suppress(BrokenPipeError):
-            test(front, office)
-    with contextlib.suppress(OSError):
-        office.end()
 
 
 class Unsigned(Signing):
@@ -443,62 +422,104 @@ class Unsigned(Signing):
         return []
 
 
-def is_found(test, ways, fault):
-    """Whether a test fails, in one of its ways, over files with a planted fault."""
-    for way in ways:
-        if fault[0] not in (MAIN, NAMES, f"clerks-{way}.conf"):
-            continue
+def run(one, way, folder, fault=None):
+    """Runs a check over a front and a server of its own. (Without a way the names are read, and nobody can sign in.)"""
+    folder.mkdir()
+    office = Office()
+    faults = {MAIN: list(SMALLER.get(one, []))}
+    if fault:
+        faults.setdefault(fault[0], []).append(fault[1:])
+    signing = Signing(way, ROLES, [NOBODY], faults=faults) if way else Unsigned(str(folder), faults)
+    with Front(str(folder), office.port, faults[MAIN], signing) as front, contextlib.suppress(BrokenPipeError):
+        one(front, office)
+    with contextlib.suppress(OSError):
+        office.end()
+
+
+@pytest.mark.parametrize("one, way", [pytest.param(one, way, id=f"{one.__name__}-{way}") for one, (ways, _) in CHECKS.items() for way in ways])
+def test_front(tmp_path, one, way):
+    run(one, way, tmp_path / "front")
+
+
+@pytest.mark.parametrize("one, fault", [pytest.param(one, fault, id=f"{one.__name__}-{number}")
+                                        for one, (_, faults) in CHECKS.items() for number, fault in enumerate(faults)])
+def test_planted_fault(tmp_path, one, fault):
+    """The check fails, in one of its ways of signing in."""
+    for way in [it for it in CHECKS[one][0] if fault[0] in (MAIN, NAMES, f"clerks-{it}.conf")]:
         try:
-            run_test(test, way, fault)
+            run(one, way, tmp_path / str(way), fault)
         except (AssertionError, ValueError):
-            return True
-    return False
+            return
+    pytest.fail("it isn't found")
 
 
-def audited():
-    """The result of the audits, by both ways of signing in."""
-    program = need_program()
-    try:
-        for way in WAYS:
-            with tempfile.TemporaryDirectory(prefix="office-clerks-") as folder:
-                forgeries = front_life.try_life(program, folder, way)
-    except AssertionError as error:
-        return f"FAILED by {way}: {error}"
-    return f"passed, and finds {forgeries} forgeries"
+# ---- An office that is made through such a front.
+
+class ByName(client.Front):
+    """An office by its front. Each of the clerk's commands is given by a clerk whose role allows it; queries by one of them."""
+
+    def __init__(self, front):
+        super().__init__(front.address().rstrip("/"), front.context)
+        self.front = front
+
+    def ask(self, method, target, body, caller):
+        if not caller or caller[0] != b"clerk":
+            return super().ask(method, target, body, caller)
+        name = next(name for name, _, routes in NAMED if re.fullmatch(routes, target))
+        answer = self.front.ask(method, target, body, name=name, Office_Caller="clerk")
+        return Answer(answer.status, dict(answer.head.items()), answer.body)
 
 
-def outcome(test):
-    """The result of a test."""
-    if test is audited:
-        return audited()
-    ways, faults = TESTS[test]
-    for way in ways:
-        try:
-            run_test(test, way)
-        except AssertionError as error:
-            return f"FAILED{f' by {way}' if way else ''}: {error}"
-    passed = [repr(fault) for fault in faults if not is_found(test, ways, fault)]
-    return f"FAILED: it passes, too, with {', '.join(passed)}" if passed else f"passed, and finds {len(faults)} planted faults"
+class Made:
+    """The office: its port, its file, the log of the front with its lines, the route of a payment, and the number of the last release."""
+
+    def __init__(self, front, port, path):
+        self.port, self.path, self.log = port, path, os.path.join(front.folder, "clerks.log")
+        life = AuditedLife(ByName(front))
+        life.before_the_deadline()
+        life.after_the_deadline()
+        assert front.ask("POST", "/notices/N6/cancel", b"{}", name="dora", Office_Caller="clerk").status == 403
+        assert front.ask("POST", "/budget/B1", client.budget("1,add,1,x").encode(), name="bert", Office_Caller="clerk").status == 409
+        self.lines, self.pay = lines_of_log(self.log, 57), f"/contracts/{life.running}/pay"
+        self.last = len(client.Client(Port(port)).releases("N2").value()["releases"])
+
+    def audit(self, log):
+        """The findings of an audit."""
+        run = subprocess.run([os.path.join(ROOT, "tools", "audit"), self.path, "--front-log", log], capture_output=True, text=True)
+        assert run.returncode in (0, 1)
+        return run.stdout.splitlines()[:-1]
 
 
-def main():
-    options = options_of(__doc__)
-    options.add_argument("tests", nargs="*", metavar="TEST", help="the tests to run (all)")
-    choice = options.parse_args()
-    names = {it.__name__: it for it in [*TESTS, audited]}
-    unknown = [it for it in choice.tests if it not in names]
-    if unknown:
-        options.error(f"there is no test {unknown[0]}: {', '.join(names)}")
-    for tool in ("nginx", "openssl", "curl"):
-        need(tool, tool)
-    failed = 0
-    for name in choice.tests or names:
-        told = outcome(names[name])
-        failed += told.startswith("FAILED")
-        print(f"{name}: {told}", flush=True)
-    print(f"{failed} failed")
-    return 1 if failed else 0
+@pytest.fixture(scope="module", params=WAYS)
+def made(request, program, tmp_path_factory):
+    folder = tmp_path_factory.mktemp("audited")
+    with server(program, folder / "office.db") as (_, port):
+        connect(port, PATIENCE).close()
+        with Front(str(folder), port, (), Signing(request.param, {name: roles for name, roles, _ in NAMED})) as front:
+            told = Made(front, port, str(folder / "office.db"))
+        yield told
 
 
-if __name__ == "__main__":
-    sys.exit(main())
+def test_audit(made):
+    """Of 55 accepted and two refused commands each has a line, and nothing is found."""
+    assert len(made.lines) == 57 and made.audit(made.log) == []
+
+
+# The forgeries: the rule that finds it, the row, and the change of the lines. (The last one is a command at the office's own port, with the key.)
+FORGERIES = {
+    "a_line_is_gone": ("commands_have_a_line", lambda made: f"releases N2/{made.last}", lambda made, own: own.pop(at(own, made.pay))),
+    "one_too_many": ("lines_have_a_command", lambda made: f"front {len(made.lines) + 1}", lambda made, own: own.append(dict(own[at(own, made.pay)]))),
+    "refused_as_accepted": ("lines_have_a_command", lambda made: f"front {at(made.lines, '/notices/N6/cancel') + 1}",
+                            lambda made, own: own[at(own, "/notices/N6/cancel")].update(status=200)),
+    "accepted_as_refused": ("commands_have_a_line", lambda made: f"releases N2/{made.last}", lambda made, own: own[at(own, made.pay)].update(status=409)),
+    "past_the_front": ("commands_have_a_line", lambda made: "batches B9",
+                       lambda made, own: client.Client(Port(made.port)).import_budget("B9", client.budget("9000,add,5,Past the front"))),
+}
+
+
+@pytest.mark.parametrize("rule, row, change", FORGERIES.values(), ids=FORGERIES)
+def test_forgery(made, tmp_path, rule, row, change):
+    own = [dict(line) for line in made.lines]
+    change(made, own)
+    (log := tmp_path / "forged.log").write_bytes(text_of(own))
+    assert any(line.startswith(f"{rule} {row(made)}: ") for line in made.audit(str(log)))

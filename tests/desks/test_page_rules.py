@@ -1,9 +1,4 @@
-#!/usr/bin/env python3
-"""Tests the modules of the pages (web/) without a browser, in Node.js. It tests the results of a search, the states of procurements, lots, tenders and
-securities, and the computation of points. It also tests the mirror's tables, and the clerk's next tasks. Each text must exist in English and in German.
-
-    tests/page_rules                    runs all tests
-    tests/page_rules outcomes           runs this test only; an unknown name prints the list of names
+"""The modules of the screens (web/) without a browser, in Node.js: search, states, points, the mirror's tables, the clerk's next tasks, and texts.
 
 - texts: each text exists in both languages, has the same values in both, and is used. Each text that a module asks for exists. All pages use one word for one
   thing. The windows of awards name the lot and the firm. German counts the days to a deadline in the right case.
@@ -23,27 +18,23 @@ securities, and the computation of points. It also tests the mirror's tables, an
 - drafts: a draft of a notice comes back from its file. The desk warns of a deadline in an hour that clocks skip or repeat, and of an estimate below 20 a unit.
 - sizes: no module has more than 300 lines. No page loads more bytes at once than this file allows. All modules with the texts of one language have at most
   182,000 bytes by gzip.
-- plants: if one of these rules is made wrong in a module, one of the tests above fails.
 
-It prints a line for each test. Exit status: 0 all passed, 1 one failed, 2 wrong arguments, 3 Node.js is missing.
+If a rule is made wrong in a module, its check fails.
 """
 import glob
 import gzip
-import json
 import os
 import random
 import re
-import shutil
-import subprocess
-import sys
-import tempfile
 
-sys.dont_write_bytecode = True
-from office_kit.common import ROOT, check, need, options_of
+import pytest
+
+from office_kit.common import check
+from office_kit.desks import modules as web_modules
 from office_kit.mirror.tables import table
 
+pytestmark = pytest.mark.needs("node")
 ASKS = """
-import { readFileSync } from "node:fs";
 const web = process.argv[1];
 const findings = await import(`${web}/common/findings.js`);
 const filters = await import(`${web}/common/filters.js`);
@@ -122,11 +113,7 @@ const asks = {
     return [names, doubled];
   },
 };
-const told = [];
-for (const [name, ...words] of JSON.parse(readFileSync(0, "utf8"))) {
-  told.push(plain(await asks[name](words)));
-}
-console.log(JSON.stringify(told));
+const answer = async ([name, ...words]) => plain(await asks[name](words));
 """
 # The most bytes that each page may load at once; the most bytes of all modules with the texts of one language, by gzip; the most lines of a module. They were
 # 130,000, 135,000 and 165,000, and 165,000 by gzip. Since then the portal can show the mirror's data, and orders its list. The tenderer's desk searches a large
@@ -200,76 +187,17 @@ OTHER_WORDS = [("de", BOOKS, r"Reiter|Posten|Rücknahme|Vertragsbruch|Einheitspr
 MOST_WORDS = 30
 # The windows whose titles name the lot and the firm.
 WINDOWS = ("order.award.title", "order.sign.title", "order.fail.title")
-# Each rule that is made wrong: its module, the text, the changed text, and the test that must fail.
-PLANTS = [("common/findings.js", 'return ["ended", "complete"]', 'return ["done", "complete"]', "states"),
-          ("common/findings.js", 'now <= Date.parse', 'now < 0 * Date.parse', "states"),
-          ("common/findings.js", 'return "forfeited";', 'return "held";', "outcomes"),
-          ("common/findings.js", '"later" : "price"', '"price" : "later"', "outcomes"),
-          ("common/findings.js", "(points - 1000 * quality) / 1000", "points / 1000", "points"),
-          ("common/findings.js", "Math.min(...prices)", "Math.max(...prices)", "points"),
-          ("common/filters.js", "words.every(", "words.some(", "searches"),
-          ("common/filters.js", 'replace(/[äöü]/gi, "$&e")', 'replace(/x/, "")', "searches"),
-          ("common/filters.js", "[plain(word), spelled(word)]", "[plain(word)]", "searches"),
-          ("common/filters.js", 'more.get(notice)?.words.push(title)', "void title", "searches"),
-          ("common/filters.js", 'titles.get(line) ?? ""', '""', "searches"), ("common/filters.js", '(one.state === "open" ? 1 : -1)', "1", "searches"),
-          ("common/filters.js", 'ORDERS.includes(found.order) ? found.order : ""', '"amount"', "searches"),
-          ("tender/search.js", "of(isOpen, 1)", "of(isOpen, -1)", "plans"), ("tender/search.js", "of(isUnopened, -1)", "of(isUnopened, 1)", "plans"),
-          ("tender/search.js", "rest.filter((row) => sealed.has(row.notice))", "[]", "plans"), ("clerk/stage.js", ".filter(isOwn);", ";", "stages"),
-          ("tender/search.js", "tenderer === caller && ", "", "plans"), ("tender/search.js", "!isListed(row)", "true", "plans"),
-          ("common/filters.js", "one.lines.has(filters.line)", "true", "searches"),
-          ("common/filters.js", 'estimate <= Number(to || Infinity)', "true", "searches"),
-          ("common/filters.js", '(other.state === "open") - (one.state === "open") ||', "", "searches"),
-          ("common/data.js", "text.slice(1)", "text", "tables"),
-          ("common/findings.js", '"examined" : shown', '"again" : shown', "outcomes"),
-          ("page.js", 'import { substitute } from "./common/office.js";',
-           'import { substitute } from "./common/office.js";\nexport * from "./clerk/desk.js";', "sizes"),
-          ("common/de.js", '"clock.left": "endet in {span}"', '"clock.left": "endet bald"', "texts"),
-          ("common/en.js", '"frame.skip": "Skip to the content",', "", "texts"),
-          ("clerk/stage.js", "now < deadline", "now <= deadline", "stages"), ("clerk/stage.js", "now >= standstillUntil", "now > standstillUntil", "stages"),
-          ("clerk/stage.js", "paidOf(contract) < contract.value.amount", "paidOf(contract) <= contract.value.amount", "stages"),
-          ("clerk/stage.js", ".at(-1)?.value.amount ?? lot.estimate", "[0]?.value.amount ?? lot.estimate", "stages"),
-          ("clerk/stage.js", "now >= bindsUntil", "now > bindsUntil", "stages"), ("clerk/stage.js", 'found?.answer === "-"', "found === null", "stages"),
-          ("clerk/award.js", 'say("fail.open")', 'say("fail.what")', "texts"),
-          ("tender/main.js", 'say("home.done")', 'say("home.ready")', "texts"),
-          ("common/findings.js", 'tag.includes("contractTermination")', 'tag.includes("contract")', "states"),
-          ("common/data.js", 'own === "terminated" ? paid : worth', "worth", "states"),
-          ("common/filters.js", 'isAwarded && known?.releases === row.releases ? "awarded" : "opened"', '"opened"', "states"),
-          ("common/filters.js", "isOlder ? new Set() : winners", "winners", "states"),
-          ("common/de.js", '"{count} Tagen"', '"{count} Tage"', "texts"),
-          ("clerk/de.js", "Nur dieser Tab hat Schlüssel", "Nur dieser Reiter hat Schlüssel", "texts"),
-          ("clerk/en_steps.js", "Sign the contract for lot {lot} of notice {notice} with {name} (award {award})",
-           "Sign the contract of award {award} of notice {notice}", "texts"),
-          ("common/de.js", '  "see.paid": "Bezahlt",\n  "see.topay": "Noch zu zahlen",',
-           '  "see.topay": "Noch zu zahlen",\n  "see.paid": "Bezahlt",', "lines"),
-          ("clerk/en.js", '"page.today": "Today",\n  ', '"page.today": "Today", ', "lines"),
-          ("tender/de.js", '"home.keeps": "', f'"home.keeps": "{"Wort " * 30}', "lines"), ("tender/en_file.js", '"Use a CSV', '"It wants a CSV', "texts"),
-          ("common/en.js", "Nobody submitted a tender.", "Nobody handed in a tender.", "texts"),
-          ("common/de.js", '"Haushaltsstelle"', '"Haushaltstitel"', "texts"),
-          ("clerk/stage.js", "due(one) - due(other)", "0", "stages"), ("clerk/stage.js", '!hasStandstill ? "unsigned" : ', "", "stages"),
-          ("clerk/budget.js", "2n * before.appropriation", "3n * before.appropriation", "budgets"),
-          ("clerk/budget.js", '(status === 200 || found === "done")', "true", "budgets"),
-          ("clerk/budget.js", "[id, kind, amount]).sort()", "[id, kind, amount])", "budgets"),
-          ("clerk/stage.js", "now + 7 * DAY", "now + 8 * DAY", "stages"), ("clerk/stage.js", 'OVERDUE = ["open", ', 'OVERDUE = [', "stages"),
-          ("clerk/convert.js", "digitsOf(bare) ?? field", 'bare.replace(/[^0-9]/g, "")', "converts"),
-          ("clerk/convert.js", "/^0[.,]\\d{3}/.test(bare)", "false", "converts"), ("clerk/convert.js", "titles.get(line) ?? \"\"", '""', "converts"),
-          ("clerk/convert.js", "isBlank(fields) || isSum", "isBlank(fields)", "converts"),
-          ("clerk/convert.js", "line: line + skipped, text", "line, text", "converts"),
-          ("clerk/values.js", 'localText(at) !== typed ? "missing"', 'localText(at) !== typed ? null', "drafts"),
-          ("clerk/values.js", "SHIFTS = [30, 60, 120]", "SHIFTS = [30]", "drafts"),
-          ("clerk/notice.js", "sum < LEAST_PRICE * count", "sum <= LEAST_PRICE * count", "drafts")]
 
 
-class Modules:
+class Modules(web_modules.Node):
     """The modules of a folder, asked by Node.js."""
 
     def __init__(self, web):
+        super().__init__(ASKS, web, TZ="Europe/Berlin")
         self.web = web
 
-    def ask(self, *asked):
-        run = subprocess.run([need("node", "nodejs"), "--input-type=module", "-e", ASKS, self.web], input=json.dumps(asked), capture_output=True, text=True,
-                             env={**os.environ, "TZ": "Europe/Berlin"})
-        check(f"node ended with {run.returncode}: {run.stderr}", run.returncode == 0)
-        return json.loads(run.stdout)
+    def answers(self, *asked):
+        return [self.ask(it) for it in asked]
 
     def source(self, book):
         """The sentences that the modules of a page say, without its texts."""
@@ -286,7 +214,7 @@ def values_of(text):
 
 
 def texts(modules):
-    books = modules.ask(["texts"])[0]
+    books = modules.answers(["texts"])[0]
     named = {book: set(re.findall(r'"([a-z]+(?:\.[a-zA-Z_]+)*)"', modules.source(book))) for book in books}
     parts = {book: set(re.findall(r"`([a-z.]+\.)\$\{", modules.source(book))) | set(KINDS[book]) for book in books}
     for book, found in books.items():
@@ -306,7 +234,7 @@ def texts(modules):
         check(f"in {tag} these have another word than all pages: {other}", not other)
     for name in WINDOWS:
         check(f"{name} names lot and firm", {"lot", "name"} <= set(values_of(books["clerk"]["en"][name])[0]))
-    told = modules.ask(["left", "de", 89 * 86_400], ["left", "de", 86_401], ["left", "en", 89 * 86_400])
+    told = modules.answers(["left", "de", 89 * 86_400], ["left", "de", 86_401], ["left", "en", 89 * 86_400])
     check(f"a deadline {told}", told == ["endet in 89 Tagen", "endet in 1 Tag", "closes in 89 days"])
 
 
@@ -326,7 +254,7 @@ def lines(modules):
         english = os.path.relpath(path, modules.web)
         german = re.sub(r"en((?:_[a-z]+)?\.js)$", r"de\1", english)
         check(f"{german} has other names than {english}, or in another order", text_lines(modules.web, english) == text_lines(modules.web, german))
-    long = [(name, sentence) for book in modules.ask(["texts"])[0].values() for found in book.values() for name, text in found.items()
+    long = [(name, sentence) for book in modules.answers(["texts"])[0].values() for found in book.values() for name, text in found.items()
             for one in ([text] if isinstance(text, str) else text) for sentence in re.split(r"(?<=[.?!]) ", one) if len(sentence.split()) > MOST_WORDS]
     check(f"these sentences have more than {MOST_WORDS} words: {long}", not long)
 
@@ -341,24 +269,24 @@ def states(modules):
     for status, count, deadline, told, *_ in STATES:
         tender = {"status": status, "lots": [], "tenderPeriod": {"endDate": deadline}, **({} if count is None else {"numberOfTenderers": count})}
         asked.append(["stateOf", {"tender": tender, "contracts": contracts_of(told)}, NOW])
-    for row, said in zip(STATES, modules.ask(*asked)):
+    for row, said in zip(STATES, modules.answers(*asked)):
         check(f"{row} is called {said}", said == list(row[4:]))
     compiled = {"tender": {"status": "complete", "numberOfTenderers": 1}, "awards": [{"id": "0", "status": "active", "relatedLots": ["L1"]}]}
     lots = [("complete", False, ["running", "contracted"]), ("complete", True, ["ended", "contractended"]), ("cancelled", False, ["stopped", "cancelled"]),
             ("active", False, ["running", "awarded"])]
     asked = [["stateOfLot", {**compiled, "contracts": contracts_of([(10, [10], ended)])}, {"id": "L1", "status": status}] for status, ended, _ in lots]
-    for row, said in zip(lots, modules.ask(*asked)):
+    for row, said in zip(lots, modules.answers(*asked)):
         check(f"a lot, {row}, is called {said}", said == row[2])
     releases = [{"tag": ["awardCancellation"], "awards": [{"id": "1"}]}, {"tag": ["tenderCancellation", "awardCancellation"], "awards": [{"id": "2"}]}]
-    check("who is passed over", modules.ask(["passedOver", releases]) == [["1"]])
+    check("who is passed over", modules.answers(["passedOver", releases]) == [["1"]])
     releases = [{"tag": [tag], "date": date, "contracts": [{"id": name}]} for tag, date, name in (("contract", "A", "1"), ("contractTermination", "B", "2"),
                                                                                                    ("contractTermination", "C", "1"))]
-    ends = modules.ask(*[["endOf", releases, {"id": name}] for name in ("1", "2", "3")])
+    ends = modules.answers(*[["endOf", releases, {"id": name}] for name in ("1", "2", "3")])
     check(f"contracts ended at {ends}", ends == ["C", "B", None])
     paid = {"worth": 9, "paid": 4}
     rows = [{**paid, "status": "active"}, {**paid, "status": "terminated"}, {**paid, "status": "complete", "contract_status": "terminated"},
             {"worth": None, "paid": None, "status": "active", "contract_status": ""}]
-    worth = modules.ask(*[["worthNow", one] for one in rows])
+    worth = modules.answers(*[["worthNow", one] for one in rows])
     check(f"they are worth {worth}", worth == [9, 4, 4, None])
     listed_states(modules)
 
@@ -372,7 +300,7 @@ def listed_states(modules):
     data = {"notices": [{"notice": notice, "status": status, "running": running, "releases": 1, "buyer": ""} for notice, status, running, *_ in cases],
             "lots": [{"notice": notice, "line": "1", "title": "", "status": "complete" if status == "complete" else "active", "winner_name": winner}
                      for notice, status, _, _, winners, *_ in cases for winner in winners], "tenders": []}
-    [told] = modules.ask(["entries", listed, data, NOW])
+    [told] = modules.answers(["entries", listed, data, NOW])
     check(f"the list says {told}", told == [[notice, state, winners] for notice, *_, state, winners in cases])
 
 
@@ -382,7 +310,7 @@ def outcomes(modules):
     asked = [["outcomes", f"{HEAD}{text}END\n", "L1", tenders, by_points, status, forfeits] for text, by_points, status, forfeits, _ in OUTCOMES]
     text, by_points, status, forfeits, _ = WHOLE
     asked.append(["outcomes", f"{HEAD}{text}END\n", "L1", tenders, by_points, status, forfeits, True])
-    for (text, *_, wanted), said in zip([*OUTCOMES, WHOLE], modules.ask(*asked)):
+    for (text, *_, wanted), said in zip([*OUTCOMES, WHOLE], modules.answers(*asked)):
         check(f"of {text!r} is said {said}, and not {wanted}", [tuple(it) for it in said] == wanted)
 
 
@@ -405,7 +333,7 @@ def evaluation(chance):
 def points(modules):
     chance = random.Random(7)
     made = [evaluation(chance) for _ in range(200)]
-    for (text, lowest, wanted), [told] in zip(made, modules.ask(*[["points", text] for text, *_ in made])):
+    for (text, lowest, wanted), [told] in zip(made, modules.answers(*[["points", text] for text, *_ in made])):
         said = [it and (round(it["price"] * 1000), it["quality"]) for it in told[1]]
         check(f"of {text!r} is said {told}", told[0] == lowest and said == wanted)
         check(f"of {text!r} the sums", all(it is None or abs(it["price"] + it["quality"] - it["sum"]) < 1e-6 for it in told[1]))
@@ -434,17 +362,17 @@ def searches(modules):
               "firm=mueller": ["N4", "N5"],
               "state=open": ["n2", "N2"], "state=waiting": ["N1"], "state=running": ["N4"], "state=cancelled": ["N5"], "year=2025": ["N2"], "line=1000": ["N4"],
               "firm=T1": ["N4"], "firm=sohne": ["N4"], "from=501": ["N1"], "to=500": ["N4"], "from=400&to=600": ["N4"], "words=n4": ["N4"]}
-    told = modules.ask(*[["search", listed, data, NOW, address] for address in wanted])
+    told = modules.answers(*[["search", listed, data, NOW, address] for address in wanted])
     for (address, notices), said in zip(wanted.items(), told):
         check(f"{address} finds {said}, and not {notices}", said == notices)
     near, far = "2027-02-01T00:00:00Z", "2027-05-01T00:00:00Z"
     some = [row("A", "2026-01-01T00:00:00Z", far), row("B", "2025-01-01T00:00:00Z", near), row("C", "2026-01-03T00:00:00Z", LATER),
             row("D", "2026-01-05T00:00:00Z", PAST), row("E", "2026-01-01T00:00:00Z", "2026-06-01T00:00:00Z", "opened")]
-    told = modules.ask(*[["search", some, None, NOW, address] for address in ("", "order=published", "order=deadline")])
+    told = modules.answers(*[["search", some, None, NOW, address] for address in ("", "order=published", "order=deadline")])
     check(f"the orders are {told}", told == [["B", "C", "A", "E", "D"], ["C", "A", "B", "D", "E"], ["B", "C", "A", "E", "D"]])
-    check("without tables", modules.ask(["search", listed, None, NOW, "words=road"])[0] == ["N2", "N5", "N1"])
-    check("an address comes back", modules.ask(["address", "words=a+b&state=open&x=1"]) == ["words=a+b&state=open"])
-    numbers = modules.ask(*[["noticeOf", listed, text] for text in ("n1", "N2", "n2", " N4 ", "N9", "")])
+    check("without tables", modules.answers(["search", listed, None, NOW, "words=road"])[0] == ["N2", "N5", "N1"])
+    check("an address comes back", modules.answers(["address", "words=a+b&state=open&x=1"]) == ["words=a+b&state=open"])
+    numbers = modules.answers(*[["noticeOf", listed, text] for text in ("n1", "N2", "n2", " N4 ", "N9", "")])
     check(f"numbers are {numbers}", numbers == ["N1", "N2", "n2", "N4", None, None])
 
 
@@ -455,17 +383,17 @@ def plans(modules):
     tenders = [{"notice": "OLD", "lot": "L2", "receipt": "7", "tenderer": "T1"}, {"notice": "OLD", "lot": "L1", "receipt": "8", "tenderer": "T2"},
                {"notice": "NOT", "lot": "L1", "receipt": "9", "tenderer": "T1"}]
     data = {"notices": [{"notice": "OLD", "state": "opened"}, {"notice": "NEW", "state": "receiving"}], "tenders": tenders}
-    told = modules.ask(["plan", listed, data, "T1", NOW], ["plan", listed, None, "T1", NOW])
+    told = modules.answers(["plan", listed, data, "T1", NOW], ["plan", listed, None, "T1", NOW])
     check(f"with tables the plan is {told[0]}", told[0] == [["NEAR", "FAR", "LAST", "FIRST", "NEW"], [["OLD", "L2", 7]], ["GONE", "OLD"]])
     check(f"without tables the plan is {told[1]}", told[1][:2] == [["NEAR", "FAR", "LAST", "FIRST", "NEW", "OLD"], []] and told[1][2] == ["GONE"])
     own = [{"notice": name, "receipt": at, "state": state} for at, (name, state) in enumerate([("OLD", "sealed"), ("GONE", "withdrawn"), ("NEAR", "opened")])]
-    [asked] = modules.ask(["again", {"order": listed[1:2], "rest": [listed[5], listed[6]]}, own])
+    [asked] = modules.answers(["again", {"order": listed[1:2], "rest": [listed[5], listed[6]]}, own])
     check(f"again are searched {asked}", asked == ["/notices/NEAR/tenders", "/notices/OLD/tenders"])
 
 
 def tables(modules):
     rows = [{"line": "1000", "title": text, "free": at} for at, text in enumerate(['=1+1', '+a', "-5", "@x", 'a "b", c', "two\nlines", "'quoted", "Straße"])]
-    [back] = modules.ask(["rows", table("budget", rows)])
+    [back] = modules.answers(["rows", table("budget", rows)])
     check(f"{back}", [(it["title"], it["free"]) for it in back] == [(it["title"], it["free"]) for it in rows] and back[0]["paid"] is None)
 
 
@@ -489,30 +417,30 @@ def seen_of(state, states):
 def stages(modules):
     asked = [["stage", seen_of(state, states), text and f"{HEAD}lot\tL1\t{states[0]}\n{text}END\n", DEADLINE + behind]
              for state, states, text, behind, _ in STAGES]
-    for row, said in zip(STAGES, modules.ask(*asked)):
+    for row, said in zip(STAGES, modules.answers(*asked)):
         check(f"of {row} is said {said}", said == row[4])
     seen = seen_of("opened", ["undecided", "undecided"])
     seen["compiled"]["awards"] = [award(1, "cancelled", 3), award(1, "cancelled", 4)]
-    told = modules.ask(*[["group", seen_of(state, states), text and f"{HEAD}lot\tL1\t{states[0]}\n{text}END\n", DEADLINE + behind]
+    told = modules.answers(*[["group", seen_of(state, states), text and f"{HEAD}lot\tL1\t{states[0]}\n{text}END\n", DEADLINE + behind]
                          for state, states, text, behind, _ in STAGES])
     check(f"the groups are {told}", told == STAGE_GROUPS)
     for role, groups in STAGE_GROUPS_OF.items():
-        told = modules.ask(*[["group", seen_of(state, states), text and f"{HEAD}lot\tL1\t{states[0]}\n{text}END\n", DEADLINE + behind, [role]]
-                             for state, states, text, behind, _ in STAGES])
+        told = modules.answers(*[["group", seen_of(state, states), text and f"{HEAD}lot\tL1\t{states[0]}\n{text}END\n", DEADLINE + behind, [role]]
+                                 for state, states, text, behind, _ in STAGES])
         check(f"the groups of {role} are {told}", told == groups)
     waits = [("receiving", "undecided", -7 * DAY, "waiting"), ("receiving", "undecided", 1 - 7 * DAY, "week"), ("opened", "awarded", DAY, "waiting")]
-    told = modules.ask(*[["group", seen_of(state, [lot]), None, DEADLINE + behind] for state, lot, behind, _ in waits])
+    told = modules.answers(*[["group", seen_of(state, [lot]), None, DEADLINE + behind] for state, lot, behind, _ in waits])
     check(f"notices that wait are in {told}", told == [group for *_, group in waits])
-    check("a lot has the estimate reserved, and behind an award that ended its price", modules.ask(["reserved", seen]) == [[4, 5]])
+    check("a lot has the estimate reserved, and behind an award that ended its price", modules.answers(["reserved", seen]) == [[4, 5]])
     seen = seen_of("opened", ["awarded"])
     seen["terms"]["standstill_days"] = 0
-    told = modules.ask(["stage", seen, None, DEADLINE + 5])
+    told = modules.answers(["stage", seen, None, DEADLINE + 5])
     check(f"without a standstill none has ended: {told}", told == [["signing", ["unsigned", "L1", DEADLINE], ["binds", BINDS]]])
     soon, late, past = "2026-03-02T00:02:00Z", "2026-07-01T00:00:00Z", "2026-02-28T00:00:00Z"
     entries = [{"notice": "runs", "seen": seen_of("opened", ["contracted"])}, {"notice": "binds", "seen": seen_of("opened", ["undecided"])},
                {"notice": "late", "state": "open", "deadline": late}, {"notice": "stands still", "seen": seen_of("opened", ["awarded", "undecided"])},
                {"notice": "soon", "state": "open", "deadline": soon}, {"notice": "past", "state": "waiting", "deadline": past}]
-    [told] = modules.ask(["order", entries, DEADLINE + DAY])
+    [told] = modules.answers(["order", entries, DEADLINE + DAY])
     check(f"in the order {told}", told == ["past", "soon", "stands still", "binds", "late", "runs"])
 
 
@@ -525,7 +453,7 @@ def budgets(modules):
              (file, [], [{**entry, "status": 409}], [[], []]), (file, [], [{**entry, "status": None, "found": "done"}], [["B1"], []]),
              (file, [], [{**entry, "path": "/notices/B1"}, {**entry, "body": None}], [[], []]), (f"{head}1000,add,2501,Roads\n", lines, [entry], [[], []]),
              (f"{head}1000,add,1250,Roads\n1000,add,1250,Roads\n3000,add,1,New\n", lines, [], [[], ["1000"]])]
-    for (text, _, entries, wanted), said in zip(cases, modules.ask(*[["repeats", text, known, entries] for text, known, entries, _ in cases])):
+    for (text, _, entries, wanted), said in zip(cases, modules.answers(*[["repeats", text, known, entries] for text, known, entries, _ in cases])):
         check(f"of {text!r} behind {entries} is said {said}, and not {wanted}", said == wanted)
 
 
@@ -546,28 +474,28 @@ def converts(modules):
              (f"{head}\n1000,add,5,Roads,\n", [f"{head}\n1000,add,5,Roads\n", [1, 2], [[1, "beside", None]]]),
              ("nothing;of;the;kind\n", None), (b"PK\x03\x04", None), ('line;kind;amount;title\n1000;add;5;"Roads\n', None)]
     data = [text if isinstance(text, bytes) else text.encode() for text, _ in cases]
-    for (text, wanted), told in zip(cases, modules.ask(*[["converted", list(file), {"2000": "Parks"}] for file in data])):
+    for (text, wanted), told in zip(cases, modules.answers(*[["converted", list(file), {"2000": "Parks"}] for file in data])):
         check(f"{text!r} is converted to {told}, and not {wanted}", told == wanted)
     utf16 = "line;kind;amount;title\n1000;add;5;Straßen\n".encode("utf-16")
-    [told] = modules.ask(["converted", list(utf16), {}])
+    [told] = modules.answers(["converted", list(utf16), {}])
     check(f"UTF-16 is converted to {told}", told[0] == f"{head}\n1000,add,5,Straßen\n" and told[2][0] == [1, "coding", "UTF-8"])
 
 
 def drafts(modules):
-    [empty] = modules.ask(["empty"])
+    [empty] = modules.answers(["empty"])
     full = {**empty, "name": "N1", "deadline": 1_800_000_000_000}
     full["lots"] = [{**empty["lots"][0], "items": [{"id": "I1", "title": "a", "quantity": "3"}] * 2}] * 2
     odd = {"name": 5, "lots": [{"id": "L1", "items": "none"}, None], "other": "x", "deadline": "soon"}
-    told = modules.ask(["draft", full], ["draft", empty], ["draft", odd], ["draft", {}], ["draft", None])
+    told = modules.answers(["draft", full], ["draft", empty], ["draft", odd], ["draft", {}], ["draft", None])
     lots = [{**empty["lots"][0], "items": []}, {**empty["lots"][0], "items": []}]
     check(f"drafts come back as {told}", told == [full, empty, {**empty, "lots": lots}, None, None])
     hours = {"2027-03-28T02:30": "missing", "2027-03-28T01:59": None, "2027-03-28T03:00": None, "2027-10-31T02:30": "twice", "2027-10-31T02:30:00": "twice",
              "2027-10-31T01:59": None, "2027-10-31T03:00": None, "2027-06-01T02:30": None, "": None}
-    told = modules.ask(*[["oddHour", text] for text in hours])
+    told = modules.answers(*[["oddHour", text] for text in hours])
     check(f"the hours are {told}", told == list(hours.values()))
     item = {"id": "I1", "title": "a", "quantity": "100"}
     lots = [[{"id": "L1", "title": "x", "line": "1", "estimate": estimate, "security": "0", "items": [item]}] for estimate in ("1999", "2000", "")]
-    told = modules.ask(*[["warnings", {"lots": lot}, "2027-03-30T10:00", NOW] for lot in lots], ["warnings", {}, "2027-03-28T02:30", NOW])
+    told = modules.answers(*[["warnings", {"lots": lot}, "2027-03-30T10:00", NOW] for lot in lots], ["warnings", {}, "2027-03-28T02:30", NOW])
     codes = [[code for code, _ in found] for found in told]
     check(f"the warnings are {codes}", codes == [["cents"], [], [], ["hour", "hour.missing"]] and told[0][0][1] == "L1/I1")
 
@@ -587,17 +515,16 @@ def loaded(web, entry, language):
 
 
 def sizes(modules):
-    told = []
     for path in glob.glob(f"{modules.web}/**/*.js", recursive=True):
         with open(path, encoding="utf-8") as file:
             check(f"{path} has more than {MOST_LINES} lines", file.read().count("\n") <= MOST_LINES)
     for entry, most in MOST_BYTES.items():
         size = max(sum(len(text.encode()) for text in loaded(modules.web, entry, language).values()) for language in ("en", "de"))
         check(f"{entry} loads {size:,} bytes, more than {most:,}", size <= most)
-        told.append(f"{entry} {size:,} of {most:,}")
+        print(f"{entry} {size:,} of {most:,}")
     zipped = max(zipped_size(modules.web, other) for other in ("de", "en"))
     check(f"all modules come to {zipped:,} bytes by gzip, more than {MOST_ZIPPED:,}", zipped <= MOST_ZIPPED)
-    return ", ".join([*told, f"all by gzip {zipped:,} of {MOST_ZIPPED:,}"])
+    print(f"all by gzip {zipped:,} of {MOST_ZIPPED:,}")
 
 
 def zipped_size(web, other):
@@ -610,49 +537,73 @@ def zipped_size(web, other):
     return found
 
 
-TESTS = {it.__name__: it for it in (texts, lines, states, outcomes, points, searches, plans, tables, stages, budgets, converts, drafts, sizes)}
+# Each rule that is made wrong: its module, the text, the changed text, and the check that must fail.
+PLANTS = [("common/findings.js", 'return ["ended", "complete"]', 'return ["done", "complete"]', states),
+          ("common/findings.js", 'now <= Date.parse', 'now < 0 * Date.parse', states),
+          ("common/findings.js", 'return "forfeited";', 'return "held";', outcomes),
+          ("common/findings.js", '"later" : "price"', '"price" : "later"', outcomes),
+          ("common/findings.js", "(points - 1000 * quality) / 1000", "points / 1000", points),
+          ("common/findings.js", "Math.min(...prices)", "Math.max(...prices)", points),
+          ("common/filters.js", "words.every(", "words.some(", searches),
+          ("common/filters.js", 'replace(/[äöü]/gi, "$&e")', 'replace(/x/, "")', searches),
+          ("common/filters.js", "[plain(word), spelled(word)]", "[plain(word)]", searches),
+          ("common/filters.js", 'more.get(notice)?.words.push(title)', "void title", searches),
+          ("common/filters.js", 'titles.get(line) ?? ""', '""', searches), ("common/filters.js", '(one.state === "open" ? 1 : -1)', "1", searches),
+          ("common/filters.js", 'ORDERS.includes(found.order) ? found.order : ""', '"amount"', searches),
+          ("tender/search.js", "of(isOpen, 1)", "of(isOpen, -1)", plans), ("tender/search.js", "of(isUnopened, -1)", "of(isUnopened, 1)", plans),
+          ("tender/search.js", "rest.filter((row) => sealed.has(row.notice))", "[]", plans), ("clerk/stage.js", ".filter(isOwn);", ";", stages),
+          ("tender/search.js", "tenderer === caller && ", "", plans), ("tender/search.js", "!isListed(row)", "true", plans),
+          ("common/filters.js", "one.lines.has(filters.line)", "true", searches),
+          ("common/filters.js", 'estimate <= Number(to || Infinity)', "true", searches),
+          ("common/filters.js", 'Number(other.state === "open") - Number(one.state === "open") ||', "", searches),
+          ("common/data.js", "text.slice(1)", "text", tables),
+          ("common/findings.js", '"examined" : shown', '"again" : shown', outcomes),
+          ("page.js", 'import { substitute } from "./common/office.js";',
+           'import { substitute } from "./common/office.js";\nexport * from "./clerk/desk.js";', sizes),
+          ("common/de.js", '"clock.left": "endet in {span}"', '"clock.left": "endet bald"', texts),
+          ("common/en.js", '"frame.skip": "Skip to the content",', "", texts),
+          ("clerk/stage.js", "now < deadline", "now <= deadline", stages), ("clerk/stage.js", "now >= standstillUntil", "now > standstillUntil", stages),
+          ("clerk/stage.js", "paidOf(contract) < contract.value.amount", "paidOf(contract) <= contract.value.amount", stages),
+          ("clerk/stage.js", ".at(-1)?.value.amount ?? lot.estimate", "[0]?.value.amount ?? lot.estimate", stages),
+          ("clerk/stage.js", "now >= bindsUntil", "now > bindsUntil", stages), ("clerk/stage.js", 'found?.answer === "-"', "found === null", stages),
+          ("clerk/award.js", 'say("fail.open")', 'say("fail.what")', texts),
+          ("tender/main.js", 'say("home.done")', 'say("home.ready")', texts),
+          ("common/findings.js", 'tag.includes("contractTermination")', 'tag.includes("contract")', states),
+          ("common/data.js", 'own === "terminated" ? paid : worth', "worth", states),
+          ("common/filters.js", 'isAwarded && known?.releases === row.releases ? "awarded" : "opened"', '"opened"', states),
+          ("common/filters.js", "isOlder ? new Set() : winners", "winners", states),
+          ("common/de.js", '"{count} Tagen"', '"{count} Tage"', texts),
+          ("clerk/de.js", "Nur dieser Tab hat Schlüssel", "Nur dieser Reiter hat Schlüssel", texts),
+          ("clerk/en_steps.js", "Sign the contract for lot {lot} of notice {notice} with {name} (award {award})",
+           "Sign the contract of award {award} of notice {notice}", texts),
+          ("common/de.js", '  "see.paid": "Bezahlt",\n  "see.topay": "Noch zu zahlen",',
+           '  "see.topay": "Noch zu zahlen",\n  "see.paid": "Bezahlt",', lines),
+          ("clerk/en.js", '"page.today": "Today",\n  ', '"page.today": "Today", ', lines),
+          ("tender/de.js", '"home.keeps": "', f'"home.keeps": "{"Wort " * 30}', lines), ("tender/en_file.js", '"Use a CSV', '"It wants a CSV', texts),
+          ("common/en.js", "Nobody submitted a tender.", "Nobody handed in a tender.", texts),
+          ("common/de.js", '"Haushaltsstelle"', '"Haushaltstitel"', texts),
+          ("clerk/stage.js", "due(one) - due(other)", "0", stages), ("clerk/stage.js", '!hasStandstill ? "unsigned" : ', "", stages),
+          ("clerk/budget.js", "2n * before.appropriation", "3n * before.appropriation", budgets),
+          ("clerk/budget.js", '(status === 200 || found === "done")', "true", budgets),
+          ("clerk/budget.js", "[id, kind, amount]).sort()", "[id, kind, amount])", budgets),
+          ("clerk/stage.js", "now + 7 * DAY", "now + 8 * DAY", stages), ("clerk/stage.js", 'OVERDUE = ["open", ', 'OVERDUE = [', stages),
+          ("clerk/convert.js", "digitsOf(bare) ?? field", 'bare.replace(/[^0-9]/g, "")', converts),
+          ("clerk/convert.js", "/^0[.,]\\d{3}/.test(bare)", "false", converts), ("clerk/convert.js", "titles.get(line) ?? \"\"", '""', converts),
+          ("clerk/convert.js", "isBlank(fields) || isSum", "isBlank(fields)", converts),
+          ("clerk/convert.js", "line: line + skipped, text", "line, text", converts),
+          ("clerk/values.js", 'localText(at) !== typed ? "missing"', 'localText(at) !== typed ? null', drafts),
+          ("clerk/values.js", "SHIFTS = [30, 60, 120]", "SHIFTS = [30]", drafts),
+          ("clerk/notice.js", "sum < LEAST_PRICE * count", "sum <= LEAST_PRICE * count", drafts)]
 
 
-def fault_of(name, web, told=lambda _: None):
-    """The message of a test that failed, or None. A test reports progress to `told`."""
-    try:
-        told(TESTS[name](Modules(web)))
-    except (AssertionError, LookupError, ValueError, TypeError) as fault:
-        return str(fault) or repr(fault)
-    return None
+@pytest.mark.parametrize("rule", [texts, lines, states, outcomes, points, searches, plans, tables, stages, budgets, converts, drafts, sizes],
+                         ids=lambda rule: rule.__name__)
+def test_screens(rule):
+    with Modules(web_modules.WEB) as modules:
+        rule(modules)
 
 
-def plants():
-    missed = []
-    for path, old, new, name in [it for it in PLANTS if it[3]]:
-        with tempfile.TemporaryDirectory() as folder:
-            web = shutil.copytree(os.path.join(ROOT, "web"), os.path.join(folder, "web"))
-            with open(os.path.join(web, path), "r+", encoding="utf-8") as file:
-                text = file.read()
-                check(f"{path} has {old!r} {text.count(old)} times", text.count(old) == 1)
-                file.seek(0)
-                file.write(text.replace(old, new))
-                file.truncate()
-            missed += [] if fault_of(name, web) else [f"{old} as {new}"]
-    return f"not found: {missed}" if missed else None
-
-
-def main():
-    options = options_of(__doc__)
-    options.add_argument("tests", nargs="*", metavar="TEST", help="the tests to run (all)")
-    choice = options.parse_args()
-    names = [*TESTS, "plants"]
-    unknown = [name for name in choice.tests if name not in names]
-    if unknown:
-        options.error(f"there is no test {unknown[0]}: {', '.join(names)}")
-    failed = 0
-    for name in choice.tests or names:
-        said = []
-        fault = plants() if name == "plants" else fault_of(name, os.path.join(ROOT, "web"), said.append)
-        failed += fault is not None
-        print(f"{name}: {'passed' if fault is None else f'FAILED: {fault}'}{''.join(f' ({it})' for it in said if it)}", flush=True)
-    return 1 if failed else 0
-
-
-if __name__ == "__main__":
-    sys.exit(main())
+@pytest.mark.parametrize("path, old, new, rule", PLANTS, ids=[f"{path}-{number}" for number, (path, *_) in enumerate(PLANTS)])
+def test_wrong_rule(tmp_path, path, old, new, rule):
+    with Modules(web_modules.copy_of(str(tmp_path), (path, old, new))) as modules, pytest.raises((AssertionError, LookupError, ValueError, TypeError)):
+        rule(modules)

@@ -1,9 +1,5 @@
-#!/usr/bin/env python3
-"""Tests the front (deploy/nginx.conf) with nginx alone. In place of the office, a small server records the requests that reach it. The office and a browser
-aren't needed.
-
-    tests/front/limits              runs all tests. Each also runs over a file from which the tested lines were removed: there it must fail
-    tests/front/limits wrong_keys   runs this test only; an unknown name prints the list of names
+"""The front (deploy/nginx.conf) with nginx alone. In place of the office, a small server records the requests that reach it. The office and a browser aren't
+needed. Each check also runs over files in which a fault was planted: there it must fail.
 
 - by_http_2: curl speaks HTTP/2 with it.
 - compressed: public answers and files are compressed by gzip for clients that accept it. Answers with a key aren't.
@@ -37,17 +33,26 @@ aren't needed.
 - sixty_behind_wrong_keys: an address sends a hundred wrong keys under as many names. The sixty tenderers of that address are still answered.
 - no_office: the front's own answers at locations with keys are JSON.
 - counts: each answer is one line that deploy/procure.mtail reads, without an address or a path.
-
-It prints a line for each test. Exit status: 0 all passed, 1 one failed, 2 wrong arguments, 3 a tool is missing.
 """
-import collections, contextlib, email.utils, http.client, json, os, re, subprocess, sys, tempfile, threading, time
+import collections
+import contextlib
+import email.utils
+import http.client
+import json
+import os
+import re
+import subprocess
+import threading
+import time
 from concurrent.futures import ThreadPoolExecutor
 
-sys.dont_write_bytecode = True
-from office_kit.common import HOST, ROOT, check, need, options_of
+import pytest
+
+from office_kit.common import HOST, ROOT, check
 from office_kit.front.nginx import OUTSIDE, PATIENCE, Front, exchange, fields_of
 from office_kit.front.office import WRONG, Office
 
+pytestmark = [pytest.mark.needs("nginx", "openssl", "curl"), pytest.mark.nginx, pytest.mark.budget(120)]
 TENDERS, ONE, SECURITY, CLERKS_OWN = "/notices/N1/lots/L1/tenders", "/tenders/1", "/securities/1", "/notices/N1/register"
 EVALUATION = "/notices/N1/evaluation"
 # Public queries that read many rows, and the others.
@@ -445,8 +450,8 @@ def counts(front, office):
     check(f"of {asked} it tells {lines}", [(it["method"], int(it["status"])) for it in told] == list(zip(("GET", "GET", "HEAD", "POST", "other"), asked)))
 
 
-# Each test, with the text that is removed from the file, or its replacement, so that the test must fail.
-TESTS = {
+# Each check, with texts of the file, how often each occurs, and its replacement: the check must fail then.
+CHECKS = {
     by_http_2: [("listen 443 ssl http2;", 1, "listen 443 ssl;")],
     compressed: [
         ("gzip on;", 1, ""),
@@ -568,7 +573,7 @@ TESTS = {
         ("'$counted $status ", 1, "'$request_method $status "),
     ],
 }
-# For this test the front's own limits are too large.
+# For these checks the front's own limits are too large.
 SMALLER = {
     invented_names: [
         ("zone=addresses:1m rate=50r/s;", 1, "zone=addresses:1m rate=5r/s;"),
@@ -582,53 +587,22 @@ SMALLER = {
 }
 
 
-def run_test(test, changes):
-    """Runs a test over a front and a server of its own."""
+def run(one, folder, *changes):
+    """Runs a check over a front and a server of its own."""
     office = Office()
-    with tempfile.TemporaryDirectory(prefix="office-front-") as folder:
-        with Front(folder, office.port, changes) as front, contextlib.suppress(BrokenPipeError):
-            test(front, office)
+    with Front(str(folder), office.port, [*SMALLER.get(one, []), *changes]) as front, contextlib.suppress(BrokenPipeError):
+        one(front, office)
     with contextlib.suppress(OSError):
         office.end()
 
 
-def is_found(test, plant):
-    """Whether a test fails over a file with a planted fault."""
-    try:
-        run_test(test, [*SMALLER.get(test, []), plant])
-    except AssertionError:
-        return True
-    return False
+@pytest.mark.parametrize("one", CHECKS, ids=lambda one: one.__name__)
+def test_front(tmp_path, one):
+    run(one, tmp_path)
 
 
-def outcome(test):
-    """The result of a test."""
-    try:
-        run_test(test, SMALLER.get(test, []))
-    except AssertionError as error:
-        return f"FAILED: {error}"
-    passed = [repr(plant[0].strip()) for plant in TESTS[test] if not is_found(test, plant)]
-    return f"FAILED: it passes, too, with another line in place of {', '.join(passed)}" if passed else f"passed, and finds {len(TESTS[test])} planted faults"
-
-
-def main():
-    options = options_of(__doc__)
-    options.add_argument("tests", nargs="*", metavar="TEST", help="the tests to run (all)")
-    choice = options.parse_args()
-    names = {it.__name__: it for it in TESTS}
-    unknown = [it for it in choice.tests if it not in names]
-    if unknown:
-        options.error(f"there is no test {unknown[0]}: {', '.join(names)}")
-    for tool in ("nginx", "openssl", "curl"):
-        need(tool, tool)
-    failed = 0
-    for name in choice.tests or names:
-        told = outcome(names[name])
-        failed += told.startswith("FAILED")
-        print(f"{name}: {told}", flush=True)
-    print(f"{failed} failed")
-    return 1 if failed else 0
-
-
-if __name__ == "__main__":
-    sys.exit(main())
+@pytest.mark.parametrize("one, plant", [pytest.param(one, plant, id=f"{one.__name__}-{number}")
+                                        for one, plants in CHECKS.items() for number, plant in enumerate(plants)])
+def test_planted_fault(tmp_path, one, plant):
+    with pytest.raises(AssertionError):
+        run(one, tmp_path, plant)

@@ -1,8 +1,7 @@
-#!/usr/bin/env python3
 """Makes the files of version 1 that are kept here, as SQL text. They show an office of this version to the programs that come later.
 
-    tests/version_1/make FOLDER             from build/procure, or $PROCURE, which must be a program of version 1
-    tests/version_1/make FOLDER --program CMD
+    python3 -m tests.version_1.make FOLDER             from build/procure, or $PROCURE, which must be a program of version 1
+    python3 -m tests.version_1.make FOLDER --program CMD
 
 `procure serve` makes each over requests at the moments of the machine's clock. `sqlite3 .dump` then prints the content of its file. Beside each NAME.sql there
 is NAME.ledger, the ledger that the program showed. A later program makes other files, so it can't make these again. The first one's own file, with its log
@@ -17,10 +16,8 @@ import lzma
 import os
 import sqlite3
 import subprocess
-import sys
 import tempfile
 
-sys.dont_write_bytecode = True
 from office_kit.client import Port, budget, lot, tender
 from office_kit.common import add_program, free_port, need, options_of, running, serve_words
 from office_kit.store.life import Life, offer, part

@@ -1,0 +1,137 @@
+"""docs/openapi.yaml is valid OpenAPI 3.1, and docs/API.md says the same. tests/api/test_answers.py compares it with the program.
+
+Its version is that of the newest entry of CHANGELOG.md. Each of its examples meets its schema and occurs in a transcript that the gate plays
+(crates/tests_of_runs/data). The page docs/API.md has the document's routes, with their callers and the members of answers, and its refusals. Each example there
+occurs in a transcript. Faults that are planted in copies of the document are found.
+"""
+import copy
+import json
+import re
+from pathlib import Path
+
+import pytest
+
+pytest.importorskip("jsonschema", reason="missing: jsonschema. Get it: apt-get install python3-jsonschema")
+pytest.importorskip("yaml", reason="missing: yaml. Get it: apt-get install python3-yaml")
+
+from office_kit.api import openapi_rules
+from office_kit.api.office import Document, plain
+from office_kit.common import ROOT
+from office_kit.docs.releases import newest_entry
+from office_kit.gate.transcripts import answer_of, text_of, topics
+
+DOCUMENT = Document()
+PAGE = Path(ROOT, "docs", "API.md").read_text(encoding="utf-8")
+# The refusals that a request can meet, whatever it asks: sections of routes don't list them.
+OF_ANY = {"BadHead", "TooLong", "Coding", "NoRoute", "BadKey", "Forbidden", "Unavailable"}
+
+
+def award_of(tree):
+    """The operation that the faults are planted in."""
+    return tree["paths"]["/notices/{notice}/lots/{lot}/award"]["post"]
+
+
+# Changes that make a copy of the document invalid OpenAPI 3.1.
+PLANTS = {
+    "its version is another": lambda tree: tree.update(openapi="3.0.3"),
+    "it has no title": lambda tree: tree["info"].pop("title"),
+    "a path begins with no stroke": lambda tree: tree["paths"].update(ledgers=tree["paths"]["/ledger"]),
+    "a method is none": lambda tree: tree["paths"]["/ledger"].update(fetch=tree["paths"]["/ledger"]["get"]),
+    "an operation has no responses": lambda tree: award_of(tree).pop("responses"),
+    "an operation has a field of another version": lambda tree: award_of(tree).update(consumes=["application/json"]),
+    "a status is none": lambda tree: award_of(tree)["responses"].update({"20": {"description": "Fine"}}),
+    "a response has no description": lambda tree: next(iter(tree["components"]["responses"].values())).pop("description"),
+    "a parameter of a path may be left out": lambda tree: next(it for it in tree["components"]["parameters"].values() if it["in"] == "path").pop("required"),
+    "a parameter is in a body": lambda tree: next(iter(tree["components"]["parameters"].values())).update({"in": "body"}),
+    "a path has a parameter that nothing declares": lambda tree: tree["paths"].update({"/ledger/{year}": tree["paths"].pop("/ledger")}),
+    "a reference leads nowhere": lambda tree: award_of(tree)["responses"].update({"410": {"$ref": "#/components/responses/Gone"}}),
+    "a schema has a type that is none": lambda tree: tree["components"]["schemas"]["Amount"].update(type="money"),
+    "two operations have one name": lambda tree: award_of(tree).update(operationId="ledger"),
+    "an operation asks for a key that is none": lambda tree: award_of(tree).update(security=[{"password": []}]),
+}
+
+
+def test_is_valid():
+    assert openapi_rules.flaws_of(DOCUMENT.tree) == []
+
+
+@pytest.mark.parametrize("plant", PLANTS.values(), ids=PLANTS)
+def test_planted_fault(plant):
+    plant(tree := copy.deepcopy(DOCUMENT.tree))
+    assert openapi_rules.flaws_of(tree)
+
+
+def test_version():
+    assert DOCUMENT.tree["info"]["version"] == newest_entry()
+
+
+@pytest.fixture(scope="module")
+def known():
+    """The body of each request and of each answer in the transcripts."""
+    found = set()
+    for block in [block for topic in topics() for blocks in topic.pieces.values() for block in blocks]:
+        lines = block.split("\n= ", 1)[0].split("\n")[1:]
+        answer = answer_of(block)
+        for text in ["".join(map(text_of, lines)), *([answer[2]] if answer else [])]:
+            try:
+                found.add(plain(json.loads(text)))
+            except ValueError:
+                found.add(text)
+    return found
+
+
+def examples_in(name, node):
+    """Each example below a node: its schema and its value."""
+    if isinstance(node, dict):
+        if "examples" in node and "schema" in node:
+            yield from (pytest.param(node["schema"], example["value"], id=f"{name}-{key}") for key, example in node["examples"].items())
+        for part in node.values():
+            yield from examples_in(name, part)
+
+
+NODES = {**{name: operation.node for name, operation in DOCUMENT.operations.items()}, **DOCUMENT.tree["components"]["responses"]}
+
+
+@pytest.mark.parametrize("schema, value", [example for name, node in NODES.items() for example in examples_in(name, node)])
+def test_example(known, schema, value):
+    """It meets its schema, and is from a transcript."""
+    assert DOCUMENT.flaw(schema, value) is None
+    assert plain(value) in known or value == {"name": "Unavailable", "refusal": 32}
+
+
+def test_routes_of_page():
+    """Each method and path has the same callers and members of the answer. (The members of packages are compared elsewhere.)"""
+    told, right = {}, {}
+    for method, path, who, members in re.findall(r"^\| \[`(GET|POST) (\S+)`\]\(\S+\) \| ([^|]+) \| [^|]*\| ([^|]*) \|$", PAGE, re.M):
+        callers = ["public", "clerk", "tenderer"] if who == "anybody" else re.findall("clerk|tenderer", who)
+        told[method, path] = callers, re.findall(r"`(\w+)`", members)
+    for operation in DOCUMENT.operations.values():
+        schema = next(iter(operation.responses["200"]["content"].values()))["schema"]
+        members = [] if "Package" in schema.get("$ref", "") else DOCUMENT.resolved(schema).get("required", [])
+        right[operation.method, operation.template] = operation.callers, members
+    assert told == right
+
+
+def test_refusals_of_page():
+    """The section of each route lists the refusals of the operation, in the order of their numbers."""
+    told = {}
+    for section in re.split(r"^### ", PAGE, flags=re.M)[1:]:
+        if route := re.match(r"`(GET|POST) (\S+)`", section):
+            listed = re.search(r"^Refused: (.*?)(?:\n\n|\Z)", section, re.M | re.S)
+            told[route[1], route[2]] = re.findall(r"`([A-Z]\w+)`", listed[1]) if listed else []
+    right = {(it.method, it.template): {name for of, _, name, _ in DOCUMENT.refusals() if of == it.name} - OF_ANY for it in DOCUMENT.operations.values()}
+    assert told == {route: sorted(names, key=DOCUMENT.number) for route, names in right.items()}
+
+
+def test_table_of_refusals():
+    """It has the number and the status of each."""
+    told = {name: (int(number), status) for number, name, status in re.findall(r"^\| (\d+) \| `(\w+)` \| (\d+) \|", PAGE, re.M)}
+    statuses = {**{name: status for _, status, name, _ in DOCUMENT.refusals()}, "WrongMethod": "405"}
+    assert told == {name: (DOCUMENT.number(name), status) for name, status in statuses.items()}
+
+
+@pytest.mark.parametrize("block", re.findall(r"^```text\n(.*?)^```$", PAGE, re.M | re.S))
+def test_example_of_page(known, block):
+    """Its body is from a transcript."""
+    body = block.partition("\n\n")[2] if block.startswith("HTTP/") else block
+    assert {plain(json.loads(body)) if body.startswith("{") else body} <= known

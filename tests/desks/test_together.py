@@ -1,0 +1,22 @@
+"""All screens together: nginx with deploy/nginx.conf in front of an office that is asked only by the desks, in a browser without a window.
+
+`life` does a procurement from the budget to the last payment: the clerk at one desk, three firms at others, the public at the portal. `lost_key`, which runs
+after it, is about a firm's key that can't be recovered; `slow` is about views that load slowly. office_kit/desks/all_checks.py describes all three.
+"""
+import pytest
+
+from office_kit.desks import all_checks
+from office_kit.desks.tender_office import staged
+
+pytestmark = [pytest.mark.needs("nginx", "openssl"), pytest.mark.nginx, pytest.mark.budget(240), pytest.mark.xdist_group("desks")]
+
+
+@pytest.fixture(scope="module")
+def scene(program, browser, pictures):
+    with staged(program, browser, pictures) as made:
+        yield made
+
+
+@pytest.mark.parametrize("one", all_checks.CHECKS, ids=lambda one: one.__name__)
+def test_desks(scene, one):
+    one(scene)

@@ -1,0 +1,44 @@
+"""TypeScript (`tsc --checkJs`) finds nothing in the modules of the screens (web/), by their JSDoc. Faults that are planted there are found.
+
+[tsconfig.json](tsconfig.json) has its options. These are off: `noImplicitAny` and `strictNullChecks` (the modules don't give the types of answers),
+`strictPropertyInitialization` and `useUnknownInCatchVariables`.
+"""
+import os
+import shutil
+import subprocess
+from pathlib import Path
+
+import pytest
+
+from office_kit.common import ROOT
+from office_kit.desks import modules
+
+pytestmark = [pytest.mark.needs("tsc"), pytest.mark.budget(120)]
+HERE = Path(ROOT, "tests", "desks")
+# A module, a text in it, and the wrong text.
+PLANTS = [("common/filters.js", "noticeOf(list, text) {", "noticeOf(list) {"), ("common/money.js", "units.slice(-1)", "units.slize(-1)"),
+          ("clerk/letters.js", "drawLetter(_again, name", "drawLetter(again, name"), ("common/csv.js", "(numberOf(field) ", "(numberOf(field, 10) "),
+          ("common/office.js", 'this.kind === "away"', 'this.kynd === "away"'), ("tender/search.js", "session.seen.has(", "session.seen.hast(")]
+
+
+def findings(project):
+    """The lines that tsc prints about a project."""
+    return subprocess.run(["tsc", "--project", project], capture_output=True, text=True).stdout.splitlines()
+
+
+def test_screens():
+    assert findings(HERE) == []
+
+
+def test_planted_faults(tmp_path):
+    """All are planted in one copy, since each run takes seconds."""
+    web = modules.copy_of(str(tmp_path))
+    for name, old, new in PLANTS:
+        text = (path := Path(web, name)).read_text(encoding="utf-8")
+        assert old in text
+        path.write_text(text.replace(old, new, 1), encoding="utf-8")
+    os.makedirs(project := tmp_path / "tests" / "desks")
+    for name in ("tsconfig.json", "web.d.ts"):
+        shutil.copy(HERE / name, project)
+    told = findings(project)
+    assert [name for name, _, _ in PLANTS if not any(f"web/{name}(" in line for line in told)] == []

@@ -1,0 +1,91 @@
+"""Publishing costs in proportion to the text of the stored merge: the instructions of one more publication for each byte of the merge.
+
+A notice is published into a new file. Python's sqlite3 then writes 225 payments into the stored merge of its releases, so that it has about 38 kB. (No commands
+lead to such an office; only its cost matters here.) Deadline moves are served under valgrind, which counts the program's instructions, over the long merge and
+over the one that the program made. The difference, divided by the additional bytes of the long merge, is the cost of the merge, with reading and writing its
+row. It must be at most MOST instructions a byte. For a long merge with a fraction in it the program uses a tree: its cost must be above MOST.
+
+Counts of instructions don't depend on other work of the machine.
+"""
+import contextlib
+import json
+import re
+import shutil
+import sqlite3
+
+import pytest
+
+from office_kit.client import Client, Port, budget, lot, notice
+from office_kit.common import free_port, running, serve_words
+
+pytestmark = pytest.mark.needs("valgrind")
+# Seconds to wait for a server under valgrind.
+PATIENCE = 300
+AMENDMENTS, PAYMENTS = 5, 225
+MOST = 75
+VALGRIND = ("valgrind", "--tool=cachegrind", "--cache-sim=no", "--cachegrind-out-file=/dev/null")
+
+
+def payment(number, amount=12):
+    return {"date": "2026-04-01T09:00:00Z", "id": f"P{number}", "payee": {"id": "T-acme", "name": "Acme"}, "payer": {"id": "B-city", "name": "City Office"},
+            "value": {"amount": amount, "currency": "EUR"}}
+
+
+def with_payments(text, amount):
+    """The text of a merge with a contract and its payments, of which the first has this amount."""
+    paid = [payment(number, *([] if number else [amount])) for number in range(PAYMENTS)]
+    contract = {"awardID": "A1", "id": "C1", "implementation": {"transactions": paid}, "status": "active", "value": {"amount": 600, "currency": "EUR"}}
+    return json.dumps({**json.loads(text), "contracts": [contract]}, separators=(",", ":"), sort_keys=True)
+
+
+class Merges:
+    """A program over copies of a file in which a notice is published."""
+
+    def __init__(self, program, folder):
+        self.program, self.file, self.said = program, folder / "office.db", folder / "said"
+        with self.served(self.file, 2) as office:
+            office.import_budget("B1", budget("1000,add,100000,Roads"))
+            office.publish("N1", notice("2099-03-01T12:00:00Z", lot()))
+        self.least, self.few = self.cost()
+
+    @contextlib.contextmanager
+    def served(self, path, count, tool=()):
+        """The client of a server, which ends after so many requests. The server's output goes into a file."""
+        port = free_port()
+        with open(self.said, "w") as out, running([*tool, *serve_words(self.program, str(path), port, count)], stdout=out, stderr=out) as process:
+            yield Client(Port(port, PATIENCE))
+            assert process.wait(PATIENCE) == 0
+
+    def cost(self, amount=None):
+        """The instructions of amendments over a copy of the file, and the bytes of the merge; with payments in it, if the first one's amount is given."""
+        path = shutil.copy(self.file, f"{self.file}.copy")
+        with contextlib.closing(sqlite3.connect(path)) as base, base:
+            (text,), = base.execute("SELECT text FROM compiled")
+            if amount is not None:
+                text = with_payments(text, amount)
+                base.execute("UPDATE compiled SET text = ?", (text,))
+        with self.served(path, AMENDMENTS, VALGRIND) as office:
+            for turn in range(AMENDMENTS):
+                office.amend_notice("N1", f"2099-04-01T12:00:{turn:02}Z")
+        count = re.search(r"I +refs: +([\d,]+)", self.said.read_text())
+        return int(count[1].replace(",", "")), len(text.encode())
+
+    def rate(self, amount):
+        """The instructions for each byte."""
+        count, size = self.cost(amount)
+        print(f"a merge of {size} bytes: {(count - self.least) / AMENDMENTS / (size - self.few):.1f} instructions a byte")
+        return (count - self.least) / AMENDMENTS / (size - self.few)
+
+
+@pytest.fixture(scope="module")
+def merges(plain_program, tmp_path_factory):
+    return Merges(plain_program, tmp_path_factory.mktemp("merges"))
+
+
+def test_kept_merge(merges):
+    assert merges.rate(12) <= MOST
+
+
+def test_merge_by_a_tree(merges):
+    """(A number that isn't whole makes the program read the text into a tree.)"""
+    assert merges.rate(12.5) > MOST
