@@ -1,4 +1,4 @@
-"""Over an office's file in which rows are missing or changed, no command that needs them is accepted. No budget line is shown that doesn't add up, and no command
+"""Over an office's file in which rows are missing or changed, no command that needs them is accepted. No line is shown that doesn't add up, and no command
 moves money of it.
 
 The program makes an office with a notice in each state. In a copy of its file SQLite deletes a row or changes a sum; office_kit/store/broken_trials.py has
