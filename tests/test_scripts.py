@@ -4,12 +4,10 @@ The groups run side by side, and the scripts of a group one after another, since
 processor seconds; without one it is USUAL of conftest.py.
 """
 import os
-import signal
 import subprocess
 
 import pytest
 
-from office_kit import processor
 from office_kit.common import ROOT
 from office_kit.docs import documents
 
@@ -20,38 +18,23 @@ GROUPS = [
     {"copies": ("bench/copies 20 --kills 5", 120)},
     {"reading": ("tools/reading --check",), "pictures": ("tools/pictures --check",), "names": ("tools/check_names",), "promises": ("tools/check_promises",),
      "crates": ("tools/check_crates",), "lengths": ("tools/check_lengths",), "words": ("tools/check_words",), "gate": ("bench/gate --table --check",)},
-    {"deadline": ("tests/deadline", 240)},
 ]
 
 
 def rows():
     for number, group in enumerate(GROUPS):
         for name, (line, *budget) in group.items():
-            marks = [pytest.mark.xdist_group("machine" if "deadline" in group else f"scripts-{number}"), pytest.mark.budget(*budget or [60])]
+            marks = [pytest.mark.xdist_group(f"scripts-{number}"), pytest.mark.budget(*budget or [60])]
             yield pytest.param(line.split(), id=name, marks=marks)
-
-
-def end(process):
-    """Ends a script with all processes that it started: by a signal first."""
-    process.send_signal(signal.SIGTERM)
-    try:
-        process.wait(5)
-    except subprocess.TimeoutExpired:
-        pass
-    processor.end_below(process.pid)
-    process.kill()
 
 
 @pytest.mark.parametrize("words", rows())
 def test_script(words, program):
-    process = subprocess.Popen(words, cwd=ROOT, env={**os.environ, "PROCURE": program}, stdin=subprocess.DEVNULL, stdout=subprocess.PIPE,
-                               stderr=subprocess.STDOUT, text=True, errors="replace")
-    try:
-        said = process.communicate()[0].strip()
-    finally:
-        end(process)
-    if process.returncode == 3:
+    ran = subprocess.run(words, cwd=ROOT, env={**os.environ, "PROCURE": program}, stdin=subprocess.DEVNULL, stdout=subprocess.PIPE, stderr=subprocess.STDOUT,
+                         text=True, errors="replace")
+    said = ran.stdout.strip()
+    if ran.returncode == 3:
         pytest.skip("; ".join(line[line.index("missing: "):] for line in said.split("\n") if "missing: " in line) or said)
     print(said)
-    if process.returncode:
-        pytest.fail(f"it ended with status {process.returncode}", pytrace=False)
+    if ran.returncode:
+        pytest.fail(f"it ended with status {ran.returncode}", pytrace=False)

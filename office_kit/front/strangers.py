@@ -1,5 +1,5 @@
 #!/usr/bin/env python3
-"""Fifty strangers who ask a front all that they may, for tests/deadline; and a clerk's screen that asks all of its queries at once, again and again.
+"""Fifty strangers who ask a front all that they may, for tests/front/test_deadline.py; and a clerk's screen that asks all of its queries, again and again.
 
     office_kit/front/strangers.py PORT BEGIN END LINES     from and to a moment, in seconds of this machine's clock; LINES is how many budget lines there are
 

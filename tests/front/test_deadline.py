@@ -1,41 +1,43 @@
-#!/usr/bin/env python3
-"""Tests that nobody makes a tender late. Sixty tenders come in the last 0.3 seconds before a deadline, by TLS through the front (deploy/nginx.conf). Meanwhile
-fifty strangers ask all that they may (office_kit/front/strangers.py).
-
-    tests/deadline                      over an office of 100,000 budget lines and one of 100,000 contracts, by $PROCURE or build/procure
-    tests/deadline contracts            this office only; an unknown name prints the list of names
-    tests/deadline --many 10000         smaller offices
-    tests/deadline --begin 0.4          the strangers begin so many seconds before the deadline (4)
-    tests/deadline --times 3            so often, one after another (once)
+"""Nobody makes a tender late. Sixty tenders come in the last 0.3 seconds before a deadline, by TLS through the front (deploy/nginx.conf). Meanwhile fifty
+strangers ask all that they may (office_kit/front/strangers.py), from four seconds before the deadline on. One office has 100,000 budget lines, and one 100,000
+contracts.
 
 The offices' files (office_kit/store/large_office.py) are made once, and kept under build/large/; each run has a copy. The front keeps no answer yet when the
 strangers begin. So the office must read the whole ledger for the first of them. Half of the tenderers share two addresses, and all connect when they send. As
-root, the test gives the processor first to the office and the front, then to tenderers, then to strangers, as if each had a machine of its own. `--plain`
-leaves that out.
+root, the test gives the processor first to the office and the front, then to tenderers, then to strangers, as if each had a machine of its own.
 
 A tender is in time until the second of its deadline ends, and it may wait for one ledger. So that must take clearly less than a second (OPERATING.md says
 what to do in a larger office). Where 100,000 rows take longer, on a slower machine, the office has fewer.
 
-Each tender must be `sealed`, with status 200, within two seconds, or more on a slower machine. Then the test runs again with the front as it was earlier:
-/health is the ledger, queries have no ways of their own, answers are kept for a second. There some tender must be late or wait longer, else the test has shown
-nothing.
-
-The test prints a line for each office: the waits of tenders, and how many answers of each status the strangers got. Exit status: 0 all passed, 1 one failed, 2
-wrong arguments or no program, 3 a tool is missing.
+Each tender must be `sealed`, with status 200, within two seconds, or more on a slower machine. With the front as it was earlier, some tender must be late or
+wait longer, else the test has shown nothing: /health is the ledger, queries have no ways of their own, answers are kept for a second. The test prints the waits
+of tenders, and how many answers of each status the strangers got.
 """
-import collections, contextlib, json, os, random, shutil, subprocess, sys, tempfile, time
+import collections
+import contextlib
+import json
+import os
+import random
+import shutil
+import subprocess
+import sys
+import tempfile
+import time
 from concurrent.futures import ThreadPoolExecutor
 
-sys.dont_write_bytecode = True
-ROOT = os.path.dirname(os.path.dirname(os.path.realpath(__file__)))
+import pytest
+
 from office_kit.client import Client, Port, lot, notice, text_of
-from office_kit.common import add_program, check, connect, exchange, free_port, look, need, options_of, running, serve_words
+from office_kit.common import ROOT, check, connect, exchange, free_port, look, running, serve_words
 from office_kit.front.nginx import Front
 from office_kit.store import large_office
 
+pytestmark = [pytest.mark.needs("nginx", "openssl"), pytest.mark.nginx, pytest.mark.time, pytest.mark.budget(240), pytest.mark.xdist_group("machine")]
 # How many times slower this machine is than a usual one: `make check` says it by AHEAD, the seconds to the deadlines for which tests wait.
 SLOW = max(1.0, int(os.environ.get("AHEAD", "4")) / 4)
 MANY, TENDERERS, LAST, LONGEST, PATIENCE = 100_000, 60, 0.3, 2.0 * SLOW, 120 * SLOW
+# The seconds before the deadline at which the strangers begin.
+BEGIN = 4
 # The most seconds that the office may take for its ledger.
 LEDGER = 0.5
 # Seconds from the start of a run to the strangers' begin, and from the deadline to their end.
@@ -60,12 +62,9 @@ EARLIER = [
 
 
 def comes_before(others):
-    """Gives this process, and those that it starts from now on, the processor before lower numbers and all other programs. Returns whether it may."""
-    try:
+    """Gives this process, and those that it starts from now on, the processor before lower numbers and all other programs, if it may."""
+    with contextlib.suppress(PermissionError):
         os.sched_setscheduler(0, os.SCHED_FIFO, os.sched_param(others))
-    except PermissionError:
-        return False
-    return True
 
 
 def is_raised():
@@ -117,11 +116,11 @@ def prepared(port, deadline):
     client.publish("D", notice(text_of(deadline), lot("L1", "100000", 600)))
 
 
-def last_seconds(front, deadline, begin, lines, changes):
+def last_seconds(front, deadline, lines, changes):
     """The strangers, and sixty tenders in the last 0.3 seconds."""
     turn = ["chrt", "-f", str(STRANGERS)] if is_raised() else []
     script = os.path.join(ROOT, "office_kit", "front", "strangers.py")
-    words = [*turn, sys.executable, script, *map(str, (front.port, deadline - begin, deadline + AFTER, lines))]
+    words = [*turn, sys.executable, script, *map(str, (front.port, deadline - BEGIN, deadline + AFTER, lines))]
     moments = random.Random(2)
     with running(words, stdout=subprocess.PIPE) as strangers, ThreadPoolExecutor(TENDERERS) as pool:
         tenders = [pool.submit(submit, front, number, deadline - moments.uniform(0.01, LAST)) for number in range(1, TENDERERS + 1)]
@@ -145,66 +144,40 @@ def served(program, kind, many):
             yield folder, port, exchange(port, look(b"/ledger"))[1]
 
 
-def rows_of(program, kind, many):
-    """How many rows an office may have, at most so many, if its ledger takes LEDGER seconds."""
-    with served(program, kind, many) as (_, _, ledger):
-        return many if ledger <= LEDGER else max(1_000, int(many * LEDGER / ledger) // 1_000 * 1_000)
+def rows_of(program, kind):
+    """How many rows an office may have, at most MANY, if its ledger takes LEDGER seconds."""
+    with served(program, kind, MANY) as (_, _, ledger):
+        return MANY if ledger <= LEDGER else max(1_000, int(MANY * LEDGER / ledger) // 1_000 * 1_000)
 
 
-def run(program, kind, many, begin, changes=()):
+def run(program, kind, changes=()):
     """One deadline."""
+    many = rows_of(program, kind)
     with served(program, kind, many) as (folder, port, ledger):
-        deadline = int(time.time() + AHEAD + begin)
+        deadline = int(time.time() + AHEAD + BEGIN)
         prepared(port, deadline)
         with Front(folder, port, changes) as front:
-            check("the deadline came before all was prepared", time.time() < deadline - begin - 3)
+            check("the deadline came before all was prepared", time.time() < deadline - BEGIN - 3)
             if is_raised():
                 comes_before(TENDERERS_TURN)
-            return last_seconds(front, deadline, begin, many if kind == "lines" else large_office.IMPORT, changes), ledger
+            came = last_seconds(front, deadline, many if kind == "lines" else large_office.IMPORT, changes)
+    print(f"{kind}: {came}; its ledger alone, of {many:,} rows, takes {ledger:.3f} s; strangers: {came.told()}")
+    return came
 
 
-def tried(choice, kind):
-    """Whether no tender of an office is late, and some is with the earlier front."""
-    many = rows_of(choice.program, kind, choice.many)
-    now, ledger = run(choice.program, kind, many, choice.begin)
-    print(f"{kind}: {'passed' if now.is_good() else 'FAILED'}: {now}; its ledger alone, of {many:,} rows, takes {ledger:.3f} s", flush=True)
-    print(f"    strangers: {now.told()}", flush=True)
-    if choice.now:
-        return now.is_good()
-    earlier, _ = run(choice.program, kind, many, choice.begin, EARLIER)
-    print(f"{kind}, with the front as it was: {'FAILED: none came late' if earlier.is_good() else 'found'}: {earlier}", flush=True)
-    return now.is_good() and not earlier.is_good()
+@pytest.fixture(autouse=True)
+def usual_turn():
+    """The test may have a priority of its own, which ends with it."""
+    comes_before(SERVERS)
+    yield
+    os.sched_setscheduler(0, os.SCHED_OTHER, os.sched_param(0))
 
 
-def main():
-    options = options_of(__doc__)
-    options.add_argument("offices", nargs="*", metavar="OFFICE", help="the offices (all)")
-    options.add_argument("--many", type=int, default=MANY, help=f"the most lines, or contracts, in an office ({MANY})")
-    options.add_argument("--begin", type=float, default=4.0, metavar="SECONDS", help="the seconds before the deadline at which the strangers begin (4)")
-    options.add_argument("--times", type=int, default=1, help="the number of runs (1)")
-    options.add_argument("--now", action="store_true", help="leave out the run with the earlier front")
-    options.add_argument("--plain", action="store_true", help="run all programs at the usual priority")
-    add_program(options)
-    choice = options.parse_args()
-    unknown = [it for it in choice.offices if it not in large_office.KINDS]
-    if unknown:
-        options.error(f"there is no office {unknown[0]}: {', '.join(large_office.KINDS)}")
-    for tool in ("nginx", "openssl"):
-        need(tool, tool)
-    for kind in choice.offices or large_office.KINDS:
-        large_office.file_of(kind, choice.many)
-    if not choice.plain:
-        comes_before(SERVERS)
-    failed = 0
-    for kind in list(choice.offices or large_office.KINDS) * choice.times:
-        try:
-            failed += not tried(choice, kind)
-        except AssertionError as fault:
-            failed += 1
-            print(f"{kind}: FAILED: {fault}", flush=True)
-    print(f"{failed} failed")
-    return 1 if failed else 0
+@pytest.mark.parametrize("kind", large_office.KINDS)
+def test_none_is_late(program, kind):
+    assert run(program, kind).is_good()
 
 
-if __name__ == "__main__":
-    sys.exit(main())
+@pytest.mark.parametrize("kind", large_office.KINDS)
+def test_the_earlier_front_is_found(program, kind):
+    assert not run(program, kind, EARLIER).is_good()
