@@ -23,18 +23,14 @@ os.environ.setdefault("PYTEST_TIMEOUT", str(math.ceil(600 * SLOW)))
 os.environ.setdefault("PYTHONDONTWRITEBYTECODE", "1")
 os.environ.setdefault("HYPOTHESIS_STORAGE_DIRECTORY", "build/hypothesis")
 
-from office_kit import client, needs  # noqa: E402
+from office_kit import needs  # noqa: E402
 from office_kit.common import NO_PROGRAM, PROGRAM, Missing  # noqa: E402
 from office_kit.desks.browser import Browser  # noqa: E402
-from office_kit.front.nginx import Front  # noqa: E402
 from office_kit.store import large_office as large  # noqa: E402
 from office_kit.store.served import Serving  # noqa: E402
 
 # Seconds of processor that the tests of a module may use, if it has no marker `budget`; how many times as much with --long; and seconds between two readings.
 USUAL, LONGER, BETWEEN = 60, 100, 0.5
-# The tools that a fixture needs, and the marker of its tests.
-OF_FIXTURES = {"front": ("nginx", "openssl"), "browser": ("chromium",)}
-MARKERS = {"front": "nginx", "browser": "browser"}
 
 
 def pytest_addoption(parser):
@@ -74,24 +70,11 @@ def office(serving):
     return serving()
 
 
-@pytest.fixture
-def front(office, tmp_path_factory):
-    """nginx by deploy/nginx.conf before the office."""
-    with Front(str(tmp_path_factory.mktemp("front")), office.port) as started:
-        yield started
-
-
 @pytest.fixture(scope="module")
 def browser(request, tmp_path_factory):
     """Chromium without a window, one for the tests of a module."""
     with Browser(shutil.which("chromium"), str(tmp_path_factory.mktemp("browser")), bool(request.config.getoption("pictures"))) as started:
         yield started
-
-
-@pytest.fixture(scope="session")
-def ahead():
-    """Seconds to the deadlines for which tests wait."""
-    return client.AHEAD
 
 
 @pytest.fixture
@@ -134,15 +117,15 @@ def pytest_runtest_makereport(item, call):
 
 @pytest.hookimpl(tryfirst=True)
 def pytest_collection_modifyitems(config, items):
-    """Gives tests the markers of their fixtures, and those of a module one group: they run one after another. The groups with the largest budgets begin."""
+    """Gives tests in a browser their markers, and those of a module one group: they run one after another. The groups with the largest budgets begin."""
     if not config.getoption("long"):
         config.hook.pytest_deselected(items=[item for item in items if item.get_closest_marker("long")])
         items[:] = [item for item in items if not item.get_closest_marker("long")]
     budgets = {}
     for item in items:
-        for name in OF_FIXTURES.keys() & {*item.fixturenames}:
-            item.add_marker(pytest.mark.needs(*OF_FIXTURES[name]))
-            item.add_marker(MARKERS[name])
+        if "browser" in item.fixturenames:
+            item.add_marker(pytest.mark.needs("chromium"))
+            item.add_marker("browser")
         if not item.get_closest_marker("xdist_group"):
             item.add_marker(pytest.mark.xdist_group(module_of(item)))
         budgets.setdefault(group_of(item), {}).update([budget_of(item)])
