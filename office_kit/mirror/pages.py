@@ -11,7 +11,7 @@ from office_kit.mirror.office import Notice
 
 # The number of items that the index names of each procurement.
 MOST = 10
-# What the mirror's own files have.
+# This says what the mirror's own files have.
 OWN = {"datapackage.json": "The type and the meaning of each column of each table (Frictionless Data Package).",
        "ledger.txt": "The ledger, as the office answered it.", "chain.txt": "A line for each release that was seen here, with digests."}
 # The head of the index, a page of HTML.
@@ -67,7 +67,7 @@ def page(base: str, now: str, files: list[tuple[str, int, str]], notices: list[N
 
 
 def files_table(files: list[tuple[str, int, str]]) -> str:
-    """A table of files, each with what it has."""
+    """Makes a table of files, which says what each has."""
     means = {**{f"{name}.csv": text for name, text in MEANS.items()}, **OTHERS, **OWN}
     rows = [f"<tr><td><a href={quoteattr(name)}>{html.escape(name)}</a></td><td>{html.escape(means[name])}</td><td>{length:,}</td>"
             f"<td><code>{digest}</code></td></tr>\n" for name, length, digest in files]

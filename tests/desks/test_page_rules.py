@@ -11,8 +11,8 @@
   Capital letters in a number don't matter.
 - plans: the order in which the tenderer's desk searches notices for own tenders, those that the mirror's tables have, and those that it searches again.
 - tables: a table that office_kit/mirror/tables.py writes is read back unchanged, with formulas, quotation marks and line ends.
-- stages: the next task that the clerk's desk shows for a notice, the time left to the second, the most urgent task first, by role; and the money that a lot
-  reserves.
+- stages: the next task that the clerk's desk shows for a notice, by role. The time is left to the second, the most urgent task comes first. The money that a
+  lot reserves.
 - budgets: the clerk is warned of a budget file that was taken in before, and of one that would double a line.
 - converts: a spreadsheet's budget file is converted to the office's form with each change listed, and nothing is guessed.
 - drafts: a draft of a notice comes back from its file. The desk warns of a deadline in an hour that clocks skip or repeat, and of an estimate below 20 a unit.

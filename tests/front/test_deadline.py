@@ -10,8 +10,8 @@ A tender is in time until the second of its deadline ends, and it may wait for o
 what to do in a larger office). Where 100,000 rows take longer, on a slower machine, the office has fewer.
 
 Each tender must be `sealed`, with status 200, within two seconds, or more on a slower machine. With the front as it was earlier, some tender must be late or
-wait longer, else the test has shown nothing: /health is the ledger, queries have no ways of their own, answers are kept for a second. The test prints the waits
-of tenders, and how many answers of each status the strangers got.
+wait longer, else the test has shown nothing. There /health is the ledger, queries have no ways of their own, answers are kept for a second. The test prints the
+waits of tenders, and how many answers of each status the strangers got.
 """
 import collections
 import contextlib

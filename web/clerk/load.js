@@ -70,7 +70,7 @@ export function othersText(all) {
   return others.length === 0 ? "" : say("task.others", { count: others.length, roles: names.join(", ") });
 }
 
-/** The next tasks of this clerk, each as a sentence that leads to its lot, and what is left to others. */
+/** Draws the next tasks of this clerk, each as a sentence that leads to its lot, and what is left to others. */
 export function tasks(name, stage) {
   const now = officeNow();
   const all = tasksOf(stage, now);
