@@ -70,7 +70,7 @@ export function othersText(all) {
   return others.length === 0 ? "" : say("task.others", { count: others.length, roles: names.join(", ") });
 }
 
-/** Draws the next tasks of this clerk, each as a sentence that leads to its lot, and what is left to others. */
+/** The next tasks of this clerk, as sentences that lead to their lots, and the tasks of others. */
 export function tasks(name, stage) {
   const now = officeNow();
   const all = tasksOf(stage, now);

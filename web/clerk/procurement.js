@@ -37,7 +37,7 @@ function path(stage) {
   return at === null ? null : element("ol", { class: "path", "aria-label": say("step.title") }, steps);
 }
 
-/** Draws the next tasks, and what is left to others. */
+/** The next tasks, and those of others. */
 function doing(name, stage) {
   const list = tasks(name, stage);
   return list.length === 0 ? element("p", { class: "note" }, say("task.none")) : note("look", say("today.next"), element("ul", {}, list));
