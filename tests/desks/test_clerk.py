@@ -10,7 +10,7 @@ import pytest
 from office_kit.desks import clerk_checks, clerk_more, clerk_names
 from office_kit.desks.scene import staged
 
-pytestmark = [pytest.mark.needs("nginx", "openssl"), pytest.mark.nginx, pytest.mark.budget(300), pytest.mark.xdist_group("desks")]
+pytestmark = [pytest.mark.needs("nginx", "openssl"), pytest.mark.nginx, pytest.mark.budget(420), pytest.mark.xdist_group("desks")]
 
 
 @pytest.fixture(scope="module")
