@@ -26,7 +26,6 @@ os.environ.setdefault("HYPOTHESIS_STORAGE_DIRECTORY", "build/hypothesis")
 from office_kit import needs  # noqa: E402
 from office_kit.common import NO_PROGRAM, PROGRAM, Missing  # noqa: E402
 from office_kit.desks.browser import Browser  # noqa: E402
-from office_kit.store import large_office as large  # noqa: E402
 from office_kit.store.served import Serving  # noqa: E402
 
 # Seconds of processor that the tests of a module may use, if it has no marker `budget`; how many times as much with --long; and seconds between two readings.
@@ -75,12 +74,6 @@ def browser(request, tmp_path_factory):
     """Chromium without a window, one for the tests of a module."""
     with Browser(shutil.which("chromium"), str(tmp_path_factory.mktemp("browser")), bool(request.config.getoption("pictures"))) as started:
         yield started
-
-
-@pytest.fixture
-def large_office(tmp_path):
-    """A copy of the file of a large office, `large_office("lines", 100_000)`; the file itself is made once, and kept under build/large."""
-    return lambda kind, many: shutil.copy(large.file_of(kind, many), tmp_path / "large.db")
 
 
 @pytest.fixture(scope="session")
