@@ -155,18 +155,19 @@ def tenders_part(desk: Desk, scene: Scene) -> None:
 
 
 def countdowns(scene: Scene) -> None:
-    """All countdowns to a deadline say the same: that of a task, and that of a clock. A second that has begun counts."""
+    """All countdowns to a deadline say the same: that of a task, and that of a clock. A second that has begun counts. (The page's time is stopped three
+    quarters of an hour before the deadline.)"""
     desk = Desk(scene)
     desk.says("Wait for tenders until")
     desk.page.run("""Promise.all(["office", "money"].map((name) => import(`/common/${name}.js`))).then(([{ notices, officeNow }, { clock }]) =>
       notices().then(([{ deadline }]) => {
-        const at = Date.parse(deadline) - 40_300 - (officeNow() - Date.now());
+        const at = Date.parse(deadline) - 2_860_300 - (officeNow() - Date.now());
         Date.now = () => at;
         document.querySelector("main").append(clock(deadline));
       }))""")
     shown = "[...document.querySelectorAll('main [role=timer]')].map((at) => at.textContent)"
-    desk.page.wait(f"({shown}).length === 2 && ({shown}).every((text) => / 4[01] seconds/.test(text))")
-    check(f"the countdowns are {desk.page.run(shown)}", desk.page.run(shown) == ["(in 41 seconds)", "closes in 41 seconds"])
+    desk.page.wait(f"({shown}).length === 2 && ({shown}).every((text) => text.includes('47 minutes, 4'))")
+    check(f"the countdowns are {desk.page.run(shown)}", desk.page.run(shown) == ["(in 47 minutes, 41 seconds)", "closes in 47 minutes, 41 seconds"])
     desk.leave()
 
 
