@@ -1,8 +1,8 @@
 """The tenderer's desk (web/tender): nginx with deploy/nginx.conf in front of an office, and a browser without a window.
 
 A comment above each check says what it is about: key, offer, files, changes, lost, stopped, each_refusal, late, results, large
-(office_kit/desks/tender_checks.py); keyboard, shapes, printed, without_scripts, plants (tender_shapes.py beside it). `plants` changes modules of the desk, and
-the checks must find each change. `large` makes an office of 400 notices and its mirror, in half a minute.
+(office_kit/desks/tender_checks.py); opened, keyboard, shapes, printed, without_scripts, plants (tender_shapes.py beside it). `plants` changes modules of the
+desk, and the checks must find each change. `large` makes an office of 400 notices and its mirror, in half a minute.
 """
 import pytest
 
