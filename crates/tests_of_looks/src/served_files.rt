@@ -26,7 +26,7 @@ struct Paths {
     office: String,
 }
 
-fn paths(rt: &HostRuntime) -> io::Result<Paths> {
+fn paths_of(rt: &HostRuntime) -> io::Result<Paths> {
     let alloc = rt.alloc();
     let temporary = env::temp_dir(rt)?;
     let folder = format!(in alloc;
@@ -73,7 +73,7 @@ fn prints_ledger(rt: &HostRuntime, at: &Paths) -> bool {
 
 // Whether the office lives on: in a folder of its own, which is new, and removed afterwards.
 fn lives_on(rt: &HostRuntime) -> bool {
-    let Ok(at) = paths(rt) else {
+    let Ok(at) = paths_of(rt) else {
         return false;
     };
     let _ = fs::remove_dir_all(rt, at.folder.as_str());
