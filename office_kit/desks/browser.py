@@ -1,5 +1,6 @@
 """Runs a browser without a window: Chromium, controlled by its DevTools protocol over two descriptors (--remote-debugging-pipe)."""
 import base64
+import contextlib
 import json
 import os
 import socket
@@ -71,7 +72,10 @@ class Browser:
             if "method" in message:
                 (self.paused if message["method"] == "Fetch.requestPaused" else self.events).append(message)
         if "error" in message:
-            fail(f"chromium: {method}: {message['error']['message']}")
+            told = f"chromium: {method}: {message['error']['message']}"
+            if "navigated" in told:
+                raise Navigated(told)
+            fail(told)
         return message["result"]
 
     def receive(self) -> Event:
@@ -88,6 +92,10 @@ class Browser:
             accepts = {"id": self.count, "method": "Page.handleJavaScriptDialog", "params": {"accept": True}, "sessionId": told["sessionId"]}
             self.stream.sendall(json.dumps(accepts).encode() + b"\0")
         return told
+
+
+class Navigated(SystemExit):
+    """The page was left while it was asked."""
 
 
 class Page:
@@ -125,8 +133,13 @@ class Page:
         return answer["result"].get("value")
 
     def wait(self, script: str) -> None:
-        """Waits until an expression of the page holds."""
-        self.expect(script, lambda: self.run(f"Boolean({script})"))
+        """Waits until an expression of the page holds, also while another page comes."""
+        def holds() -> bool:
+            try:
+                return bool(self.run(f"Boolean({script})"))
+            except Navigated:
+                return False
+        self.expect(script, holds)
 
     def expect(self, what: str, holds: Callable[[], Any]) -> None:
         """Waits until something holds, and answers the page's requests meanwhile."""
@@ -137,7 +150,8 @@ class Page:
                 fail(f"the page: {what}: doesn't come to hold; it shows {self.text()!r}")
             time.sleep(0.02)
             # Events come with the answer to a command.
-            self.run("0")
+            with contextlib.suppress(Navigated):
+                self.run("0")
 
     def answer(self) -> None:
         """Answers a request of the page, if `answers` has its path."""

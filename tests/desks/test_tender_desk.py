@@ -9,7 +9,7 @@ import pytest
 from office_kit.desks import tender_checks, tender_shapes
 from office_kit.desks.tender_office import prepare, staged
 
-pytestmark = [pytest.mark.needs("nginx", "openssl"), pytest.mark.nginx, pytest.mark.budget(240)]
+pytestmark = [pytest.mark.needs("nginx", "openssl"), pytest.mark.nginx, pytest.mark.budget(360)]
 
 
 @pytest.fixture(scope="module")

@@ -22,11 +22,13 @@ export function forgetStages() {
  * its releases in the list. */
 export async function stageOfOpened(name, count) {
   const isWhole = caller() !== null;
-  const held = kept.get(name);
+  const from = kept;
+  let held = from.get(name);
   if (!held || held.count !== count || held.isWhole !== isWhole || Date.now() > held.since + KEPT) {
-    kept.set(name, { count, isWhole, since: Date.now(), seen: await openedOf(name) });
+    held = { count, isWhole, since: Date.now(), seen: await openedOf(name) };
+    from.set(name, held);
   }
-  return stageOf(kept.get(name).seen, officeNow());
+  return stageOf(held.seen, officeNow());
 }
 
 async function openedOf(name) {
