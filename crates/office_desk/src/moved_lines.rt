@@ -3,9 +3,11 @@ ghost use Rattle.std.specs.Prelude.{◌≡◌, true};
 ghost use Rattle.std.specs.List.{list_all};
 ghost use Rattle.office_commands.specs.declared.budget.BudgetRow.{BudgetRow as BudgetRowOf};
 ghost use Rattle.office_commands.specs.declared.lot.NewLot.{NewLot as NewLotOf};
+ghost use Rattle.office_base.specs.Parents.{line_of_lot, lot_of_award, lot_of_contract};
 ghost use Rattle.office_base.specs.Shelves.{Looks};
+ghost use Rattle.office_base.specs.Tables.{award_at, contract_at, line_at, lot_at};
 ghost use Rattle.office_base.specs.declared.records.LotRow.{LotRow as LotRowOf};
-ghost use Rattle.office_desk.specs.MovedLines.{IsTested, award_adds_up, contract_adds_up, line_adds_up, lot_adds_up, moved_lines_add_up};
+ghost use Rattle.office_desk.specs.MovedLines.{IsTested, line_adds_up, moved_lines_add_up};
 
 use crate::balances::pots_add_up;
 use office_base::laws::looks_follow;
@@ -21,7 +23,7 @@ use office_values::id::Id;
 // Whether the balances of a line add up, if the office has it. They don't if a sum is out of range, which the store doesn't count as a fault.
 #[tactic(auto, using(crate::proofs::Rising::has_risen))]
 fn line_adds_up<H: Lookups>(shelf: &mut H, line: &Id) -> Result<bool, ShelfFault>
-    ensures { Looks H.meaning shelf.old shelf.new (λ s. IsTested (H.meaning.fault_count shelf.old) (H.meaning.fault_count shelf.new) (line_adds_up s line.now) result) }
+    ensures { Looks H.meaning shelf.old shelf.new (λ s. IsTested (H.meaning.fault_count shelf.old) (H.meaning.fault_count shelf.new) (line_adds_up s (line_at line.now s)) result) }
 {
     looks_follow::<H>();
     let before = shelf.faults();
@@ -38,7 +40,7 @@ fn line_adds_up<H: Lookups>(shelf: &mut H, line: &Id) -> Result<bool, ShelfFault
 }
 
 fn lot_adds_up<H: Lookups>(shelf: &mut H, notice: &Id, lot: &Id) -> Result<bool, ShelfFault>
-    ensures { Looks H.meaning shelf.old shelf.new (λ s. IsTested (H.meaning.fault_count shelf.old) (H.meaning.fault_count shelf.new) (lot_adds_up s notice.now lot.now) result) }
+    ensures { Looks H.meaning shelf.old shelf.new (λ s. IsTested (H.meaning.fault_count shelf.old) (H.meaning.fault_count shelf.new) (line_adds_up s (line_of_lot (lot_at (notice.now, lot.now) s) s)) result) }
 {
     looks_follow::<H>();
     match shelf.get_lot(notice, lot)? {
@@ -48,7 +50,7 @@ fn lot_adds_up<H: Lookups>(shelf: &mut H, notice: &Id, lot: &Id) -> Result<bool,
 }
 
 fn award_adds_up<H: Lookups>(shelf: &mut H, award: AskedNumber) -> Result<bool, ShelfFault>
-    ensures { Looks H.meaning shelf.old shelf.new (λ s. IsTested (H.meaning.fault_count shelf.old) (H.meaning.fault_count shelf.new) (award_adds_up s award) result) }
+    ensures { Looks H.meaning shelf.old shelf.new (λ s. IsTested (H.meaning.fault_count shelf.old) (H.meaning.fault_count shelf.new) (line_adds_up s (line_of_lot (lot_of_award (award_at award s) s) s)) result) }
 {
     looks_follow::<H>();
     match shelf.get_award(award)? {
@@ -58,7 +60,7 @@ fn award_adds_up<H: Lookups>(shelf: &mut H, award: AskedNumber) -> Result<bool, 
 }
 
 fn contract_adds_up<H: Lookups>(shelf: &mut H, contract: AskedNumber) -> Result<bool, ShelfFault>
-    ensures { Looks H.meaning shelf.old shelf.new (λ s. IsTested (H.meaning.fault_count shelf.old) (H.meaning.fault_count shelf.new) (contract_adds_up s contract) result) }
+    ensures { Looks H.meaning shelf.old shelf.new (λ s. IsTested (H.meaning.fault_count shelf.old) (H.meaning.fault_count shelf.new) (line_adds_up s (line_of_lot (lot_of_contract (contract_at contract s) s) s)) result) }
 {
     looks_follow::<H>();
     match shelf.get_contract(contract)? {
@@ -70,7 +72,7 @@ fn contract_adds_up<H: Lookups>(shelf: &mut H, contract: AskedNumber) -> Result<
 // The lines of a budget file.
 fn rows_add_up<H: Lookups>(shelf: &mut H, rows: &[BudgetRow]) -> Result<bool, ShelfFault>
     ensures { Looks H.meaning shelf.old shelf.new (λ s. IsTested (H.meaning.fault_count shelf.old) (H.meaning.fault_count shelf.new)
-        (list_all (λ (row : BudgetRowOf). line_adds_up s row.line) rows.now) result) }
+        (list_all (λ (row : BudgetRowOf). line_adds_up s (line_at row.line s)) rows.now) result) }
 {
     looks_follow::<H>();
     for row in rows {
@@ -84,7 +86,7 @@ fn rows_add_up<H: Lookups>(shelf: &mut H, rows: &[BudgetRow]) -> Result<bool, Sh
 // The lines of lots that are to be published.
 fn new_lots_add_up<H: Lookups>(shelf: &mut H, lots: &[NewLot]) -> Result<bool, ShelfFault>
     ensures { Looks H.meaning shelf.old shelf.new (λ s. IsTested (H.meaning.fault_count shelf.old) (H.meaning.fault_count shelf.new)
-        (list_all (λ (lot : NewLotOf). line_adds_up s lot.line) lots.now) result) }
+        (list_all (λ (lot : NewLotOf). line_adds_up s (line_at lot.line s)) lots.now) result) }
 {
     looks_follow::<H>();
     for lot in lots {
@@ -98,7 +100,7 @@ fn new_lots_add_up<H: Lookups>(shelf: &mut H, lots: &[NewLot]) -> Result<bool, S
 // The lines of these lots.
 fn lots_add_up<H: Lookups>(shelf: &mut H, lots: &[LotRow]) -> Result<bool, ShelfFault>
     ensures { Looks H.meaning shelf.old shelf.new (λ s. IsTested (H.meaning.fault_count shelf.old) (H.meaning.fault_count shelf.new)
-        (list_all (λ (lot : LotRowOf). line_adds_up s lot.line) lots.now) result) }
+        (list_all (λ (lot : LotRowOf). line_adds_up s (line_at lot.line s)) lots.now) result) }
 {
     looks_follow::<H>();
     for lot in lots {

@@ -16,7 +16,7 @@ use Rattle.office_requests.specs.declared.route.Allow.{Allow}
 use Rattle.office_requests.specs.declared.route.Route.{Route}
 use Rattle.office_http.specs.AtSight.{is_known_at_sight, refused_at_sight, refused_by_route, refused_to}
 use Rattle.office_http.specs.Credentials.{credentials_of}
-use Rattle.office_http.specs.Meaning.{Meant, Refuses, meant, meant_asked, meant_at, meant_by, who}
+use Rattle.office_http.specs.Meaning.{Refuses, meant, meant_asked, meant_at, meant_by, who}
 use Rattle.office_http.specs.Response.{response_of}
 use Rattle.office_http.specs.declared.reply.Reply.TheVariants.{Refused}
 

@@ -113,10 +113,6 @@ pub record Held : Type 0 where
   pub settings : Settings
   pub tables : Tables
 
--- A desk has these settings, and its store holds these tables.
-abbrev pub IsHeld : {S : Type 0} → Meaning S → DeskOf S → Held → Type 0
-IsHeld M desk h = (desk.settings ≡ h.settings) × M.holds desk.shelf h.tables
-
 -- The office of a desk if its store holds these tables.
 abbrev pub held_by : {S : Type 0} → DeskOf S → Tables → Held
 held_by desk s = record { settings = desk.settings; tables = s }
@@ -134,9 +130,9 @@ office_answers = record {
   refusal = fault_text;
 }
 
--- A desk holds this office, and it is a reached office.
+-- A desk holds this office: it has its settings, and its store holds its tables. The office is a reached one.
 abbrev pub StandsAs : {S : Type 0} → Meaning S → DeskOf S → Held → Type 0
-StandsAs M desk h = IsHeld M desk h × IsReached h.settings.publisher h.tables
+StandsAs M desk h = ((desk.settings ≡ h.settings) × M.holds desk.shelf h.tables) × IsReached h.settings.publisher h.tables
 
 -- A reached office answers the meaning of a request with this text, perhaps with `Unavailable`. The store then holds the office after it, which is reached too.
 -- `StopsAfter` says which states a stop may leave.

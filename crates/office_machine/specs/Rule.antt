@@ -14,14 +14,6 @@ use Rattle.office_base.specs.declared.records.ContractRow.{ContractRow}
 use Rattle.office_machine.specs.Readings.{Readings}
 use Rattle.office_machine.specs.Replies.{Reply}
 
--- The notice of an award.
-abbrev pub notice_in_award : AwardRow → List ℕ
-notice_in_award a = a.notice
-
--- The notice of a contract.
-abbrev pub notice_in_contract : ContractRow → List ℕ
-notice_in_contract c = c.notice
-
 -- How a command determines the notice of its release: it publishes none, names the notice, or names an award or a contract of it.
 pub data Source : Type 0 where
   Silent : Source
@@ -33,8 +25,8 @@ pub data Source : Type 0 where
 abbrev pub notice_of : Source → List AwardRow → List ContractRow → Option (List ℕ)
 notice_of Silent awards contracts = None
 notice_of (UnderNotice notice) awards contracts = Some notice
-notice_of (UnderAward award) awards contracts = option_map notice_in_award (find_award awards award)
-notice_of (UnderContract contract) awards contracts = option_map notice_in_contract (find_contract contracts contract)
+notice_of (UnderAward award) awards contracts = option_map (λ (a : AwardRow). a.notice) (find_award awards award)
+notice_of (UnderContract contract) awards contracts = option_map (λ (c : ContractRow). c.notice) (find_contract contracts contract)
 
 -- The rule of a command: its refusals, its changes, its release and its reply.
 pub record Rule : Type 0 where

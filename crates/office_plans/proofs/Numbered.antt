@@ -9,7 +9,6 @@ use Rattle.office_machine.specs.Counted.{releases_in}
 use Rattle.office_machine.specs.Machine.{Given}
 use Rattle.office_machine.specs.Publications.{published_for}
 use Rattle.office_machine.specs.Replies.{release_of, release_of_award, release_of_contract}
-use Rattle.office_machine.specs.Rule.{notice_in_award, notice_in_contract}
 use Rattle.office_plans.specs.Released.{IsReleased}
 use Rattle.office_plans.specs.declared.published.Released.{Released}
 
@@ -20,10 +19,10 @@ module _ {publisher : Publisher} {x : Given} {r : Released} (made : IsReleased p
       let same : r.notice ≡ notice = cc in
       made.next ∙ ap (λ n. releases_in (notice_at n x.before) + 1) same
 
-  pub numbered_award : (o : Option AwardRow) → published_for x.before x.command ≡ option_map notice_in_award o → r.seq ≡ release_of_award o x.before.notices
+  pub numbered_award : (o : Option AwardRow) → published_for x.before x.command ≡ option_map (λ (a : AwardRow). a.notice) o → r.seq ≡ release_of_award o x.before.notices
   numbered_award None is = let no : None ≡ Some r.notice = sym is ∙ made.for_notice in absurd cc
   numbered_award (Some a) is = numbered_notice a.notice is
 
-  pub numbered_contract : (o : Option ContractRow) → published_for x.before x.command ≡ option_map notice_in_contract o → r.seq ≡ release_of_contract o x.before.notices
+  pub numbered_contract : (o : Option ContractRow) → published_for x.before x.command ≡ option_map (λ (c : ContractRow). c.notice) o → r.seq ≡ release_of_contract o x.before.notices
   numbered_contract None is = let no : None ≡ Some r.notice = sym is ∙ made.for_notice in absurd cc
   numbered_contract (Some c) is = numbered_notice c.notice is

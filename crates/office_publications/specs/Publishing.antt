@@ -1,6 +1,5 @@
 -- The release of each command that publishes.
 use Rattle.std.specs.Prelude.{ℕ, ◌+◌, List, Option, option_map, option_and_then}
-use Rattle.serde_json.specs.Data.{Data}
 use Rattle.serde_json.specs.Written.{compact_text}
 use Rattle.office_values.specs.declared.settings.Publisher.{Publisher}
 use Rattle.office_base.specs.Tables.{notice_at}
@@ -18,13 +17,9 @@ use Rattle.office_publications.specs.Events.{event_of}
 abbrev pub notice_published : Given → Option NoticeRow
 notice_published x = option_and_then (λ notice. notice_at notice x.before) (published_for x.before x.command)
 
--- The release of a command's event, with the notice's next number and the command's moment.
-abbrev pub release_by : Publisher → Given → Event → Data
-release_by publisher x e = release_of_event publisher (releases_in (notice_published x) + 1) (time_of x) e
-
--- The text of the release of a command's event.
+-- The text of the release of a command's event, with the notice's next number and the command's moment.
 abbrev pub text_by : Publisher → Given → Event → List ℕ
-text_by publisher x e = compact_text (release_by publisher x e)
+text_by publisher x e = compact_text (release_of_event publisher (releases_in (notice_published x) + 1) (time_of x) e)
 
 -- The text of a command's release; none if the command publishes nothing.
 abbrev pub release_text : Publisher → Given → Option (List ℕ)

@@ -21,10 +21,6 @@ query_of target = behind 63 target
 abbrev pub decoded : List ℕ → List ℕ
 decoded bytes = if is_utf8 (form.decode bytes) then form.decode bytes else utf8_lossy (form.decode bytes)
 
--- The name and the value of a pair, as texts.
-abbrev pub pair_text : List ℕ × List ℕ → List ℕ × List ℕ
-pair_text pair = (decoded pair.0, decoded pair.1)
-
 -- The parameter after one more value. A first value counts if it has the right form; a second one makes the parameter wrong.
 abbrev pub with_value : {A : Type 0} → Given A → Option A → Given A
 with_value Absent (Some value) = Right value
@@ -39,7 +35,7 @@ with_pair read name given pair = if pointwise nat_eq pair.0 name then with_value
 -- The parameter after these pairs.
 unfoldable pub given_from : {A : Type 0} → (List ℕ → Option A) → List ℕ → Given A → List (List ℕ × List ℕ) → Given A
 given_from read name given [] = given
-given_from read name given (pair ∷ pairs) = given_from read name (with_pair read name given (pair_text pair)) pairs
+given_from read name given (pair ∷ pairs) = given_from read name (with_pair read name given (decoded pair.0, decoded pair.1)) pairs
 
 -- The value that a query string gives for a name.
 abbrev pub given_in : {A : Type 0} → (List ℕ → Option A) → List ℕ → List ℕ → Given A

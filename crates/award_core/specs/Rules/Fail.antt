@@ -27,16 +27,12 @@ isnt_active a = not (is_active a.state)
 abbrev pub stands_still : ℕ → NoticeRow → AwardRow → Bool
 stands_still t n a = nat_lt t (a.moment + days n.standstill)
 
--- whether the notice exists, and the standstill after an award hasn't ended yet
-abbrev pub is_standing_still : ℕ → Option NoticeRow → AwardRow → Bool
-is_standing_still t notice a = holds_of (λ (n : NoticeRow). stands_still t n a) notice
-
 -- the refusals that this rule and that of signing share: the award is decided, the validity has ended, the standstill hasn't, or no release is left
 abbrev pub standing_tests : ℕ → Option AwardRow → Option NoticeRow → List (Bool × Refusal)
 standing_tests t award notice =
     (holds_of isnt_active award, AlreadyDecided)
     ∷ (holds_of (is_expired t) notice, Expired)
-    ∷ (holds_of (is_standing_still t notice) award, Standstill)
+    ∷ (holds_of (λ (a : AwardRow). holds_of (λ (n : NoticeRow). stands_still t n a) notice) award, Standstill)
     ∷ (has_all_releases notice, LimitReached)
     ∷ []
 

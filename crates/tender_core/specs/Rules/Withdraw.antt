@@ -20,13 +20,9 @@ use Rattle.office_base.specs.Tables.{Tables, envelope_at}
 use Rattle.office_base.specs.Parents.{notice_of_envelope, lot_of_envelope, security_of_envelope, late_of_envelope}
 use Rattle.tender_core.specs.declared.withdraw.WithdrawRows.{WithdrawRows}
 
--- whether a tender is neither sealed nor opened
-abbrev pub is_out : EnvelopeRow → Bool
-is_out e = not (is_sealed e.state) && not (is_read e.state)
-
 -- whether the state of a tender forbids its withdrawal: only a sealed tender can be withdrawn, or from the deadline on also an opened one
 abbrev pub cant_be_taken_back : Bool → EnvelopeRow → Bool
-cant_be_taken_back late e = cond late (is_out e) (isnt_sealed e)
+cant_be_taken_back late e = cond late (not (is_sealed e.state) && not (is_read e.state)) (isnt_sealed e)
 
 -- whether the tender can't win any more, or its lot is no longer undecided
 abbrev pub is_decided : Option EnvelopeRow → Option LotRow → Bool

@@ -2,10 +2,11 @@ use Rattle.std.proofs.Common.{◌≡◌, drop}
 use Rattle.std.specs.List.{list_all}
 use Rattle.office_commands.specs.declared.budget.BudgetRow.{BudgetRow}
 use Rattle.office_base.specs.Shelves.{Looks}
+use Rattle.office_base.specs.Tables.{line_at}
 use Rattle.office_desk.specs.MovedLines.{line_adds_up}
 use Rattle.office_desk.proofs.moved_lines.rows_add_up.Given as goal
 
 abbrev pub invariant-loop-row : goal.invariant-loop-row
 invariant-loop-row g l =
     Looks g.H.Lookups.meaning l.fn.shelf l.shelf (λ s. (g.H.Lookups.meaning.fault_count l.shelf ≡ g.H.Lookups.meaning.fault_count l.fn.shelf)
-    × (list_all (λ (row : BudgetRow). line_adds_up s row.line) (drop l.row-index l.rows) ≡ list_all (λ (row : BudgetRow). line_adds_up s row.line) l.rows))
+    × (list_all (λ (row : BudgetRow). line_adds_up s (line_at row.line s)) (drop l.row-index l.rows) ≡ list_all (λ (row : BudgetRow). line_adds_up s (line_at row.line s)) l.rows))

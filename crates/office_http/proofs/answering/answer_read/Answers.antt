@@ -1,4 +1,4 @@
-use Rattle.std.proofs.Common.{◌≡◌, ℕ, Bool, false, None, sym, subst, inl, inr}
+use Rattle.std.proofs.Common.{◌≡◌, ℕ, None, sym, subst, inl, inr}
 use Rattle.office_values.specs.declared.settings.Settings.{Settings}
 use Rattle.office_publications.specs.Standing.{IsReached}
 use Rattle.office_http.specs.Inside.Meant.{Answered, CanBeMeant}
