@@ -2,6 +2,8 @@ mod Kept
 mod Once
 mod Shelves
 mod FormsStand
+mod FormsFound
+pub mod Causes
 mod RestKept
 pub mod Founding
 mod Migrating
