@@ -280,6 +280,7 @@ pub(crate) fn version_at(row: &Row, at: usize, version: u64) -> Result<(), Shelf
 // The version in a column, which must be below this one.
 pub(crate) fn earlier_at(row: &Row, at: usize, version: u64) -> Result<u64, ShelfFault>
     ensures exact { IfOk result (λ earlier. whole earlier ≡ column row.now at) }
+    ensures below { IfOk result (λ earlier. earlier < version) }
     ensures cause { IfErr result (IsFaultOf (IsUnwritten whole (λ n. n < version) (column row.now at))) }
 {
     let earlier = number_at(row, at)?;
