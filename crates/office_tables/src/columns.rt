@@ -169,6 +169,7 @@ pub(crate) fn perhaps_line_at(
 // The text of JSON in a column.
 pub(crate) fn json_at(alloc: Global, row: &Row, at: usize) -> Result<JsonText, ShelfFault>
     ensures exact { IfOk result (λ text. Text text ≡ column row.now at) }
+    ensures fits { IfOk result IsUtf8 }
     ensures cause { IfErr result (IsFaultOf (IsUnwritten Text IsUtf8 (column row.now at))) }
 {
     let Ok(text) = str::from_utf8(text_at(row, at)?) else {
