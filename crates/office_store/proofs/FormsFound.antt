@@ -1,5 +1,5 @@
 -- A table of the office that stands in a database is found by its form.
-use Rattle.std.proofs.Common.{◌≡◌, ◌⊎◌, inl, inr, ℕ, suc, ◌==◌, Bool, true, false, cond, List, [], ◌∷◌, Option, Some, None, length, filter, map, refl, sym, ap, subst, ◌∙◌, true≢false}
+use Rattle.std.proofs.Common.{◌≡◌, ◌⊎◌, inl, inr, ℕ, zero, suc, ◌+◌, ◌<◌, ◌==◌, Bool, Bor, true, false, cond, List, [], ◌∷◌, Option, Some, None, length, filter, map, slice_index_or, take, arith, refl, sym, ap, subst, ◌∙◌, true≢false}
 use Rattle.std.specs.Prelude.{is_some, ◌&&◌}
 use Rattle.std.proofs.lemmas.Bool.{cases_Bool, eqb-true, eq-eqb}
 use Rattle.sqlite_trees.specs.Tree.{IsAscending}
@@ -115,3 +115,28 @@ pub was_mapped : {X Y : Type 0} (f : X → Y) (xs : List X) (y : Y) → Has (map
 was_mapped f [] y none = absurd none
 was_mapped f (x ∷ xs) y (inl same) = (x, inl refl, same)
 was_mapped f (x ∷ xs) y (inr later) = let it = was_mapped f xs y later in (it.0, inr it.1, it.2)
+
+-- ---- names in a list of borrowed texts
+
+abbrev bytes_of : Bor (List ℕ) → List ℕ
+bytes_of name = name.now
+
+pub has_item : (names : List (Bor (List ℕ))) (k : ℕ) (d : Bor (List ℕ)) → k < length names → Has (map bytes_of names) (bytes_of (slice_index_or names k d))
+has_item [] k d at = absurd (omega (arith, at))
+has_item (x ∷ names) zero d at = inl refl
+has_item (x ∷ names) (suc k) d at = inr (has_item names k d (omega (arith, at)))
+
+last_suc : (names : List (Bor (List ℕ))) (k : ℕ) (d : Bor (List ℕ)) (P : List ℕ → Type 0) → k < length names → ((name : List ℕ) → Has (map bytes_of (take k names)) name → P name)
+    → P (bytes_of (slice_index_or names k d)) → (name : List ℕ) → Has (map bytes_of (take (suc k) names)) name → P name
+last_suc [] k d P at early last name h = absurd (omega (arith, at))
+last_suc (x ∷ names) zero d P at early last name (inl same) = subst P (sym same) last
+last_suc (x ∷ names) zero d P at early last name (inr later) = absurd later
+last_suc (x ∷ names) (suc k) d P at early last name (inl same) = early name (inl same)
+last_suc (x ∷ names) (suc k) d P at early last name (inr later) = last_suc names k d P (omega (arith, at)) (λ other h. early other (inr h)) last name later
+
+-- what is true of the texts before one and of this one is true of all up to it
+pub last_one : (names : List (Bor (List ℕ))) (k : ℕ) (d : Bor (List ℕ)) (P : List ℕ → Type 0) → k < length names → ((name : List ℕ) → Has (map bytes_of (take k names)) name → P name)
+    → P (bytes_of (slice_index_or names k d)) → (name : List ℕ) → Has (map bytes_of (take (k + 1) names)) name → P name
+last_one names k d P at early last name h =
+    let next : k + 1 ≡ suc k = omega arith in
+    last_suc names k d P at early last name (subst (λ (n : ℕ). Has (map bytes_of (take n names)) name) next h)

@@ -8,6 +8,7 @@ mod RestKept
 pub mod Founding
 mod Migrating
 mod Reopening
+mod LogCauses
 mod ReadLogs
 mod Paths
 mod Joined

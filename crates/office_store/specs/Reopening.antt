@@ -4,7 +4,7 @@ use Rattle.sqlite_disk.specs.declared.Disk.{Ghosts}
 use Rattle.sqlite_disk.specs.declared.Files.{Files}
 use Rattle.sqlite_disk.specs.Disk.{MoreFaults}
 use Rattle.sqlite_wal.specs.Files.{outcomes}
-use Rattle.sqlite_wal.specs.Reads.{AreClean}
+use Rattle.sqlite_wal.specs.Reads.{AreClean, OnlyReadsBoth}
 use Rattle.sqlite_wal.specs.Recovery.{Image}
 use Rattle.sqlite_store.specs.declared.store.FileStore.{FileStore}
 use Rattle.sqlite_store.specs.FileStore.{faults, recovers, view}
@@ -15,7 +15,7 @@ use Rattle.sqlite_trees.specs.declared.store.Store.{Ghosts as StoreGhosts}
 use Rattle.sqlite.specs.Effect.{Database}
 use Rattle.sqlite.specs.Held.{Held, AreDatabases, state}
 use Rattle.sqlite.specs.State.{HasCleanDisk, Survives}
-use Rattle.sqlite.specs.Files.{file_state, over_files, image_of, FailsToOpenFiles, HoldsDatabase, IsOpened, IsClosed, IsCleanLeft, LeavesFiles}
+use Rattle.sqlite.specs.Files.{file_state, over_files, image_of, faults_left, faults_of, FailsToOpenFiles, HoldsDatabase, IsOpened, IsClosed, IsCleanLeft, LeavesFiles}
 use Rattle.sqlite.specs.Start.{FindsIn}
 use Rattle.sqlite.specs.Closing.{HoldsAlone, IsCopied}
 use Rattle.sqlite.specs.declared.error.Error.{Error}
@@ -28,7 +28,7 @@ use Rattle.office_tables.specs.Steps.{ShowsTables, MayLeave}
 use Rattle.office_store.specs.Founding.{CanNotEnter, Enters, IsNoOffice, LeavesOffice, opening_of}
 use Rattle.office_store.specs.SqlMeaning.{LeavesOffices}
 use Rattle.office_store.specs.declared.found.OpenFault.{OpenFault}
-use Rattle.office_store.specs.Logs.{HasCommit, is_unused}
+use Rattle.office_store.specs.Logs.{HasCommit, LacksCommit, is_unused}
 use Rattle.office_store.specs.declared.opened.Origin.{Origin}
 use Rattle.office_store.specs.declared.opened.Origin.TheVariants as from
 use Rattle.office_store.specs.declared.found.OpenFault.TheVariants as fault
@@ -141,9 +141,13 @@ module _ {D : Type 0} {g : Ghosts D} where
   IsUsableLeft (left.Unopened files) = ⊤
   IsUsableLeft (left.Store store) = ⊤
 
-  -- SQLite didn't open the files, and the fault is that of its error
+  -- SQLite refused to open the files as they were after a look at the log, and the fault is that of its error. Or the look itself failed: the disk did, or the log
+  -- was used and recovery takes nothing from it. Too little memory needs no other reason.
   abbrev pub AreUnopened : Files D → OpenFault → Leftover D g → Type 0
-  AreUnopened files why rest = (e : Error) × FailsToOpenFiles files rest e × (why ≡ opening_of (fault_of e))
+  AreUnopened files why rest =
+      ((looked : Files D) × OnlyReadsBoth g (files.log, files.db) (looked.log, looked.db)
+      × ((e : Error) × FailsToOpenFiles looked rest e × (why ≡ opening_of (fault_of e))))
+      ⊎ (why ≡ fault.Store → MoreFaults (faults_of g files) (faults_left rest) ⊎ ((is_unused (g.seen files.log) ≡ false) × LacksCommit (image_of g files)))
 
   -- An opening failed on a clean disk. Either SQLite didn't open the files: they hold what they held, or an empty database. Or they were opened and closed
   -- again: the reason is true, and the content that was found in them stays.

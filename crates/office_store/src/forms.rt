@@ -110,8 +110,8 @@ fn named_stand(schema: &Schema, forms: &Schema, names: &[&[u8]], edition: u64) -
     ensures right { IsTrue result → (form : Form) (n : ℕ) → Has (map (λ name. name.now) names.now) form.name → IsIn forms.now form n → StandsOrLacks edition schema.now form }
     ensures found { ((name : List ℕ) → Has (map (λ name. name.now) names.now) name → (form : Form) × (n : ℕ) × (name ≡ form.name) × IsIn forms.now form n × HasPlainRules form × StandsOrLacks edition schema.now form) → IsTrue result }
 {
-    for at in 0..names.len() {
-        if !form_stands(schema, forms, names[at], edition) {
+    for name in names {
+        if !form_stands(schema, forms, name, edition) {
             return false;
         }
     }

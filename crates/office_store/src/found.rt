@@ -146,7 +146,6 @@ fn origin_of(edition: u64) -> Origin
 
 /// Enters the office in the database, and migrates it if it is of an earlier edition. If there is none, it makes an office, but only if it may, and if no name of
 /// its tables is taken. After success the store is open.
-#[tactic(auto, using(crate::proofs::Causes::refused_so))]
 pub(crate) fn enter<S: Alter>(
     alloc: Global,
     conn: &mut Connection<S>,
