@@ -17,7 +17,7 @@ use Rattle.office_store.specs.Founding.{EntersOrCanNot, IsHindered, is_other_ver
 use Rattle.office_store.specs.declared.found.OpenFault.{OpenFault}
 use Rattle.office_store.specs.declared.found.OpenFault.TheVariants as fault
 
--- what stands in its way stood there before, where the last commit is the same
+-- what hindered the opening did so before too, because the last commit is the same
 hindered_before : (edition : ℕ) (old mid : State) → mid.committed ≡ old.committed → IsHindered edition mid → IsHindered edition old
 hindered_before edition old mid same (inl early) = inl early
 hindered_before edition old mid same (inr lacks) = inr (λ has. lacks (subst (λ (d : Database). HasForms edition d.schema) (sym same) has))
@@ -34,7 +34,7 @@ hindered g old mid new rows edition why asked known is clean kept survives ended
   | inr disk ↦ inl (omega (arith, disk, up))
 ]
 
--- the store's fault of an opening is one of the shelf
+-- an opening calls the store at fault only if the shelf does
 pub store_of : (why : ShelfFault) → opening_of why ≡ fault.Store → why ≡ shelf.Store
 store_of shelf.NoMemory is = absurd (cc)
 store_of shelf.Store is = refl

@@ -1,4 +1,4 @@
--- A table of the office that stands in a database is found by its form.
+-- A table of the office that a database has is found by its form.
 use Rattle.std.proofs.Common.{◌≡◌, ◌⊎◌, inl, inr, ℕ, zero, suc, ◌+◌, ◌<◌, ◌==◌, Bool, Bor, true, false, cond, List, [], ◌∷◌, Option, Some, None, length, filter, map, slice_index_or, take, arith, refl, sym, ap, subst, ◌∙◌, true≢false}
 use Rattle.std.specs.Prelude.{is_some, ◌&&◌}
 use Rattle.std.proofs.lemmas.Bool.{cases_Bool, eqb-true, eq-eqb}

@@ -40,7 +40,7 @@ names_some log db seen (Some other) size is same by_log by_file =
     let it : other ≡ size = cc in
     (λ read. ap bytes_of (sym it) ∙ (by_log read).1, λ ignored. ap bytes_of (sym it) ∙ (by_file ignored).1 ∙ ap size_in_file same)
 
--- an error that isn't want of memory is a fault of the disk, or refuses the log
+-- an error other than too little memory is a fault of the disk, or refuses the log
 pub refused_log : (old new : ℕ) (Refuses : Error → Type 0) (error : Error) (why : OpenFault) → (error ≡ wal.OutOfMemory → why ≡ fault.NoMemory) → HasCause old new Refuses error
     → why ≡ fault.Store → MoreFaults old new ⊎ ((e : Error) × Refuses e)
 refused_log old new Refuses (wal.Io e) why memory cause store = inl cause

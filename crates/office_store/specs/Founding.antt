@@ -118,7 +118,7 @@ Enters g from.Made old new = HasNoVersion g old × (takes_a_name old.schema ≡ 
 abbrev pub IsNoOffice : {S : Type 0} → Ghosts S → Held S → Type 0
 IsNoOffice g old = Answered g old is_other_version ⊎ (HasNoVersion g old × (takes_a_name old.schema ≡ true))
 
--- the fault of a shelf, as one of an opening
+-- the fault of an opening that this fault of the store becomes
 abbrev pub opening_of : ShelfFault → OpenFault
 opening_of shelf.NoMemory = fault.NoMemory
 opening_of shelf.Store = fault.Store
@@ -127,7 +127,7 @@ opening_of shelf.Store = fault.Store
 abbrev pub IsHindered : ℕ → State → Type 0
 IsHindered edition s = IsTrue (nat_lt edition this_version) ⊎ ¬ (HasForms edition s.committed.schema)
 
--- Why an opening fails as the store does. The disk failed. Or the question for the version was refused, and not for want of memory. Or an office of an earlier
+-- Why an opening fails as the store does. The disk failed. Or the question for the version was refused, though there was enough memory. Or an office of an earlier
 -- version couldn't be migrated, or one of this version has a table in another form. Or there was none, and it couldn't be made.
 abbrev pub CanNotEnter : {S : Type 0} → Ghosts S → Held S → Held S → Type 0
 CanNotEnter g old new =

@@ -141,7 +141,7 @@ module _ {D : Type 0} {g : Ghosts D} where
   IsUsableLeft (left.Unopened files) = ⊤
   IsUsableLeft (left.Store store) = ⊤
 
-  -- SQLite refused to open the files as they were after a look at the log, and the fault is that of its error. Or the look itself failed: the disk did, or the log
+  -- SQLite refused to open the files after the log had been read, and the fault is that of its error. Or the log couldn't be read: the disk failed, or the log
   -- was used and recovery takes nothing from it. Too little memory needs no other reason.
   abbrev pub AreUnopened : Files D → OpenFault → Leftover D g → Type 0
   AreUnopened files why rest =

@@ -16,7 +16,7 @@ use sqlite::{Alter, Connection, MemStore};
 use sqlite_schema::schema::{Schema, Table};
 use std::alloc::Global;
 
-// An empty office in memory, whose tables show the form of all offices. It fails only for want of memory.
+// An empty office in memory, whose tables show the form of all offices. It fails only if memory is too small.
 fn blank(alloc: Global) -> Result<Connection<MemStore>, OpenFault>
     ensures forms { IfOk result (λ conn. ListsForms conn.schema) }
     ensures cause { IfErr result (λ e. e ≡ OpenFault.NoMemory) }

@@ -19,7 +19,7 @@ fn same_value(a: &Value, b: &Value) -> bool
     is_same(lend_value(a), lend_value(b))
 }
 
-// Whether NULL stands there.
+// Whether the term at this place is NULL.
 fn is_null(ops: &[Op], depth: usize, at: usize) -> bool
     ensures { IsTrue result ↔ (term_to ops.now depth at ≡ lit Null) }
 {
@@ -32,7 +32,7 @@ fn is_null(ops: &[Op], depth: usize, at: usize) -> bool
     }
 }
 
-// Whether no term stands there.
+// Whether there is no term at this place.
 fn is_past(ops: &[Op], depth: usize, at: usize) -> bool
     ensures past { IsTrue result → term_to ops.now depth at ≡ lit Null }
     ensures within { result ≡ false → (0 < depth) × (at < length ops.now) }

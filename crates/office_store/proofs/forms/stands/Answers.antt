@@ -11,7 +11,7 @@ use Rattle.office_tables.specs.Known.{at_tree}
 use Rattle.office_store.specs.Forms.{StandsAlike}
 use Rattle.office_store.proofs.forms.stands.Goals as goal
 
--- the table that the name finds has the tree of the one that stands there
+-- the table that the name finds has the tree of the table with this form
 tree_is : (schema : Schema) (form item : Table) (place : ℕ) (it : StandsAlike schema form) → table_named schema form.name ≡ Some place → slice_get schema.tables place ≡ Some item → item.tree ≡ it.tree
 tree_is schema form item place it named here =
     let same : place ≡ it.place = (let e : Some place ≡ Some it.place = sym named ∙ it.named in cc) in
