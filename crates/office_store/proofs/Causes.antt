@@ -34,7 +34,7 @@ hindered g old mid new rows edition why asked known is clean kept survives ended
   | inr disk ↦ inl (omega (arith, disk, up))
 ]
 
--- an opening calls the store at fault only if the shelf does
+-- an opening that calls the store at fault had a look-up that did
 pub store_of : (why : ShelfFault) → opening_of why ≡ fault.Store → why ≡ shelf.Store
 store_of shelf.NoMemory is = absurd (cc)
 store_of shelf.Store is = refl
