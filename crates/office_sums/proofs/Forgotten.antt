@@ -16,18 +16,22 @@ step false old new sums is found = (sym is ∙ found, refl)
 
 -- one line is removed
 pub forgotten : (line : List ℕ) (old new : List (List ℕ × SumsOfLine)) → ((q : List ℕ) → sums_at new q ≡ cond (is_at (id_cmp line) q) None (sums_at old q)) → Forgets (line ∷ []) old new
-forgotten line old new each q sums found =
-    let left : (sums_at old q ≡ Some sums) × (is_at (id_cmp line) q ≡ false) = step (is_at (id_cmp line) q) (sums_at old q) (sums_at new q) sums (each q) found in
-    (left.0, (texts_ties line q ∙ left.1, tt))
+forgotten line old new each = record {
+  each = λ q sums found.
+      let left : (sums_at old q ≡ Some sums) × (is_at (id_cmp line) q ≡ false) = step (is_at (id_cmp line) q) (sums_at old q) (sums_at new q) sums (each q) found in
+      (left.0, (texts_ties line q ∙ left.1, tt));
+}
 
 pub forgets_none : (known : List (List ℕ × SumsOfLine)) → Forgets [] known known
-forgets_none known line sums found = (found, tt)
+forgets_none known = record { each = λ line sums found. (found, tt) }
 
 pub forgets_both : (xs ys : List (List ℕ)) (a b c : List (List ℕ × SumsOfLine)) → Forgets xs a b → Forgets ys b c → Forgets (xs ++ ys) a c
-forgets_both xs ys a b c first second line sums found =
-    let later : (sums_at b line ≡ Some sums) × IsNoneOf line ys = second line sums found in
-    let sooner : (sums_at a line ≡ Some sums) × IsNoneOf line xs = first line sums later.0 in
-    (sooner.0, none_of_both line xs ys sooner.1 later.1)
+forgets_both xs ys a b c first second = record {
+  each = λ line sums found.
+      let later : (sums_at b line ≡ Some sums) × IsNoneOf line ys = second.each line sums found in
+      let sooner : (sums_at a line ≡ Some sums) × IsNoneOf line xs = first.each line sums later.0 in
+      (sooner.0, none_of_both line xs ys sooner.1 later.1);
+}
 
 pub forgets_then : {T E : Type 0} (result : Result T E) (xs ys : List (List ℕ)) (a b c : List (List ℕ × SumsOfLine)) → Forgets xs a b → IfOk result (λ _. Forgets ys b c)
     → IfOk result (λ _. Forgets (xs ++ ys) a c)
@@ -36,4 +40,4 @@ forgets_then (Err e) xs ys a b c first second = tt
 
 -- sums that agreed with the tables still do
 pub still : (lines : List (List ℕ)) (old new : List (List ℕ × SumsOfLine)) (t : Tables) → Forgets lines old new → Remembers old t → Remembers new t
-still lines old new t forgets h line sums found = h line sums (forgets line sums found).0
+still lines old new t forgets h = record { each = λ line sums found. h.each line sums (forgets.each line sums found).0 }

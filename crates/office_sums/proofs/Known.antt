@@ -1,12 +1,12 @@
 -- Sums that are remembered once they were added up, and balances that are made from remembered sums.
 use Rattle.std.specs.Prelude.{◌≡◌, ℕ, Bool, true, false, cond, List, [], Option, Some, None, Result, Ok, Err, OnOk, OnErr, IfSome, IfNone}
 use Rattle.std.proofs.Common.{refl, sym, ap, subst, ◌∙◌}
-use Rattle.std.specs.BTreeMap.{is_at}
+use Rattle.std.specs.BTreeMap.{BTreeMap, is_at, Updates}
 use Rattle.std.proofs.lemmas.Map.Lookups.{exact_bytes}
 use Rattle.std.proofs.lemmas.Map.Views.{tells_apart}
 use Rattle.office_values.specs.Ids.{id_cmp}
 use Rattle.office_base.specs.Tables.{Tables}
-use Rattle.office_base.specs.Joined.{reserved, contracted, paid, pots_of, reservations, sums_of_line, LineFits}
+use Rattle.office_base.specs.Joined.{reserved, contracted, pots_of, reservations, sums_of_line, LineFits}
 use Rattle.office_base.specs.LineSums.{pots_with, SumsFit, AreJoined}
 use Rattle.office_base.specs.declared.ledger.ContractSums.{ContractSums}
 use Rattle.office_base.specs.declared.ledger.Pots.{Pots}
@@ -30,14 +30,14 @@ step line q sums found old new t are h false same is there = h (sym is ∙ there
 -- one line is added, or gets other sums
 pub remembered : (line : List ℕ) (sums : SumsOfLine) (old new : List (List ℕ × SumsOfLine)) (t : Tables)
     → ((q : List ℕ) → sums_at new q ≡ cond (is_at (id_cmp line) q) (Some sums) (sums_at old q)) → AreSums line sums t → Remembers old t → Remembers new t
-remembered line sums old new t each are h q found there =
-    step line q sums found (sums_at old q) (sums_at new q) t are (h q found) (is_at (id_cmp line) q) (tells_apart exact_bytes line q) (each q) there
+remembered line sums old new t each are h = record {
+  each = λ q found there. step line q sums found (sums_at old q) (sums_at new q) t are (h.each q found) (is_at (id_cmp line) q) (tells_apart exact_bytes line q) (each q) there;
+}
 
 -- the same, whether there was memory for the line or not
-pub put : {T E R : Type 0} (result : Result T E) (line : List ℕ) (sums : SumsOfLine) (old new : List (List ℕ × SumsOfLine)) (t : Tables)
-    → OnOk result (((q : List ℕ) → sums_at new q ≡ cond (is_at (id_cmp line) q) (Some sums) (sums_at old q)) × R) → OnErr result (new ≡ old)
-    → AreSums line sums t → Remembers old t → Remembers new t
-put (Ok v) line sums old new t updates same are h = remembered line sums old new t updates.0 are h
+pub put : {T E : Type 0} (result : Result T E) (line : List ℕ) (sums : SumsOfLine) (old new : BTreeMap (List ℕ) SumsOfLine) (t : Tables)
+    → OnOk result (Updates id_cmp old new line (Some sums)) → OnErr result (new.entries ≡ old.entries) → AreSums line sums t → Remembers old.entries t → Remembers new.entries t
+put (Ok v) line sums old new t updates same are h = remembered line sums old.entries new.entries t updates.0 are h
 put (Err e) line sums old new t updates same are h = subst (λ known. Remembers known t) (sym same) h
 
 -- the sums in a line's balances

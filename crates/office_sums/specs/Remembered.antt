@@ -1,5 +1,5 @@
 -- The sums of budget lines that a store remembers, and when they agree with its tables.
-use Rattle.std.specs.Prelude.{◌≡◌, ℕ, List, ◌∷◌, [], Option, Some, None}
+use Rattle.std.specs.Prelude.{◌≡◌, ℕ, List, Option, Some, None}
 use Rattle.std.specs.BTreeMap.{is_at}
 use Rattle.std.specs.List.{AllByRecursion}
 use Rattle.std.specs.Map.{lookup}
@@ -25,16 +25,16 @@ pub record AreSums (line : List ℕ) (sums : SumsOfLine) (t : Tables) : Type 0 w
   pub fit : LineFits line t
 
 -- each line that is remembered has these sums in the tables
-abbrev pub Remembers : List (List ℕ × SumsOfLine) → Tables → Type 0
-Remembers known t = (line : List ℕ) (sums : SumsOfLine) → sums_at known line ≡ Some sums → AreSums line sums t
+pub record Remembers (known : List (List ℕ × SumsOfLine)) (t : Tables) : Type 0 where
+  pub each : (line : List ℕ) (sums : SumsOfLine) → sums_at known line ≡ Some sums → AreSums line sums t
 
 -- the lines that are still remembered are none of these lines, and have the sums that they had
-abbrev pub Forgets : List (List ℕ) → List (List ℕ × SumsOfLine) → List (List ℕ × SumsOfLine) → Type 0
-Forgets lines old new = (line : List ℕ) (sums : SumsOfLine) → sums_at new line ≡ Some sums → (sums_at old line ≡ Some sums) × IsNoneOf line lines
+pub record Forgets (lines : List (List ℕ)) (old new : List (List ℕ × SumsOfLine)) : Type 0 where
+  pub each : (line : List ℕ) (sums : SumsOfLine) → sums_at new line ≡ Some sums → (sums_at old line ≡ Some sums) × IsNoneOf line lines
 
 -- no line that is remembered is touched by these changes
-abbrev pub AreUntouched : List (List ℕ × SumsOfLine) → List Put → Tables → Type 0
-AreUntouched known puts t = (line : List ℕ) (sums : SumsOfLine) → sums_at known line ≡ Some sums → IsNoneOf line (touched_by puts t)
+pub record AreUntouched (known : List (List ℕ × SumsOfLine)) (puts : List Put) (t : Tables) : Type 0 where
+  pub each : (line : List ℕ) (sums : SumsOfLine) → sums_at known line ≡ Some sums → IsNoneOf line (touched_by puts t)
 
 -- the sums that are remembered of lines that changes don't touch agree with the tables after these changes
 abbrev pub SumsStay : Type 0

@@ -1,4 +1,4 @@
-use Rattle.std.specs.Prelude.{◌+◌, List, ◌∷◌, drop}
+use Rattle.std.specs.Prelude.{◌+◌, List, drop}
 use Rattle.std.proofs.Common.{sym, subst, ◌∙◌, arith}
 use Rattle.std.proofs.lemmas.List.{at_drop_all, drop_more}
 use Rattle.office_base.proofs.Looked.{keeps_then}
@@ -21,7 +21,7 @@ loop-put-preserved g c =
             let item = c.put-item.result in
             let rest : List Put = drop (i + 1) puts in
             let middle = step.looks.0.0.before honest in
-            let now = step.looks.0.1 honest t (c.loop-put.invariant.0.0.same middle t held) line sums found in
+            let now = (step.looks.0.1 honest t (c.loop-put.invariant.0.0.same middle t held)).each line sums found in
             c.loop-put.invariant.0.1 middle t held line sums now.0
             (subst (λ (ps : List Put). IsNoneOf line (touched_by ps t)) (sym (drop_more puts i item c.loop-put-test.true))
             (none_of_both line _ (touched_by rest t) (subst (λ (p : Put). IsNoneOf line (touched p t)) c.put-item.is now.1) none)),
@@ -34,9 +34,11 @@ pub returns-clause-looks : goal.returns-clause-looks
 returns-clause-looks g c = (
   (
     c.loop-put.invariant.0.0,
-    λ honest t held line sums found.
-        c.loop-put.invariant.0.1 honest t held line sums found
-        (subst (IsNoneOf line) (sym (at_drop_all (λ (ps : List Put). touched_by ps t) c.args.puts.now c.loop-put.put-index (omega arith))) tt),
+    λ honest t held. record {
+      each = λ line sums found.
+          c.loop-put.invariant.0.1 honest t held line sums found
+          (subst (IsNoneOf line) (sym (at_drop_all (λ (ps : List Put). touched_by ps t) c.args.puts.now c.loop-put.put-index (omega arith))) tt);
+    },
   ),
   record { counted = c.loop-put.invariant.1; cause = tt },
 )

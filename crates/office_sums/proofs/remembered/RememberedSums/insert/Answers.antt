@@ -6,6 +6,6 @@ use Rattle.office_sums.specs.Remembered.{Remembers}
 pub returns : goal.returns
 returns c = record {
   kept = λ t are h.
-      put c.insert.result c.args.line c.args.sums c.self.inside.sums.entries c.insert.new.self.entries t c.insert.ensures.updates c.insert.ensures.err are
+      put c.insert.result c.args.line c.args.sums c.self.inside.sums c.insert.new.self t c.insert.ensures.updates c.insert.ensures.err are
       (subst (λ known. Remembers known t) (sym c.self.view_is) h);
 }
