@@ -50,7 +50,8 @@ class Load:
     """Firms that submit tenders and a clerk who imports, until the server is killed. It keeps each answered command with the second of its answer."""
 
     def __init__(self, trial):
-        self.port, self.size, self.ends, self.receipts, self.imports, self.sent = trial.port, trial.size, threading.Event(), {}, {}, set()
+        self.port, self.size, self.rate = trial.port, trial.size, trial.rate
+        self.ends, self.receipts, self.imports, self.sent = threading.Event(), {}, {}, set()
         self.workers = [threading.Thread(target=work, daemon=True) for work in (self.submit_all, self.import_all)]
 
     def __enter__(self):
@@ -66,7 +67,7 @@ class Load:
     def send(self, text):
         """The members of the answer; None if no whole answer of status 200 came."""
         response = what_came(self.port, text)
-        self.ends.wait(1 / RATE)
+        self.ends.wait(1 / self.rate)
         return json.loads(response.partition(b"\r\n\r\n")[2]) if is_whole(response) else None
 
     def submit_all(self):
@@ -97,7 +98,8 @@ class Trial:
         self.file, self.made, self.copies = os.path.join(self.first, "office.db"), os.path.join(self.second, "office.db"), os.path.join(self.second, "copies")
         for name in (self.first, self.second, self.copies):
             os.mkdir(name)
-        self.source, self.shell, self.said, self.count, self.size = self.file, {}, os.path.join(self.folder, "said"), 0, SIZE
+        self.source, self.shell, self.said = self.file, {}, os.path.join(self.folder, "said")
+        self.count, self.size, self.rate = 0, SIZE, RATE
 
     def planted(self, name):
         """The script with a fault."""
@@ -281,12 +283,12 @@ def test_a_stopped_follower(trial):
 
 def test_a_file_without_its_log(trial):
     """A planted follower copies the file without the log. The drill finds lost commands."""
-    # (The file is an office before, and the load is too small for the log to be moved into it.)
+    # (The file is an office before. The load is too slow and too small for the log to be moved into it on any machine.)
     trial.planted("a_file_without_its_log")
     with trial.served():
         trial.prepare()
         move_logs(trial, 1)
-    trial.size = 100
+    trial.size, trial.rate = 100, RATE / 4
     load, killed, made = lose(trial)
     found = list(is_lost(load, killed, trial.made)) if made.returncode == 0 else [made]
     assert any(f"receipt {trial.count + 1} is lost" in str(it) for it in found)
