@@ -9,7 +9,7 @@ LAYERS = [
     ("The program", "#e4e7eb", ["procure_config", "procure_programs", "procure"]),
     ("HTTP: requests, routes, responses", "#fbdfdf", ["office_wire", "office_requests", "office_http"]),
     ("Commands and queries", "#fbdfdf", ["office_plans", "office_desk"]),
-    ("Stores: in memory, in SQL", "#ece3f4", ["office_memory", "office_changes", "office_store", "office_ledger", "office_tables"]),
+    ("Stores: in memory, in SQL", "#ece3f4", ["office_memory", "office_sums", "office_changes", "office_store", "office_ledger", "office_tables"]),
     ("Publication", "#fdebcf", ["ocds_merge", "ocds_release", "office_publications"]),
     ("Rules of the commands", "#dcf0dd", ["tender_papers", "office_machine", "tender_core", "award_core"]),
     ("Values and records", "#dbe9f6", ["office_values", "office_commands", "office_base", "keyed_table"]),

@@ -13,6 +13,8 @@ from office_kit.store.life import Life, offer, part
 # sum is too large, which `tools/audit` finds. In a trial of `ANEW` nothing is lost: the program makes a merge that isn't kept from all releases.
 MAY, ANEW = "may be accepted", "is made anew"
 DAY = 86_400
+# Fronts of objects that the office writes in another form. (A script has each brace twice.)
+FRONTS = [("a blank", "{{ "), ("a float", '{{"a":1.5,'), ("a name out of order", '{{"z":1,'), ("a name twice", '{{"a":1,"a":1,')]
 
 
 class BrokenLife(Life):
@@ -170,12 +172,14 @@ def merge_gone(name: str) -> str:
 
 def of_releases(name: str, is_long: bool) -> list[tuple[str, ...]]:
     """Trials with missing releases of a notice; with more than two of them, also with some. A publication compares the numbers of all releases with the
-    notice's count. It continues from their merge, or from all releases if the merge isn't kept."""
+    notice's count. It continues from their merge, or from all releases if the merge isn't kept. It reads only texts as the office writes them."""
     second, last = " AND seq = 2", f" AND seq = (SELECT max(seq) FROM releases WHERE notice = '{name}')"
     found = [("all releases", releases_gone(name)), ("all releases and the merge", releases_gone(name) + merge_gone(name)),
              ("the merge", merge_gone(name), ANEW), ("the merge that isn't JSON", f"UPDATE compiled SET text = '{{{{' WHERE notice = '{name}';"),
              ("the merge that is no object", f"UPDATE compiled SET text = '[]' WHERE notice = '{name}';"),
+             *((f"the merge with {what}", f"UPDATE compiled SET text = '{front}' || substr(text, 2) WHERE notice = '{name}';") for what, front in FRONTS),
              ("the merge, and a release that is no object", merge_gone(name) + f"UPDATE releases SET text = '[]' WHERE notice = '{name}' AND seq = 1;"),
+             ("the merge, and a release with a blank", merge_gone(name) + f"UPDATE releases SET text = text || ' ' WHERE notice = '{name}' AND seq = 1;"),
              ("a release with the next number is there", release_added(name, 1)), ("a release with a later number is there", release_added(name, 5))]
     if is_long:
         found += [("a release in the middle", releases_gone(name, second)), ("the last release", releases_gone(name, last)),

@@ -3,7 +3,7 @@
 A notice is published into a new file. Python's sqlite3 then writes 225 payments into the stored merge of its releases, so that it has about 38 kB. (No commands
 lead to such an office; only its cost matters here.) Deadline moves are served under valgrind, which counts the program's instructions, over the long merge and
 over the one that the program made. The difference, divided by the additional bytes of the long merge, is the cost of the merge, with reading and writing its
-row. It must be at most MOST instructions a byte. For a long merge with a fraction in it the program uses a tree: its cost must be above MOST.
+row. It must be at most MOST instructions a byte. For a long merge with a sign in it the program uses a tree: its cost must be above MOST.
 
 Counts of instructions don't depend on other work of the machine.
 """
@@ -87,5 +87,5 @@ def test_kept_merge(merges):
 
 
 def test_merge_by_a_tree(merges):
-    """(A number that isn't whole makes the program read the text into a tree.)"""
-    assert merges.rate(12.5) > MOST
+    """(A number below 0 makes the program read the text into a tree.)"""
+    assert merges.rate(-12) > MOST

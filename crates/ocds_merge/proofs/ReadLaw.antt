@@ -6,7 +6,6 @@ use Rattle.json.specs.Json as json
 use Rattle.serde_json.specs.Data.{Data, object, Items, item, Members, no_members, put}
 use Rattle.serde_json.specs.Read.{read, max_depth, of_json, of_items, of_members}
 use Rattle.serde_json.proofs.OnLiterals.{serde_json_on_literals}
-use Rattle.ocds_merge.specs.Stored.{IsObjectText}
 
 pub item_converts : (j : json.Json) (js : json.Items) (d : Data) (ds : Items) → of_json j ≡ Some d → of_items js ≡ Some ds → of_items (json.item j js) ≡ Some (item d ds)
 item_converts j js d ds e f = rw e (ap (λ (o : Option Items). option_map (item d) o) f)
@@ -47,35 +46,5 @@ object_begun : (rest : List ℕ) → read (123 ∷ rest) ≡ whole (json.parse_m
 unfolding serde_json_on_literals whole members_after
 object_begun rest = refl
 
-pub object_read : (text rest : List ℕ) (d : Data) → text ≡ 123 ∷ rest → read text ≡ Some d → IsObjectText text
-object_read text rest d is reads =
-    let found = object_whole (members_after rest) d (sym (object_begun rest) ∙ ap read (sym is) ∙ reads) in
-    (found.0, reads ∙ ap Some found.1)
-
--- ---- spaces
-
-pub read_past_space : (rest : List ℕ) → read (32 ∷ rest) ≡ read rest
-unfolding serde_json_on_literals
-read_past_space rest = refl
-
-pub read_past_line_feed : (rest : List ℕ) → read (10 ∷ rest) ≡ read rest
-unfolding serde_json_on_literals
-read_past_line_feed rest = refl
-
-pub read_past_carriage_return : (rest : List ℕ) → read (13 ∷ rest) ≡ read rest
-unfolding serde_json_on_literals
-read_past_carriage_return rest = refl
-
-pub read_past_tab : (rest : List ℕ) → read (9 ∷ rest) ≡ read rest
-unfolding serde_json_on_literals
-read_past_tab rest = refl
-
--- ---- a text with spaces in front reads as the text after them
-
-pub past_space : (text left rest : List ℕ) (first : ℕ) → read text ≡ read left → left ≡ first ∷ rest → ((r : List ℕ) → read (first ∷ r) ≡ read r) → read text ≡ read rest
-past_space text left rest first same is space = same ∙ ap read is ∙ space rest
-
-pub begun_object : (text left rest : List ℕ) (first : ℕ) → read text ≡ read left → left ≡ first ∷ rest → first ≡ 123 → (d : Data) → read text ≡ Some d → IsObjectText text
-begun_object text left rest first same is byte d reads =
-    let found = object_read left rest d (is ∙ ap (λ (b : ℕ). b ∷ rest) byte) (sym same ∙ reads) in
-    (found.0, same ∙ found.1)
+pub object_read : (text rest : List ℕ) (d : Data) → text ≡ 123 ∷ rest → read text ≡ Some d → (ms : Members) × (d ≡ object ms)
+object_read text rest d is reads = object_whole (members_after rest) d (sym (object_begun rest) ∙ ap read (sym is) ∙ reads)

@@ -1,6 +1,5 @@
 -- A merge that is stored as text, and changed there.
-use Rattle.std.specs.Prelude.{ℕ, ◌≡◌, ◌≤◌, Bool, false, nat_eq, ◌||◌, ◌&&◌, List, [], ◌∷◌, Some}
-use Rattle.json.specs.Word.{is_space}
+use Rattle.std.specs.Prelude.{ℕ, ◌≡◌, ◌≤◌, false, List, Some}
 use Rattle.serde_json.specs.Data.{Data, Members, object, depth}
 use Rattle.serde_json.specs.Read.{read, max_depth}
 use Rattle.serde_json.specs.Written.{compact_text, has_float}
@@ -11,14 +10,13 @@ pub record KeepsMerge (text : List ℕ) (vs : List Data) : Type 0 where
   pub is : text ≡ compact_text (merge_or_null vs)
   pub reads : read text ≡ Some (merge_or_null vs)
 
--- the text is read as a JSON object
-abbrev pub IsObjectText : List ℕ → Type 0
-IsObjectText text = (members : Members) × (read text ≡ Some (object members))
-
--- whether the first byte that isn't a space opens an object
-abbrev pub begins_object : List ℕ → Bool
-begins_object [] = false
-begins_object (b ∷ bs) = nat_eq b 123 || (is_space b && begins_object bs)
+-- The text is a JSON object as the office writes it. Its value has no float, and the text is the value's compact text. So it has no blanks. Its names are in
+-- byte order, each once, since a value that is read has its names so.
+pub record IsWrittenObject (text : List ℕ) : Type 0 where
+  pub members : Members
+  pub reads : read text ≡ Some (object members)
+  pub written : text ≡ compact_text (object members)
+  pub no_float : has_float (object members) ≡ false
 
 -- the value has no float, and nests no deeper than a JSON text may (127 levels)
 pub record IsStorable (v : Data) : Type 0 where

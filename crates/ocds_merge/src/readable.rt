@@ -5,10 +5,9 @@ ghost use Rattle.std.specs.Cmp.Lexicographic.{slice_cmp};
 ghost use Rattle.std.specs.Char.{digit_value};
 ghost use Rattle.std.specs.Str.Parse.{AllDigits};
 ghost use Rattle.json.specs.Print.{escape, escape_byte, quoted};
-ghost use Rattle.json.specs.Word.{is_space};
 ghost use Rattle.serde_json.specs.Read.{read};
 ghost use Rattle.serde_json.specs.Written.{comma_if};
-ghost use Rattle.ocds_merge.specs.Stored.{IsObjectText};
+ghost use Rattle.ocds_merge.specs.Stored.{IsWrittenObject};
 ghost use Rattle.ocds_merge.specs.Inside.Readable.{Passed, PassedItems, MembersFrom};
 ghost use Rattle.ocds_merge.specs.Inside.Scan.{scan, between, IsPlain};
 ghost use Rattle.ocds_merge.specs.Inside.Splice.{EndsBefore};
@@ -256,20 +255,6 @@ pub(crate) fn is_in_turn(later: bool, last: &[u8], name: &[u8]) -> bool
     }
 }
 
-/// Whether a byte may be between the values of a text, and before them.
-pub(crate) fn is_space(byte: u8) -> bool
-    ensures passed { IsTrue result → (rest : List ℕ) → read (byte ∷ rest) ≡ read rest }
-    ensures is { result ≡ is_space byte }
-{
-    match byte {
-        b' ' => true,
-        b'\n' => true,
-        b'\r' => true,
-        b'\t' => true,
-        _ => false,
-    }
-}
-
 pub(crate) fn is_end(text: &[u8]) -> bool
     ensures { IsTrue result → text.now ≡ [] }
 {
@@ -316,10 +301,10 @@ pub(crate) fn skipped_members<'a>(from: Remaining<'a>, depth: usize) -> Result<&
     Ok(rest)
 }
 
-/// Whether a text is surely the compact text of an object: its numbers are natural numbers, and its names are in order and have no escapes. Other texts may
-/// be objects too.
+/// Whether a text is surely an object as the office writes it: its numbers are natural numbers, and its names are in order and have no escapes. Other texts
+/// may be such objects too.
 pub(crate) fn is_plain_object(text: &[u8]) -> bool
-    ensures { IsTrue result → IsObjectText text.now }
+    ensures { IsTrue result → IsWrittenObject text.now }
 {
     let Some(inside) = after_byte(text, b'{') else {
         return false;

@@ -1,10 +1,10 @@
-ghost use Rattle.std.specs.Prelude.{◌≡◌, List, ⊤, MatchBool, [], ◌∷◌, ◌++◌, Some, None, Err, string_bytes, IsTrue, ◌↔◌, IfOk, OnOk, IfErr, IsErr, All, unwrap_or};
+ghost use Rattle.std.specs.Prelude.{◌≡◌, List, [], ◌∷◌, ◌++◌, Some, None, Err, string_bytes, IfOk, OnOk, IfErr, IsErr, All, unwrap_or};
 ghost use Rattle.serde_json.specs.Data.{Data, null};
 ghost use Rattle.serde_json.specs.Read.{read};
 ghost use Rattle.serde_json.specs.View.{view};
 ghost use Rattle.serde_json.specs.Written.{compact_text};
 ghost use Rattle.ocds_merge.specs.Merge.{merge_or_null};
-ghost use Rattle.ocds_merge.specs.Stored.{KeepsMerge, IsObjectText, IsStorable, begins_object};
+ghost use Rattle.ocds_merge.specs.Stored.{KeepsMerge, IsStorable};
 ghost use Rattle.ocds_merge.specs.Inside.Step.{step};
 ghost use Rattle.ocds_merge.specs.Inside.Splice.{TextIsKept};
 ghost use Rattle.ocds_merge.specs.Inside.Readable.{Reads};
@@ -12,7 +12,7 @@ ghost use Rattle.ocds_merge.specs.declared.stored.StoredFault.TheVariants.{NoMem
 
 use crate::kept_value::is_kept;
 use crate::merging::{NoMemory, carried_on};
-use crate::readable::{MAX_DEPTH, is_end, is_plain_object, is_space};
+use crate::readable::{MAX_DEPTH, is_end};
 use crate::splice::splice_value;
 use crate::unspliced::Unspliced;
 use serde_json::Value;
@@ -62,38 +62,6 @@ pub fn merge_from_text(alloc: Global, stored: &str) -> Result<Value, StoredFault
     }
 }
 
-/// Whether a text is a JSON object of at most 127 levels, so that it can be merged. If its numbers are digits alone, no tree of it is made.
-pub fn is_object(alloc: Global, text: &str) -> Result<bool, NoMemory>
-    ensures { IfOk result (λ is. IsTrue is ↔ IsObjectText text.now) }
-{
-    if is_plain_object(text.as_bytes()) {
-        return Ok(true);
-    }
-    match merge_from_text(alloc, text) {
-        Ok(Value::Object(_)) => Ok(true),
-        Ok(_) | Err(StoredFault::Unreadable) => Ok(false),
-        Err(StoredFault::NoMemory) => Err(NoMemory),
-    }
-}
-
-/// Whether a text begins like an object, perhaps after spaces. A text that begins so and can be read is an object. Only its first bytes are read.
-pub fn begins_object(text: &str) -> bool
-    ensures object { MatchBool result ((d : Data) → read text.now ≡ Some d → IsObjectText text.now) ⊤ }
-    ensures is { result ≡ begins_object text.now }
-{
-    let mut left = text.as_bytes();
-    while let Some((first, rest)) = left.split_first() {
-        if *first == b'{' {
-            return true;
-        }
-        if !is_space(*first) {
-            return false;
-        }
-        left = rest;
-    }
-    false
-}
-
 /// The text of the merge after one more value. The stored text may have any form that reads as the merge of the values before. A text that is no JSON holds
 /// no merge; the merge of no values is `null`. If the text reads as no merge of any values, for example with a null member or an id twice in one list, no
 /// clause says the result.
@@ -131,7 +99,7 @@ fn merged_anew(alloc: Global, stored: &str, value: &Value) -> Result<String, Sto
 }
 
 /// The text after one more value, from the stored text itself.
-fn spliced(alloc: Global, stored: &str, value: &Value) -> Result<String, Unspliced>
+pub(crate) fn spliced(alloc: Global, stored: &str, value: &Value) -> Result<String, Unspliced>
     ensures keeps { IfOk result (λ text. (vs : List Data) → read stored.now ≡ Some (merge_or_null vs)
         → All IsStorable (vs ++ view value.now ∷ [])
         → KeepsMerge (string_bytes text) (vs ++ view value.now ∷ [])) }

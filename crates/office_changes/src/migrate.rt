@@ -1,10 +1,11 @@
 //! Turns an office of an earlier edition into one of this program, in one transaction.
-ghost use Rattle.std.specs.Prelude.{◌≡◌, IsTrue, OnOk, OnErr, map};
+ghost use Rattle.std.specs.Prelude.{◌≡◌, IsTrue, IfErr, OnOk, OnErr, map};
 ghost use Rattle.sqlite.specs.Held.{state};
 ghost use Rattle.sqlite.specs.State.{HasCleanDisk, Survives};
 ghost use Rattle.office_tables.specs.declared.tables.notices.FormerNotice.{FormerNotice};
+ghost use Rattle.office_tables.specs.Statements.{OneFails, RunAll, migration, notice_put};
 ghost use Rattle.office_tables.specs.Steps.{Puts, Refused};
-ghost use Rattle.office_changes.specs.Migration.{Becomes, Migrates, LeavesCurrent};
+ghost use Rattle.office_changes.specs.Migration.{Becomes, LeavesCurrent, Migrates, MigrationFails};
 
 use office_base::puts::Put;
 use office_base::records::ClockRow;
@@ -17,6 +18,8 @@ use sqlite::{Alter, Connection, Error, Transaction};
 fn put_notices<S: Alter>(tx: &mut Transaction<'_, S>, notices: &[FormerNotice]) -> Result<(), Error>
     ensures same_reference { tx.new.conn.ghost_name ≡ tx.old.conn.ghost_name }
     ensures puts { HasCleanDisk (state S.Store tx.new.conn.now) → IsTrue (state S.Store tx.old.conn.now).in_transaction → OnOk result (Puts (state S.Store tx.old.conn.now) (state S.Store tx.new.conn.now) (map (λ (r : FormerNotice). Put.Notice r.row) notices.now)) }
+    ensures ran { HasCleanDisk (state S.Store tx.new.conn.now) → IsTrue (state S.Store tx.old.conn.now).in_transaction → OnOk result (RunAll S.Store (map notice_put (map (λ (r : FormerNotice). r.row) notices.now)) tx.old.conn.now tx.new.conn.now) }
+    ensures fails { HasCleanDisk (state S.Store tx.new.conn.now) → IsTrue (state S.Store tx.old.conn.now).in_transaction → IfErr result (OneFails S.Store (map notice_put (map (λ (r : FormerNotice). r.row) notices.now)) tx.old.conn.now tx.new.conn.now) }
     ensures refused { HasCleanDisk (state S.Store tx.new.conn.now) → IsTrue (state S.Store tx.old.conn.now).in_transaction → OnErr result (Refused (state S.Store tx.old.conn.now) (state S.Store tx.new.conn.now)) }
     ensures survives { Survives (state S.Store tx.old.conn.now) (state S.Store tx.new.conn.now) (λ _. ⊥) }
 {
@@ -35,6 +38,8 @@ fn make_current<S: Alter>(
 ) -> Result<(), Error>
     ensures same_reference { tx.new.conn.ghost_name ≡ tx.old.conn.ghost_name }
     ensures becomes { HasCleanDisk (state S.Store tx.new.conn.now) → IsTrue (state S.Store tx.old.conn.now).in_transaction → OnOk result (Becomes edition clock.now (map (λ (r : FormerNotice). r.row) notices.now) (state S.Store tx.old.conn.now) (state S.Store tx.new.conn.now)) }
+    ensures ran { HasCleanDisk (state S.Store tx.new.conn.now) → IsTrue (state S.Store tx.old.conn.now).in_transaction → OnOk result (RunAll S.Store (migration edition clock.now (map (λ (r : FormerNotice). r.row) notices.now)) tx.old.conn.now tx.new.conn.now) }
+    ensures fails { HasCleanDisk (state S.Store tx.new.conn.now) → IsTrue (state S.Store tx.old.conn.now).in_transaction → IfErr result (OneFails S.Store (migration edition clock.now (map (λ (r : FormerNotice). r.row) notices.now)) tx.old.conn.now tx.new.conn.now) }
     ensures refused { HasCleanDisk (state S.Store tx.new.conn.now) → IsTrue (state S.Store tx.old.conn.now).in_transaction → OnErr result (Refused (state S.Store tx.old.conn.now) (state S.Store tx.new.conn.now)) }
     ensures survives { Survives (state S.Store tx.old.conn.now) (state S.Store tx.new.conn.now) (λ _. ⊥) }
 {
@@ -53,6 +58,7 @@ pub fn migrate<S: Alter>(
     ensures migrates { HasCleanDisk (state S.Store conn.new) → OnOk result (Migrates edition clock.now (map (λ (r : FormerNotice). r.row) notices.now) (state S.Store conn.old) (state S.Store conn.new)) }
     ensures refused { HasCleanDisk (state S.Store conn.new) → OnErr result (Refused (state S.Store conn.old) (state S.Store conn.new)) }
     ensures survives { Survives (state S.Store conn.old) (state S.Store conn.new) (LeavesCurrent edition clock.now (map (λ (r : FormerNotice). r.row) notices.now) (state S.Store conn.old)) }
+    ensures failed { HasCleanDisk (state S.Store conn.new) → IfErr result (MigrationFails S.Store edition clock.now (map (λ (r : FormerNotice). r.row) notices.now) conn.old conn.new) }
 {
     if !conn.is_autocommit() {
         return Err(Error::InvalidQuery);

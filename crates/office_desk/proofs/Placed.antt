@@ -11,7 +11,7 @@ use Rattle.office_base.specs.Tables.{Tables, release_at, releases_of_notice}
 use Rattle.office_plans.proofs.OneByOne.{as_many}
 use Rattle.office_publications.specs.Merges.{AreSoMany}
 use Rattle.office_publications.specs.Told.{AreAllThere, IsInRange}
-use Rattle.office_desk.specs.Extent.{IsExtentOf, ReadsAsObject}
+use Rattle.office_desk.specs.Extent.{IsExtentOf, IsWritten}
 use Rattle.office_desk.specs.declared.queries.packages.texts.Extent.{Extent}
 
 -- The moment of the last of these rows, which follow others whose last one has this moment.
@@ -23,13 +23,13 @@ last_after last (r ∷ rows) = last_after (Some r.moment) rows
 pub record Measures (last : Option ℕ) (rest all : List ReleaseRow) : Type 0 where
   pub moment : last_after last rest ≡ last_after None all
   pub range : AllByRecursion IsInRange rest → AllByRecursion IsInRange all
-  pub read : AllByRecursion ReadsAsObject rest → AllByRecursion ReadsAsObject all
+  pub written : AllByRecursion IsWritten rest → AllByRecursion IsWritten all
 
-pub measures_next : (last : Option ℕ) (rest more all : List ReleaseRow) (r : ReleaseRow) → rest ≡ r ∷ more → IsInRange r → ReadsAsObject r
+pub measures_next : (last : Option ℕ) (rest more all : List ReleaseRow) (r : ReleaseRow) → rest ≡ r ∷ more → IsInRange r → IsWritten r
     → Measures last rest all → Measures (Some r.moment) more all
-measures_next last rest more all r is range reads so_far =
+measures_next last rest more all r is range written so_far =
     let here : Measures last (r ∷ more) all = subst (λ (l : List ReleaseRow). Measures last l all) is so_far in
-    record { moment = here.moment; range = λ later. here.range (range, later); read = λ later. here.read (reads, later) }
+    record { moment = here.moment; range = λ later. here.range (range, later); written = λ later. here.written (written, later) }
 
 last_of : (last : Option ℕ) (r : ReleaseRow) (rows : List ReleaseRow) → last_after last (r ∷ rows) ≡ Some (moment_of_last (r ∷ rows))
 last_of last r [] = refl
@@ -53,16 +53,16 @@ measured extent rows rest none so_far =
     record {
       last = subst (λ (o : Option ℕ). IfSome o (λ moment. (0 < length rows) × (moment_of_last rows ≡ moment))) (sym all.moment) (ends rows);
       range = All-from_recursion IsInRange rows (all.range tt);
-      read = All-from_recursion ReadsAsObject rows (all.read tt);
+      written = All-from_recursion IsWritten rows (all.written tt);
     }
 
 -- ---- the releases that exist
 
--- If a notice has releases with the numbers from 1 to this one and no others, each at its place, and all can be read, then each can be shown.
+-- A notice has releases with the numbers from 1 to this one and no others, each at its place, and all are as the office writes them. Then each can be shown.
 pub all_there : (notice : List ℕ) (count : ℕ) (s : Tables) → AreSoMany notice count s
-    → ((k : ℕ) → slice_get (releases_of_notice notice s) k ≡ release_at (notice, k + 1) s) → All ReadsAsObject (releases_of_notice notice s) → AreAllThere notice count s
-all_there notice count s many place read k low = elim (slice_get_cases rows k).1 [
-  | inl (r, within, is, same) ↦ (r, sym (place k) ∙ is, subst ReadsAsObject same (All-get_or ReadsAsObject rows k r within read))
+    → ((k : ℕ) → slice_get (releases_of_notice notice s) k ≡ release_at (notice, k + 1) s) → All IsWritten (releases_of_notice notice s) → AreAllThere notice count s
+all_there notice count s many place written k low = elim (slice_get_cases rows k).1 [
+  | inl (r, within, is, same) ↦ (r, sym (place k) ∙ is, subst IsWritten same (All-get_or IsWritten rows k r within written))
   | inr (past, _) ↦ absurd (omega (arith, past, low, so_many))
 ]
   where

@@ -74,7 +74,7 @@ IsNotOverdrawn None entries = Unit {0}
 IsNotOverdrawn (Some c) entries = is_overdrawn entries c ≡ false
 
 -- The facts that an answer shows hold, even if no commands lead to this office. On a line, alone or in the ledger, the four balances add up to the
--- appropriation. For the releases, each release that the notice's row counts exists and can be merged. For the record, its merge is also an object. A contract
+-- appropriation. For the releases, each release that the notice's row counts exists and is as the office writes it. For the record, so is its merge. A contract
 -- isn't overdrawn.
 abbrev pub HasShown : Query → Tables → Type 0
 HasShown (queries.Line line) s = LineAddsUp line s

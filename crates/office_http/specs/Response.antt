@@ -27,9 +27,6 @@ response_with status media more body = head_start status media (length body) ++ 
 abbrev pub json : List ℕ
 json = codes "application/json"
 
-abbrev pub plain_text : List ℕ
-plain_text = codes "text/plain; charset=utf-8"
-
 -- The field that names the method of the path (RFC 9110, section 10.2.1).
 abbrev pub allow_field : Option Allow → List ℕ
 allow_field None = []
@@ -58,7 +55,7 @@ refusal_body refusal =
 -- The response to each reply.
 abbrev pub response_of : Reply → List ℕ
 response_of (reply.Json body) = response_with 200 json [] body
-response_of (reply.Text body) = response_with 200 plain_text [] body
+response_of (reply.Text body) = response_with 200 (codes "text/plain; charset=utf-8") [] body
 response_of (reply.Refused refusal method) =
     response_with (status_of_refusal refusal) json (allow_field method ++ challenge_field (status_of_refusal refusal)) (refusal_body refusal)
 

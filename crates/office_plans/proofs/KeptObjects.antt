@@ -1,7 +1,7 @@
--- If the stored merge is an object, or no merge is stored and each release is an object, then the notice has a merge that the next release can join.
+-- A notice has a merge that the next release can join if the stored merge is an object as the office writes it. If no merge is stored, each release must be one.
 use Rattle.std.proofs.Common.{◌≡◌, ℕ, List, None, Result, Ok, Err, subst}
 use Rattle.std.specs.Prelude.{OnOk}
-use Rattle.ocds_merge.specs.Stored.{IsObjectText}
+use Rattle.ocds_merge.specs.Stored.{IsWrittenObject}
 use Rattle.office_base.specs.Tables.{Tables, compiled_at}
 use Rattle.office_base.specs.declared.records.CompiledRow.{CompiledRow}
 use Rattle.office_publications.specs.Merges.{AreObjects, CanGoOn, HasMerge, IsKeptOf}
@@ -10,7 +10,7 @@ use Rattle.office_publications.specs.declared.merges.Kept.TheVariants.{Merge, Re
 
 pub has_merge : (notice : List ℕ) (s : Tables) (k : Kept) → IsKeptOf notice s k → CanGoOn k → HasMerge notice s
 has_merge notice s (Merge m) kept goes = (
-  λ c found. let same : m ≡ c = cc in subst (λ (r : CompiledRow). IsObjectText r.text) same goes,
+  λ c found. let same : m ≡ c = cc in subst (λ (r : CompiledRow). IsWrittenObject r.text) same goes,
   λ none. absurd cc,
 )
 has_merge notice s (Releases rows) kept goes = (

@@ -92,8 +92,8 @@ pub(crate) fn make_release<'a>(
 }
 
 // The release as it is stored, and the merge that it joins. Reads the numbers of the notice's releases and its merge, or all its releases if no merge is stored.
-// `Unavailable` if the releases aren't those before this one, or if the stored merge isn't an object. If no merge is stored, `Unavailable` also if a release isn't
-// an object. So nothing is published over a release or after a gap.
+// `Unavailable` if the releases aren't those before this one, or if the stored merge isn't an object as the office writes it. If no merge is stored, `Unavailable`
+// also if a release isn't such an object. So nothing is published over a release or after a gap.
 fn keep<H: Lookups>(
     alloc: Global,
     shelf: &mut H,
@@ -139,8 +139,8 @@ fn with_publication(
 }
 
 /// The plan of an accepted command that publishes: its changes, the release, the merge that this joins, and the reply's text. `Unavailable` also if the
-/// notice's releases aren't those that it counts, or if its stored merge isn't an object. If no merge is stored, `Unavailable` also if a release isn't an object.
-/// None of this can happen in a reached office.
+/// notice's releases aren't those that it counts, or if its stored merge isn't an object as the office writes it. If no merge is stored, `Unavailable` also if a
+/// release isn't such an object. None of this can happen in a reached office.
 pub(crate) fn published<H: Lookups>(
     alloc: Global,
     shelf: &mut H,

@@ -58,7 +58,7 @@ abbrev pub has_release : List ℕ → ℕ → Tables → Bool
 has_release notice number t = is_some (release_at (notice, number) t)
 
 -- A new release can follow in this notice. Its releases have the numbers from 1 to its count, and no others, so the last one exists, and none has the next
--- number. Its merge, if stored, is an object. If no merge is stored, each release is one.
+-- number. Its merge, if stored, is an object as the office writes it. If no merge is stored, each release is one.
 pub record CanBeFollowed (notice : List ℕ) (t : Tables) : Type 0 where
   pub counted : AreSoMany notice (releases_in (notice_at notice t)) t
   pub last : has_last_release notice (releases_in (notice_at notice t)) t ≡ true

@@ -4,7 +4,7 @@ use Rattle.serde_json.specs.Data.{Data, null}
 use Rattle.serde_json.specs.Read.{read}
 use Rattle.serde_json.specs.Written.{compact_text, has_float}
 use Rattle.ocds_merge.specs.Compile.{body_of}
-use Rattle.ocds_merge.specs.Stored.{KeepsMerge, IsObjectText, IsStorable}
+use Rattle.ocds_merge.specs.Stored.{KeepsMerge, IsWrittenObject, IsStorable}
 use Rattle.office_values.specs.Ids.{same_id}
 use Rattle.office_base.specs.Tables.{Tables, compiled_at, put_compiled, release_numbers, releases_of_notice}
 use Rattle.office_base.specs.declared.records.CompiledRow.{CompiledRow}
@@ -59,18 +59,18 @@ abbrev pub IsKeptOf : List ℕ → Tables → Kept → Type 0
 IsKeptOf notice t (Merge c) = compiled_at notice t ≡ Some c
 IsKeptOf notice t (Releases rows) = (compiled_at notice t ≡ None) × (rows ≡ releases_of_notice notice t)
 
--- Each of these releases is an object, as every published one is.
+-- Each of these releases is an object as the office writes it.
 abbrev pub AreObjects : List ReleaseRow → Type 0
-AreObjects rows = All (λ (r : ReleaseRow). IsObjectText r.text) rows
+AreObjects rows = All (λ (r : ReleaseRow). IsWrittenObject r.text) rows
 
--- The loaded value can be continued: the merge is an object, or each of the releases is.
+-- The loaded value can be continued: the merge is an object as the office writes it, or each of the releases is.
 abbrev pub CanGoOn : Kept → Type 0
-CanGoOn (Merge c) = IsObjectText c.text
+CanGoOn (Merge c) = IsWrittenObject c.text
 CanGoOn (Releases rows) = AreObjects rows
 
--- The stored merge of this notice is an object or, if none is stored, each release is.
+-- The stored merge of this notice is an object as the office writes it or, if none is stored, each release is.
 abbrev pub HasMerge : List ℕ → Tables → Type 0
-HasMerge notice t = ((c : CompiledRow) → compiled_at notice t ≡ Some c → IsObjectText c.text) × (compiled_at notice t ≡ None → AreObjects (releases_of_notice notice t))
+HasMerge notice t = ((c : CompiledRow) → compiled_at notice t ≡ Some c → IsWrittenObject c.text) × (compiled_at notice t ≡ None → AreObjects (releases_of_notice notice t))
 
 -- The notice has a release of each number from 1 to this one, and no other.
 abbrev pub AreSoMany : List ℕ → ℕ → Tables → Type 0

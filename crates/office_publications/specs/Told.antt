@@ -2,7 +2,7 @@
 use Rattle.std.specs.Prelude.{◌≡◌, ◌≤◌, ◌<◌, ◌+◌, ℕ, List, Some, length, slice_get, All}
 use Rattle.ocds_merge.specs.Compile.{with_head}
 use Rattle.ocds_merge.specs.Merge.{merge_or_null}
-use Rattle.ocds_merge.specs.Stored.{IsObjectText}
+use Rattle.ocds_merge.specs.Stored.{IsWrittenObject}
 use Rattle.ocds_release.specs.KeptReleases.{AreKept, HasText}
 use Rattle.ocds_release.specs.Opened.{moment_of_last}
 use Rattle.ocds_release.specs.Texts.{ocid_text}
@@ -47,16 +47,16 @@ pub record AreInSequence (notice : List ℕ) (s : Tables) : Type 0 where
 abbrev pub ReleasesAreInSequence : Type 0
 ReleasesAreInSequence = (publisher : Publisher) (s : Tables) → IsReached publisher s → (notice : List ℕ) → AreInSequence notice s
 
--- The release with this number exists, and its text is a JSON object, so it can be merged.
+-- The release with this number exists, and its text is a JSON object as the office writes it.
 abbrev pub CanBeShown : List ℕ → ℕ → Tables → Type 0
-CanBeShown notice seq s = (r : ReleaseRow) × (release_at (notice, seq) s ≡ Some r) × IsObjectText r.text
+CanBeShown notice seq s = (r : ReleaseRow) × (release_at (notice, seq) s ≡ Some r) × IsWrittenObject r.text
 
 -- This is true of each release of the notice up to this number.
 abbrev pub AreAllThere : List ℕ → ℕ → Tables → Type 0
 AreAllThere notice count s = (k : ℕ) → k < count → CanBeShown notice (k + 1) s
 
--- The notice has the releases that its row counts, each with a text that is a JSON object, and no others. It is asked of any office, even of one to which no
--- commands lead.
+-- The notice has the releases that its row counts, each as the office writes it, and no others. It is asked of any office, even of one to which no commands
+-- lead.
 pub record HasReleases (notice : List ℕ) (s : Tables) : Type 0 where
   pub there : AreAllThere notice (releases_in (notice_at notice s)) s
   pub numbered : AreSoMany notice (releases_in (notice_at notice s)) s

@@ -2,16 +2,14 @@
 ghost use Rattle.std.specs.Prelude.{◌≡◌, ℕ, ◌∷◌, [], ◌++◌, List, map, All, IfOk, OnOk, IfErr};
 ghost use Rattle.serde_json.specs.Data.{Data};
 ghost use Rattle.serde_json.specs.View.{view};
-ghost use Rattle.ocds_merge.specs.Stored.{KeepsMerge, IsObjectText, IsStorable};
+ghost use Rattle.ocds_merge.specs.Stored.{KeepsMerge, IsWrittenObject, IsStorable};
 ghost use Rattle.ocds_merge.specs.Merge.{merge_or_null};
 ghost use Rattle.office_base.specs.Shelves.{LooksUp};
 ghost use Rattle.office_base.specs.Tables.{Tables};
 ghost use Rattle.office_values.specs.declared.refusal.Refusal.TheVariants.{Unavailable};
 ghost use Rattle.office_publications.specs.Merges.{bodies, body_in, AreObjects, CanGoOn, IsMergedOf, IsKeptOf, IsMerge};
 
-use ocds_merge::{
-    begins_object, merge_from_text, merge_into, merge_into_text, merge_to_text, without_head,
-};
+use ocds_merge::{continue_text, merge_into, merge_to_text, object_from_text, without_head};
 use office_base::json_text::JsonText;
 use office_base::records::{CompiledRow, ReleaseRow};
 use office_base::rows::Rows;
@@ -38,23 +36,19 @@ pub fn load_kept<H: Lookups>(shelf: &mut H, notice: &Id) -> Result<Kept, ShelfFa
     }
 }
 
-// A stored release without its head. `Unavailable` if memory is too small, or if the release isn't an object: it would be lost in a merge.
+// A stored release without its head. `Unavailable` if memory is too small, or if the release isn't an object as the office writes it.
 fn body_of(alloc: Global, row: &ReleaseRow) -> Result<Value, Refusal>
     ensures body { IfOk result (λ body. view body ≡ body_in row.now) }
-    ensures object { OnOk result (IsObjectText row.now.text) }
+    ensures object { OnOk result (IsWrittenObject row.now.text) }
     ensures none { IfErr result (λ why. why ≡ Unavailable) }
 {
-    let stored = row.text.as_str();
-    if !begins_object(stored) {
-        return Err(Refusal::Unavailable);
-    }
-    match merge_from_text(alloc, stored) {
+    match object_from_text(alloc, row.text.as_str()) {
         Ok(release) => Ok(without_head(release)),
         Err(_) => Err(Refusal::Unavailable),
     }
 }
 
-// The merge of stored releases without their heads. `Unavailable` if memory is too small, or if a release isn't an object.
+// The merge of stored releases without their heads. `Unavailable` if memory is too small, or if a release isn't an object as the office writes it.
 fn merge_of(alloc: Global, rows: &[ReleaseRow]) -> Result<Value, Refusal>
     ensures merge { IfOk result (λ merge. view merge ≡ merge_or_null (map body_in rows.now)) }
     ensures objects { OnOk result (AreObjects rows.now) }
@@ -70,7 +64,7 @@ fn merge_of(alloc: Global, rows: &[ReleaseRow]) -> Result<Value, Refusal>
     Ok(merge)
 }
 
-// The text of the merge of stored releases and one more body. `Unavailable` if memory is too small, or if a release isn't an object.
+// The text of the merge of stored releases and one more body. `Unavailable` if memory is too small, or if a release isn't an object as the office writes it.
 fn merged_anew(alloc: Global, rows: &[ReleaseRow], body: &Value) -> Result<JsonText, Refusal>
     ensures keeps { IfOk result (λ text. All IsStorable (map body_in rows.now ++ (view body.now ∷ []))
         → KeepsMerge text (map body_in rows.now ++ (view body.now ∷ []))) }
@@ -87,40 +81,34 @@ fn merged_anew(alloc: Global, rows: &[ReleaseRow], body: &Value) -> Result<JsonT
     }
 }
 
-// The text of a stored merge and one more body. `Unavailable` if memory is too small, or if the merge isn't an object: it isn't replaced by a new one.
+// The text of a stored merge and one more body. `Unavailable` if memory is too small, or if the merge isn't an object as the office writes it. It isn't replaced
+// by a new one.
 fn carried_on(alloc: Global, kept: &CompiledRow, body: &Value) -> Result<JsonText, Refusal>
     ensures keeps { IfOk result (λ text. (vs : List Data) → KeepsMerge kept.now.text vs → All IsStorable (vs ++ (view body.now ∷ []))
         → KeepsMerge text (vs ++ (view body.now ∷ []))) }
-    ensures object { OnOk result (IsObjectText kept.now.text) }
+    ensures object { OnOk result (IsWrittenObject kept.now.text) }
     ensures none { IfErr result (λ why. why ≡ Unavailable) }
 {
-    if !begins_object(kept.text.as_str()) {
-        return Err(Refusal::Unavailable);
-    }
-    match merge_into_text(alloc, kept.text.as_str(), body) {
+    match continue_text(alloc, kept.text.as_str(), body) {
         Ok(text) => Ok(JsonText::from_string(text)),
         Err(_) => Err(Refusal::Unavailable),
     }
 }
 
-// The merge in a row. `Unavailable` if memory is too small, or if the merge isn't an object.
+// The merge in a row. `Unavailable` if memory is too small, or if the merge isn't an object as the office writes it.
 fn merge_in(alloc: Global, kept: &CompiledRow) -> Result<Value, Refusal>
     ensures merge { IfOk result (λ merge. (vs : List Data) → KeepsMerge kept.now.text vs → view merge ≡ merge_or_null vs) }
-    ensures object { OnOk result (IsObjectText kept.now.text) }
+    ensures object { OnOk result (IsWrittenObject kept.now.text) }
     ensures none { IfErr result (λ why. why ≡ Unavailable) }
 {
-    let text = kept.text.as_str();
-    if !begins_object(text) {
-        return Err(Refusal::Unavailable);
-    }
-    match merge_from_text(alloc, text) {
+    match object_from_text(alloc, kept.text.as_str()) {
         Ok(merge) => Ok(merge),
         Err(_) => Err(Refusal::Unavailable),
     }
 }
 
-/// The merge of a notice's releases without their heads. `Unavailable` if memory is too small, if the stored merge isn't an object or, if none is stored, if a
-/// release isn't one. No office that its commands made stores such a merge or release.
+/// The merge of a notice's releases without their heads. `Unavailable` if memory is too small, if the stored merge isn't an object as the office writes it or,
+/// if none is stored, if a release isn't one. No office that its commands made stores such a merge or release.
 pub fn merge_kept(alloc: Global, kept: &Kept) -> Result<Value, Refusal>
     ensures merge { IfOk result (λ merge. (notice : List ℕ) (t : Tables) → IsKeptOf notice t kept.now → IsMergedOf notice t
         → view merge ≡ merge_or_null (bodies notice t)) }
@@ -134,7 +122,7 @@ pub fn merge_kept(alloc: Global, kept: &Kept) -> Result<Value, Refusal>
 }
 
 /// The row of the merge of a notice's releases and one more, which is given without its head. `Unavailable` if memory is too small, if the stored merge isn't
-/// an object or, if none is stored, if a release isn't one. So nothing is published on top of a text that can't be continued.
+/// an object as the office writes it or, if none is stored, if a release isn't one. So nothing is published on top of a text that can't be continued.
 pub fn merge_with(
     alloc: Global,
     kept: &Kept,

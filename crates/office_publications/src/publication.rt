@@ -29,7 +29,7 @@ pub struct Publication {
 /// The row of a release, with its number, its moment and its compact text, and the row of the merge that it joins. A release can be stored if it has no floats
 /// and isn't nested more than 127 levels deep.
 /// If the merge is stored, time and memory grow with the release and the merge, and not with the number of releases. `Unavailable` if memory is too small, if
-/// the stored merge isn't an object or, if none is stored, if a release isn't one.
+/// the stored merge isn't an object as the office writes it or, if none is stored, if a release isn't one.
 pub fn keep_release(
     alloc: Global,
     notice: Id,

@@ -15,7 +15,7 @@ use Rattle.sqlite.specs.Effect.{Database, IsDatabase}
 use Rattle.office_tables.specs.Known.{IsIn, at_tree, key_indexes}
 use Rattle.office_tables.specs.Schema.{OfficeTable, table_of}
 use Rattle.office_tables.proofs.Each.{each}
-use Rattle.office_store.specs.Forms.{HasForms, ListsForms, StandsAlike, StandsOrLacks, index_count}
+use Rattle.office_store.specs.Forms.{HasForms, StandsAlike, StandsOrLacks, index_count}
 
 -- ---- a list of one
 
@@ -92,18 +92,8 @@ module _ (db : Database) (sound : IsDatabase db) (form : Table) (key : HasKey fo
 
 -- ---- all of them
 
--- whether the table is in a schema doesn't depend on the tree of its form
-as_table : (schema : Schema) (it : Table) (m n : ℕ) → IsIn schema (at_tree it m) n → IsIn schema it n
-as_table schema _ m n it = record { place = it.place; named = it.named; found = it.found; alone = it.alone; stored = it.stored; index = it.index; guarded = it.guarded }
-
-pub forms_stand : (edition : ℕ) (db : Database) (forms : Schema) → IsDatabase db → ListsForms forms → ((form : Table) → Has forms.tables form → StandsOrLacks edition db.schema form) → HasForms edition db.schema
-forms_stand edition db forms sound lists each k =
-    let listed = lists k in
-    elim (each (at_tree (table_of k) listed.0) listed.1) [
-      | inl stands ↦ inl (stands.tree, as_table db.schema (table_of k) listed.0 stands.tree (is_in db sound (at_tree (table_of k) listed.0) (keyed k) stands))
-      | inr lacks ↦ inr (lacks.0, ap is_some lacks.1)
-    ]
-
--- a database that has the tables of an office lists their forms
-pub lists_forms : (schema : Schema) → ((k : OfficeTable) → (n : ℕ) × IsIn schema (table_of k) n) → ListsForms schema
-lists_forms schema stands k = let it = stands k in (it.0, place_has schema.tables it.1.place (at_tree (table_of k) it.0) it.1.found)
+pub forms_stand : (edition : ℕ) (db : Database) → IsDatabase db → ((k : OfficeTable) → StandsOrLacks edition db.schema (table_of k)) → HasForms edition db.schema
+forms_stand edition db sound each k = elim (each k) [
+  | inl stands ↦ inl (stands.tree, is_in db sound (table_of k) (keyed k) stands)
+  | inr lacks ↦ inr (lacks.0, ap is_some lacks.1)
+]

@@ -33,7 +33,7 @@ use Rattle.office_tables.specs.Failing.{fault_of}
 use Rattle.office_tables.specs.Earlier.{ShowsOffice, HoldsOffice as HasOffice}
 use Rattle.office_tables.specs.Laws.{TreesTellOneOffice}
 use Rattle.office_tables.specs.Steps.{Refused}
-use Rattle.office_store.specs.Founding.{LeavesOffice, IsNoOffice}
+use Rattle.office_store.specs.Founding.{EntersOrCanNot, LeavesOffice, IsNoOffice}
 use Rattle.office_store.specs.SqlMeaning.{LeavesNoOther}
 use Rattle.office_store.specs.Reopening.{Found, FilesHoldOffice, ClosingFails, HoldStill, IsHalfClosed, IsLeftOf, IsPutDown, IsReason, IsUsableLeft, LeavesFound, MayCommit}
 use Rattle.office_store.specs.declared.found.OpenFault.{OpenFault}
@@ -157,6 +157,7 @@ pub record Turned {D : Type 0} {g : Ghosts D} (why : OpenFault) (before now : He
   pub spared : why ≡ fault.NotAnOffice → Survives (file_state before) (file_state now) (λ _. ⊥)
   pub none : HasCleanDisk (file_state now) → why ≡ fault.NotAnOffice → IsNoOffice over_files before
   pub known : HasCleanDisk (file_state now) → (t : Tables) → ShowsOffice (file_state before) t → why ≡ fault.NotAnOffice → ⊥
+  pub failed : HasCleanDisk (file_state now) → EntersOrCanNot over_files why before now
 
 stops_by : {D : Type 0} {g : Ghosts D} (why : OpenFault) (before now : Held (FileStore D g)) → Turned why before now
     → Survives (file_state before) (file_state now) (MayCommit over_files why before)
@@ -165,17 +166,18 @@ stops_by fault.NoMemory before now it = it.stops
 stops_by fault.Store before now it = it.stops
 
 reason_of : {D : Type 0} {g : Ghosts D} (why : OpenFault) (image : Image) (before now : Held (FileStore D g)) → Turned why before now → HasCleanDisk (file_state now) → Found image before
-    → IsReason over_files image why before
+    → IsReason over_files image why before now
 reason_of fault.NotAnOffice image before now it clean found =
     (it.none clean refl, λ t holds. it.known clean t (held_shown image before found.opened found.finds t holds) refl)
 reason_of fault.NoMemory image before now it clean found = tt
-reason_of fault.Store image before now it clean found = tt
+reason_of fault.Store image before now it clean found = it.failed clean refl found.opened.0.is_open found.opened.0.autocommit
 
 pub turned_away : {D : Type 0} {g : Ghosts D} (why : OpenFault) (files : Files D) (before now : Held (FileStore D g)) (rest : Leftover D g) → SeenMayStay g → Turned why before now
     → (HasCleanDisk (file_state before) → IsOpened before) → (HasCleanDisk (file_state before) → Finds files before) → IsLeftOf now rest → IsCleanLeft rest
-    → (was : Held (FileStore D g)) × Found (image_of g files) was × IsReason over_files (image_of g files) why was × LeavesFound (MayCommit over_files why was) was rest
+    → (was : Held (FileStore D g)) × (last : Held (FileStore D g)) × Found (image_of g files) was × IsLeftOf last rest × IsReason over_files (image_of g files) why was last
+    × LeavesFound (MayCommit over_files why was) was rest
 turned_away why files before now rest stays it opened finds is_left clean =
     let late = closed_clean now rest is_left clean in
     let early : HasCleanDisk (file_state before) = omega (arith, late, it.stops.clean) in
     let found = found_now _ before stays (opened early) (finds_in files before (finds early)) in
-    (before, found, reason_of why _ before now it late found, leaves_found _ before now rest found.only (it.kept late) (stops_by why before now it) is_left clean)
+    (before, now, found, is_left, reason_of why _ before now it late found, leaves_found _ before now rest found.only (it.kept late) (stops_by why before now it) is_left clean)

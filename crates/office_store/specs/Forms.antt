@@ -1,10 +1,9 @@
 -- When the tables of an office in a database have the form in which this program makes them.
-use Rattle.std.specs.Prelude.{◌≡◌, ◌⊎◌, ◌==◌, ℕ, false, IsTrue, Option, Some, None, length, filter, slice_get}
+use Rattle.std.specs.Prelude.{◌≡◌, ◌⊎◌, ◌==◌, ℕ, false, IsTrue, Option, Some, None, [], length, filter, slice_get}
 use Rattle.sqlite_schema.specs.declared.schema.Schema.{Schema}
 use Rattle.sqlite_schema.specs.declared.schema.Table.{Table}
 use Rattle.sqlite_schema.specs.Names.{table_named}
 use Rattle.sqlite_schema.specs.Rules.{guards}
-use Rattle.sqlite_rules.specs.Lists.{Has}
 use Rattle.office_tables.specs.Editions.{came_later, has_table}
 use Rattle.office_tables.specs.Known.{IsIn, at_tree}
 use Rattle.office_tables.specs.Schema.{OfficeTable, table_of}
@@ -36,6 +35,10 @@ pub record StandsAlike (schema : Schema) (form : Table) : Type 0 where
 abbrev pub StandsOrLacks : ℕ → Schema → Table → Type 0
 StandsOrLacks edition schema form = StandsAlike schema form ⊎ (IsTrue (came_later edition form.name) × (table_named schema form.name ≡ None))
 
--- the tables of an office are among those of the schema
+-- the schema has each table of an office in its form
 abbrev pub ListsForms : Schema → Type 0
-ListsForms forms = (k : OfficeTable) → (n : ℕ) × Has forms.tables (at_tree (table_of k) n)
+ListsForms forms = (k : OfficeTable) → HasForm forms k
+
+-- the table has no rules but types, NOT NULL, CHECK and keys
+abbrev pub HasPlainRules : Table → Type 0
+HasPlainRules form = (form.references ≡ []) × (form.computed ≡ []) × (form.stamps ≡ record { places = []; terms = []; formats = [] })

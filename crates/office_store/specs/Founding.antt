@@ -10,17 +10,23 @@ use Rattle.sqlite_catalog.specs.Change.{is_used}
 use Rattle.sqlite.specs.Effect.{Database, IsDatabase}
 use Rattle.sqlite.specs.Held.{Held, state}
 use Rattle.sqlite.specs.State.{State}
+use Rattle.sqlite.specs.declared.error.Error.{Error}
 use Rattle.office_base.specs.Tables.{Tables, no_tables}
+use Rattle.office_base.specs.declared.shelf.ShelfFault.{ShelfFault}
+use Rattle.office_base.specs.declared.shelf.ShelfFault.TheVariants as shelf
 use Rattle.office_tables.specs.Earlier.{HoldsEdition, IsMigrated}
 use Rattle.office_tables.specs.Editions.{edition_of, has_late}
+use Rattle.office_tables.specs.Failing.{DiskFails, fault_of}
 use Rattle.office_tables.specs.Making.{KeepsOthers}
 use Rattle.office_tables.specs.Schema.{table_of, all_tables}
 use Rattle.office_tables.specs.Standing.{Holds}
-use Rattle.office_tables.specs.Steps.{Leaves, Refused, IsAsked}
+use Rattle.office_tables.specs.Steps.{Leaves, Refused, IsAsked, IsRefusedBy}
 use Rattle.office_tables.specs.Tables.Office.{this_version}
 use Rattle.office_tables.specs.Version.{get_version, HasNoVersion}
 use Rattle.office_store.specs.Forms.{HasForms}
 use Rattle.office_store.specs.Others.{KeepsRest, leads_there}
+use Rattle.office_store.specs.declared.found.OpenFault.{OpenFault}
+use Rattle.office_store.specs.declared.found.OpenFault.TheVariants as fault
 use Rattle.office_store.specs.declared.opened.Origin.{Origin}
 use Rattle.office_store.specs.declared.opened.Origin.TheVariants as from
 
@@ -111,3 +117,25 @@ Enters g from.Made old new = HasNoVersion g old × (takes_a_name old.schema ≡ 
 -- The answer is another version or no single row. Or the schema rejected the query, and the name of a table of the office is taken.
 abbrev pub IsNoOffice : {S : Type 0} → Ghosts S → Held S → Type 0
 IsNoOffice g old = Answered g old is_other_version ⊎ (HasNoVersion g old × (takes_a_name old.schema ≡ true))
+
+-- the fault of an opening that this fault of the store becomes
+abbrev pub opening_of : ShelfFault → OpenFault
+opening_of shelf.NoMemory = fault.NoMemory
+opening_of shelf.Store = fault.Store
+
+-- an office of this edition isn't simply entered: it has to be migrated, or one of its tables doesn't have its form
+abbrev pub IsHindered : ℕ → State → Type 0
+IsHindered edition s = IsTrue (nat_lt edition this_version) ⊎ ¬ (HasForms edition s.committed.schema)
+
+-- Why an opening fails as the store does. The disk failed. Or the question for the version was refused, though there was enough memory. Or an office of an earlier
+-- version couldn't be migrated, or one of this version has a table in another form. Or there was none, and it couldn't be made.
+abbrev pub CanNotEnter : {S : Type 0} → Ghosts S → Held S → Held S → Type 0
+CanNotEnter g old new =
+    DiskFails (state g old) (state g new)
+    ⊎ (((e : Error) × IsRefusedBy g get_version [] old new e × (fault_of e ≡ shelf.Store))
+    ⊎ (((edition : ℕ) × IsOfEdition g edition old × IsHindered edition (state g old))
+    ⊎ (HasNoVersion g old × (takes_a_name old.schema ≡ false))))
+
+-- this is why, if the connection was open and in no transaction
+abbrev pub EntersOrCanNot : {S : Type 0} → Ghosts S → OpenFault → Held S → Held S → Type 0
+EntersOrCanNot g why old new = why ≡ fault.Store → IsTrue (state g old).is_open → old.in_transaction ≡ false → CanNotEnter g old new

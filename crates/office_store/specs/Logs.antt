@@ -1,8 +1,12 @@
 -- Whether a log was used, and whether it can be read. SQLite's log begins with a header of 32 bytes, and each page in it with one of 24 bytes (fileformat2.html,
 -- section 4). The ported SQLite writes two bytes last, as gates: the first byte of the log, and byte 8 of the first page's header.
-use Rattle.std.specs.Prelude.{◌≡◌, ◌&&◌, ◌||◌, ◌==◌, ℕ, ◌+◌, ◌<◌, Bool, false, nat_lt, if◌then◌else◌, List, length, slice_index, take}
+use Rattle.std.specs.Prelude.{◌≡◌, ◌⊎◌, ◌&&◌, ◌||◌, ◌==◌, ℕ, ◌+◌, ◌<◌, Bool, false, nat_lt, if◌then◌else◌, List, [], length, slice_index, take}
 use Rattle.sqlite_wal.specs.Format.{be32, checksum, is_big}
-use Rattle.sqlite_wal.specs.Recovery.{Image, AreFramesOf}
+use Rattle.sqlite_wal.specs.Opening.{RefusesLog}
+use Rattle.sqlite_wal.specs.PageSize.{IsPageSize, size_in_file}
+use Rattle.sqlite_wal.specs.Recovery.{Image, AreFramesOf, IsIgnored}
+use Rattle.sqlite_wal.specs.declared.error.Error.{Error}
+use Rattle.sqlite.specs.Files.{NamesSize}
 
 -- the byte in place of a gate's own byte while the gate is shut
 abbrev pub shut_gate : ℕ → ℕ
@@ -29,3 +33,13 @@ pub record HasCommit (image : Image) : Type 0 where
   pub numbers : List ℕ
   pub frames : AreFramesOf size image.log numbers
   pub some : 0 < length numbers
+
+-- no page size is named by the log's header or, if the log is ignored, by the database file
+abbrev pub NamesNoSize : Image → Type 0
+NamesNoSize image = (¬ IsIgnored image.log → ¬ IsPageSize (be32 image.log 8)) × (IsIgnored image.log → ¬ IsPageSize (size_in_file image.db))
+
+-- Recovery takes nothing from the log: the database file is empty, no page size is named, or the log has no whole page of that size.
+abbrev pub LacksCommit : Image → Type 0
+LacksCommit image =
+    (length image.db ≡ 0)
+    ⊎ (NamesNoSize image ⊎ ((size : ℕ) × NamesSize image size × (AreFramesOf size image.log [] ⊎ ((e : Error) × RefusesLog size image.log e))))

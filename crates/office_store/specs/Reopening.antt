@@ -4,7 +4,7 @@ use Rattle.sqlite_disk.specs.declared.Disk.{Ghosts}
 use Rattle.sqlite_disk.specs.declared.Files.{Files}
 use Rattle.sqlite_disk.specs.Disk.{MoreFaults}
 use Rattle.sqlite_wal.specs.Files.{outcomes}
-use Rattle.sqlite_wal.specs.Reads.{AreClean}
+use Rattle.sqlite_wal.specs.Reads.{AreClean, OnlyReadsBoth}
 use Rattle.sqlite_wal.specs.Recovery.{Image}
 use Rattle.sqlite_store.specs.declared.store.FileStore.{FileStore}
 use Rattle.sqlite_store.specs.FileStore.{faults, recovers, view}
@@ -15,18 +15,20 @@ use Rattle.sqlite_trees.specs.declared.store.Store.{Ghosts as StoreGhosts}
 use Rattle.sqlite.specs.Effect.{Database}
 use Rattle.sqlite.specs.Held.{Held, AreDatabases, state}
 use Rattle.sqlite.specs.State.{HasCleanDisk, Survives}
-use Rattle.sqlite.specs.Files.{file_state, over_files, image_of, HoldsDatabase, IsOpened, IsClosed, IsCleanLeft, LeavesFiles}
+use Rattle.sqlite.specs.Files.{file_state, over_files, image_of, faults_left, faults_of, FailsToOpenFiles, HoldsDatabase, IsOpened, IsClosed, IsCleanLeft, LeavesFiles}
 use Rattle.sqlite.specs.Start.{FindsIn}
 use Rattle.sqlite.specs.Closing.{HoldsAlone, IsCopied}
+use Rattle.sqlite.specs.declared.error.Error.{Error}
 use Rattle.sqlite.specs.declared.file.Leftover.{Leftover}
 use Rattle.sqlite.specs.declared.file.Leftover.TheVariants as left
 use Rattle.office_base.specs.Tables.{Tables, no_tables}
 use Rattle.office_tables.specs.Earlier.{ShowsOffice, HoldsOffice as HasOffice}
+use Rattle.office_tables.specs.Failing.{fault_of}
 use Rattle.office_tables.specs.Steps.{ShowsTables, MayLeave}
-use Rattle.office_store.specs.Founding.{Enters, IsNoOffice, LeavesOffice}
+use Rattle.office_store.specs.Founding.{CanNotEnter, Enters, IsNoOffice, LeavesOffice, opening_of}
 use Rattle.office_store.specs.SqlMeaning.{LeavesOffices}
 use Rattle.office_store.specs.declared.found.OpenFault.{OpenFault}
-use Rattle.office_store.specs.Logs.{HasCommit, is_unused}
+use Rattle.office_store.specs.Logs.{HasCommit, LacksCommit, is_unused}
 use Rattle.office_store.specs.declared.opened.Origin.{Origin}
 use Rattle.office_store.specs.declared.opened.Origin.TheVariants as from
 use Rattle.office_store.specs.declared.found.OpenFault.TheVariants as fault
@@ -55,11 +57,11 @@ MayCommit g fault.NotAnOffice before db = ⊥
 MayCommit g fault.NoMemory before db = LeavesOffice g before db
 MayCommit g fault.Store before db = LeavesOffice g before db
 
--- the reason why an opening reports that there is no office
-abbrev pub IsReason : {S : Type 0} → StoreGhosts S → Image → OpenFault → Held S → Type 0
-IsReason g image fault.NotAnOffice before = IsNoOffice g before × HoldsNoOffice image
-IsReason g image fault.NoMemory before = ⊤
-IsReason g image fault.Store before = ⊤
+-- the reason why an opening is refused, and the connection as it is left
+abbrev pub IsReason : {S : Type 0} → StoreGhosts S → Image → OpenFault → Held S → Held S → Type 0
+IsReason g image fault.NotAnOffice before now = IsNoOffice g before × HoldsNoOffice image
+IsReason g image fault.NoMemory before now = ⊤
+IsReason g image fault.Store before now = CanNotEnter g before now
 
 -- both files may be used again
 abbrev pub AreUsable : {D : Type 0} → Ghosts D → Files D → Type 0
@@ -139,14 +141,22 @@ module _ {D : Type 0} {g : Ghosts D} where
   IsUsableLeft (left.Unopened files) = ⊤
   IsUsableLeft (left.Store store) = ⊤
 
-  -- An opening failed on a clean disk. Either the files weren't opened, and hold what they held or an empty database. Or they were opened: the reason is
-  -- true, and the content that was found in them stays.
+  -- SQLite refused to open the files after the log had been read, and the fault is that of its error. Or the log couldn't be read: the disk failed, or the log
+  -- was used and recovery takes nothing from it. Too little memory needs no other reason.
+  abbrev pub AreUnopened : Files D → OpenFault → Leftover D g → Type 0
+  AreUnopened files why rest =
+      ((looked : Files D) × OnlyReadsBoth g (files.log, files.db) (looked.log, looked.db)
+      × ((e : Error) × FailsToOpenFiles looked rest e × (why ≡ opening_of (fault_of e))))
+      ⊎ (why ≡ fault.Store → MoreFaults (faults_of g files) (faults_left rest) ⊎ ((is_unused (g.seen files.log) ≡ false) × LacksCommit (image_of g files)))
+
+  -- An opening failed on a clean disk. Either SQLite didn't open the files: they hold what they held, or an empty database. Or they were opened and closed
+  -- again: the reason is true, and the content that was found in them stays.
   abbrev pub RefusesFiles : Files D → OpenFault → Leftover D g → Type 0
   RefusesFiles files why rest =
       IsCleanLeft rest
-      → ((why ≡ fault.NotAnOffice → ⊥) × LeavesFiles files rest)
-      ⊎ ((before : Held (FileStore D g)) × Found (image_of g files) before × IsReason over_files (image_of g files) why before
-      × LeavesFound (MayCommit over_files why before) before rest)
+      → ((why ≡ fault.NotAnOffice → ⊥) × AreUnopened files why rest × LeavesFiles files rest)
+      ⊎ ((before : Held (FileStore D g)) × (now : Held (FileStore D g)) × Found (image_of g files) before × IsLeftOf now rest
+      × IsReason over_files (image_of g files) why before now × LeavesFound (MayCommit over_files why before) before rest)
 
   -- an opening of the files at a path failed; these files are known by their bytes alone
   abbrev pub RefusesImage : Image → OpenFault → Leftover D g → Type 0

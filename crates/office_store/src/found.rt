@@ -6,13 +6,15 @@ ghost use Rattle.sqlite.specs.Held.{state};
 ghost use Rattle.sqlite.specs.State.{HasCleanDisk, Survives};
 ghost use Rattle.office_base.specs.Tables.{Tables};
 ghost use Rattle.office_tables.specs.Earlier.{ShowsOffice};
+ghost use Rattle.office_tables.specs.Failing.{DiskFails, fault_of};
 ghost use Rattle.office_tables.specs.Steps.{Refused, ShowsTables};
 ghost use Rattle.office_tables.specs.Tables.Office.{this_version};
-ghost use Rattle.office_store.specs.Founding.{Founded, LeavesNew, LeavesOffice, Enters, IsNoOffice, IsSoundOpen, takes_a_name, version_in, is_other_version, origin_of};
+ghost use Rattle.office_store.specs.Founding.{Founded, LeavesNew, LeavesOffice, Enters, EntersOrCanNot, IsNoOffice, IsSoundOpen, opening_of, takes_a_name, version_in, is_other_version, origin_of};
 ghost use Rattle.office_store.specs.SqlMeaning.{LeavesShown};
 
 use crate::migrate::ready;
 use crate::opened::Origin;
+use crate::shut::ask;
 use office_base::shelf::ShelfFault;
 use office_tables::editions::{edition_of, has_late};
 use office_tables::faults::fault;
@@ -45,7 +47,8 @@ pub enum OpenFault {
 
 /// A fault of the store, as a fault of an opening.
 pub(crate) fn opening(fault: ShelfFault) -> OpenFault
-    ensures { result ≡ OpenFault.NotAnOffice → ⊥ }
+    ensures is { result ≡ opening_of fault }
+    ensures office { result ≡ OpenFault.NotAnOffice → ⊥ }
 {
     match fault {
         ShelfFault::NoMemory => OpenFault::NoMemory,
@@ -55,7 +58,8 @@ pub(crate) fn opening(fault: ShelfFault) -> OpenFault
 
 /// An error of the database, as a fault of an opening.
 pub(crate) fn open_fault(error: Error) -> OpenFault
-    ensures { result ≡ OpenFault.NotAnOffice → ⊥ }
+    ensures is { result ≡ opening_of (fault_of error) }
+    ensures office { result ≡ OpenFault.NotAnOffice → ⊥ }
 {
     opening(fault(error))
 }
@@ -118,13 +122,15 @@ fn is_other_version(rows: &[Row]) -> bool
 pub(crate) fn still_open<S: Alter>(conn: &mut Connection<S>) -> Result<(), OpenFault>
     ensures is_open { HasCleanDisk (state S.Store conn.new) → OnOk result (IsTrue (state S.Store conn.new).is_open) }
     ensures cause { IfErr result (λ e. e ≡ OpenFault.NotAnOffice → ⊥) }
+    ensures failed { HasCleanDisk (state S.Store conn.new) → IfErr result (λ e. e ≡ OpenFault.Store → IsTrue (state S.Store conn.old).is_open → DiskFails (state S.Store conn.old) (state S.Store conn.new)) }
     ensures kept { HasCleanDisk (state S.Store conn.new) → Refused (state S.Store conn.old) (state S.Store conn.new) }
     ensures survives { Survives (state S.Store conn.old) (state S.Store conn.new) (λ _. ⊥) }
 {
-    if let Err(error) = conn.prepare("SELECT version FROM office") {
-        return Err(open_fault(error));
+    match ask(conn) {
+        Ok(false) => Ok(()),
+        Ok(true) => Err(OpenFault::Store),
+        Err(fault) => Err(opening(fault)),
     }
-    Ok(())
 }
 
 fn origin_of(edition: u64) -> Origin
@@ -148,6 +154,7 @@ pub(crate) fn enter<S: Alter>(
     ensures made { IfOk result (λ origin. origin ≡ Origin.Made → IsTrue may_make) }
     ensures enters { HasCleanDisk (state S.Store conn.new) → IfOk result (λ origin. Enters S.Store origin conn.old conn.new) }
     ensures none { HasCleanDisk (state S.Store conn.new) → IfErr result (λ e. e ≡ OpenFault.NotAnOffice → IsNoOffice S.Store conn.old) }
+    ensures failed { HasCleanDisk (state S.Store conn.new) → IfErr result (λ e. EntersOrCanNot S.Store e conn.old conn.new) }
     ensures found { HasCleanDisk (state S.Store conn.new) → (t : Tables) → ShowsOffice (state S.Store conn.old) t → OnOk result (ShowsTables (state S.Store conn.new) t) }
     ensures known { HasCleanDisk (state S.Store conn.new) → (t : Tables) → ShowsOffice (state S.Store conn.old) t → IfErr result (λ e. e ≡ OpenFault.NotAnOffice → ⊥) }
     ensures is_open { HasCleanDisk (state S.Store conn.new) → OnOk result (IsTrue (state S.Store conn.new).is_open) }

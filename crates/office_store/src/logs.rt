@@ -1,15 +1,16 @@
 //! Whether the log beside an office's file was used, and whether it can be read. The ported `sqlite` drops a log that it can't read, and finds an older
 //! database or none. So this is asked before `sqlite` opens the files, while nothing is written.
-ghost use Rattle.std.specs.Prelude.{◌≡◌, ◌<◌, ◌≤◌, false, length, IsTrue, IfOk, IfErr};
+ghost use Rattle.std.specs.Prelude.{◌≡◌, ◌⊎◌, ◌<◌, ◌≤◌, false, length, IsTrue, IfOk, IfErr};
+ghost use Rattle.sqlite_disk.specs.Disk.{MoreFaults};
 ghost use Rattle.sqlite_wal.specs.Format.{be32};
 ghost use Rattle.sqlite_wal.specs.Reads.{AreClean, IsClean, OnlyReads};
-ghost use Rattle.sqlite.specs.Files.{image_of};
-ghost use Rattle.office_store.specs.Logs.{HasCommit, has_right_sum, has_shut_gate, is_unused, shut_gate};
+ghost use Rattle.sqlite.specs.Files.{faults_of, image_of};
+ghost use Rattle.office_store.specs.Logs.{HasCommit, LacksCommit, has_right_sum, has_shut_gate, is_unused, shut_gate};
 
 use crate::found::OpenFault;
 use sqlite::Files;
 use sqlite_disk::Disk;
-use sqlite_wal::{checksum_of, probe_frames, probe_page_size};
+use sqlite_wal::{Error, checksum_of, probe_frames, probe_page_size};
 use std::alloc::Global;
 use std::io;
 
@@ -49,6 +50,8 @@ fn has_shut_gate(head: &[u8; 41]) -> bool
 fn is_unused<D: Disk>(log: &mut D) -> io::Result<bool>
     requires { IsTrue (D.Disk.is_usable log.old) }
     ensures unused { IfOk result (λ b. IsClean D.Disk log.new → b ≡ is_unused (D.Disk.seen log.old)) }
+    ensures failed { IsClean D.Disk log.new → IfErr result (λ _. MoreFaults (D.Disk.faults log.old) (D.Disk.faults log.new)) }
+    ensures counts { D.Disk.faults log.old ≤ D.Disk.faults log.new }
     ensures same { OnlyReads D.Disk log.old log.new }
 {
     if log.len()? < SHORTEST {
@@ -59,10 +62,23 @@ fn is_unused<D: Disk>(log: &mut D) -> io::Result<bool>
     Ok(has_shut_gate(&head))
 }
 
+fn log_fault(error: Error) -> OpenFault
+    ensures memory { error ≡ Error.OutOfMemory → result ≡ OpenFault.NoMemory }
+    ensures office { result ≡ OpenFault.NotAnOffice → ⊥ }
+{
+    match error {
+        Error::OutOfMemory => OpenFault::NoMemory,
+        _ => OpenFault::Store,
+    }
+}
+
 fn has_commit<D: Disk>(alloc: Global, files: &mut Files<D>) -> Result<bool, OpenFault>
     requires log_usable { IsTrue (D.Disk.is_usable files.old.log) }
     requires db_usable { IsTrue (D.Disk.is_usable files.old.db) }
     ensures commit { IfOk result (λ b. AreClean D.Disk files.new.log files.new.db → IsTrue b → HasCommit (image_of D.Disk files.old)) }
+    ensures lacks { IfOk result (λ b. AreClean D.Disk files.new.log files.new.db → b ≡ false → LacksCommit (image_of D.Disk files.old)) }
+    ensures failed { AreClean D.Disk files.new.log files.new.db → IfErr result (λ e. e ≡ OpenFault.Store →
+        MoreFaults (faults_of D.Disk files.old) (faults_of D.Disk files.new) ⊎ LacksCommit (image_of D.Disk files.old)) }
     ensures cause { IfErr result (λ e. e ≡ OpenFault.NotAnOffice → ⊥) }
     ensures log { OnlyReads D.Disk files.old.log files.new.log }
     ensures db { OnlyReads D.Disk files.old.db files.new.db }
@@ -79,8 +95,7 @@ fn has_commit<D: Disk>(alloc: Global, files: &mut Files<D>) -> Result<bool, Open
     };
     match probe_frames(alloc, &mut files.log, size) {
         Ok(numbers) => Ok(!numbers.is_empty()),
-        Err(sqlite_wal::Error::OutOfMemory) => Err(OpenFault::NoMemory),
-        Err(_) => Err(OpenFault::Store),
+        Err(error) => Err(log_fault(error)),
     }
 }
 
@@ -90,6 +105,9 @@ pub(crate) fn check_log<D: Disk>(alloc: Global, files: &mut Files<D>) -> Result<
     requires db_usable { IsTrue (D.Disk.is_usable files.old.db) }
     ensures unused { IfOk result (λ b. AreClean D.Disk files.new.log files.new.db → b ≡ is_unused (D.Disk.seen files.old.log)) }
     ensures commit { IfOk result (λ b. AreClean D.Disk files.new.log files.new.db → b ≡ false → HasCommit (image_of D.Disk files.old)) }
+    ensures failed { AreClean D.Disk files.new.log files.new.db → IfErr result (λ e. e ≡ OpenFault.Store →
+        MoreFaults (faults_of D.Disk files.old) (faults_of D.Disk files.new)
+        ⊎ ((is_unused (D.Disk.seen files.old.log) ≡ false) × LacksCommit (image_of D.Disk files.old))) }
     ensures cause { IfErr result (λ e. e ≡ OpenFault.NotAnOffice → ⊥) }
     ensures log { OnlyReads D.Disk files.old.log files.new.log }
     ensures db { OnlyReads D.Disk files.old.db files.new.db }

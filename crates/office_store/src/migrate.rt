@@ -1,12 +1,13 @@
 //! Migrates offices of earlier editions when they are opened.
-ghost use Rattle.std.specs.Prelude.{◌≡◌, nat_lt, IsTrue, OnOk, OnErr, IfErr, map};
+ghost use Rattle.std.specs.Prelude.{◌≡◌, ◌⊎◌, false, nat_lt, IsTrue, OnOk, OnErr, IfErr, map};
 ghost use Rattle.sqlite.specs.Held.{state};
 ghost use Rattle.sqlite.specs.State.{HasCleanDisk, Survives};
 ghost use Rattle.office_tables.specs.declared.tables.notices.FormerNotice.{FormerNotice};
 ghost use Rattle.office_tables.specs.Earlier.{TellsEdition, former_part, had_former};
+ghost use Rattle.office_tables.specs.Failing.{DiskFails};
 ghost use Rattle.office_tables.specs.Steps.{Refused};
 ghost use Rattle.office_tables.specs.Tables.Office.{this_version};
-ghost use Rattle.office_store.specs.Founding.{Migrated, LeavesMigrated, IsMadeCurrent, LeavesReadied};
+ghost use Rattle.office_store.specs.Founding.{Migrated, LeavesMigrated, IsHindered, IsMadeCurrent, LeavesReadied};
 
 use crate::forms::check_forms;
 use crate::found::{OpenFault, opening, still_open};
@@ -73,6 +74,7 @@ pub(crate) fn ready<S: Alter>(
     ensures readied { HasCleanDisk (state S.Store conn.new) → OnOk result (IsMadeCurrent (nat_lt edition this_version) edition (state S.Store conn.old) (state S.Store conn.new)) }
     ensures is_open { HasCleanDisk (state S.Store conn.new) → OnOk result (IsTrue (state S.Store conn.new).is_open) }
     ensures cause { IfErr result (λ e. e ≡ OpenFault.NotAnOffice → ⊥) }
+    ensures failed { HasCleanDisk (state S.Store conn.new) → IfErr result (λ e. e ≡ OpenFault.Store → IsTrue (state S.Store conn.old).is_open → conn.old.in_transaction ≡ false → DiskFails (state S.Store conn.old) (state S.Store conn.new) ⊎ IsHindered edition (state S.Store conn.old)) }
     ensures kept { HasCleanDisk (state S.Store conn.new) → OnErr result (Refused (state S.Store conn.old) (state S.Store conn.new)) }
     ensures survives { Survives (state S.Store conn.old) (state S.Store conn.new) (LeavesReadied edition (state S.Store conn.old)) }
 {

@@ -26,8 +26,8 @@ fn tell(error: Error) -> Result<bool, ShelfFault>
     }
 }
 
-// Prepares a statement: an open store reads it, and a store that was shut says so.
-fn ask<S: Alter>(conn: &mut Connection<S>) -> Result<bool, ShelfFault>
+/// Whether the store was shut. It prepares a statement: an open store reads it, and a store that was shut says so.
+pub(crate) fn ask<S: Alter>(conn: &mut Connection<S>) -> Result<bool, ShelfFault>
     ensures told { HasCleanDisk (state S.Store conn.new) → IsTold (state S.Store conn.old) (state S.Store conn.new) result }
     ensures kept { HasCleanDisk (state S.Store conn.new) → Refused (state S.Store conn.old) (state S.Store conn.new) }
     ensures survives { Survives (state S.Store conn.old) (state S.Store conn.new) (λ _. ⊥) }

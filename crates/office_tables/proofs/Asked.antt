@@ -1,6 +1,6 @@
 -- An answer over the last commit is an answer over the content that this commit holds.
 use Rattle.std.proofs.Common.{◌≡◌, ◌⊎◌, inl, inr, ℕ, List, [], ◌∷◌, map, slice_get, Option, Some, ap, Result, Ok, Err, true, IsTrue, sym, subst, ◌∙◌}
-use Rattle.std.specs.Prelude.{IfOk, IfErr, OnOk, option_map}
+use Rattle.std.specs.Prelude.{◌≤◌, IfOk, IfErr, OnOk, option_map}
 use Rattle.sqlite_value.specs.Order.{Row}
 use Rattle.sqlite_trees.specs.declared.store.Store.{Ghosts}
 use Rattle.sqlite.specs.Effect.{Database}
@@ -12,7 +12,7 @@ use Rattle.office_base.specs.declared.shelf.ShelfFault.{ShelfFault}
 use Rattle.office_base.specs.Tables.{Tables}
 use Rattle.office_tables.specs.Failing.{IsUnread}
 use Rattle.office_tables.specs.Standing.{Holds}
-use Rattle.office_tables.specs.Steps.{IsAsked, IsRefusal, ShowsTables, Tells, FindsPart}
+use Rattle.office_tables.specs.Steps.{IsAsked, IsRefusal, IsRefusedBy, ShowsTables, Tells, FindsPart}
 
 pub asked : {S : Type 0} (g : Ghosts S) (sql : List ℕ) (params : Row) (old : Held S) (rows : List Row) (t : Tables) (Q : Type 0) → IsAsked g sql params old rows → ShowsTables (state g old) t
     → ((before after : State) → Holds before.now t → Shown sql params before after rows → Q) → Q
@@ -41,6 +41,12 @@ pub refusals : {S A : Type 0} (g : Ghosts S) (sql : List ℕ) (params : Row) (ol
     → IfErr r (IsRefusal g sql params old)
 refusals g sql params old mid (Ok a) h = tt
 refusals g sql params old mid (Err e) h = inl (mid, h)
+
+pub refused_by : {S A : Type 0} (g : Ghosts S) (sql : List ℕ) (params : Row) (old mid new : Held S) (r : Result A Error) → (state g mid).faults ≤ (state g new).faults
+    → IfErr r (λ e. FailsToQuery sql params (state g (record old { in_transaction = true })) (state g mid) e ⊎ IsTooLate sql params (state g (record old { in_transaction = true })) (state g mid) e)
+    → IfErr r (IsRefusedBy g sql params old new)
+refused_by g sql params old mid new (Ok a) up h = tt
+refused_by g sql params old mid new (Err e) up h = inl (mid, up, h)
 
 -- the answer that was found in the rows is right, because every answer in these rows is right
 told : {S A E : Type 0} (g : Ghosts S) (sql : List ℕ) (params : Row) (old : Held S) (r : Result A E) (From : A → List Row → Type 0) (t : Tables) (Right : A → Type 0)

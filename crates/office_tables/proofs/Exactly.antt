@@ -1,5 +1,5 @@
 -- A row is the list of its columns. A row with a column that no office writes isn't read.
-use Rattle.std.proofs.Common.{◌≡◌, ℕ, zero, suc, ◌<◌, List, [], ◌∷◌, length, get_or, map, Result, Ok, Err, refl, sym, ap, subst, ◌∙◌, arith}
+use Rattle.std.proofs.Common.{◌≡◌, ℕ, zero, suc, ◌<◌, List, [], ◌∷◌, ◌++◌, length, get_or, map, Result, Ok, Err, refl, sym, ap, subst, ◌∙◌, arith}
 use Rattle.std.specs.Prelude.{IfErr}
 use Rattle.std.specs.Result.{IsErrAnd}
 use Rattle.std.specs.List.{AllByRecursion}
@@ -45,3 +45,8 @@ pub one_unwritten : {R : Type 0} (row_of : R → Row) (fits : R → Type 0) (row
     → IsUnwritten row_of fits row → IsUnwritten (map row_of) (AllByRecursion fits) rows
 one_unwritten row_of fits rows row at within is h =
     record { none = λ xs f e. let x = one_of row_of fits xs row at (subst (λ l. at < length l) (sym e) within) (subst (λ l. get_or l at row ≡ row) (sym e) is) f in h.none x.0 x.1 x.2 }
+
+-- an element that fits keeps a list of such elements so
+pub all_fit_push : {R : Type 0} (fits : R → Type 0) (xs : List R) (x : R) → AllByRecursion fits xs → fits x → AllByRecursion fits (xs ++ x ∷ [])
+all_fit_push fits [] x all one = (one, tt)
+all_fit_push fits (y ∷ xs) x all one = (all.0, all_fit_push fits xs x all.1 one)

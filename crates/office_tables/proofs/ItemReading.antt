@@ -192,6 +192,11 @@ module _ (found : List Item) (text : List ℕ) (f : AllByRecursion IsItem found)
   items_read None r h e = subst (λ r. IfOk r (λ items. items ≡ items_in_text text)) (sym e) tt
   items_read (Some all) r h e = subst (λ r. IfOk r (λ items. items ≡ items_in_text text)) (sym e) (h ∙ sym (items_back found (all_fit found f)) ∙ ap items_in_text is)
 
+  pub items_fit : (o : Option (List Item)) (r : Result (List Item) ShelfFault) → IfSome o (λ all. all ≡ found) → IfSome o (λ _. 1 ≤ length found)
+      → IfSome o (λ _. repeats_id item_id found ≡ false) → r ≡ ok_or o Store → IfOk r AreItems
+  items_fit None r h some differ e = subst (λ r. IfOk r AreItems) (sym e) tt
+  items_fit (Some all) r h some differ e = subst (λ r. IfOk r AreItems) (sym e) (subst AreItems (sym h) (record { each = f; some = some; differ = differ }))
+
   no_items : (length found ≡ 0) ⊎ (repeats_id item_id found ≡ true) → IsUnwritten items_text AreItems text
   no_items why = record { none = λ items fits e. by items fits (same_items items found fits.each f (e ∙ sym is)) why }
     where

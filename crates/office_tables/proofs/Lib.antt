@@ -44,3 +44,4 @@ pub mod EarlierEditions
 mod Told
 mod Versions
 mod Failing
+pub mod Statements

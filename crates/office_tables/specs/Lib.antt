@@ -19,3 +19,4 @@ pub mod Editions
 pub mod Earlier
 pub mod Laws
 pub mod Version
+pub mod Statements

@@ -1,5 +1,5 @@
 -- The results of look-ups, the work of a transaction so far, and the store after a change of the office.
-use Rattle.std.specs.Prelude.{◌≡◌, ◌⊎◌, true, false, IsTrue, ℕ, Option, Result, Ok, IfOk, List, [], ◌∷◌}
+use Rattle.std.specs.Prelude.{◌≡◌, ◌⊎◌, ◌≤◌, true, false, IsTrue, ℕ, Option, Result, Ok, IfOk, List, [], ◌∷◌}
 use Rattle.sqlite_value.specs.Order.{Row}
 use Rattle.sqlite_schema.specs.declared.schema.Keys.TheVariants.{Enforced}
 use Rattle.sqlite_resolve.specs.declared.compiled.Compiled.{Compiled}
@@ -94,3 +94,10 @@ abbrev pub IsRefusal : {S : Type 0} → Ghosts S → List ℕ → Row → Held S
 IsRefusal {S} g sql params old e =
     ((mid : Held S) × (FailsToQuery sql params (state g (record old { in_transaction = true })) (state g mid) e ⊎ IsTooLate sql params (state g (record old { in_transaction = true })) (state g mid) e))
     ⊎ (e ≡ InvalidQuery)
+
+-- why the query was not answered by a connection that is left so: no fault of the disk that it met is forgotten; or a transaction was under way
+abbrev pub IsRefusedBy : {S : Type 0} → Ghosts S → List ℕ → Row → Held S → Held S → Error → Type 0
+IsRefusedBy {S} g sql params old new e =
+    ((mid : Held S) × ((state g mid).faults ≤ (state g new).faults)
+    × (FailsToQuery sql params (state g (record old { in_transaction = true })) (state g mid) e ⊎ IsTooLate sql params (state g (record old { in_transaction = true })) (state g mid) e))
+    ⊎ IsTrue old.in_transaction

@@ -1,5 +1,5 @@
 //! Queries over the last commit, inside a transaction of their own.
-ghost use Rattle.std.specs.Prelude.{◌≡◌, ◌⊎◌, List, Option, IsTrue, IfOk, IfErr, IfSome, OnOk, map, slice_get, option_map};
+ghost use Rattle.std.specs.Prelude.{◌≡◌, ◌⊎◌, false, List, Option, IsTrue, IfOk, IfErr, IfSome, OnOk, map, slice_get, option_map};
 ghost use Rattle.std.specs.List.{AllByRecursion};
 ghost use Rattle.sqlite_value.specs.Order.{Row as Values};
 ghost use Rattle.sqlite.specs.Held.{state};
@@ -8,7 +8,7 @@ ghost use Rattle.sqlite.specs.Values.{bound};
 ghost use Rattle.office_base.specs.Tables.{Tables};
 ghost use Rattle.office_tables.specs.Unwritten.{IsUnwritten};
 ghost use Rattle.office_tables.specs.Failing.{IsUnread};
-ghost use Rattle.office_tables.specs.Steps.{IsAsked, IsRefusal, Refused, FindsPart, TellsOnly};
+ghost use Rattle.office_tables.specs.Steps.{IsAsked, IsRefusal, IsRefusedBy, Refused, FindsPart, TellsOnly};
 
 use crate::faults::fault;
 use crate::stored::{Stored, all, first};
@@ -42,6 +42,8 @@ pub fn ask<S: Alter>(
 ) -> Result<Vec<Row>, Error>
     ensures asked { HasCleanDisk (state S.Store conn.new) → IfOk result (λ rows. IsAsked S.Store sql.now (bound values.now) conn.old rows.items) }
     ensures refused { HasCleanDisk (state S.Store conn.new) → IfErr result (IsRefusal S.Store sql.now (bound values.now) conn.old) }
+    ensures failed { HasCleanDisk (state S.Store conn.new) → IfErr result (IsRefusedBy S.Store sql.now (bound values.now) conn.old conn.new) }
+    ensures ended { conn.old.in_transaction ≡ false → conn.new.in_transaction ≡ false }
     ensures kept { HasCleanDisk (state S.Store conn.new) → Refused (state S.Store conn.old) (state S.Store conn.new) }
     ensures survives { Survives (state S.Store conn.old) (state S.Store conn.new) (λ _. ⊥) }
 {

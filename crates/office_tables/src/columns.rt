@@ -169,6 +169,7 @@ pub(crate) fn perhaps_line_at(
 // The text of JSON in a column.
 pub(crate) fn json_at(alloc: Global, row: &Row, at: usize) -> Result<JsonText, ShelfFault>
     ensures exact { IfOk result (λ text. Text text ≡ column row.now at) }
+    ensures fits { IfOk result IsUtf8 }
     ensures cause { IfErr result (IsFaultOf (IsUnwritten Text IsUtf8 (column row.now at))) }
 {
     let Ok(text) = str::from_utf8(text_at(row, at)?) else {
@@ -280,6 +281,7 @@ pub(crate) fn version_at(row: &Row, at: usize, version: u64) -> Result<(), Shelf
 // The version in a column, which must be below this one.
 pub(crate) fn earlier_at(row: &Row, at: usize, version: u64) -> Result<u64, ShelfFault>
     ensures exact { IfOk result (λ earlier. whole earlier ≡ column row.now at) }
+    ensures below { IfOk result (λ earlier. earlier < version) }
     ensures cause { IfErr result (IsFaultOf (IsUnwritten whole (λ n. n < version) (column row.now at))) }
 {
     let earlier = number_at(row, at)?;

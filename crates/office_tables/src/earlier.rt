@@ -1,9 +1,10 @@
 //! Offices of earlier editions: how to read their former notices and their clock, and the first half of their migration.
-ghost use Rattle.std.specs.Prelude.{◌≡◌, ℕ, [], Some, Ok, IfOk, IsTrue, OnOk, OnErr, map, option_map};
+ghost use Rattle.std.specs.Prelude.{◌≡◌, ℕ, [], Some, Ok, Err, IfOk, IfErr, IsTrue, OnOk, OnErr, map, option_map};
 ghost use Rattle.sqlite.specs.Held.{state};
 ghost use Rattle.sqlite.specs.State.{HasCleanDisk, Survives, ExecutesInside};
 ghost use Rattle.office_tables.specs.Tables.Office.{clock_values, upsert_office};
 ghost use Rattle.office_tables.specs.Earlier.{TellsEdition, Begins, Renews, DropsFormer, had_former, former_part, drop_version};
+ghost use Rattle.office_tables.specs.Statements.{OneFails, RunAll, beginning, drops, renewal};
 ghost use Rattle.office_tables.specs.Steps.{Refused};
 ghost use Rattle.office_tables.specs.declared.tables.office.FormerClock.{FormerClock};
 ghost use Rattle.office_tables.specs.declared.tables.notices.FormerNotice.{FormerNotice};
@@ -70,6 +71,7 @@ pub fn former_clock<S: Alter>(
 fn drop_notices<S: Alter>(tx: &mut Transaction<'_, S>, edition: u64) -> Result<(), Error>
     ensures same_reference { tx.new.conn.ghost_name ≡ tx.old.conn.ghost_name }
     ensures dropped { HasCleanDisk (state S.Store tx.new.conn.now) → IsTrue (state S.Store tx.old.conn.now).in_transaction → OnOk result (DropsFormer S.Store (had_former edition) tx.old.conn.now tx.new.conn.now) }
+    ensures fails { HasCleanDisk (state S.Store tx.new.conn.now) → IsTrue (state S.Store tx.old.conn.now).in_transaction → IfErr result (OneFails S.Store (drops edition) tx.old.conn.now tx.new.conn.now) }
     ensures refused { HasCleanDisk (state S.Store tx.new.conn.now) → IsTrue (state S.Store tx.old.conn.now).in_transaction → OnErr result (Refused (state S.Store tx.old.conn.now) (state S.Store tx.new.conn.now)) }
     ensures survives { Survives (state S.Store tx.old.conn.now) (state S.Store tx.new.conn.now) (λ _. ⊥) }
 {
@@ -84,6 +86,7 @@ fn drop_notices<S: Alter>(tx: &mut Transaction<'_, S>, edition: u64) -> Result<(
 fn drop_version<S: Alter>(tx: &mut Transaction<'_, S>) -> Result<(), Error>
     ensures same_reference { tx.new.conn.ghost_name ≡ tx.old.conn.ghost_name }
     ensures ran { HasCleanDisk (state S.Store tx.new.conn.now) → IsTrue (state S.Store tx.old.conn.now).in_transaction → OnOk result ((count : ℕ) × ExecutesInside 0 drop_version [] (state S.Store tx.old.conn.now) (state S.Store tx.new.conn.now) (Ok count)) }
+    ensures fails { HasCleanDisk (state S.Store tx.new.conn.now) → IsTrue (state S.Store tx.old.conn.now).in_transaction → IfErr result (λ e. ExecutesInside 0 drop_version [] (state S.Store tx.old.conn.now) (state S.Store tx.new.conn.now) (Err e)) }
     ensures refused { HasCleanDisk (state S.Store tx.new.conn.now) → IsTrue (state S.Store tx.old.conn.now).in_transaction → OnErr result (Refused (state S.Store tx.old.conn.now) (state S.Store tx.new.conn.now)) }
     ensures survives { Survives (state S.Store tx.old.conn.now) (state S.Store tx.new.conn.now) (λ _. ⊥) }
 {
@@ -94,6 +97,7 @@ fn drop_version<S: Alter>(tx: &mut Transaction<'_, S>) -> Result<(), Error>
 fn put_version<S: Alter>(tx: &mut Transaction<'_, S>, clock: &ClockRow) -> Result<(), Error>
     ensures same_reference { tx.new.conn.ghost_name ≡ tx.old.conn.ghost_name }
     ensures ran { HasCleanDisk (state S.Store tx.new.conn.now) → IsTrue (state S.Store tx.old.conn.now).in_transaction → OnOk result ((count : ℕ) × ExecutesInside 0 upsert_office (clock_values clock.now) (state S.Store tx.old.conn.now) (state S.Store tx.new.conn.now) (Ok count)) }
+    ensures fails { HasCleanDisk (state S.Store tx.new.conn.now) → IsTrue (state S.Store tx.old.conn.now).in_transaction → IfErr result (λ e. ExecutesInside 0 upsert_office (clock_values clock.now) (state S.Store tx.old.conn.now) (state S.Store tx.new.conn.now) (Err e)) }
     ensures refused { HasCleanDisk (state S.Store tx.new.conn.now) → IsTrue (state S.Store tx.old.conn.now).in_transaction → OnErr result (Refused (state S.Store tx.old.conn.now) (state S.Store tx.new.conn.now)) }
     ensures survives { Survives (state S.Store tx.old.conn.now) (state S.Store tx.new.conn.now) (λ _. ⊥) }
 {
@@ -104,6 +108,7 @@ fn put_version<S: Alter>(tx: &mut Transaction<'_, S>, clock: &ClockRow) -> Resul
 fn renew<S: Alter>(tx: &mut Transaction<'_, S>, edition: u64, clock: &ClockRow) -> Result<(), Error>
     ensures same_reference { tx.new.conn.ghost_name ≡ tx.old.conn.ghost_name }
     ensures renewed { HasCleanDisk (state S.Store tx.new.conn.now) → IsTrue (state S.Store tx.old.conn.now).in_transaction → OnOk result (Renews S.Store edition clock.now tx.old.conn.now tx.new.conn.now) }
+    ensures fails { HasCleanDisk (state S.Store tx.new.conn.now) → IsTrue (state S.Store tx.old.conn.now).in_transaction → IfErr result (OneFails S.Store (renewal edition clock.now) tx.old.conn.now tx.new.conn.now) }
     ensures refused { HasCleanDisk (state S.Store tx.new.conn.now) → IsTrue (state S.Store tx.old.conn.now).in_transaction → OnErr result (Refused (state S.Store tx.old.conn.now) (state S.Store tx.new.conn.now)) }
     ensures survives { Survives (state S.Store tx.old.conn.now) (state S.Store tx.new.conn.now) (λ _. ⊥) }
 {
@@ -121,6 +126,8 @@ pub fn begin_current<S: Alter>(
 ) -> Result<(), Error>
     ensures same_reference { tx.new.conn.ghost_name ≡ tx.old.conn.ghost_name }
     ensures begins { HasCleanDisk (state S.Store tx.new.conn.now) → IsTrue (state S.Store tx.old.conn.now).in_transaction → OnOk result (Begins edition clock.now (state S.Store tx.old.conn.now) (state S.Store tx.new.conn.now)) }
+    ensures ran { HasCleanDisk (state S.Store tx.new.conn.now) → IsTrue (state S.Store tx.old.conn.now).in_transaction → OnOk result (RunAll S.Store (beginning edition clock.now) tx.old.conn.now tx.new.conn.now) }
+    ensures fails { HasCleanDisk (state S.Store tx.new.conn.now) → IsTrue (state S.Store tx.old.conn.now).in_transaction → IfErr result (OneFails S.Store (beginning edition clock.now) tx.old.conn.now tx.new.conn.now) }
     ensures refused { HasCleanDisk (state S.Store tx.new.conn.now) → IsTrue (state S.Store tx.old.conn.now).in_transaction → OnErr result (Refused (state S.Store tx.old.conn.now) (state S.Store tx.new.conn.now)) }
     ensures survives { Survives (state S.Store tx.old.conn.now) (state S.Store tx.new.conn.now) (λ _. ⊥) }
 {

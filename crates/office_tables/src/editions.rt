@@ -1,14 +1,15 @@
 //! The editions of an office's tables: which tables came later, and how a migration makes those that are missing.
-ghost use Rattle.std.specs.Prelude.{◌≡◌, ◌&&◌, nat_lt, true, false, List, [], ◌∷◌, IsTrue, OnOk, OnErr, map};
+ghost use Rattle.std.specs.Prelude.{◌≡◌, ◌&&◌, nat_lt, true, false, List, [], ◌∷◌, IsTrue, OnOk, OnErr, IfErr, map};
 ghost use Rattle.std.specs.List.{list_any};
 ghost use Rattle.sqlite_schema.specs.Names.{same_name};
 ghost use Rattle.sqlite_rules.specs.Lists.{Has};
 ghost use Rattle.sqlite.specs.Held.{state};
 ghost use Rattle.sqlite.specs.State.{HasCleanDisk, Survives};
 ghost use Rattle.office_tables.specs.Earlier.{MakesMissing, had_former};
-ghost use Rattle.office_tables.specs.Editions.{edition_of, lacks_table, has_late, later_line, came_later};
+ghost use Rattle.office_tables.specs.Editions.{edition_of, lacks_table, has_late, later_line, later_tables, came_later};
 ghost use Rattle.office_tables.specs.Making.{IsCreate, Makes};
 ghost use Rattle.office_tables.specs.Schema.{OfficeTable, table_of};
+ghost use Rattle.office_tables.specs.Statements.{OneFails, RunAll, creates};
 ghost use Rattle.office_tables.specs.Steps.{Refused};
 
 use crate::make::make_table;
@@ -81,6 +82,8 @@ fn make_missing<S: Alter>(
     ensures same_reference { tx.new.conn.ghost_name ≡ tx.old.conn.ghost_name }
     ensures made { HasCleanDisk (state S.Store tx.new.conn.now) → IsTrue (state S.Store tx.old.conn.now).in_transaction → nat_lt edition table.now.0 ≡ true → (k : OfficeTable) → IsCreate table.now.2.now (table_of k) → OnOk result (Makes (state S.Store tx.old.conn.now) (state S.Store tx.new.conn.now) (k ∷ [])) }
     ensures there { nat_lt edition table.now.0 ≡ false → tx.new.conn.now ≡ tx.old.conn.now }
+    ensures ran { HasCleanDisk (state S.Store tx.new.conn.now) → IsTrue (state S.Store tx.old.conn.now).in_transaction → OnOk result (RunAll S.Store (creates edition ((table.now.0, table.now.1.now, table.now.2.now) ∷ [])) tx.old.conn.now tx.new.conn.now) }
+    ensures fails { HasCleanDisk (state S.Store tx.new.conn.now) → IsTrue (state S.Store tx.old.conn.now).in_transaction → IfErr result (OneFails S.Store (creates edition ((table.now.0, table.now.1.now, table.now.2.now) ∷ [])) tx.old.conn.now tx.new.conn.now) }
     ensures refused { HasCleanDisk (state S.Store tx.new.conn.now) → IsTrue (state S.Store tx.old.conn.now).in_transaction → OnErr result (Refused (state S.Store tx.old.conn.now) (state S.Store tx.new.conn.now)) }
     ensures survives { Survives (state S.Store tx.old.conn.now) (state S.Store tx.new.conn.now) (λ _. ⊥) }
 {
@@ -99,6 +102,8 @@ fn make_among<S: Alter>(
 ) -> Result<(), Error>
     ensures same_reference { tx.new.conn.ghost_name ≡ tx.old.conn.ghost_name }
     ensures made { HasCleanDisk (state S.Store tx.new.conn.now) → IsTrue (state S.Store tx.old.conn.now).in_transaction → (ks : List OfficeTable) → map later_line ks ≡ map (λ (x : Later). (x.0, x.1.now, x.2.now)) tables.now → ((k : OfficeTable) → lacks_table edition k ≡ true → Has ks k) → OnOk result (MakesMissing edition (state S.Store tx.old.conn.now) (state S.Store tx.new.conn.now)) }
+    ensures ran { HasCleanDisk (state S.Store tx.new.conn.now) → IsTrue (state S.Store tx.old.conn.now).in_transaction → (ks : List OfficeTable) → map later_line ks ≡ map (λ (x : Later). (x.0, x.1.now, x.2.now)) tables.now → ((k : OfficeTable) → lacks_table edition k ≡ true → Has ks k) → OnOk result (RunAll S.Store (creates edition (map (λ (x : Later). (x.0, x.1.now, x.2.now)) tables.now)) tx.old.conn.now tx.new.conn.now) }
+    ensures fails { HasCleanDisk (state S.Store tx.new.conn.now) → IsTrue (state S.Store tx.old.conn.now).in_transaction → (ks : List OfficeTable) → map later_line ks ≡ map (λ (x : Later). (x.0, x.1.now, x.2.now)) tables.now → ((k : OfficeTable) → lacks_table edition k ≡ true → Has ks k) → IfErr result (OneFails S.Store (creates edition (map (λ (x : Later). (x.0, x.1.now, x.2.now)) tables.now)) tx.old.conn.now tx.new.conn.now) }
     ensures refused { HasCleanDisk (state S.Store tx.new.conn.now) → IsTrue (state S.Store tx.old.conn.now).in_transaction → (ks : List OfficeTable) → map later_line ks ≡ map (λ (x : Later). (x.0, x.1.now, x.2.now)) tables.now → ((k : OfficeTable) → lacks_table edition k ≡ true → Has ks k) → OnErr result (Refused (state S.Store tx.old.conn.now) (state S.Store tx.new.conn.now)) }
     ensures survives { Survives (state S.Store tx.old.conn.now) (state S.Store tx.new.conn.now) (λ _. ⊥) }
 {
@@ -113,6 +118,8 @@ fn make_among<S: Alter>(
 pub(crate) fn make_later<S: Alter>(tx: &mut Transaction<'_, S>, edition: u64) -> Result<(), Error>
     ensures same_reference { tx.new.conn.ghost_name ≡ tx.old.conn.ghost_name }
     ensures made { HasCleanDisk (state S.Store tx.new.conn.now) → IsTrue (state S.Store tx.old.conn.now).in_transaction → OnOk result (MakesMissing edition (state S.Store tx.old.conn.now) (state S.Store tx.new.conn.now)) }
+    ensures ran { HasCleanDisk (state S.Store tx.new.conn.now) → IsTrue (state S.Store tx.old.conn.now).in_transaction → OnOk result (RunAll S.Store (creates edition (map later_line later_tables)) tx.old.conn.now tx.new.conn.now) }
+    ensures fails { HasCleanDisk (state S.Store tx.new.conn.now) → IsTrue (state S.Store tx.old.conn.now).in_transaction → IfErr result (OneFails S.Store (creates edition (map later_line later_tables)) tx.old.conn.now tx.new.conn.now) }
     ensures refused { HasCleanDisk (state S.Store tx.new.conn.now) → IsTrue (state S.Store tx.old.conn.now).in_transaction → OnErr result (Refused (state S.Store tx.old.conn.now) (state S.Store tx.new.conn.now)) }
     ensures survives { Survives (state S.Store tx.old.conn.now) (state S.Store tx.new.conn.now) (λ _. ⊥) }
 {

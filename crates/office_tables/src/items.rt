@@ -118,6 +118,7 @@ fn front_item(alloc: Global, text: &[u8]) -> Result<(Item, &[u8]), ShelfFault>
 pub fn read_items(alloc: Global, text: &[u8]) -> Result<Items, ShelfFault>
     ensures exact { IfOk result (λ items. items_text items ≡ text.now) }
     ensures read { IfOk result (λ items. items ≡ items_in_text text.now) }
+    ensures fits { IfOk result AreItems }
     ensures cause { IfErr result (IsFaultOf (IsUnwritten items_text AreItems text.now)) }
 {
     let mut found = Vec::new(alloc);
@@ -135,6 +136,7 @@ pub fn read_items(alloc: Global, text: &[u8]) -> Result<Items, ShelfFault>
 pub(crate) fn items_at(alloc: Global, row: &Row, at: usize) -> Result<Items, ShelfFault>
     ensures exact { IfOk result (λ items. Text (items_text items) ≡ column row.now at) }
     ensures read { IfOk result (λ items. items_in_text (items_text items) ≡ items) }
+    ensures fits { IfOk result AreItems }
     ensures cause { IfErr result (IsFaultOf (IsUnwritten (λ items. Text (items_text items)) AreItems (column row.now at))) }
 {
     read_items(alloc, text_at(row, at)?)

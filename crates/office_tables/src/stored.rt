@@ -21,6 +21,7 @@ pub trait Stored: Sized {
     fn from_row(alloc: Global, row: &Row) -> Result<Self, ShelfFault>
         ensures read { IfOk result (λ x. x ≡ read row.now) }
         ensures exact { IfOk result (λ x. row_of x ≡ row.now) }
+        ensures fits { IfOk result fits }
         ensures cause { IfErr result (IsFaultOf (IsUnwritten row_of fits row.now)) };
 }
 
@@ -28,6 +29,7 @@ pub trait Stored: Sized {
 pub fn first<R: Stored>(alloc: Global, rows: &[Row]) -> Result<Option<R>, ShelfFault>
     ensures read { IfOk result (λ found. found ≡ option_map R.read (slice_get rows.now 0)) }
     ensures exact { IfOk result (λ found. option_map R.row_of found ≡ slice_get rows.now 0) }
+    ensures fits { IfOk result (λ found. IfSome found R.fits) }
     ensures cause { IfErr result (IsFaultOf (IsUnwritten (option_map R.row_of) (λ found. IfSome found R.fits) (slice_get rows.now 0))) }
 {
     match rows.first() {
@@ -37,9 +39,11 @@ pub fn first<R: Stored>(alloc: Global, rows: &[Row]) -> Result<Option<R>, ShelfF
 }
 
 /// The records of all rows, in their order.
+#[tactic(auto, using(crate::proofs::Exactly::all_fit_push))]
 pub fn all<R: Stored + Drop>(alloc: Global, rows: &[Row]) -> Result<Vec<R>, ShelfFault>
     ensures read { IfOk result (λ found. found.items ≡ map R.read rows.now) }
     ensures exact { IfOk result (λ found. map R.row_of found.items ≡ rows.now) }
+    ensures fits { IfOk result (λ found. AllByRecursion R.fits found.items) }
     ensures cause { IfErr result (IsFaultOf (IsUnwritten (map R.row_of) (AllByRecursion R.fits) rows.now)) }
 {
     let mut found = Vec::new(alloc);

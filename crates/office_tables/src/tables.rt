@@ -1,12 +1,13 @@
 //! The tables of an office, a file each. Here are the statements that create them all, and the put of any record. A put is made, or it fails and nothing is
 //! committed.
-ghost use Rattle.std.specs.Prelude.{◌≡◌, [], ◌∷◌, IsTrue, OnOk, OnErr, map};
+ghost use Rattle.std.specs.Prelude.{◌≡◌, [], ◌∷◌, IsTrue, OnOk, OnErr, IfErr, map};
 ghost use Rattle.sqlite.specs.Held.{state};
-ghost use Rattle.sqlite.specs.State.{HasCleanDisk, Survives};
+ghost use Rattle.sqlite.specs.State.{HasCleanDisk, IsNotRun, Survives};
 ghost use Rattle.office_tables.specs.Schema.{all_tables, table_of};
 ghost use Rattle.office_tables.specs.Making.{Makes};
 ghost use Rattle.office_tables.specs.Failing.{ErrorHasCause};
 ghost use Rattle.office_tables.specs.Steps.{Goes, Puts, Refused};
+ghost use Rattle.office_tables.specs.Version.{get_version};
 
 pub mod awards;
 pub mod batches;
@@ -95,6 +96,7 @@ pub fn begin<S: Alter>(tx: &mut Transaction<'_, S>) -> Result<(), Error>
     ensures refused { HasCleanDisk (state S.Store tx.new.conn.now) → OnErr result (Refused (state S.Store tx.old.conn.now) (state S.Store tx.new.conn.now)) }
     ensures still { HasCleanDisk (state S.Store tx.new.conn.now) → IsTrue (state S.Store tx.old.conn.now).in_transaction → OnOk result (Goes (state S.Store tx.old.conn.now) (state S.Store tx.new.conn.now) × ((state S.Store tx.new.conn.now).now ≡ (state S.Store tx.old.conn.now).now)) }
     ensures failed { ErrorHasCause (state S.Store tx.old.conn.now) (state S.Store tx.new.conn.now) [] result }
+    ensures unready { HasCleanDisk (state S.Store tx.new.conn.now) → IfErr result (IsNotRun (state S.Store tx.old.conn.now) (state S.Store tx.new.conn.now) get_version []) }
     ensures survives { Survives (state S.Store tx.old.conn.now) (state S.Store tx.new.conn.now) (λ _. ⊥) }
 {
     let _ready = tx.prepare("SELECT version FROM office")?;

@@ -3,6 +3,7 @@ mod EmptyFile
 mod EmptyOpened
 mod ListedPages
 mod OpenedFiles
+mod RememberedServing
 mod StoppedFiles
 pub mod Turns
 pub mod ConnectionSteps

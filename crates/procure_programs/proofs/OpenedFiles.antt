@@ -26,7 +26,7 @@ use Rattle.office_http.specs.Joined.{StepsAreKept}
 use Rattle.procure_config.specs.declared.fault.ProgramFault.{ProgramFault}
 use Rattle.procure_programs.specs.Hosts.{Hosting}
 use Rattle.procure_programs.specs.Placed.{HadOfficeIfUsed, OpensEmpty}
-use Rattle.procure_programs.specs.Serving.{DayIn, DaysFollow, FilesGoOn, HaveOffice, KeysFollow, LedOn, MayBeFound, PrintsFiles, ServesFiles, ServesOpened, StandsIn, StopsIn, WasServed, WasServedAt, sql_standing, under_settings}
+use Rattle.procure_programs.specs.Serving.{DayIn, DaysFollow, FilesGoOn, HaveOffice, KeysFollow, LedOn, MayBeFound, PrintsFiles, ServesFiles, ServesOpened, StandsIn, StopsIn, WasServed, WasServedRemembering, sql_standing, under_settings}
 use Rattle.procure_programs.specs.Showing.{IsPrintout}
 use Rattle.procure_programs.specs.declared.showing.Printout.{Printout}
 use Rattle.procure_programs.proofs.ServingSteps.{office_on, served_none, served_still, serving_kept}
@@ -68,7 +68,7 @@ module _ {D : Type 0} {g : Ghosts D} where
       → (HasCleanDisk (file_state opened.0) → LeavesShown (file_state opened.0)) → (HasCleanDisk (file_state opened.0) → LeavesNoOther (file_state opened.0))
       → (HasCleanDisk (file_state opened.0) → HadOfficeIfUsed g image)
       → IfOk result (λ left. WasServed (sql_meaning over_files) count settings opened left.0)
-      → IfOk result (λ left. WasServedAt binds N (sql_meaning over_files) (sql_standing over_files) network port count settings opened left.0 left.1)
+      → IfOk result (λ left. WasServedRemembering binds N (sql_meaning over_files) (sql_standing over_files) network port count settings opened left.0 left.1)
       → IfOk result (λ left. ServesOpened binds N network port image settings count left.0 left.1)
   opened_serves binds N network port image settings count opened (Ok left) held empty sound alone used served turns =
       record { opened = opened; held = held; empty = empty; sound = sound; alone = alone; used = used; served = served; turns = turns }

@@ -23,6 +23,8 @@ use Rattle.office_publications.specs.Standing.{IsReached}
 use Rattle.office_desk.specs.Desks.{DeskOf}
 use Rattle.office_store.specs.Reopening.{FilesHoldOffice, OpensHeld, StandForOffice}
 use Rattle.office_store.specs.SqlMeaning.{LeavesNoOther, LeavesShown, sql_meaning}
+use Rattle.office_sums.specs.RememberingMeaning.{remembering, remembering_standing}
+use Rattle.office_sums.specs.declared.shelf.RememberingShelf.{RememberingShelf}
 use Rattle.office_wire.specs.Runs.{Step, office_left}
 use Rattle.office_http.specs.Answering.{Held, StandsAs, office_answers}
 use Rattle.office_http.specs.Runs.{WentThrough}
@@ -51,6 +53,16 @@ abbrev pub WasServedAt : {S X T R W : Type 0} → (X → SocketAddrV4 → Option
 WasServedAt binds N M store network port count settings old new result =
     (now : Settings) × ServesAt binds N M store network port count (record { shelf = old; settings = settings }) (record { shelf = new; settings = now }) result
 
+-- An office in a store was served as `WasServedAt` says, in a store around it that remembers the sums of budget lines. That one remembered no line at first, so it
+-- held each office that the store inside held.
+pub record WasServedRemembering {S X T R W : Type 0} (binds : X → SocketAddrV4 → Option T → Type 0) (N : Hosting T R W) (M : Meaning S) (store : Standing S) (network : X) (port : ℕ) (count : ℕ) (settings : Settings) (old new : S) (result : Result (Unit {0}) ProgramFault) : Type 0 where
+  pub first : RememberingShelf S
+  pub last : RememberingShelf S
+  pub around : first.shelf ≡ old
+  pub empty : first.known ≡ []
+  pub inside : last.shelf ≡ new
+  pub turns : WasServedAt binds N (remembering M) (remembering_standing store) network port count settings first last result
+
 -- Whether a store in SQL is open, and the faults of its disk.
 abbrev pub sql_standing : {S : Type 0} → StoreGhosts S → Standing (Connected S × ℕ)
 sql_standing g = record { is_open = λ shelf. (sql_state g shelf.0).is_open; disk_faults = λ shelf. (sql_state g shelf.0).faults }
@@ -65,7 +77,7 @@ pub record ServesOpened {D : Type 0} {g : Ghosts D} {X T R W : Type 0} (binds : 
   pub alone : HasCleanDisk (file_state opened.0) → LeavesNoOther (file_state opened.0)
   pub used : HasCleanDisk (file_state opened.0) → HadOfficeIfUsed g image
   pub served : WasServed (sql_meaning over_files) count settings opened left
-  pub turns : WasServedAt binds N (sql_meaning over_files) (sql_standing over_files) network port count settings opened left result
+  pub turns : WasServedRemembering binds N (sql_meaning over_files) (sql_standing over_files) network port count settings opened left result
 
 -- The office of two files was served at this port with this result, and then its store was closed into these files.
 pub record ServesFilesAt {D : Type 0} (g : Ghosts D) {X T R W : Type 0} (binds : X → SocketAddrV4 → Option T → Type 0) (N : Hosting T R W) (network : X) (port : ℕ) (image : Image) (settings : Settings) (count : ℕ) (files : Files D) (result : Result (Unit {0}) ProgramFault) : Type 0 where

@@ -11,7 +11,7 @@ ghost use Rattle.office_store.specs.SqlMeaning.{LeavesNoOther, LeavesShown, sql_
 ghost use Rattle.procure_programs.specs.FaultsTold.{IsOfStore};
 ghost use Rattle.procure_programs.specs.Hosts.{hosting};
 ghost use Rattle.procure_programs.specs.Placed.{HadOfficeIfUsed, OpensEmpty};
-ghost use Rattle.procure_programs.specs.Serving.{HalfClosesFiles, PrintsFiles, ServesFiles, ServesFilesAt, ServesOpened, StopsFiles, WasServed, WasServedAt, sql_standing};
+ghost use Rattle.procure_programs.specs.Serving.{HalfClosesFiles, PrintsFiles, ServesFiles, ServesFilesAt, ServesOpened, StopsFiles, WasServed, WasServedRemembering, sql_standing};
 ghost use Rattle.procure_programs.specs.Showing.{IsPrintout};
 
 use crate::faults::{of_opening, of_shelf};
@@ -24,6 +24,7 @@ use office_http::laws::accounts_and_fates;
 use office_machine::laws::order;
 use office_store::opened::{Opened, Origin};
 use office_store::shelf::SqlShelf;
+use office_sums::shelf::RememberingShelf;
 use office_values::settings::Settings;
 use office_wire::watched::WatchedWriter;
 use procure_config::fault::ProgramFault;
@@ -94,7 +95,8 @@ fn let_go<D: Disk + Drop>(store: Option<FileStore<D>>) {
     }
 }
 
-// Generic in the store, not in the disk below it. So the prover doesn't compare the facts about any store again for a store over files.
+// Remembers the sums of budget lines while it serves. Generic in the store, not in the disk below it. So the prover doesn't compare the facts about any store
+// again for a store over files.
 fn serve_shelf<N: Network, A: Alter + Drop>(
     alloc: Global,
     network: &N,
@@ -104,11 +106,13 @@ fn serve_shelf<N: Network, A: Alter + Drop>(
     count: u32,
 ) -> Result<(SqlShelf<A>, Result<(), ProgramFault>), ProgramFault>
     ensures serves { IfOk result (λ left. WasServed (sql_meaning A.Store) count settings shelf left.0) }
-    ensures turns { IfOk result (λ left. WasServedAt N.binds (hosting N.Opened.events N.Opened.Reader.remaining N.Opened.Writer.contents)
+    ensures turns { IfOk result (λ left. WasServedRemembering N.binds (hosting N.Opened.events N.Opened.Reader.remaining N.Opened.Writer.contents)
         (sql_meaning A.Store) (sql_standing A.Store) network.now port count settings shelf left.0 left.1) }
     ensures fault { IfErr result IsOfStore }
 {
-    serve_office(alloc, network, settings, shelf, port, count)
+    let first = RememberingShelf::new(alloc, shelf);
+    let (last, served) = serve_office(alloc, network, settings, first, port, count)?;
+    Ok((last.into_shelf(), served))
 }
 
 // Generic in the store, not in the disk below it, as `serve_shelf` is.

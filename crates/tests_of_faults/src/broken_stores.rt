@@ -1,13 +1,15 @@
 //! A store that fails once. The request at that moment is answered with `Unavailable`, nothing has changed, and the same request gets its usual answer when it
 //! is sent again.
 use office_base::shelf::Lookups;
+use office_sums::shelf::RememberingShelf;
 use std::alloc::Global;
 use tests_broken_shelf::shelf::BrokenShelf;
 use tests_transcripts::published::PUBLISHED;
 use tests_transcripts::session::played;
 use tests_transcripts::setup::{MONEY, NOTICE, TENDERERS};
 
-// To be played after PUBLISHED. A procurement to the end of its contract, with every kind of command except for a cancellation, and several queries.
+// To be played after PUBLISHED. A procurement to the end of its contract, with every kind of command except for a cancellation, and several queries. The line is
+// asked for after each command that moves its money.
 static TO_THE_END: &str = r#"
 at 2026-02-10T09:00:00Z clerk POST /notices/N1/amend
 > {"deadline":"2026-03-01T12:00:00Z","rationale":"Once more"}
@@ -68,22 +70,37 @@ at 2026-03-02T09:00:00Z clerk POST /tenders/3/examine
 at 2026-03-02T10:00:00Z clerk POST /notices/N1/lots/L1/award
 = 200 {"award":1,"lot":"L1","moment":"2026-03-02T10:00:00Z","price":300,"release":4,"tender":1}
 
+at 2026-03-02T10:00:00Z public GET /lines/1000
+= 200 {"appropriation":1000,"contracted":0,"free":700,"line":"1000","paid":0,"reserved":300,"title":"Roads"}
+
 at 2026-03-12T10:00:00Z clerk POST /awards/1/fail
 = 200 {"award":1,"moment":"2026-03-12T10:00:00Z","release":5}
 
 at 2026-03-12T10:00:00Z clerk POST /notices/N1/lots/L1/award
 = 200 {"award":2,"lot":"L1","moment":"2026-03-12T10:00:00Z","price":450,"release":6,"tender":3}
 
+at 2026-03-12T10:00:00Z public GET /lines/1000
+= 200 {"appropriation":1000,"contracted":0,"free":550,"line":"1000","paid":0,"reserved":450,"title":"Roads"}
+
 at 2026-03-22T10:00:00Z clerk POST /awards/2/sign
 = 200 {"contract":2,"moment":"2026-03-22T10:00:00Z","release":7}
+
+at 2026-03-22T10:00:00Z public GET /lines/1000
+= 200 {"appropriation":1000,"contracted":450,"free":550,"line":"1000","paid":0,"reserved":0,"title":"Roads"}
 
 at 2026-04-01T09:00:00Z clerk POST /contracts/2/amend
 > {"id":"E1","kind":"raise","amount":50,"rationale":"More paving"}
 = 200 {"contract":2,"moment":"2026-04-01T09:00:00Z","outstanding":500,"release":8}
 
+at 2026-04-01T09:00:00Z public GET /lines/1000
+= 200 {"appropriation":1000,"contracted":500,"free":500,"line":"1000","paid":0,"reserved":0,"title":"Roads"}
+
 at 2026-04-01T09:00:00Z clerk POST /contracts/2/pay
 > {"id":"P1","amount":200}
 = 200 {"contract":2,"moment":"2026-04-01T09:00:00Z","outstanding":300,"release":9}
+
+at 2026-04-01T09:00:00Z public GET /lines/1000
+= 200 {"appropriation":1000,"contracted":300,"free":500,"line":"1000","paid":200,"reserved":0,"title":"Roads"}
 
 at 2026-05-01T09:00:00Z clerk POST /contracts/2/end
 > {"how":"regular"}
@@ -143,27 +160,53 @@ at 2026-01-05T09:00:00Z clerk POST /budget/B1
 = 503 {"name":"Unavailable","refusal":32}
 "#;
 
+// Whether a store remembers the sums of budget lines. It then also fails at look-ups that only serve to forget, which no request may notice.
+#[derive(Clone, Copy)]
+enum Sums {
+    Remembered,
+    AddedUp,
+}
+
+// Plays the transcripts over this store, and returns it. None if an answer isn't as written.
+fn survived(
+    alloc: Global,
+    shelf: BrokenShelf,
+    sums: Sums,
+    transcripts: &[&str],
+) -> Option<BrokenShelf> {
+    match sums {
+        Sums::AddedUp => played(alloc, shelf, 1, transcripts).ok(),
+        Sums::Remembered => {
+            let shelf = RememberingShelf::new(alloc, shelf);
+            match played(alloc, shelf, 1, transcripts) {
+                Ok(shelf) => Some(shelf.into_shelf()),
+                Err(_) => None,
+            }
+        }
+    }
+}
+
 // Whether the store that fails after this many calls failed while the transcripts were played. None if an answer isn't as written.
-fn is_broken(alloc: Global, left: u64, transcripts: &[&str]) -> Option<bool> {
-    match played(alloc, BrokenShelf::new(alloc, left), 1, transcripts) {
-        Ok(mut shelf) => Some(shelf.faults() > 0),
-        Err(_) => None,
+fn is_broken(alloc: Global, left: u64, sums: Sums, transcripts: &[&str]) -> Option<bool> {
+    match survived(alloc, BrokenShelf::new(alloc, left), sums, transcripts) {
+        Some(mut shelf) => Some(shelf.faults() > 0),
+        None => None,
     }
 }
 
 // Whether the store failed, tried twice if the first try gives None, because a test may refuse one allocation.
-fn breaks(alloc: Global, left: u64, transcripts: &[&str]) -> Option<bool> {
-    match is_broken(alloc, left, transcripts) {
+fn breaks(alloc: Global, left: u64, sums: Sums, transcripts: &[&str]) -> Option<bool> {
+    match is_broken(alloc, left, sums, transcripts) {
         Some(broke) => Some(broke),
-        None => is_broken(alloc, left, transcripts),
+        None => is_broken(alloc, left, sums, transcripts),
     }
 }
 
 // Plays the transcripts over a store that fails at its first call, then at its second, and so on, until it doesn't fail any more. That happens within 1000
 // calls.
-fn breaks_anywhere(alloc: Global, transcripts: &[&str]) -> bool {
+fn breaks_anywhere(alloc: Global, sums: Sums, transcripts: &[&str]) -> bool {
     for left in 0..1000 {
-        match breaks(alloc, left, transcripts) {
+        match breaks(alloc, left, sums, transcripts) {
             Some(true) => {}
             Some(false) => return true,
             None => return false,
@@ -176,13 +219,19 @@ fn breaks_anywhere(alloc: Global, transcripts: &[&str]) -> bool {
 fn a_store_that_breaks_changes_nothing(rt: HostRuntime) {
     let alloc = rt.alloc();
     assert!(rt;
-        breaks_anywhere(alloc, &[MONEY, TENDERERS, NOTICE, PUBLISHED, TO_THE_END]),
+        breaks_anywhere(alloc, Sums::AddedUp, &[MONEY, TENDERERS, NOTICE, PUBLISHED, TO_THE_END]),
         "to the end"
     );
     assert!(rt;
-        breaks_anywhere(alloc, &[MONEY, TENDERERS, NOTICE, CANCELLED]),
+        breaks_anywhere(alloc, Sums::AddedUp, &[MONEY, TENDERERS, NOTICE, CANCELLED]),
         "cancelled"
     );
+}
+
+#[test]
+fn a_store_that_remembers_sums_breaks_unnoticed(rt: HostRuntime) {
+    let alloc = rt.alloc();
+    assert!(rt; breaks_anywhere(alloc, Sums::Remembered, &[MONEY, TENDERERS, NOTICE, PUBLISHED, TO_THE_END]));
 }
 
 // Whether an import over a store that fails at its first call gets this answer, and then the usual one over the office that the store holds.

@@ -1,5 +1,5 @@
-//! An office that stores no merge of a notice's releases. Its record is the same, and the next publication stores a merge. If a release isn't an object,
-//! nothing is published, because the merge would lose it.
+//! An office that stores no merge of a notice's releases. Its record is the same, and the next publication stores a merge. If a release isn't an object as the
+//! office writes it, nothing is published.
 use crate::copies::{LeftOut, copy_but};
 use crate::unreadable_texts::change_text;
 use crate::wrong_merges::NOT_GONE_ON;
@@ -117,12 +117,13 @@ fn is_right_in_sql(alloc: Global, text: &str) -> bool {
 }
 
 #[test]
-fn releases_that_are_no_objects_are_not_merged(rt: HostRuntime) {
+fn releases_that_no_office_writes_are_not_merged(rt: HostRuntime) {
     let alloc = rt.alloc();
     assert!(rt; is_right_in_memory(alloc, "5"));
     assert!(rt; is_right_in_memory(alloc, "[]"));
+    assert!(rt; is_right_in_memory(alloc, r#"{"b":1,"a":1}"#));
     assert!(rt; is_right_in_sql(alloc, "5"));
-    assert!(rt; is_right_in_sql(alloc, "[]"));
+    assert!(rt; is_right_in_sql(alloc, r#"{"a":0.5}"#));
 }
 
 #[test]

@@ -1,4 +1,4 @@
-//! A stored release whose text isn't a JSON object can't be merged. It is a fault of the store wherever it would be shown.
+//! A stored release whose text isn't a JSON object as the office writes it is a fault of the store wherever it would be shown.
 use office_base::counts::Sequence;
 use office_base::json_text::JsonText;
 use office_base::puts::Put;
@@ -55,7 +55,18 @@ fn is_right(alloc: Global, text: &str) -> bool {
         || matches!(isnt_shown(alloc, MemoryShelf::new(alloc), text), Ok(true))
 }
 
-static NO_OBJECTS: [&str; 6] = ["", "1", "[]", "{\"a\":1", "{} {}", "{\"a\":1e999}"];
+static UNWRITTEN: [&str; 10] = [
+    "",
+    "1",
+    "[]",
+    "{\"a\":1",
+    "{} {}",
+    "{\"a\":1e999}",
+    "{\"b\":1,\"a\":1}",
+    "{\"a\":1,\"a\":1}",
+    "{\"a\": 1}",
+    "{\"a\":0.5}",
+];
 
 fn are_right(alloc: Global, texts: &[&str]) -> bool {
     for text in texts {
@@ -67,6 +78,6 @@ fn are_right(alloc: Global, texts: &[&str]) -> bool {
 }
 
 #[test]
-fn texts_that_are_no_objects_are_not_shown(rt: HostRuntime) {
-    assert!(rt; are_right(rt.alloc(), &NO_OBJECTS));
+fn texts_that_no_office_writes_are_not_shown(rt: HostRuntime) {
+    assert!(rt; are_right(rt.alloc(), &UNWRITTEN));
 }

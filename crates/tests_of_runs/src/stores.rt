@@ -1,10 +1,12 @@
-//! The stores over which transcripts are played: an office in memory, one in SQL in memory, and one in a file.
+//! The stores over which transcripts are played: an office in memory, one in SQL in memory, and one in a file. Those in SQL and in a file remember the sums of
+//! budget lines, as the program does; the one in memory doesn't.
 use crate::times::{play_piece, play_pieces};
 use office_base::shelf::Shelf;
 use office_memory::memory::MemoryShelf;
 use office_store::opened::Opened;
 use office_store::path::Room;
 use office_store::shelf::SqlShelf;
+use office_sums::shelf::RememberingShelf;
 use sqlite::{Alter, Unknown};
 use std::alloc::Global;
 use std::fs;
@@ -83,7 +85,7 @@ fn continued_in_sql<S: Alter + Drop>(
     told: Told,
     piece: &str,
 ) -> Result<Told, Wrong> {
-    continued(alloc, shelf, told, piece)
+    continued(alloc, RememberingShelf::new(alloc, shelf), told, piece)
 }
 
 // Plays more pieces to the office in the file, which is opened again for each.
@@ -133,7 +135,7 @@ pub(crate) fn told_in(rt: &HostRuntime, store: Store, life: Life<'_>) -> Result<
     match store {
         Store::Memory => lived(alloc, MemoryShelf::new(alloc), life),
         Store::Sql => match in_sql(alloc) {
-            Some(office) => lived(alloc, office, life),
+            Some(office) => lived(alloc, RememberingShelf::new(alloc, office), life),
             None => Err(Wrong::Unopened),
         },
         Store::File => {

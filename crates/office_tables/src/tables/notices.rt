@@ -1,5 +1,5 @@
 //! The table of notices and that of version 1: their SQL texts, their rows as values, the look-ups, and the put.
-ghost use Rattle.std.specs.Prelude.{◌≡◌, [], ◌∷◌, IsTrue, OnOk, OnErr};
+ghost use Rattle.std.specs.Prelude.{◌≡◌, [], ◌∷◌, IsTrue, OnOk, OnErr, IfErr};
 ghost use Rattle.sqlite.specs.Held.{state};
 ghost use Rattle.sqlite.specs.State.{HasCleanDisk, Survives};
 ghost use Rattle.sqlite.specs.Values.{bound};
@@ -7,6 +7,7 @@ ghost use Rattle.office_base.specs.Tables.{notice_at};
 ghost use Rattle.office_base.specs.Pages.{notices_after};
 ghost use Rattle.office_tables.specs.Steps.{TellsOnly, Puts, Refused};
 ghost use Rattle.office_tables.specs.Failing.{ErrorHasCause};
+ghost use Rattle.office_tables.specs.Statements.{OneFails, RunAll, notice_put};
 ghost use Rattle.office_tables.specs.Tables.Notices.{notice_values, notice_read, NoticeFits, former_values, former_read};
 
 use crate::ask::{ask_all, ask_first};
@@ -166,6 +167,8 @@ pub fn put_notice<S: Alter>(tx: &mut Transaction<'_, S>, row: &NoticeRow) -> Res
     ensures puts { HasCleanDisk (state S.Store tx.new.conn.now) → IsTrue (state S.Store tx.old.conn.now).in_transaction → OnOk result (Puts (state S.Store tx.old.conn.now) (state S.Store tx.new.conn.now) (Put.Notice row.now ∷ [])) }
     ensures refused { HasCleanDisk (state S.Store tx.new.conn.now) → IsTrue (state S.Store tx.old.conn.now).in_transaction → OnErr result (Refused (state S.Store tx.old.conn.now) (state S.Store tx.new.conn.now)) }
     ensures failed { ErrorHasCause (state S.Store tx.old.conn.now) (state S.Store tx.new.conn.now) (Put.Notice row.now ∷ []) result }
+    ensures ran { HasCleanDisk (state S.Store tx.new.conn.now) → IsTrue (state S.Store tx.old.conn.now).in_transaction → OnOk result (RunAll S.Store (notice_put row.now ∷ []) tx.old.conn.now tx.new.conn.now) }
+    ensures fails { HasCleanDisk (state S.Store tx.new.conn.now) → IsTrue (state S.Store tx.old.conn.now).in_transaction → IfErr result (OneFails S.Store (notice_put row.now ∷ []) tx.old.conn.now tx.new.conn.now) }
     ensures survives { Survives (state S.Store tx.old.conn.now) (state S.Store tx.new.conn.now) (λ _. ⊥) }
 {
     put_row(tx, PUT, &notice_values(row))

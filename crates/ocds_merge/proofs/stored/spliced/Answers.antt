@@ -25,7 +25,7 @@ returns-in-Ok-clause-keeps c vs reads storable =
     let stored = c.args.stored.now in
     let v = view c.args.value.now in
     let same = c.as_bytes-bytes.ensures.value in
-    let kept = c.is_kept.ensures c.if-not-is_kept.false in
+    let kept = c.is_kept.ensures.kept c.if-not-is_kept.false in
     let text = text_of_read c.as_bytes-bytes.result.now (merge_or_null vs) c.in_ok-text.ensures.readable (ap read same ∙ reads) in
     let bytes = c.in_ok-text.ensures.splices kept (merge_or_null vs) (merge_kept stored vs v reads storable) text in
     keeps_more stored (string_bytes c.in-Ok.text) vs v reads storable kept (ap (λ (w : Vec ℕ Global). w.items) c.in-Ok.ensures.ok ∙ bytes)

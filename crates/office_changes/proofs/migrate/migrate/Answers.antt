@@ -1,14 +1,19 @@
-use Rattle.std.proofs.Common.{rules, arith, ◌≡◌, OnOk, map, subst, IsTrue}
+use Rattle.std.proofs.Common.{rules, arith, ◌≡◌, inl, inr, IfErr, OnOk, map, subst, IsTrue}
 use Rattle.sqlite.specs.Held.{state}
 use Rattle.sqlite.specs.State.{HasCleanDisk, Survives}
 use Rattle.sqlite.proofs.StateLemmas.{survives_then}
 use Rattle.sqlite.proofs.Callers.{survives_begin}
 use Rattle.office_tables.specs.declared.tables.notices.FormerNotice.{FormerNotice}
 use Rattle.office_tables.specs.Steps.{Refused}
-use Rattle.office_changes.specs.Migration.{Migrates, LeavesCurrent}
+use Rattle.office_base.specs.declared.records.NoticeRow.{NoticeRow}
+use Rattle.office_changes.specs.Migration.{LeavesCurrent, Migrates, MigrationFails}
+use Rattle.office_changes.proofs.Failing.{if_err_with, same_err}
 use Rattle.office_changes.proofs.Migrating.{migrates, migrate_leaves}
 use Rattle.office_changes.proofs.Steps.{rolled, on_err, on_ok_with, begun_refused}
 use Rattle.office_changes.proofs.migrate.migrate.Goals as goal
+
+abbrev row_of : FormerNotice → NoticeRow
+row_of r = r.row
 
 pub returns-in_err-make_current-clause-refused : goal.returns-in_err-make_current-clause-refused
 returns-in_err-make_current-clause-refused g c clean =
@@ -55,3 +60,33 @@ returns-clause-survives g c =
     (survives_begin g.S.Store old (state g.S.Store mid) _ (rw begun at c.make_current.ensures.survives)) c.commit.ensures.survives in
     let same : end ≡ c.conn-2-1.given.0 = search rules in
     subst (λ h. Survives (state g.S.Store old) (state g.S.Store h) P) same whole
+
+pub returns-in_err-make_current-clause-failed : goal.returns-in_err-make_current-clause-failed
+returns-in_err-make_current-clause-failed g c clean =
+    let old = c.args.conn.now in
+    let mid = c.make_current.new.tx.conn.now in
+    let end = c.drop-tx.new.self.0 in
+    let begun = c.transaction-tx.ensures.begun in
+    let inside : IsTrue (state g.S.Store c.transaction-tx.result.conn.now).in_transaction = search rules in
+    let same : end ≡ c.conn-1.given.0 = search rules in
+    let late : HasCleanDisk (state g.S.Store end) = search rules in
+    let early : HasCleanDisk (state g.S.Store mid) = omega (arith, c.drop-tx.ensures.survives.clean) in
+    let one = rw begun at (c.in_err-make_current.ensures.fails early inside) in
+    same_err c.from_residual.result _ _ c.from_residual.ensures.1
+    (subst (λ h. MigrationFails g.S.Store c.args.edition c.args.clock.now (map row_of c.args.notices.now) old h c.in_err-make_current.field-0.0) same
+    (inr (mid, (survives_begin g.S.Store old (state g.S.Store mid) _ (rw begun at c.make_current.ensures.survives)).counts, c.drop-tx.ensures.survives.counts, inl one)))
+
+pub returns-clause-failed : goal.returns-clause-failed
+returns-clause-failed g c clean =
+    let old = c.args.conn.now in
+    let mid = c.make_current.new.tx.conn.now in
+    let end = c.commit.new.self.0 in
+    let begun = c.transaction-tx.ensures.begun in
+    let inside : IsTrue (state g.S.Store c.transaction-tx.result.conn.now).in_transaction = search rules in
+    let same : end ≡ c.conn-2-1.given.0 = search rules in
+    let late : HasCleanDisk (state g.S.Store end) = search rules in
+    let early : HasCleanDisk (state g.S.Store mid) = omega (arith, c.commit.ensures.survives.clean) in
+    let ran = rw begun at (c.in_ok-make_current.ensures.ran early inside) in
+    subst (λ h. IfErr c.commit.result (MigrationFails g.S.Store c.args.edition c.args.clock.now (map row_of c.args.notices.now) old h)) same
+    (if_err_with c.commit.result _ _ (c.commit.ensures.err late) (λ e failed.
+    inr (mid, (survives_begin g.S.Store old (state g.S.Store mid) _ (rw begun at c.make_current.ensures.survives)).counts, c.commit.ensures.survives.counts, inr (ran, failed))))

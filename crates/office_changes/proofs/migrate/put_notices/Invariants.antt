@@ -3,6 +3,7 @@ use Rattle.sqlite.specs.Held.{state}
 use Rattle.sqlite.specs.State.{HasCleanDisk, Survives}
 use Rattle.office_base.specs.declared.puts.Put.TheVariants as puts
 use Rattle.office_tables.specs.declared.tables.notices.FormerNotice.{FormerNotice}
+use Rattle.office_tables.specs.Statements.{RunAll, notice_put}
 use Rattle.office_tables.specs.Steps.{Puts}
 use Rattle.office_changes.proofs.migrate.put_notices.Given as goal
 
@@ -12,3 +13,4 @@ invariant-notices g l =
     let now = state g.S.Store l.tx.conn.now in
     (l.tx.conn.ghost_name ≡ l.fn.tx.conn.ghost_name) × Survives old now (λ _. ⊥)
     × (HasCleanDisk now → IsTrue old.in_transaction → Puts old now (map (λ (r : FormerNotice). puts.Notice r.row) (take l.notice-index l.notices)))
+    × (HasCleanDisk now → IsTrue old.in_transaction → RunAll g.S.Store (map notice_put (map (λ (r : FormerNotice). r.row) (take l.notice-index l.notices))) l.fn.tx.conn.now l.tx.conn.now)

@@ -1,5 +1,5 @@
 //! The texts of the packages of a notice's releases and of its record, made of the stored texts. One look-up lists the notice's releases. If they aren't those
-//! that the notice's row counts, or if one of them can't be merged, nothing is shown.
+//! that the notice's row counts, or if one of them isn't as the office writes it, nothing is shown.
 ghost use Rattle.std.specs.Prelude.{◌≡◌, ◌∷◌, ◌++◌, [], true, IfOk, IfErr, OnOk, List, Some, map, string_bytes};
 ghost use Rattle.serde_json.specs.View.{view};
 ghost use Rattle.ocds_merge.specs.Compile.{with_head};
@@ -16,11 +16,11 @@ ghost use Rattle.office_publications.specs.Merges.{AreSoMany, HasMerge, bodies};
 ghost use Rattle.office_publications.specs.Packages.{packages};
 ghost use Rattle.office_publications.specs.Standing.{IsReached};
 ghost use Rattle.office_publications.specs.Told.{AreAllThere, IsInRange};
-ghost use Rattle.office_desk.specs.Extent.{IsExtentOf, ReadsAsObject};
+ghost use Rattle.office_desk.specs.Extent.{IsExtentOf, IsWritten};
 ghost use Rattle.office_values.specs.Moments.{moment_text};
 ghost use Rattle.office_values.specs.declared.refusal.Refusal.TheVariants.{Unavailable};
 
-use ocds_merge::{is_object, with_compiled_head};
+use ocds_merge::{is_written_object, with_compiled_head};
 use ocds_release::package_texts::{PackageText, open_record, open_releases};
 use office_base::counts::ReleaseCount;
 use office_base::laws::looks_follow;
@@ -55,14 +55,14 @@ fn with_release(extent: Extent, release: &ReleaseRow) -> Extent
     }
 }
 
-// The extent with one more release, if its text is a JSON object.
-fn with_readable(alloc: Global, extent: Extent, release: &ReleaseRow) -> Result<Extent, Refusal>
+// The extent with one more release, if its text is a JSON object as the office writes it.
+fn with_written(alloc: Global, extent: Extent, release: &ReleaseRow) -> Result<Extent, Refusal>
     ensures last { IfOk result (λ with. with.last ≡ Some release.now.moment) }
     ensures range { OnOk result (IsInRange release.now) }
-    ensures reads { OnOk result (ReadsAsObject release.now) }
+    ensures written { OnOk result (IsWritten release.now) }
     ensures none { IfErr result (λ why. why ≡ Unavailable) }
 {
-    match is_object(alloc, release.text.as_str()) {
+    match is_written_object(alloc, release.text.as_str()) {
         Ok(true) => Ok(with_release(extent, release)),
         Ok(false) | Err(_) => Err(Refusal::Unavailable),
     }
@@ -103,7 +103,7 @@ fn load_releases<H: Lookups>(
     }
 }
 
-// The extent of these releases, if each of their texts is a JSON object.
+// The extent of these releases, if each of their texts is a JSON object as the office writes it.
 fn measure(alloc: Global, rows: &[ReleaseRow]) -> Result<Extent, Refusal>
     ensures is { IfOk result (λ extent. IsExtentOf extent rows.now) }
     ensures none { IfErr result (λ why. why ≡ Unavailable) }
@@ -113,7 +113,7 @@ fn measure(alloc: Global, rows: &[ReleaseRow]) -> Result<Extent, Refusal>
         last: None,
     };
     for row in rows {
-        extent = with_readable(alloc, extent, row)?;
+        extent = with_written(alloc, extent, row)?;
     }
     Ok(extent)
 }
@@ -175,8 +175,8 @@ fn releases_package(
 }
 
 /// The package of a notice's releases, made of their stored texts. It builds no tree and writes no text again. `Unavailable` also if the notice has no release,
-/// if its releases don't have the numbers from 1 to this count, or if one of them can't be merged. A text that isn't a JSON object of at most 127 levels can't be
-/// merged. None of this can happen in a reached office.
+/// or if its releases don't have the numbers from 1 to this count. `Unavailable` also if one of them isn't an object as the office writes it. None of this can
+/// happen in a reached office.
 pub(super) fn releases_text<H: Lookups>(
     alloc: Global,
     shelf: &mut H,
@@ -273,7 +273,7 @@ fn record_package<H: Lookups>(
 }
 
 /// The package of a notice's record: all releases that its row counts, made of their stored texts, and the compiled release, made of the stored merge. If no
-/// merge is stored, it is made of all releases. `Unavailable` as in `releases_text`, and also if the stored merge isn't an object.
+/// merge is stored, it is made of all releases. `Unavailable` as in `releases_text`, and also if the stored merge isn't such an object.
 pub(super) fn record_text<H: Lookups>(
     alloc: Global,
     shelf: &mut H,

@@ -4,7 +4,7 @@ use Rattle.std.specs.Result.{is_err}
 use Rattle.std.proofs.lemmas.List.{take_more, take_all, map-append}
 use Rattle.std.proofs.lemmas.List.Elements.{All-more}
 use Rattle.ocds_merge.specs.Merge.{merge_or_null}
-use Rattle.ocds_merge.specs.Stored.{IsObjectText}
+use Rattle.ocds_merge.specs.Stored.{IsWrittenObject}
 use Rattle.office_base.specs.declared.records.ReleaseRow.{ReleaseRow}
 use Rattle.office_publications.specs.Merges.{AreObjects, body_in}
 use Rattle.office_publications.proofs.merges.merge_of.Goals as goal
@@ -22,9 +22,9 @@ rows-preserved c =
     let more : take (at + 1) rows ≡ take at rows ++ (row ∷ []) = search (rules, take_more) in
     let mapped = ap (map body_in) more ∙ map-append body_in (take at rows) (row ∷ []) in
     let merged = of_ok c.merge_into.result _ (sym c.is_err.ensures.value ∙ c.if-is_err.false) c.merge_into.ensures.merges (map body_in (take at rows)) c.rows.invariant.0 in
-    let object : IsObjectText (slice_index_or rows at row).text = subst (λ (r : ReleaseRow). IsObjectText r.text) c.row-item.is c.in_ok-body.ensures.object in (
+    let object : IsWrittenObject (slice_index_or rows at row).text = subst (λ (r : ReleaseRow). IsWrittenObject r.text) c.row-item.is c.in_ok-body.ensures.object in (
       merged ∙ ap merge_or_null (ap (λ b. map body_in (take at rows) ++ (b ∷ [])) c.in_ok-body.ensures.body ∙ sym mapped),
-      All-more (λ (r : ReleaseRow). IsObjectText r.text) rows at row c.rows-test.true c.rows.invariant.1 object,
+      All-more (λ (r : ReleaseRow). IsWrittenObject r.text) rows at row c.rows-test.true c.rows.invariant.1 object,
     )
 
 pub returns-clause-objects : goal.returns-clause-objects

@@ -1,18 +1,20 @@
-use Rattle.std.proofs.Common.{rules, ◌≡◌, [], ◌∷◌, ◌++◌, ◌+◌, inl, inr, take, List, sym, subst}
-use Rattle.std.proofs.lemmas.List.{take_more}
+use Rattle.std.proofs.Common.{List, ℕ, map, sym, subst}
 use Rattle.sqlite_rules.specs.Lists.{Has}
-use Rattle.sqlite_rules.proofs.ListLemmas.{has_either}
-use Rattle.sqlite_schema.specs.declared.schema.Table.{Table}
-use Rattle.office_store.specs.Forms.{StandsOrLacks}
+use Rattle.office_tables.specs.Schema.{OfficeTable, table_of, all_tables}
+use Rattle.office_tables.proofs.Each.{listed}
+use Rattle.office_store.proofs.FormsFound.{has_mapped, plain, was_mapped}
 use Rattle.office_store.proofs.forms.all_stand.Goals as goal
 
-pub loop-at-preserved : goal.loop-at-preserved
-loop-at-preserved c form h =
-    let tables = c.as_slice-tables.result.now in
-    let item = c.index-tables-at.result in
-    let more : take (c.loop-at.at + 1) tables ≡ take c.loop-at.at tables ++ item ∷ [] = search (rules, take_more) in
-    let stands : StandsOrLacks c.args.edition c.args.schema.now item = search rules in
-    elim (has_either (take c.loop-at.at tables) (item ∷ []) form (subst (λ (xs : List Table). Has xs form) more h)) [
-      | inl early ↦ c.loop-at.invariant form early
-      | inr last ↦ elim last [ inl same ↦ subst (StandsOrLacks c.args.edition c.args.schema.now) (sym same) stands | inr none ↦ absurd none ]
-    ]
+abbrev name_of : OfficeTable → List ℕ
+name_of k = (table_of k).name
+
+pub returns-clause-right : goal.returns-clause-right
+returns-clause-right c stands lists k =
+    c.named_stand.ensures.right stands (table_of k) (lists k).0
+    (subst (λ l. Has l (name_of k)) (sym c.table_names-names.ensures) (has_mapped name_of all_tables k (listed k))) (lists k).1
+
+pub returns-clause-found : goal.returns-clause-found
+returns-clause-found c lists each =
+    c.named_stand.ensures.found (λ name h.
+    let (k, _, is) = was_mapped name_of all_tables name (subst (λ l. Has l name) c.table_names-names.ensures h) in
+    (table_of k, (lists k).0, is, (lists k).1, plain k, each k))

@@ -2,11 +2,10 @@ use Rattle.std.proofs.Common.{sym, subst}
 use Rattle.sqlite.specs.Effect.{Database}
 use Rattle.sqlite.proofs.Callers.{memory_is_clean}
 use Rattle.office_store.specs.Forms.{HasForm}
-use Rattle.office_store.proofs.FormsStand.{lists_forms}
 use Rattle.office_store.proofs.forms.blank.Goals as goal
 
 pub returns-then-is_autocommit-clause-forms : goal.returns-then-is_autocommit-clause-forms
 returns-then-is_autocommit-clause-forms c =
     let founded = c.in_default-found.ensures.founded (memory_is_clean c.found.new.conn) (λ open_now. (c.is_live.ensures open_now).1) in
     let settled = c.is_autocommit.ensures.settled c.if-is_autocommit.true founded.is_open in
-    lists_forms c.found.new.conn.schema (λ k. subst (λ (d : Database). HasForm d.schema k) (sym settled) (founded.tables.places k, founded.tables.tables k))
+    λ k. subst (λ (d : Database). HasForm d.schema k) (sym settled) (founded.tables.places k, founded.tables.tables k)

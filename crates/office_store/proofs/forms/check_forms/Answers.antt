@@ -1,10 +1,11 @@
-use Rattle.std.proofs.Common.{rules, ◌≡◌, IsTrue, sym, subst}
+use Rattle.std.proofs.Common.{rules, ◌≡◌, IsTrue, false, sym, subst, ap, ◌∙◌, true≢false}
 use Rattle.sqlite.specs.Effect.{Database}
 use Rattle.sqlite.specs.Held.{state}
-use Rattle.sqlite_rules.specs.Lists.{Has}
 use Rattle.sqlite_schema.specs.declared.schema.Schema.{Schema}
-use Rattle.office_store.specs.Forms.{HasForms, StandsOrLacks}
+use Rattle.office_tables.specs.Schema.{OfficeTable, table_of}
+use Rattle.office_store.specs.Forms.{HasForms, ListsForms, StandsOrLacks}
 use Rattle.office_store.proofs.FormsStand.{forms_stand}
+use Rattle.office_store.proofs.FormsFound.{forms_found}
 use Rattle.office_store.proofs.forms.check_forms.Goals as goal
 
 pub returns-then-all_stand-clause-forms : goal.returns-then-all_stand-clause-forms
@@ -12,8 +13,16 @@ returns-then-all_stand-clause-forms g c open_now =
     let it = state g.S.Store c.args.conn.now in
     let alone : IsTrue c.is_autocommit.result = search rules in
     let settled = c.is_autocommit.ensures.settled alone open_now in
-    let forms = c.in-Ok.forms.schema in
+    let lists : ListsForms c.schema-2.result.now = subst ListsForms (sym c.schema-2.ensures.value) c.in-Ok.ensures.forms in
     subst (λ (d : Database). HasForms c.args.edition d.schema) settled
-    (forms_stand c.args.edition it.now forms (c.schema.ensures.live open_now).0 c.in-Ok.ensures.forms (λ form h.
-    subst (λ s. StandsOrLacks c.args.edition s form) c.schema.ensures.value
-    (c.all_stand.ensures c.if-all_stand.true form (subst (λ (s : Schema). Has s.tables form) (sym c.schema-2.ensures.value) h))))
+    (forms_stand c.args.edition it.now (c.schema.ensures.live open_now).0 (λ k.
+    subst (λ s. StandsOrLacks c.args.edition s (table_of k)) c.schema.ensures.value (c.all_stand.ensures.right c.if-all_stand.true lists k)))
+
+pub returns-clause-lacks : goal.returns-clause-lacks
+returns-clause-lacks g c store open_now alone has =
+    let it = state g.S.Store c.args.conn.now in
+    let settled = c.is_autocommit.ensures.settled (search rules) open_now in
+    let lists : ListsForms c.schema-2.result.now = subst ListsForms (sym c.schema-2.ensures.value) c.in-Ok.ensures.forms in
+    let here : HasForms c.args.edition it.now.schema = subst (λ (d : Database). HasForms c.args.edition d.schema) (sym settled) has in
+    let found = forms_found c.args.edition it.now (c.schema.ensures.live open_now).0 here in
+    true≢false (sym (c.all_stand.ensures.found lists (λ k. subst (λ s. StandsOrLacks c.args.edition s (table_of k)) (sym c.schema.ensures.value) (found k))) ∙ c.if-all_stand.false)

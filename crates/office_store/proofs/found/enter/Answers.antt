@@ -9,6 +9,7 @@ use Rattle.office_tables.specs.Steps.{IsRefusal}
 use Rattle.office_tables.specs.Tables.Office.{this_version}
 use Rattle.office_tables.specs.Version.{get_version}
 use Rattle.office_store.specs.Founding.{Enters, version_in, is_other_version, takes_a_name, LeavesOffice}
+use Rattle.office_store.proofs.Causes.{hindered, refused_so}
 use Rattle.office_store.proofs.Founding.{sound_after, founded_after, leaves_before, refused_on, shown_is_left}
 use Rattle.office_store.proofs.Migrating.{late_committed, leaves_readied_before, readied_after, readied_enters, readied_shows, never_other, shown_version}
 use Rattle.office_store.proofs.found.enter.Goals as goal
@@ -165,3 +166,32 @@ returns-in-Err-SqlInputError-clause-survives g c =
     leaves_before g.S.Store c.args.conn.now c.ask_version.new.conn db
     (c.in-Err-SqlInputError.field-0-0, subst (IsRefusal g.S.Store get_version [] c.args.conn.now) input (c.in-Err-SqlInputError.ensures.refused early)) none kept (sound_after old mid kept live) leaves)
     c.ask_version.ensures.survives c.found.ensures.survives
+
+pub returns-in-Ok-clause-failed : goal.returns-in-Ok-clause-failed
+returns-in-Ok-clause-failed g c clean =
+    let held = c.args.conn.now in
+    let mid = c.ask_version.new.conn in
+    let early : HasCleanDisk (state g.S.Store mid) = omega (arith, clean, c.ready.ensures.survives.clean) in
+    let known : is_other_version c.in-Ok.rows.items ≡ false = search rules in
+    let edition = c.edition_of-edition.result in
+    let is : edition_of (version_in c.in-Ok.rows.items) (has_late held.schema) ≡ edition = search rules in
+    hindered g.S.Store held mid c.ready.new.conn c.in-Ok.rows.items edition c.in-Err-ready.fault (c.in-Ok.ensures.asked early) known is early (c.ask_version.ensures.kept early)
+    c.ask_version.ensures.survives c.ask_version.ensures.ended c.ready.ensures.survives.counts (c.in-Err-ready.ensures.failed clean)
+
+pub returns-in-Err-SqlInputError-clause-failed : goal.returns-in-Err-SqlInputError-clause-failed
+returns-in-Err-SqlInputError-clause-failed g c clean store was alone =
+    let mid = state g.S.Store c.ask_version.new.conn in
+    let early : HasCleanDisk mid = omega (arith, clean, c.found.ensures.survives.clean) in
+    let none : takes_a_name c.args.conn.now.schema ≡ false = search rules in
+    let input : c.in-Err-SqlInputError.field-0 ≡ SqlInputError c.in-Err-SqlInputError.field-0-0 = search rules in
+    inr (inr (inr ((c.in-Err-SqlInputError.field-0-0, subst (IsRefusal g.S.Store get_version [] c.args.conn.now) input (c.in-Err-SqlInputError.ensures.refused early)), none)))
+
+pub returns-then-not-may_make-clause-failed : goal.returns-then-not-may_make-clause-failed
+returns-then-not-may_make-clause-failed g c clean store was alone =
+    let none : takes_a_name c.args.conn.now.schema ≡ false = search rules in
+    let input : c.in-Err-SqlInputError.field-0 ≡ SqlInputError c.in-Err-SqlInputError.field-0-0 = search rules in
+    inr (inr (inr ((c.in-Err-SqlInputError.field-0-0, subst (IsRefusal g.S.Store get_version [] c.args.conn.now) input (c.in-Err-SqlInputError.ensures.refused clean)), none)))
+
+pub returns-clause-failed : goal.returns-clause-failed
+returns-clause-failed g c clean =
+    refused_so g.S.Store c.args.conn.now c.ask_version.new.conn c.in-Err.error c.open_fault-in-Err.result (c.in-Err.ensures.failed clean) c.open_fault-in-Err.ensures.is

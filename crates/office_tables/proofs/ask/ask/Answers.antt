@@ -1,8 +1,10 @@
-use Rattle.std.proofs.Common.{rules, arith, ◌≡◌, IsTrue}
+use Rattle.std.proofs.Common.{rules, arith, ◌≡◌, IsTrue, subst}
+use Rattle.std.specs.Prelude.{IfErr}
 use Rattle.sqlite.specs.Held.{state}
 use Rattle.sqlite.specs.State.{HasCleanDisk}
 use Rattle.sqlite.specs.Values.{bound}
-use Rattle.office_tables.proofs.Asked.{asks, refusals}
+use Rattle.office_tables.specs.Steps.{IsRefusedBy}
+use Rattle.office_tables.proofs.Asked.{asks, refusals, refused_by}
 use Rattle.office_tables.proofs.ask.ask.Goals as goal
 
 pub returns-clause-asked : goal.returns-clause-asked
@@ -25,3 +27,15 @@ returns-clause-refused g c clean =
     let late : HasCleanDisk (state g.S.Store end) = search rules in
     let early : HasCleanDisk (state g.S.Store mid) = omega (arith, c.rollback.ensures.survives.clean) in
     refusals g.S.Store c.args.sql.now (bound c.args.values.now) old mid c.ask_inside-rows.result (rw begun at (c.ask_inside-rows.ensures.failed early))
+
+pub returns-clause-failed : goal.returns-clause-failed
+returns-clause-failed g c clean =
+    let old = c.args.conn.now in
+    let mid = c.ask_inside-rows.new.tx.conn.now in
+    let end = c.rollback.new.self.0 in
+    let begun = c.transaction-tx.ensures.begun in
+    let same : end ≡ c.conn-1.given.0 = search rules in
+    let late : HasCleanDisk (state g.S.Store end) = search rules in
+    let early : HasCleanDisk (state g.S.Store mid) = omega (arith, c.rollback.ensures.survives.clean) in
+    subst (λ h. IfErr c.ask_inside-rows.result (IsRefusedBy g.S.Store c.args.sql.now (bound c.args.values.now) old h)) same
+    (refused_by g.S.Store c.args.sql.now (bound c.args.values.now) old mid end c.ask_inside-rows.result c.rollback.ensures.survives.counts (rw begun at (c.ask_inside-rows.ensures.failed early)))

@@ -8,3 +8,9 @@ returns-clause-made g c clean inside = c.make_among.ensures.made clean inside la
 
 pub returns-clause-refused : goal.returns-clause-refused
 returns-clause-refused g c clean inside = c.make_among.ensures.refused clean inside later_tables refl (λ k lacks. is_later c.args.edition k lacks)
+
+pub returns-clause-ran : goal.returns-clause-ran
+returns-clause-ran g c clean inside = c.make_among.ensures.ran clean inside later_tables refl (λ k lacks. is_later c.args.edition k lacks)
+
+pub returns-clause-fails : goal.returns-clause-fails
+returns-clause-fails g c clean inside = c.make_among.ensures.fails clean inside later_tables refl (λ k lacks. is_later c.args.edition k lacks)

@@ -3,7 +3,7 @@ use Rattle.std.specs.List.{AllByRecursion}
 use Rattle.office_tables.specs.ItemTexts.{items_text, IsItem}
 use Rattle.office_tables.proofs.Exactly.{exit}
 use Rattle.office_tables.proofs.ItemLemmas.{all-push}
-use Rattle.office_tables.proofs.ItemReading.{some_left, none_left, one_more, items_unwritten, items_read, items_refused}
+use Rattle.office_tables.proofs.ItemReading.{some_left, none_left, one_more, items_unwritten, items_fit, items_read, items_refused}
 use Rattle.office_tables.proofs.items.read_items.Goals as goal
 
 pub returns-in_err-item-clause-cause : goal.returns-in_err-item-clause-cause
@@ -24,6 +24,11 @@ pub returns-clause-read : goal.returns-clause-read
 returns-clause-read c =
     let whole = none_left (items_text c.items.found.items) c.items.rest.now c.args.text.now c.is_empty.result c.is_empty.ensures c.items-test.false c.items.invariant.0 in
     items_read c.items.found.items c.args.text.now c.items.invariant.1 whole c.read.result c.ok_or.result c.read.ensures.found c.ok_or.ensures.value
+
+pub returns-clause-fits : goal.returns-clause-fits
+returns-clause-fits c =
+    let whole = none_left (items_text c.items.found.items) c.items.rest.now c.args.text.now c.is_empty.result c.is_empty.ensures c.items-test.false c.items.invariant.0 in
+    items_fit c.items.found.items c.args.text.now c.items.invariant.1 whole c.read.result c.ok_or.result c.read.ensures.found c.read.ensures.some c.read.ensures.differ c.ok_or.ensures.value
 
 pub returns-clause-cause : goal.returns-clause-cause
 returns-clause-cause c =

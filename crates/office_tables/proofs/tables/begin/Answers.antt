@@ -13,3 +13,6 @@ pub returns-in_err-_ready-clause-failed : goal.returns-in_err-_ready-clause-fail
 returns-in_err-_ready-clause-failed g c clean inside t was =
     same_err c.from_residual.result _ _ c.from_residual.ensures.1
     (begin_fails (state g.S.Store c.args.tx.now.conn.now) (state g.S.Store c.prepare.new.self.conn.now) t was _ (c.in_err-_ready.ensures.err clean []))
+
+pub returns-in_err-_ready-clause-unready : goal.returns-in_err-_ready-clause-unready
+returns-in_err-_ready-clause-unready g c clean = same_err c.from_residual.result _ _ c.from_residual.ensures.1 (c.in_err-_ready.ensures.err clean [])

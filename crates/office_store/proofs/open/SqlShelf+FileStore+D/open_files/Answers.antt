@@ -50,6 +50,7 @@ returns-in-Err-enter-clause-refused g c clean =
       spared = c.in-Err-enter.ensures.spared;
       none = c.in-Err-enter.ensures.none;
       known = c.in-Err-enter.ensures.known;
+      failed = c.in-Err-enter.ensures.failed;
     }) c.in-Ok-open_files.ensures.opened
     (λ early. finds_before c.args.files c.check_log.new.files c.check_log.ensures.log c.check_log.ensures.db c.in-Ok-open_files.conn (c.in-Ok-open_files.ensures.found early)) c.let_go.ensures.left clean)
 
@@ -58,10 +59,16 @@ returns-in-Err-enter-clause-usable g c why = usable_left c.enter.new.conn c.let_
 
 pub returns-in-Err-open_files-clause-refused : goal.returns-in-Err-open_files-clause-refused
 returns-in-Err-open_files-clause-refused g c clean =
-    inl (c.open_fault.ensures, leaves_before c.args.files c.check_log.new.files c.check_log.ensures.log c.check_log.ensures.db c.in-Err-open_files.left (c.in-Err-open_files.ensures.unharmed clean))
+    let looked = c.check_log.new.files in
+    inl (
+      c.open_fault.ensures.office,
+      inl (looked, (c.check_log.ensures.log, c.check_log.ensures.db), (c.in-Err-open_files.error, c.in-Err-open_files.ensures.cause clean, c.open_fault.ensures.is)),
+      leaves_before c.args.files looked c.check_log.ensures.log c.check_log.ensures.db c.in-Err-open_files.left (c.in-Err-open_files.ensures.unharmed clean),
+    )
 
 pub returns-in-Err-clause-refused : goal.returns-in-Err-clause-refused
-returns-in-Err-clause-refused g c clean = inl (c.in-Err.ensures.cause, left_before c.args.files c.check_log.new.files c.check_log.ensures.log c.check_log.ensures.db)
+returns-in-Err-clause-refused g c clean =
+    inl (c.in-Err.ensures.cause, inr (c.in-Err.ensures.failed clean), left_before c.args.files c.check_log.new.files c.check_log.ensures.log c.check_log.ensures.db)
 
 pub returns-in-Ok-enter-clause-used : goal.returns-in-Ok-enter-clause-used
 returns-in-Ok-enter-clause-used g c clean =

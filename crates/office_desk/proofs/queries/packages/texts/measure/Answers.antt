@@ -13,7 +13,7 @@ loop-row-preserved c =
     let is : drop at rows ≡ row ∷ drop (at + 1) rows =
     drop_more rows at row c.loop-row-test.true ∙ ap (λ (r : ReleaseRow). r ∷ drop (at + 1) rows) (sym c.row-item.is) in
     subst (λ (last : _). Measures last (drop (at + 1) rows) rows) (sym with_it.last)
-    (measures_next c.loop-row.extent.last (drop at rows) (drop (at + 1) rows) rows row is with_it.range with_it.reads c.loop-row.invariant)
+    (measures_next c.loop-row.extent.last (drop at rows) (drop (at + 1) rows) rows row is with_it.range with_it.written c.loop-row.invariant)
 
 pub returns-clause-is : goal.returns-clause-is
 returns-clause-is c =

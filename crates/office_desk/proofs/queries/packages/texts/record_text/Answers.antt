@@ -2,7 +2,7 @@ use Rattle.std.proofs.Common.{◌∙◌, subst}
 use Rattle.std.specs.Prelude.{All}
 use Rattle.office_desk.proofs.Placed.{all_there}
 use Rattle.office_desk.proofs.Shown.{on_ok_any}
-use Rattle.office_desk.specs.Extent.{ReadsAsObject}
+use Rattle.office_desk.specs.Extent.{IsWritten}
 use Rattle.office_publications.specs.Told.{AreAllThere}
 use Rattle.office_desk.proofs.queries.packages.texts.record_text.Goals as goal
 
@@ -20,5 +20,5 @@ returns-clause-there g c =
           let same = c.deref.ensures.value ∙ looked.1 before s held in
           let places = c.numbering.ensures.places notice count s (g.met.H.Lookups.held_sorted _ s held) many in
           on_ok_any c.whole_text.result (AreAllThere notice count s)
-          (all_there notice count s many places (subst (All ReadsAsObject) same c.in_ok-extent.ensures.is.read)),
+          (all_there notice count s many places (subst (All IsWritten) same c.in_ok-extent.ensures.is.written)),
     )

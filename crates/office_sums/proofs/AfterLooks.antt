@@ -1,0 +1,21 @@
+-- A change after look-ups.
+use Rattle.std.specs.Prelude.{◌≡◌, ◌⊎◌, List}
+use Rattle.std.proofs.Common.{inl, inr}
+use Rattle.office_base.specs.Faults.{IsFaultOf}
+use Rattle.office_base.specs.Shelves.{Meaning, Keeps}
+use Rattle.office_base.specs.Tables.{Tables}
+use Rattle.office_base.specs.declared.puts.Put.{Put}
+use Rattle.office_base.specs.declared.shelf.ShelfFault.{ShelfFault}
+use Rattle.office_base.specs.declared.shelf.ShelfFault.TheVariants.{NoMemory, Store}
+use Rattle.office_sums.specs.RememberingMeaning.{FailsAfterLooks}
+
+module _ {S : Type 0} (M : Meaning S) (old middle new : S) (keeps : Keeps M old middle) where
+  pub fails_after : (puts : List Put) (fault : ShelfFault) → IsFaultOf (M.has_failed middle new puts) fault → IsFaultOf (FailsAfterLooks M old new puts) fault
+  fails_after puts NoMemory h = tt
+  fails_after puts Store h = record { middle = middle; looks = keeps; failed = h }
+
+  -- a stop leaves what it could leave before the look-ups, or the changed tables
+  pub leaves_after : (Also : Tables → Type 0) (change : Tables → Tables) (u : Tables) → M.honest middle → M.may_leave middle u ⊎ ((t : Tables) → M.holds middle t → u ≡ change t)
+      → M.may_leave old u ⊎ ((t : Tables) → M.holds old t × Also t → u ≡ change t)
+  leaves_after Also change u honest (inl left) = inl (keeps.stop honest u left)
+  leaves_after Also change u honest (inr is) = inr (λ t held. is t (keeps.same honest t held.0))

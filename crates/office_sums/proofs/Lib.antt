@@ -1,0 +1,10 @@
+pub mod NoneOf
+pub mod PutRows
+pub mod PutAmounts
+pub mod Staying
+pub mod SumsStaying
+pub mod Forgotten
+pub mod Known
+pub mod AfterLooks
+pub mod LedgerSoFar
+pub mod LedgerTold

@@ -1,0 +1,3 @@
+pub mod Touched
+pub mod Remembered
+pub mod RememberingMeaning

@@ -1,0 +1,10 @@
+//! A store that remembers the sums of budget lines.
+#![tactic(auto)]
+
+pub mod asking;
+pub mod forgetting;
+pub mod laws;
+pub mod lookups;
+pub mod remembered;
+pub mod shelf;
+pub mod sums;

@@ -1,0 +1,127 @@
+//! A store that remembers the sums of budget lines.
+ghost use Rattle.std.specs.Prelude.{◌≡◌, []};
+ghost use Rattle.office_base.specs.Faults.{count_after, one_fault_more};
+ghost use Rattle.office_base.specs.Shelves.{Keeps};
+ghost use Rattle.office_base.specs.Tables.{Tables};
+ghost use Rattle.office_sums.specs.Remembered.{AreUntouched, Remembers};
+ghost use Rattle.office_sums.specs.RememberingMeaning.{remembering, remembering_standing};
+
+use crate::forgetting::forget;
+use crate::laws::nothing_remembered;
+use crate::remembered::RememberedSums;
+use office_base::puts::Put;
+use office_base::shelf::{Lookups, Shelf, ShelfFault};
+use office_base::stored::StoredShelf;
+use std::alloc::Global;
+
+/// A store, and the sums of those of its budget lines that were asked for. A line is forgotten when a change touches it. Its answers are those of the store
+/// inside. It counts its own faults: if a look-up fails that only serves to forget, the sums are lost, and no call fails.
+pub struct RememberingShelf<H> {
+    pub(crate) alloc: Global,
+    /// The store inside.
+    pub shelf: H,
+    /// The sums that are remembered.
+    pub known: RememberedSums,
+    /// The number of calls that were answered with a fault.
+    pub faults: u64,
+}
+
+impl<H: Drop> Drop for RememberingShelf<H> {
+    fn drop(self) {
+        let RememberingShelf {
+            alloc: _,
+            shelf: _,
+            known: _,
+            faults: _,
+        } = self;
+    }
+}
+
+impl<H: Lookups> RememberingShelf<H> {
+    /// A store around this one. It remembers no line yet, and holds what this one holds. It allocates no memory.
+    pub fn new(alloc: Global, shelf: H) -> RememberingShelf<H>
+        ensures shelf { result.shelf ≡ shelf }
+        ensures empty { result.known ≡ [] }
+        ensures holds { (t : Tables) → H.meaning.holds shelf t → (remembering H.meaning).holds result t }
+    {
+        nothing_remembered();
+        RememberingShelf {
+            alloc,
+            shelf,
+            known: RememberedSums::new(alloc),
+            faults: 0,
+        }
+    }
+
+    /// The store inside.
+    pub fn into_shelf(self) -> H
+        ensures { result ≡ self.shelf }
+    {
+        let RememberingShelf {
+            alloc: _,
+            shelf,
+            known: _,
+            faults: _,
+        } = self;
+        shelf
+    }
+
+    // Forgets the lines that changes touch. If a look-up for this fails, it forgets all lines.
+    fn forget(&mut self, puts: &[Put])
+        ensures keeps { Keeps H.meaning self.old.shelf self.new.shelf }
+        ensures untouched { H.meaning.honest self.new.shelf → (t : Tables) → H.meaning.holds self.old.shelf t → AreUntouched self.new.known puts.now t }
+        ensures kept { (t : Tables) → Remembers self.old.known t → Remembers self.new.known t }
+        ensures counted { self.new.faults ≡ self.old.faults }
+    {
+        nothing_remembered();
+        if forget(&mut self.shelf, &mut self.known, puts).is_err() {
+            self.known.forget_all();
+        }
+    }
+
+    // Counts a fault, and returns it.
+    fn count(&mut self, fault: ShelfFault) -> ShelfFault
+        ensures fault { result ≡ fault }
+        ensures shelf { self.new.shelf ≡ self.old.shelf }
+        ensures known { self.new.known ≡ self.old.known }
+        ensures counted { self.new.faults ≡ one_fault_more self.old.faults }
+    {
+        self.faults = self.faults.saturating_add(1);
+        fault
+    }
+
+    // Returns the answer, and counts a fault.
+    pub(crate) fn told<T>(&mut self, answer: Result<T, ShelfFault>) -> Result<T, ShelfFault>
+        ensures same { result ≡ answer }
+        ensures shelf { self.new.shelf ≡ self.old.shelf }
+        ensures known { self.new.known ≡ self.old.known }
+        ensures counted { self.new.faults ≡ count_after result self.old.faults }
+    {
+        match answer {
+            Ok(found) => Ok(found),
+            Err(fault) => Err(self.count(fault)),
+        }
+    }
+}
+
+impl<H: Shelf> Shelf for RememberingShelf<H> {
+    fn apply(&mut self, puts: Vec<Put>) -> Result<(), ShelfFault> {
+        self.forget(&puts);
+        match self.shelf.apply(puts) {
+            Ok(()) => Ok(()),
+            Err(fault) => {
+                self.faults = self.faults.saturating_add(1);
+                Err(fault)
+            }
+        }
+    }
+}
+
+impl<H: StoredShelf> StoredShelf for RememberingShelf<H> {
+    ghost store = { remembering_standing H.store };
+
+    fn is_shut(&mut self) -> Result<bool, ShelfFault> {
+        let answer = self.shelf.is_shut();
+        self.told(answer)
+    }
+}
