@@ -6,5 +6,7 @@ pub mod SumsStaying
 pub mod Forgotten
 pub mod Known
 pub mod AfterLooks
+pub mod OneMore
+pub mod CarriedOver
 pub mod LedgerSoFar
 pub mod LedgerTold

@@ -75,7 +75,7 @@ sums_of-put entries e c other =
     ∙ ap (λ n. record { gained = c.signed + entry_sum is_raise entries c.contract; lost = n + c.released; paid = entry_sum is_payment (put_entry entries e) c.contract }) (entry_sum-put entries e c.contract other is_less)
     ∙ ap (λ n. record { gained = c.signed + entry_sum is_raise entries c.contract; lost = entry_sum is_less entries c.contract + c.released; paid = n }) (entry_sum-put entries e c.contract other is_payment)
 
-numbers_keyed : IsKeyed nat_cmp contract_key
+pub numbers_keyed : IsKeyed nat_cmp contract_key
 numbers_keyed = record { total = nat_cmp_total; exact = nat_cmp-IsAntisymmetric }
 
 module _ (line : List ℕ) (t : Tables) (e : EntryRow) (apart : holds_of (is_on_line t.lots line) (find_contract t.contracts e.contract) ≡ false) where

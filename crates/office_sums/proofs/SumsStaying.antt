@@ -54,7 +54,7 @@ module _ (line : List ℕ) (t u : Tables) (same : joined_amounts line u ≡ join
     paid_fits = subst (λ n. n ≤ total_limit) paid_same h.paid_fits;
   }
 
-stays : (line : List ℕ) (sums : SumsOfLine) (puts : List Put) (t : Tables) → IsSorted t → IsNoneOf line (touched_by puts t) → AreSums line sums t → AreSums line sums (after_puts puts t)
+pub stays : (line : List ℕ) (sums : SumsOfLine) (puts : List Put) (t : Tables) → IsSorted t → IsNoneOf line (touched_by puts t) → AreSums line sums t → AreSums line sums (after_puts puts t)
 stays line sums puts t sorted apart are =
     let same : joined_amounts line (after_puts puts t) ≡ joined_amounts line t = amounts_stay puts t line sorted apart in record {
       reserved_is = are.reserved_is ∙ reserved_same line t (after_puts puts t) same;

@@ -1,3 +1,4 @@
 pub mod Touched
 pub mod Remembered
+pub mod Carried
 pub mod RememberingMeaning

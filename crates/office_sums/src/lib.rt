@@ -2,6 +2,8 @@
 #![tactic(auto)]
 
 pub mod asking;
+pub mod carried;
+pub mod carrying;
 pub mod forgetting;
 pub mod laws;
 pub mod lookups;

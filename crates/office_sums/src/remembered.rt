@@ -1,9 +1,10 @@
 //! The sums of budget lines that are remembered.
-ghost use Rattle.std.specs.Prelude.{◌≡◌, ◌↔◌, [], ◌∷◌, IsTrue, length};
+ghost use Rattle.std.specs.Prelude.{◌≡◌, ◌↔◌, [], ◌∷◌, IfSome, IsTrue, length};
 ghost use Rattle.office_base.specs.Tables.{Tables};
 ghost use Rattle.office_sums.specs.Remembered.{sums_at, sums_in, AreSums, Forgets, IsSummed, Remembers};
 ghost use Rattle.office_sums.specs.Touched.{lines_of_lot};
 
+use crate::carried::Carried;
 use crate::laws::nothing_remembered;
 use crate::sums::SumsOfLine;
 use office_base::ledger::Pots;
@@ -119,6 +120,16 @@ impl RememberedSums {
     {
         match summed {
             Some(pots) => self.remember(&row.line, pots),
+            None => {}
+        }
+    }
+
+    /// Remembers the sums that were carried over changes, if there are any and there is memory for them. Their line was forgotten before, so it has room.
+    pub fn remember_carried(&mut self, carried: &Option<Carried>)
+        ensures kept { (t : Tables) → IfSome carried.now (λ c. AreSums c.line c.sums t) → Remembers self.old t → Remembers self.new t }
+    {
+        match carried {
+            Some(line) => self.insert(line.line, line.sums),
             None => {}
         }
     }

@@ -1,0 +1,96 @@
+//! The sums of a budget line after one more entry of one of its contracts, by the sums before it.
+ghost use Rattle.std.specs.Prelude.{◌≡◌, ◌+◌, ◌≤◌, IfSome};
+ghost use Rattle.office_values.specs.Money.{total_limit};
+ghost use Rattle.office_base.specs.EntrySums.{bare_sums, sums_with_entries, sums_with_entry};
+ghost use Rattle.office_base.specs.LineSums.{outstanding_in};
+ghost use Rattle.office_sums.specs.Carried.{AreShifted};
+
+use crate::sums::SumsOfLine;
+use office_base::ledger::ContractSums;
+use office_base::records::{ContractRow, EntryRow};
+use office_values::id::Id;
+use office_values::money::Total;
+
+/// A line, and the sums that it will have after some changes.
+#[derive(Clone, Copy)]
+pub struct Carried {
+    pub line: Id,
+    pub sums: SumsOfLine,
+}
+
+// No contract gets near it, since an entry has at most 2^50 units.
+const MOST: u128 = 1 << 100;
+
+// The sums of a contract after one more entry; None if they are 2^100 or more.
+fn with_one(sums: ContractSums, entry: &EntryRow) -> Option<ContractSums>
+    ensures { IfSome result (λ with. with ≡ sums_with_entry entry.now.kind entry.now.amount sums) }
+{
+    if sums.gained < MOST && sums.lost < MOST && sums.paid < MOST {
+        Some(sums.with_entry(entry.kind, entry.amount))
+    } else {
+        None
+    }
+}
+
+// The sums of a contract with these entries; None if they are 2^100 or more.
+fn sums_with(contract: &ContractRow, entries: &[EntryRow]) -> Option<ContractSums>
+    ensures { IfSome result (λ sums. sums ≡ sums_with_entries (bare_sums contract.now) entries.now) }
+{
+    let mut sums = ContractSums {
+        gained: contract.signed.units() as u128,
+        lost: contract.released.units() as u128,
+        paid: 0,
+    };
+    for entry in entries {
+        sums = with_one(sums, entry)?;
+    }
+    Some(sums)
+}
+
+// The outstanding amount of a contract with these sums.
+fn outstanding(sums: ContractSums) -> u128
+    ensures { result ≡ outstanding_in sums }
+{
+    sums.gained.saturating_sub(sums.lost)
+}
+
+// The sum of a line if one of its contracts counts with another amount than before; None if it is outside its range.
+fn shift_sum(sum: Total, before: u128, after: u128) -> Option<Total>
+    ensures sum { IfSome result (λ new. new + before ≡ sum + after) }
+    ensures fits { IfSome result (λ new. new ≤ total_limit) }
+{
+    let more = (sum.units() as u128).checked_add(after)?;
+    Total::of_sum(more.checked_sub(before)?)
+}
+
+// The sums of a line if one of its contracts has other sums than before. None if the contract lost more than it gained, or if a sum is outside its range.
+fn shift(old: SumsOfLine, before: ContractSums, after: ContractSums) -> Option<SumsOfLine>
+    ensures { IfSome result (λ new. AreShifted old new before after) }
+{
+    if after.lost > after.gained {
+        return None;
+    }
+    let contracted = shift_sum(old.contracted, outstanding(before), outstanding(after))?;
+    let paid = shift_sum(old.paid, before.paid, after.paid)?;
+    Some(SumsOfLine {
+        reserved: old.reserved,
+        contracted,
+        paid,
+    })
+}
+
+/// The sums of a line after one more entry of this contract, which has these entries. None if the contract then lost more than it gained, or if a sum is outside
+/// its range.
+pub fn shift_by(
+    old: SumsOfLine,
+    contract: &ContractRow,
+    entries: &[EntryRow],
+    entry: &EntryRow,
+) -> Option<SumsOfLine>
+    ensures { IfSome result (λ new. AreShifted old new (sums_with_entries (bare_sums contract.now) entries.now)
+        (sums_with_entry entry.now.kind entry.now.amount (sums_with_entries (bare_sums contract.now) entries.now))) }
+{
+    let before = sums_with(contract, entries)?;
+    let after = with_one(before, entry)?;
+    shift(old, before, after)
+}
