@@ -16,8 +16,7 @@ served_inside M most settings old first last same holds (before, (now, turns)) =
   (
     now,
     λ honest h stands.
-        let (steps, few, went) = turns honest h ((stands.0.0, holds h.tables stands.0.1), stands.1) in
-        (
+        let (steps, few, went) = turns honest h ((stands.0.0, holds h.tables stands.0.1), stands.1) in (
           steps,
           few,
           record {

@@ -219,7 +219,11 @@ fn breaks_anywhere(alloc: Global, sums: Sums, transcripts: &[&str]) -> bool {
 fn a_store_that_breaks_changes_nothing(rt: HostRuntime) {
     let alloc = rt.alloc();
     assert!(rt;
-        breaks_anywhere(alloc, Sums::AddedUp, &[MONEY, TENDERERS, NOTICE, PUBLISHED, TO_THE_END]),
+        breaks_anywhere(
+            alloc,
+            Sums::AddedUp,
+            &[MONEY, TENDERERS, NOTICE, PUBLISHED, TO_THE_END]
+        ),
         "to the end"
     );
     assert!(rt;
@@ -231,7 +235,13 @@ fn a_store_that_breaks_changes_nothing(rt: HostRuntime) {
 #[test]
 fn a_store_that_remembers_sums_breaks_unnoticed(rt: HostRuntime) {
     let alloc = rt.alloc();
-    assert!(rt; breaks_anywhere(alloc, Sums::Remembered, &[MONEY, TENDERERS, NOTICE, PUBLISHED, TO_THE_END]));
+    assert!(rt;
+        breaks_anywhere(
+            alloc,
+            Sums::Remembered,
+            &[MONEY, TENDERERS, NOTICE, PUBLISHED, TO_THE_END]
+        )
+    );
 }
 
 // Whether an import over a store that fails at its first call gets this answer, and then the usual one over the office that the store holds.
