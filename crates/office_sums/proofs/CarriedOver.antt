@@ -1,5 +1,5 @@
 -- The sums that are carried over the changes of a command are those of their line.
-use Rattle.std.specs.Prelude.{◌≡◌, ℕ, Bool, true, false, ◌&&◌, List, [], ◌∷◌, ◌++◌, Option, Some}
+use Rattle.std.specs.Prelude.{◌≡◌, ℕ, Bool, true, false, ◌&&◌, List, [], ◌∷◌, ◌++◌, Option, Some, None, Result, Ok, Err, IfOk, IfSome}
 use Rattle.std.proofs.Common.{refl, sym, ap, subst, ◌∙◌}
 use Rattle.std.specs.List.{list_all}
 use Rattle.office_base.specs.EntrySums.{bare_sums, sums_with_entries, sums_with_entry}
@@ -17,7 +17,7 @@ use Rattle.office_base.proofs.ExactKeys.{same_itself}
 use Rattle.office_base.proofs.SortedTables.{sorted-put}
 use Rattle.office_sums.proofs.OneMore.{number_is, one_more}
 use Rattle.office_sums.proofs.SumsStaying.{stays}
-use Rattle.office_sums.specs.Carried.{touches_none, AreShifted, IsCarriedOver, IsOnlyEntry}
+use Rattle.office_sums.specs.Carried.{touches_none, AreShifted, IsCarried, IsCarriedBy, IsCarriedOver, IsOnlyEntry}
 use Rattle.office_sums.specs.Remembered.{sums_at, AreSums, Remembers}
 use Rattle.office_sums.specs.Touched.{touched, touched_by, IsNoneOf}
 use Rattle.office_sums.specs.declared.carried.Carried.{Carried}
@@ -65,3 +65,17 @@ pub over_puts : (e : EntryRow) (ps : List Put) (t : Tables) (line : List ℕ) (s
 over_puts e ps t line sums only sorted are =
     subst (λ qs. AreSums line sums (after_puts qs t)) (sym only.is)
     (stays line sums only.rest (after_put (puts.Entry e) t) (sorted-put (puts.Entry e) t sorted) (silent_puts line only.rest (after_put (puts.Entry e) t) only.silent) are)
+
+-- the same of a call's result
+pub entry_carried : {E : Type 0} (t : Tables) (e : EntryRow) (c : ContractRow) (lot : LotRow) (old : SumsOfLine) (known : List (List ℕ × SumsOfLine)) (result : Result (Option Carried) E)
+    → contract_at e.contract t ≡ Some c → lot_at (c.notice, c.lot) t ≡ Some lot → sums_at known lot.line ≡ Some old
+    → IfOk result (λ carried. IfSome carried (IsCarriedOver e c lot.line old t)) → IfOk result (λ carried. IsCarriedBy known (puts.Entry e) t carried)
+entry_carried t e c lot old known (Ok (Some carried)) found under there over = record { right = λ sorted remembers. over_entry t e c lot old known carried found under there over sorted remembers }
+entry_carried t e c lot old known (Ok None) found under there over = record { right = λ sorted remembers. tt }
+entry_carried t e c lot old known (Err why) found under there over = tt
+
+pub puts_carried : {E : Type 0} (e : EntryRow) (ps : List Put) (t : Tables) (known : List (List ℕ × SumsOfLine)) (result : Result (Option Carried) E) → IsOnlyEntry e ps
+    → IfOk result (λ carried. IsCarriedBy known (puts.Entry e) t carried) → IfOk result (λ carried. IsCarried known ps t carried)
+puts_carried e ps t known (Ok (Some carried)) only by = record { right = λ sorted remembers. over_puts e ps t carried.line carried.sums only sorted (by.right sorted remembers) }
+puts_carried e ps t known (Ok None) only by = record { right = λ sorted remembers. tt }
+puts_carried e ps t known (Err why) only by = tt

@@ -26,7 +26,7 @@ use Rattle.office_sums.specs.Carried.{AreShifted}
 use Rattle.office_sums.specs.Remembered.{AreSums}
 use Rattle.office_sums.specs.declared.sums.SumsOfLine.{SumsOfLine}
 
-three : ℕ → ℕ → ℕ → ContractSums
+abbrev three : ℕ → ℕ → ℕ → ContractSums
 three a b c = record { gained = a; lost = b; paid = c }
 
 three_same : (a b c d e f : ℕ) → a ≡ d → b ≡ e → c ≡ f → three a b c ≡ three d e f

@@ -1,5 +1,6 @@
 //! Carries the sums of a budget line over one more entry of one of its contracts, such as a payment. So the next payment of the line needs no joined rows.
 ghost use Rattle.std.specs.Prelude.{◌≡◌, IfSome};
+ghost use Rattle.std.specs.List.{list_all};
 ghost use Rattle.office_base.specs.Shelves.{LooksUp};
 ghost use Rattle.office_base.specs.declared.puts.Put.TheVariants.{Entry};
 ghost use Rattle.office_sums.specs.Carried.{touches_none, IsCarried, IsCarriedBy, IsCarriedOver, IsOnlyEntry};
@@ -23,19 +24,20 @@ fn touches_none(put: &Put) -> bool
     }
 }
 
+// Whether none of these changes touches a budget line.
+fn touch_none(puts: &[Put]) -> bool
+    ensures { result ≡ list_all touches_none puts.now }
+{
+    puts.iter().all(|put| touches_none(put))
+}
+
 // The entry that the first of these changes puts, if the others touch no line.
 fn only_entry(puts: &[Put]) -> Option<&EntryRow>
     ensures { IfSome result (λ entry. IsOnlyEntry entry.now puts.now) }
 {
     let (first, rest) = puts.split_first()?;
     match first {
-        Put::Entry(entry) => {
-            if rest.iter().all(|put| touches_none(put)) {
-                Some(entry)
-            } else {
-                None
-            }
-        }
+        Put::Entry(entry) => { if touch_none(rest) { Some(entry) } else { None } }
         _ => None,
     }
 }

@@ -1,0 +1,25 @@
+use Rattle.std.proofs.Common.{◌≡◌, ◌+◌, ◌∷◌, List, drop, sym, ap, ◌∙◌, arith}
+use Rattle.std.proofs.lemmas.List.{at_drop_all, drop_more}
+use Rattle.office_base.specs.EntrySums.{bare_sums, sums_with_entries, sums_with_entry}
+use Rattle.office_base.specs.declared.ledger.ContractSums.{ContractSums}
+use Rattle.office_base.specs.declared.records.EntryRow.{EntryRow}
+use Rattle.office_sums.proofs.carried.sums_with.Goals as goal
+
+pub loop-entry-init : goal.loop-entry-init
+loop-entry-init c =
+    let same : ContractSums → ContractSums → Type 0 = λ a b. a ≡ b in
+    ap (λ (s : ContractSums). sums_with_entries s c.args.entries.now) (λ i. record { gained = c.units.ensures.value i; lost = c.units-2.ensures.value i; paid = 0 })
+
+pub loop-entry-preserved : goal.loop-entry-preserved
+loop-entry-preserved c =
+    let entries = c.args.entries.now in
+    let at = c.loop-entry.entry-index in
+    let e = c.entry-item.result in
+    let rest : List EntryRow = drop (at + 1) entries in
+    let is : drop at entries ≡ e ∷ rest = drop_more entries at e c.loop-entry-test.true ∙ ap (λ (r : EntryRow). r ∷ rest) (sym c.entry-item.is) in
+    ap (λ (s : ContractSums). sums_with_entries s rest) c.in_ok-sums.ensures
+    ∙ sym (ap (sums_with_entries c.loop-entry.sums) is) ∙ c.loop-entry.invariant
+
+pub returns : goal.returns
+returns c =
+    sym (at_drop_all (sums_with_entries c.loop-entry.sums) c.args.entries.now c.loop-entry.entry-index (omega (arith, c.loop-entry-test.false))) ∙ c.loop-entry.invariant
