@@ -11,8 +11,7 @@ from office_kit.store.life import Life, offer, part
 
 # A trial in which the command may be accepted. It doesn't use the missing rows. Or a list that it reads is shorter by a row that no other row refers to. Or a
 # sum is too large, which `tools/audit` finds. In a trial of `ANEW` nothing is lost: the program makes a merge that isn't kept from all releases.
-MAY, ANEW = "may be accepted", "is made anew"
-DAY = 86_400
+MAY, ANEW, DAY = "may be accepted", "is made anew", 86_400
 # Fronts of objects that the office writes in another form. (A script has each brace twice.)
 FRONTS = [("a blank", "{{ "), ("a float", '{{"a":1.5,'), ("a name out of order", '{{"z":1,'), ("a name twice", '{{"a":1,"a":1,')]
 

@@ -107,7 +107,7 @@ module _ (t : Tables) (e : EntryRow) (c : ContractRow) (sorted : IsSorted t) (fo
         ∙ sum_over-plus (counts f t.entries) (alone (counts f entries)) t.contracts
         ∙ ap (λ n. sum_over (counts f t.entries) t.contracts + n) (its_own f entries)
 
-    -- a sum over the line's contracts changes by what the entry's contract counts
+    -- a sum over the line's contracts changes as the amount of the entry's contract does
     moves : (f : ContractSums → ℕ) → sum_over (λ m. m) (map (λ x. f (sums_of entries x)) (contracts_of_line line t)) + f (sums_of t.entries c)
         ≡ sum_over (λ m. m) (map (λ x. f (sums_of t.entries x)) (contracts_of_line line t)) + f (sums_with_entry e.kind e.amount (sums_of t.entries c))
     moves f =
