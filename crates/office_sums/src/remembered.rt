@@ -124,7 +124,7 @@ impl RememberedSums {
         }
     }
 
-    /// Remembers the sums that were carried over changes, if there are any and there is memory for them. Their line was forgotten before, so there are still at most
+    /// Remembers the sums that were carried over changes, if there are any and there is memory for them. Their line was forgotten before, so there are at most
     /// `MOST_LINES` lines.
     pub fn remember_carried(&mut self, carried: &Option<Carried>)
         ensures kept { (t : Tables) → IfSome carried.now (λ c. AreSums c.line c.sums t) → Remembers self.old t → Remembers self.new t }
