@@ -9,9 +9,9 @@ root, the test gives the processor first to the office and the front, then to te
 A tender is in time until the second of its deadline ends, and it may wait for one ledger. So that must take clearly less than a second (OPERATING.md says
 what to do in a larger office). Where 100,000 rows take longer, on a slower machine, the office has fewer.
 
-Each tender must be `sealed`, with status 200, within two seconds, or more on a slower machine. With the front as it was earlier, some tender must be late or
-wait longer, else the test has shown nothing. There /health is the ledger, queries have no ways of their own, answers are kept for a second. The test prints the
-waits of tenders, and how many answers of each status the strangers got.
+Each tender must be `sealed`, with status 200, within two seconds, or more on a slower machine. With the front as it was earlier, some tender to the office of
+many lines must be late or wait longer, else the test has shown nothing. (The other office remembers its few sums.) There /health is the ledger, queries have no
+ways of their own, answers are kept for a second. The test prints the waits of tenders, and how many answers of each status the strangers got.
 """
 import collections
 import contextlib
@@ -178,6 +178,5 @@ def test_none_is_late(program, kind):
     assert run(program, kind).is_good()
 
 
-@pytest.mark.parametrize("kind", large_office.KINDS)
-def test_the_earlier_front_is_found(program, kind):
-    assert not run(program, kind, EARLIER).is_good()
+def test_the_earlier_front_is_found(program):
+    assert not run(program, "lines", EARLIER).is_good()
