@@ -7,6 +7,7 @@ ghost use Rattle.ocds_merge.specs.Identified.{text_member};
 ghost use Rattle.ocds_merge.specs.Merge.{merge_or_null};
 ghost use Rattle.ocds_merge.specs.Stored.{KeepsMerge, IsStorable, IsWrittenObject, IsWrittenMerge, IsWrittenRelease};
 
+use crate::identified::text_member;
 use crate::kept_value::is_kept;
 use crate::list_text::text_in;
 use crate::merging::{NoMemory, carried_on};
@@ -93,20 +94,14 @@ pub fn written_merge(alloc: Global, ocid: &str, stored: &str) -> Result<Value, S
 fn has_date(release: &Value) -> bool
     ensures { result ≡ is_some (text_member (codes "date") (view release.now)) }
 {
-    match release.get("date") {
-        Some(date) => date.as_str().is_some(),
-        None => false,
-    }
+    text_member(release, "date").is_some()
 }
 
 fn has_ocid(merge: &Value, ocid: &str) -> bool
-    ensures { IsTrue result ↔ text_member (codes "ocid") (view merge.now) ≡ Some ocid.now }
+    ensures { IsTrue result ↔ (text_member (codes "ocid") (view merge.now) ≡ Some ocid.now) }
 {
-    match merge.get("ocid") {
-        Some(member) => match member.as_str() {
-            Some(text) => text == ocid,
-            None => false,
-        },
+    match text_member(merge, "ocid") {
+        Some(text) => text == ocid,
         None => false,
     }
 }
