@@ -429,7 +429,10 @@ fn continues_objects_as_the_office_writes_them(rt: HostRuntime) -> Result<(), Fa
     let value = Value::from_str(alloc, r#"{"a":3}"#)?;
     for (stored, want) in [
         (r#"{"b":1,"ocid":"o"}"#, r#"{"a":3,"b":1,"ocid":"o"}"#),
-        (r#"{"a":2,"b":-1,"ocid":"o"}"#, r#"{"a":3,"b":-1,"ocid":"o"}"#),
+        (
+            r#"{"a":2,"b":-1,"ocid":"o"}"#,
+            r#"{"a":3,"b":-1,"ocid":"o"}"#,
+        ),
     ] {
         assert!(rt;
             continues(alloc, stored, &value, want) || continues(alloc, stored, &value, want)

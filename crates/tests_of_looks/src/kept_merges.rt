@@ -121,11 +121,26 @@ fn releases_that_no_office_writes_are_not_merged(rt: HostRuntime) {
     let alloc = rt.alloc();
     assert!(rt; is_right_in_memory(alloc, "5"));
     assert!(rt; is_right_in_memory(alloc, "[]"));
-    assert!(rt; is_right_in_memory(alloc, r#"{"ocid":"ocds-a1b2c3-N1","date":"2026-02-01T09:00:00Z"}"#));
-    assert!(rt; is_right_in_memory(alloc, r#"{"date":"2026-02-01T09:00:00Z","ocid":"ocds-a1b2c3-N2"}"#));
+    assert!(rt;
+        is_right_in_memory(
+            alloc,
+            r#"{"ocid":"ocds-a1b2c3-N1","date":"2026-02-01T09:00:00Z"}"#
+        )
+    );
+    assert!(rt;
+        is_right_in_memory(
+            alloc,
+            r#"{"date":"2026-02-01T09:00:00Z","ocid":"ocds-a1b2c3-N2"}"#
+        )
+    );
     assert!(rt; is_right_in_memory(alloc, r#"{"date":20260201,"ocid":"ocds-a1b2c3-N1"}"#));
     assert!(rt; is_right_in_sql(alloc, "5"));
-    assert!(rt; is_right_in_sql(alloc, r#"{"date":"2026-02-01T09:00:00Z","ocid":"ocds-a1b2c3-N2"}"#));
+    assert!(rt;
+        is_right_in_sql(
+            alloc,
+            r#"{"date":"2026-02-01T09:00:00Z","ocid":"ocds-a1b2c3-N2"}"#
+        )
+    );
 }
 
 #[test]

@@ -206,12 +206,7 @@ pub(super) fn releases_text<H: Lookups>(
 }
 
 // The compiled release, made of the merge of the releases and the moment of the last one.
-fn compiled(
-    alloc: Global,
-    ocid: &str,
-    last: Moment,
-    merge: Value,
-) -> Result<Value, Refusal>
+fn compiled(alloc: Global, ocid: &str, last: Moment, merge: Value) -> Result<Value, Refusal>
     ensures release { IfOk result (λ release. view release ≡ with_head ocid.now (moment_text last) (view merge)) }
     ensures none { IfErr result (λ why. why ≡ Unavailable) }
 {
