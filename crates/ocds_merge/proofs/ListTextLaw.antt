@@ -1,5 +1,5 @@
 -- The items of a list in its text, and their ids.
-use Rattle.std.proofs.Common.{◌≡◌, ◌≢◌, ℕ, ◌<◌, suc, pos, negsuc, List, [], ◌∷◌, ◌++◌, Bool, true, false, Some, option_and_then, refl, sym, ap, ◌∙◌, subst, append_assoc, arith, codes, decimal, length, ◌⊎◌, inl, inr}
+use Rattle.std.proofs.Common.{◌≡◌, ◌≢◌, ℕ, ◌<◌, suc, pos, negsuc, List, [], ◌∷◌, ◌++◌, Bool, true, false, Some, option_and_then, refl, sym, ap, ◌∙◌, subst, append_assoc, arith, decimal, length, ◌⊎◌, inl, inr}
 use Rattle.std.proofs.lemmas.Fmt.{decimal_is_IsNumeral, decimal_nonempty}
 use Rattle.std.proofs.lemmas.Bool.{ne_eqb}
 use Rattle.std.specs.Str.Parse.{AllDigits}
@@ -8,7 +8,7 @@ use Rattle.json.specs.Print.{escape}
 use Rattle.serde_json.specs.Data.{Num, unsigned, negative, float, Data, null, boolean, number, string, array, object, Items, no_items, item, Members, no_members, member}
 use Rattle.serde_json.specs.Find.{get_member, as_str}
 use Rattle.serde_json.specs.Written.{compact_text, items_text, members_text, number_text}
-use Rattle.ocds_merge.specs.Identified.{text_id}
+use Rattle.ocds_merge.specs.Identified.{text_member}
 use Rattle.ocds_merge.specs.Inside.Scan.{scan, between, IsPlain}
 use Rattle.ocds_merge.specs.Inside.Splice.{IsInRange, TextIsKept, AreItemsKept, EndsBefore, no_comma, StandAt, Searched, FoundAt}
 use Rattle.ocds_merge.proofs.MemberLemmas.{here, skips}
@@ -130,7 +130,7 @@ found_one name ts rest left m whole value s = go s.others s.stand s.same
           text = r.1;
         }
 
--- ---- the id of an item
+-- ---- a text member of an object
 
 pub record Opened (d : Data) (rest inside : List ℕ) : Type 0 where
   pub members : Members
@@ -147,19 +147,20 @@ opened d rest text inside h is form =
     let inner : inside ≡ members_text false o.0 ++ rest = tails 123 123 _ _ (sym form ∙ is ∙ ap (λ (x : Data). compact_text x ++ rest) o.1) in
     record { members = o.0; is = o.1; text = inner; kept = kept; stand = record { stands = ap no_comma inner ∙ no_comma_members false o.0 rest; order = kept.0; kept = kept.1 } }
 
-id_text : (ms : Members) (old : Data) (s id : List ℕ) → get_member (codes "id") ms ≡ Some old → old ≡ string s → s ≡ id → text_id (object ms) ≡ Some id
-id_text ms old s id found is same =
-    ap (option_and_then as_str) (found ∙ ap Some is) ∙ ap Some same
+member_text : (name : List ℕ) (ms : Members) (old : Data) (s found : List ℕ) → get_member name ms ≡ Some old → old ≡ string s → s ≡ found
+    → text_member name (object ms) ≡ Some found
+member_text name ms old s found there is same =
+    ap (option_and_then as_str) (there ∙ ap Some is) ∙ ap Some same
 
-pub id_at : (d : Data) (rest inside value quote id after : List ℕ) → (o : Opened d rest inside) → FoundAt (codes "id") o.members rest value → value ≡ 34 ∷ quote
-    → quote ≡ id ++ 34 ∷ after → IsPlain id → text_id d ≡ Some id
-id_at d rest inside value quote id after o f starts form plain =
+pub text_at : (name : List ℕ) (d : Data) (rest inside value quote id after : List ℕ) → (o : Opened d rest inside) → FoundAt name o.members rest value → value ≡ 34 ∷ quote
+    → quote ≡ id ++ 34 ∷ after → IsPlain id → text_member name d ≡ Some id
+text_at name d rest inside value quote id after o f starts form plain =
     let tail = members_text true f.others ++ rest in
     let l = led f.old tail f.kept.0 in
     let s = not_string f.old l.first l.lead (heads l.first 34 l.after quote (sym l.is ∙ sym f.text ∙ starts)) in
     let inner : (escape s.0 ++ 34 ∷ []) ++ tail ≡ id ++ 34 ∷ after = tails 34 34 _ _ (sym (f.text ∙ ap (λ (x : Data). compact_text x ++ tail) s.1) ∙ starts) ∙ form in
     let r = plain_name s.0 id tail after plain (sym (append_assoc (escape s.0) (34 ∷ []) tail) ∙ inner) in
-    ap text_id o.is ∙ id_text o.members f.old s.0 id f.found s.1 r.0
+    ap (text_member name) o.is ∙ member_text name o.members f.old s.0 id f.found s.1 r.0
 
 -- ---- one item after another
 

@@ -1,13 +1,14 @@
 -- A text that was passed is read as the value whose text it is.
-use Rattle.std.proofs.Common.{◌≡◌, ℕ, ◌≤◌, List, [], ◌∷◌, ◌++◌, Some, sym, ap, ◌∙◌, arith, append-nil}
+use Rattle.std.proofs.Common.{◌≡◌, ℕ, ◌≤◌, List, [], ◌∷◌, ◌++◌, Option, Some, option_and_then, refl, sym, ap, ◌∙◌, arith, append-nil}
 use Rattle.serde_json.specs.Data.{Data, object, depth}
 use Rattle.serde_json.specs.Read.{read, max_depth}
 use Rattle.serde_json.specs.Written.{compact_text, has_float}
 use Rattle.ocds_merge.specs.Stored.{IsWrittenObject}
-use Rattle.ocds_merge.specs.Inside.Splice.{TextIsKept}
+use Rattle.ocds_merge.specs.Identified.{text_member}
+use Rattle.ocds_merge.specs.Inside.Splice.{TextIsKept, EndsBefore}
 use Rattle.ocds_merge.specs.Inside.Readable.{Passed, PassedMembers, Reads}
 use Rattle.ocds_merge.proofs.KeptLaw.{kept_plain}
-use Rattle.ocds_merge.proofs.ReadKept.{kept_reads}
+use Rattle.ocds_merge.proofs.ReadKept.{kept_reads, read_kept}
 use Rattle.ocds_merge.proofs.ReadLaw.{object_read}
 
 whole : (text rest : List ℕ) (d : Data) → TextIsKept d → depth d ≤ max_depth → text ≡ compact_text d ++ rest → rest ≡ [] → Reads text
@@ -27,3 +28,11 @@ reads_written text rest is p =
 pub object_written : (text inside rest : List ℕ) → text ≡ 123 ∷ inside → PassedMembers inside rest 126 → rest ≡ [] → IsWrittenObject text
 object_written text inside rest is p none =
     reads_written text inside is (whole text rest (object p.members) p.kept (omega (arith, p.shallow)) (is ∙ ap (λ (l : List ℕ). 123 ∷ l) p.is) none)
+
+-- a text member that is found in the text of such an object is a member of the object
+pub member_read : (text name found : List ℕ) → ((d : Data) (rest : List ℕ) → TextIsKept d → EndsBefore rest → text ≡ compact_text d ++ rest → text_member name d ≡ Some found)
+    → IsWrittenObject text → option_and_then (text_member name) (read text) ≡ Some found
+member_read text name found finds w =
+    let d : Data = object w.members in
+    ap (λ (o : Option Data). option_and_then (text_member name) o) w.reads
+    ∙ finds d [] (read_kept text d w.reads w.no_float) refl (w.written ∙ sym (append-nil (compact_text d)))

@@ -4,9 +4,13 @@ use Rattle.std.specs.Prelude.{ℕ, List, [], codes, Bool, true, false, ◌&&◌,
 use Rattle.serde_json.specs.Data.{Data, Items, no_items, item}
 use Rattle.serde_json.specs.Find.{get, as_str}
 
--- the text `id` of an object; other values have none
+-- the text that an object has under this name; other values have none
+abbrev pub text_member : List ℕ → Data → Option (List ℕ)
+text_member name d = option_and_then as_str (get name d)
+
+-- the text `id` of an object
 abbrev pub text_id : Data → Option (List ℕ)
-text_id d = option_and_then as_str (get (codes "id") d)
+text_id d = text_member (codes "id") d
 
 -- the id by which an item is known, or an empty text
 abbrev pub id_of : Data → List ℕ

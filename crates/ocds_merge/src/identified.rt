@@ -1,18 +1,25 @@
 ghost use Rattle.std.specs.Prelude.{◌≡◌, ◌<◌, map, take, length, get_or, true, option_map, bytes_eq, MatchOption};
 ghost use Rattle.serde_json.specs.Data.{null};
 ghost use Rattle.serde_json.specs.View.{view, items_view};
-ghost use Rattle.ocds_merge.specs.Identified.{text_id as id_text, id_of as id_named, is_id_list as is_list_of_ids};
+ghost use Rattle.ocds_merge.specs.Identified.{text_member, text_id as id_text, id_of as id_named, is_id_list as is_list_of_ids};
 ghost use Rattle.ocds_merge.specs.Inside.Step.{Lacks};
 
 use serde_json::Value;
 
+/// The text that an object has under this name; other values have none.
+pub(crate) fn text_member<'a>(value: &'a Value, name: &str) -> Option<&'a str>
+    ensures { option_map (λ s. s.now) result ≡ text_member name.now (view value.now) }
+{
+    match value.get(name) {
+        Some(member) => member.as_str(),
+        None => None,
+    }
+}
+
 fn text_id(value: &Value) -> Option<&str>
     ensures { option_map (λ s. s.now) result ≡ id_text (view value.now) }
 {
-    match value.get("id") {
-        Some(id) => id.as_str(),
-        None => None,
-    }
+    text_member(value, "id")
 }
 
 /// The text `id` of an object, and an empty text for any other value.

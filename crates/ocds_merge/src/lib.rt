@@ -31,4 +31,4 @@ pub use head::{with_compiled_head, without_head};
 pub use laws::{dates_order_releases, last_value_decides, merge_carries_on, merge_stays_storable};
 pub use merging::{NoMemory, merge_all, merge_into};
 pub use stored::{StoredFault, merge_from_text, merge_into_text, merge_to_text};
-pub use written::{continue_text, is_written_object, object_from_text};
+pub use written::{continue_text, is_written_release, written_merge, written_release};

@@ -4,7 +4,7 @@ ghost use Rattle.serde_json.specs.Data.{Data, Items, Members};
 ghost use Rattle.serde_json.specs.Find.{get_member};
 ghost use Rattle.serde_json.specs.View.{view, items_of, items_view};
 ghost use Rattle.serde_json.specs.Written.{comma_if, compact_text, items_text, members_text};
-ghost use Rattle.ocds_merge.specs.Identified.{text_id};
+ghost use Rattle.ocds_merge.specs.Identified.{text_id, text_member};
 ghost use Rattle.ocds_merge.specs.Inside.Scan.{scan, between};
 ghost use Rattle.ocds_merge.specs.Inside.Step.{Lacks};
 ghost use Rattle.ocds_merge.specs.Inside.Places.{IndexServes, IsPlaceOf};
@@ -39,14 +39,14 @@ pub(crate) fn next_item(later: bool, text: &[u8]) -> Result<Option<&[u8]>, Unspl
     }
 }
 
-/// The text from the value of the member `id` on, in the members of an object. The members before it aren't checked.
-fn id_value(text: &[u8]) -> Result<&[u8], Unspliced>
+/// The text from the value of this member on, in the members of an object. The members before it aren't checked.
+fn member_value<'a>(text: &'a [u8], name: &str) -> Result<&'a [u8], Unspliced>
     ensures { IfOk result (λ value. (ts : Members) (rest : List ℕ) → StandAt text.now ts rest
-        → FoundAt (codes "id") ts rest value.now) }
+        → FoundAt name.now ts rest value.now) }
 {
     let mut left = text;
     while let Some(member) = next_member(left)? {
-        if member.name == b"id".as_slice() {
+        if member.name == name.as_bytes() {
             return Ok(member.value);
         }
         left = after_value(member.value);
@@ -54,21 +54,29 @@ fn id_value(text: &[u8]) -> Result<&[u8], Unspliced>
     Err(Unspliced::Unfit)
 }
 
-/// The text id of the object that begins a text. The text before it isn't checked, since the caller walks over the object anyway.
-pub(crate) fn id_in(text: &[u8]) -> Result<&[u8], Unspliced>
-    ensures { IfOk result (λ id. (d : Data) (rest : List ℕ) → TextIsKept d → EndsBefore rest → text.now ≡ compact_text d ++ rest
-        → text_id d ≡ Some id.now) }
+/// The text that the object at the front of a text has under this name. The text before it isn't checked, since the caller walks over the object anyway.
+pub(crate) fn text_in<'a>(text: &'a [u8], name: &str) -> Result<&'a [u8], Unspliced>
+    ensures { IfOk result (λ found. (d : Data) (rest : List ℕ) → TextIsKept d → EndsBefore rest → text.now ≡ compact_text d ++ rest
+        → text_member name.now d ≡ Some found.now) }
 {
     let Some(inside) = after_byte(text, b'{') else {
         return Err(Unspliced::Unfit);
     };
-    let Some(quoted) = after_byte(id_value(inside)?, b'"') else {
+    let Some(quoted) = after_byte(member_value(inside, name)?, b'"') else {
         return Err(Unspliced::Unfit);
     };
     match plain_string(quoted) {
-        Some((id, _after)) => Ok(id),
+        Some((found, _after)) => Ok(found),
         None => Err(Unspliced::Unfit),
     }
+}
+
+/// The text id of the object that begins a text.
+pub(crate) fn id_in(text: &[u8]) -> Result<&[u8], Unspliced>
+    ensures { IfOk result (λ id. (d : Data) (rest : List ℕ) → TextIsKept d → EndsBefore rest → text.now ≡ compact_text d ++ rest
+        → text_id d ≡ Some id.now) }
+{
+    Ok(text_in(text, "id")?)
 }
 
 /// Whether no item before this place has this id.

@@ -12,6 +12,7 @@ pub mod examples;
 pub mod laws;
 mod lots_in_order;
 mod object;
+pub mod ocid;
 pub mod package_texts;
 pub mod packages;
 mod part;

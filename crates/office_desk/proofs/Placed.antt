@@ -20,15 +20,15 @@ last_after last [] = last
 last_after last (r ∷ rows) = last_after (Some r.moment) rows
 
 -- The extent so far, together with the rest, is the extent of all releases.
-pub record Measures (last : Option ℕ) (rest all : List ReleaseRow) : Type 0 where
+pub record Measures (ocid : List ℕ) (last : Option ℕ) (rest all : List ReleaseRow) : Type 0 where
   pub moment : last_after last rest ≡ last_after None all
   pub range : AllByRecursion IsInRange rest → AllByRecursion IsInRange all
-  pub written : AllByRecursion IsWritten rest → AllByRecursion IsWritten all
+  pub written : AllByRecursion (IsWritten ocid) rest → AllByRecursion (IsWritten ocid) all
 
-pub measures_next : (last : Option ℕ) (rest more all : List ReleaseRow) (r : ReleaseRow) → rest ≡ r ∷ more → IsInRange r → IsWritten r
-    → Measures last rest all → Measures (Some r.moment) more all
-measures_next last rest more all r is range written so_far =
-    let here : Measures last (r ∷ more) all = subst (λ (l : List ReleaseRow). Measures last l all) is so_far in
+pub measures_next : (ocid : List ℕ) (last : Option ℕ) (rest more all : List ReleaseRow) (r : ReleaseRow) → rest ≡ r ∷ more → IsInRange r → IsWritten ocid r
+    → Measures ocid last rest all → Measures ocid (Some r.moment) more all
+measures_next ocid last rest more all r is range written so_far =
+    let here : Measures ocid last (r ∷ more) all = subst (λ (l : List ReleaseRow). Measures ocid last l all) is so_far in
     record { moment = here.moment; range = λ later. here.range (range, later); written = λ later. here.written (written, later) }
 
 last_of : (last : Option ℕ) (r : ReleaseRow) (rows : List ReleaseRow) → last_after last (r ∷ rows) ≡ Some (moment_of_last (r ∷ rows))
@@ -47,22 +47,26 @@ ends [] = tt
 ends (r ∷ rows) =
     subst (λ (o : Option ℕ). IfSome o (λ moment. (0 < length (r ∷ rows)) × (moment_of_last (r ∷ rows) ≡ moment))) (sym (last_of None r rows)) (omega arith, refl)
 
-pub measured : (extent : Extent) (rows rest : List ReleaseRow) → rest ≡ [] → Measures extent.last rest rows → IsExtentOf extent rows
-measured extent rows rest none so_far =
-    let all : Measures extent.last [] rows = subst (λ (l : List ReleaseRow). Measures extent.last l rows) none so_far in
-    record {
-      last = subst (λ (o : Option ℕ). IfSome o (λ moment. (0 < length rows) × (moment_of_last rows ≡ moment))) (sym all.moment) (ends rows);
-      range = All-from_recursion IsInRange rows (all.range tt);
-      written = All-from_recursion IsWritten rows (all.written tt);
-    }
+module _ (ocid : List ℕ) (extent : Extent) (rows rest : List ReleaseRow) (none : rest ≡ []) (so_far : Measures ocid extent.last rest rows) where
+  all : Measures ocid extent.last [] rows
+  all = subst (λ (l : List ReleaseRow). Measures ocid extent.last l rows) none so_far
+
+  pub measured : IsExtentOf extent rows
+  measured = record {
+    last = subst (λ (o : Option ℕ). IfSome o (λ moment. (0 < length rows) × (moment_of_last rows ≡ moment))) (sym all.moment) (ends rows);
+    range = All-from_recursion IsInRange rows (all.range tt);
+  }
+
+  pub all_written : All (IsWritten ocid) rows
+  all_written = All-from_recursion (IsWritten ocid) rows (all.written tt)
 
 -- ---- the releases that exist
 
 -- A notice has releases with the numbers from 1 to this one and no others, each at its place, and all are as the office writes them. Then each can be shown.
-pub all_there : (notice : List ℕ) (count : ℕ) (s : Tables) → AreSoMany notice count s
-    → ((k : ℕ) → slice_get (releases_of_notice notice s) k ≡ release_at (notice, k + 1) s) → All IsWritten (releases_of_notice notice s) → AreAllThere notice count s
-all_there notice count s many place written k low = elim (slice_get_cases rows k).1 [
-  | inl (r, within, is, same) ↦ (r, sym (place k) ∙ is, subst IsWritten same (All-get_or IsWritten rows k r within written))
+pub all_there : (ocid notice : List ℕ) (count : ℕ) (s : Tables) → AreSoMany notice count s
+    → ((k : ℕ) → slice_get (releases_of_notice notice s) k ≡ release_at (notice, k + 1) s) → All (IsWritten ocid) (releases_of_notice notice s) → AreAllThere ocid notice count s
+all_there ocid notice count s many place written k low = elim (slice_get_cases rows k).1 [
+  | inl (r, within, is, same) ↦ (r, sym (place k) ∙ is, subst (IsWritten ocid) same (All-get_or (IsWritten ocid) rows k r within written))
   | inr (past, _) ↦ absurd (omega (arith, past, low, so_many))
 ]
   where

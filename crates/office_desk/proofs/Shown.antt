@@ -4,6 +4,8 @@ use Rattle.std.proofs.Common.{ap, ◌∙◌, subst}
 use Rattle.serde_json.specs.Data.{Data}
 use Rattle.serde_json.specs.View.{view}
 use Rattle.serde_json.specs.declared.value.Value.{Value}
+use Rattle.ocds_release.specs.Texts.{ocid_text}
+use Rattle.office_values.specs.declared.settings.Publisher.{Publisher}
 use Rattle.office_base.specs.declared.records.NoticeRow.{NoticeRow}
 use Rattle.office_base.specs.Tables.{Tables, notice_at}
 use Rattle.office_machine.specs.Counted.{releases_in}
@@ -22,23 +24,23 @@ on_ok_any (Ok x) P holds = holds
 on_ok_any (Err why) P holds = tt
 
 -- Releases are shown only if they are those that the notice's row counts.
-pub releases_shown : {T E : Type 0} (notice : List ℕ) (s : Tables) (row : NoticeRow) (result : Result T E) → Some row ≡ notice_at notice s
-    → OnOk result (AreAllThere notice row.releases s) → OnOk result (AreSoMany notice row.releases s) → OnOk result (HasReleases notice s)
-releases_shown notice s row (Ok text) is there numbered = record {
-  there = subst (λ (o : Option NoticeRow). AreAllThere notice (releases_in o) s) is there;
+pub releases_shown : {T E : Type 0} (publisher : Publisher) (notice : List ℕ) (s : Tables) (row : NoticeRow) (result : Result T E) → Some row ≡ notice_at notice s
+    → OnOk result (AreAllThere (ocid_text publisher.prefix notice) notice row.releases s) → OnOk result (AreSoMany notice row.releases s) → OnOk result (HasReleases publisher notice s)
+releases_shown publisher notice s row (Ok text) is there numbered = record {
+  there = subst (λ (o : Option NoticeRow). AreAllThere (ocid_text publisher.prefix notice) notice (releases_in o) s) is there;
   numbered = subst (λ (o : Option NoticeRow). AreSoMany notice (releases_in o) s) is numbered;
 }
-releases_shown notice s row (Err why) is there numbered = tt
+releases_shown publisher notice s row (Err why) is there numbered = tt
 
--- A record is shown only if this is so, and the stored merge is an object.
-pub record_shown : {T E : Type 0} (notice : List ℕ) (s : Tables) (row : NoticeRow) (result : Result T E) → Some row ≡ notice_at notice s
-    → OnOk result (AreAllThere notice row.releases s) → OnOk result (AreSoMany notice row.releases s) → OnOk result (HasMerge notice s)
-    → OnOk result (HasReleases notice s × HasMerge notice s)
-record_shown notice s row (Ok text) is there numbered merge = (
+-- A record is shown only if this is so, and the stored merge is that of the process, as the office writes it.
+pub record_shown : {T E : Type 0} (publisher : Publisher) (notice : List ℕ) (s : Tables) (row : NoticeRow) (result : Result T E) → Some row ≡ notice_at notice s
+    → OnOk result (AreAllThere (ocid_text publisher.prefix notice) notice row.releases s) → OnOk result (AreSoMany notice row.releases s)
+    → OnOk result (HasMerge (ocid_text publisher.prefix notice) notice s) → OnOk result (HasReleases publisher notice s × HasMerge (ocid_text publisher.prefix notice) notice s)
+record_shown publisher notice s row (Ok text) is there numbered merge = (
   record {
-    there = subst (λ (o : Option NoticeRow). AreAllThere notice (releases_in o) s) is there;
+    there = subst (λ (o : Option NoticeRow). AreAllThere (ocid_text publisher.prefix notice) notice (releases_in o) s) is there;
     numbered = subst (λ (o : Option NoticeRow). AreSoMany notice (releases_in o) s) is numbered;
   },
   merge,
 )
-record_shown notice s row (Err why) is there numbered merge = tt
+record_shown publisher notice s row (Err why) is there numbered merge = tt

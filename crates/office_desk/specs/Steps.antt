@@ -4,6 +4,7 @@ use Rattle.std.specs.declared.alloc.Global.{Global}
 use Rattle.office_commands.specs.declared.command.Caller.{Caller}
 use Rattle.office_commands.specs.declared.queries.Query.{Query}
 use Rattle.office_commands.specs.declared.queries.Query.TheVariants as queries
+use Rattle.ocds_release.specs.Texts.{ocid_text}
 use Rattle.office_values.specs.declared.refusal.Refusal.{Refusal}
 use Rattle.office_values.specs.declared.refusal.Refusal.TheVariants.{Unavailable}
 use Rattle.office_values.specs.declared.settings.Publisher.{Publisher}
@@ -74,15 +75,15 @@ IsNotOverdrawn None entries = Unit {0}
 IsNotOverdrawn (Some c) entries = is_overdrawn entries c ≡ false
 
 -- The facts that an answer shows hold, even if no commands lead to this office. On a line, alone or in the ledger, the four balances add up to the
--- appropriation. For the releases, each release that the notice's row counts exists and is as the office writes it. For the record, so is its merge. A contract
+-- appropriation. For the releases, each release that the notice's row counts exists, and is a release of this notice as the office writes it. For the record, so is its merge. A contract
 -- isn't overdrawn.
-abbrev pub HasShown : Query → Tables → Type 0
-HasShown (queries.Line line) s = LineAddsUp line s
-HasShown queries.Ledger s = LedgerAddsUp s
-HasShown (queries.Releases notice) s = HasReleases notice s
-HasShown (queries.Record notice) s = HasReleases notice s × HasMerge notice s
-HasShown (queries.Contract contract) s = IsNotOverdrawn (contract_at contract s) (entries_of_contract contract s)
-HasShown query s = Unit {0}
+abbrev pub HasShown : Publisher → Query → Tables → Type 0
+HasShown publisher (queries.Line line) s = LineAddsUp line s
+HasShown publisher queries.Ledger s = LedgerAddsUp s
+HasShown publisher (queries.Releases notice) s = HasReleases publisher notice s
+HasShown publisher (queries.Record notice) s = HasReleases publisher notice s × HasMerge (ocid_text publisher.prefix notice) notice s
+HasShown publisher (queries.Contract contract) s = IsNotOverdrawn (contract_at contract s) (entries_of_contract contract s)
+HasShown publisher query s = Unit {0}
 
 -- The answer to a query that isn't for a package; packages are empty here.
 abbrev pub no_packages : Packages

@@ -40,7 +40,7 @@ pub(crate) fn look_at<H: Lookups>(
     requires { may_look caller.now (query_kind_of query) ≡ true }
     ensures looks { Looks H.meaning shelf.old shelf.new (λ s. IsSeen publisher.now caller.now query s (read_text result)) }
     ensures tells { TellsQuery H.meaning shelf.old shelf.new caller.now query result }
-    ensures shown { H.meaning.honest shelf.new → (s : Tables) → H.meaning.holds shelf.old s → OnOk result (HasShown query s) }
+    ensures shown { H.meaning.honest shelf.new → (s : Tables) → H.meaning.holds shelf.old s → OnOk result (HasShown publisher.now query s) }
 {
     match query {
         Query::Line { line } => line::look(alloc, shelf, caller, line),

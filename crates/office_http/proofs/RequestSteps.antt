@@ -94,10 +94,10 @@ module _ {S : Type 0} (M : Meaning S) (settings : Settings) (old new : S) (s : T
 -- ---- the rows that an answer shows
 
 -- The text of a refusal shows nothing, whatever the meaning is.
-pub refused_shows : (m : Meant) (s : Tables) (text : List ℕ) → IsRefusedText text → ShowsMeant m s text
-refused_shows (Refuses why method) s text refused = refused
-refused_shows (Gives caller command) s text refused = tt
-refused_shows (Sees caller query) s text refused = inr refused
+pub refused_shows : (settings : Settings) (m : Meant) (s : Tables) (text : List ℕ) → IsRefusedText text → ShowsMeant settings m s text
+refused_shows settings (Refuses why method) s text refused = refused
+refused_shows settings (Gives caller command) s text refused = tt
+refused_shows settings (Sees caller query) s text refused = inr refused
 
 pub tells_some : (why : Refusal) (method : Option Allow) (text : List ℕ) → TellsRefusal why method text → IsRefusedText text
 tells_some why method text (inl is) = (why, method, is)
@@ -105,19 +105,19 @@ tells_some why method text (inr is) = (Unavailable, None, is)
 
 module _ (settings : Settings) (s : Tables) (text : List ℕ) (request : RequestView) (route : Route) (caller : Caller) (read : Result Asked Refusal) where
   read_shown : routed request.head.method request.head.target ≡ Ok route → Ok caller ≡ who settings s (credentials_of request.head.fields)
-      → (read ≡ asked_by_route caller route request) ⊎ (read ≡ Err Unavailable) → ShowsMeant (meant_asked caller read) s text → ShowsMeant (meant settings request s) s text
+      → (read ≡ asked_by_route caller route request) ⊎ (read ≡ Err Unavailable) → ShowsMeant settings (meant_asked caller read) s text → ShowsMeant settings (meant settings request s) s text
   read_shown at by (inl is) shown =
-      subst (λ (m : Meant). ShowsMeant m s text)
+      subst (λ (m : Meant). ShowsMeant settings m s text)
       (ap (λ (r : Result Asked Refusal). meant_asked caller r) is
       ∙ sym (ap (λ (r : Result Route (Refusal × Option Allow)). meant_at settings request s r) at ∙ ap (λ (c : Result Caller Refusal). meant_by route request c) (sym by)))
       shown
   read_shown at by (inr is) shown =
-      refused_shows (meant settings request s) s text (subst (λ (r : Result Asked Refusal). ShowsMeant (meant_asked caller r) s text) is shown)
+      refused_shows settings (meant settings request s) s text (subst (λ (r : Result Asked Refusal). ShowsMeant settings (meant_asked caller r) s text) is shown)
 
   -- The answer to the query shows rows that exist.
   pub asked_shown : routed request.head.method request.head.target ≡ Ok route
       → (Ok caller ≡ who settings s (credentials_of request.head.fields)) ⊎ (let none : Result Caller Refusal = Err Unavailable in Ok caller ≡ none)
-      → (read ≡ asked_by_route caller route request) ⊎ (read ≡ Err Unavailable) → ShowsMeant (meant_asked caller read) s text → ShowsMeant (meant settings request s) s text
+      → (read ≡ asked_by_route caller route request) ⊎ (read ≡ Err Unavailable) → ShowsMeant settings (meant_asked caller read) s text → ShowsMeant settings (meant settings request s) s text
   asked_shown at (inl by) is shown = read_shown at by is shown
   asked_shown at (inr never) is shown = absurd (cc)
 

@@ -183,14 +183,14 @@ abbrev pub IsRefusedText : List ℕ → Type 0
 IsRefusedText text = (why : Refusal) × (method : Option Allow) × (text ≡ response_of (Refused why method))
 
 -- A refused request gets a refusal. A query gets one too, or all facts that its answer shows hold (`HasShown`).
-abbrev pub ShowsMeant : Meant → Tables → List ℕ → Type 0
-ShowsMeant (Refuses why method) s text = IsRefusedText text
-ShowsMeant (Gives caller command) s text = Unit {0}
-ShowsMeant (Sees caller query) s text = HasShown query s ⊎ IsRefusedText text
+abbrev pub ShowsMeant : Settings → Meant → Tables → List ℕ → Type 0
+ShowsMeant settings (Refuses why method) s text = IsRefusedText text
+ShowsMeant settings (Gives caller command) s text = Unit {0}
+ShowsMeant settings (Sees caller query) s text = HasShown settings.publisher query s ⊎ IsRefusedText text
 
 -- This holds of any tables in the store.
-abbrev pub ShowsOnlyWhole : {S : Type 0} → Meaning S → S → S → (Tables → Meant) → List ℕ → Type 0
-ShowsOnlyWhole M old new m text = M.honest new → (s : Tables) → M.holds old s → ShowsMeant (m s) s text
+abbrev pub ShowsOnlyWhole : {S : Type 0} → Meaning S → Settings → S → S → (Tables → Meant) → List ℕ → Type 0
+ShowsOnlyWhole M settings old new m text = M.honest new → (s : Tables) → M.holds old s → ShowsMeant settings (m s) s text
 
 -- The request at the beginning of the bytes was answered.
 pub record AnswersRequest {S : Type 0} (M : Meaning S) (settings : Settings) (old new : S) (moment : ℕ) (input text : List ℕ) : Type 0 where

@@ -89,7 +89,7 @@ fn answer_query<H: Shelf + Drop>(
     ensures changes { ChangesOnlyAccepting H.meaning desk.old.shelf desk.new.shelf (λ s. Sees caller.now query) result }
     ensures told { IsTold H.meaning desk.old.settings desk.old.shelf desk.new.shelf moment (λ s. Sees caller.now query) result }
     ensures certain { IsCertain H.meaning desk.old.shelf desk.new.shelf moment (λ s. Sees caller.now query) result }
-    ensures shown { ShowsOnlyWhole H.meaning desk.old.shelf desk.new.shelf (λ s. Sees caller.now query) result }
+    ensures shown { ShowsOnlyWhole H.meaning desk.old.settings desk.old.shelf desk.new.shelf (λ s. Sees caller.now query) result }
 {
     let text = match desk.look(caller, query) {
         Ok(text) => text,
@@ -131,7 +131,7 @@ fn answer_asked<H: Shelf + Drop>(
     ensures told { IsTold H.meaning desk.old.settings desk.old.shelf desk.new.shelf moment (λ s. meant_asked caller.now asked.entry) result }
     ensures certain { IsCertain H.meaning desk.old.shelf desk.new.shelf moment (λ s. meant_asked caller.now asked.entry) result }
     ensures refused { (why : RefusalOf) → asked.entry ≡ Err why → result ≡ response_of (Refused why None) }
-    ensures shown { ShowsOnlyWhole H.meaning desk.old.shelf desk.new.shelf (λ s. meant_asked caller.now asked.entry) result }
+    ensures shown { ShowsOnlyWhole H.meaning desk.old.settings desk.old.shelf desk.new.shelf (λ s. meant_asked caller.now asked.entry) result }
 {
     match asked {
         Ok(Asked::Does(command)) => answer_command(alloc, desk, moment, caller, command),
@@ -156,7 +156,7 @@ fn answer_read<H: Shelf + Drop>(
     ensures told { IsTold H.meaning desk.old.settings desk.old.shelf desk.new.shelf moment (meant desk.old.settings request.now) result }
     ensures certain { TellsCertain H.meaning desk.old.settings desk.old.shelf desk.new.shelf moment request.now result }
     ensures sight { TellsAtSight desk.old.settings request.now result }
-    ensures shown { ShowsOnlyWhole H.meaning desk.old.shelf desk.new.shelf (meant desk.old.settings request.now) result }
+    ensures shown { ShowsOnlyWhole H.meaning desk.old.settings desk.old.shelf desk.new.shelf (meant desk.old.settings request.now) result }
 {
     let route = match routes.route_of(request) {
         Ok(route) => route,
@@ -193,7 +193,7 @@ pub fn answer_request<H: Shelf + Drop>(
     ensures told { IsTold H.meaning desk.old.settings desk.old.shelf desk.new.shelf moment (meant desk.old.settings request.now) result }
     ensures certain { TellsCertain H.meaning desk.old.settings desk.old.shelf desk.new.shelf moment request.now result }
     ensures sight { TellsAtSight desk.old.settings request.now result }
-    ensures shown { ShowsOnlyWhole H.meaning desk.old.shelf desk.new.shelf (meant desk.old.settings request.now) result }
+    ensures shown { ShowsOnlyWhole H.meaning desk.old.settings desk.old.shelf desk.new.shelf (meant desk.old.settings request.now) result }
     ensures kept { IsKeptAnswering H.meaning desk.old.settings desk.old.shelf desk.new.shelf moment (meant desk.old.settings request.now) result }
 {
     laws::accounts_and_fates();

@@ -21,6 +21,9 @@ const PLAIN_TEXT: &str = "text/plain; charset=utf-8";
 // The capacity for the head of a response, in bytes.
 const HEAD_ROOM: usize = 192;
 
+// A body of at most so many bytes is copied behind its head. A longer one has its head put before it.
+const SHORT_BODY: usize = 4096;
+
 // The phrase of a status.
 pub(crate) fn phrase(status: u16) -> &'static str
     requires { IsStatusCode status }
@@ -102,11 +105,11 @@ fn put_before(out: &mut Vec<u8>, front: &[u8]) -> Result<(), AllocError>
     Ok(())
 }
 
-// The head of a response with status 200, before a body of this length.
-fn ok_head(alloc: Global, media: &str, length: usize) -> Result<Vec<u8>, AllocError>
+// The head of a response with status 200, before a body of this length, with room for so many bytes behind it.
+fn ok_head(alloc: Global, media: &str, length: usize, room: usize) -> Result<Vec<u8>, AllocError>
     ensures { IfOk result (λ out. out.items ≡ head_start 200 media.now length ++ codes "\r\nConnection: close\r\n\r\n") }
 {
-    let mut out = Vec::with_capacity(alloc, HEAD_ROOM)?;
+    let mut out = Vec::with_capacity(alloc, HEAD_ROOM.saturating_add(room))?;
     put_head(&mut out, 200, media, length)?;
     out.extend_from_slice(b"\r\nConnection: close\r\n\r\n")?;
     Ok(out)
@@ -116,17 +119,37 @@ fn ok_head(alloc: Global, media: &str, length: usize) -> Result<Vec<u8>, AllocEr
 fn response_around(alloc: Global, media: &str, body: Vec<u8>) -> Result<Vec<u8>, AllocError>
     ensures { IfOk result (λ out. out.items ≡ response_with 200 media.now [] body.items) }
 {
-    let head = ok_head(alloc, media, body.len())?;
+    let head = ok_head(alloc, media, body.len(), 0)?;
     let mut out = body;
     put_before(&mut out, &head)?;
     Ok(out)
 }
 
-// The response to an accepted command, as a JSON text, in the memory of this text.
+// A response with status 200, in the memory of its head.
+fn response_behind(alloc: Global, media: &str, body: &[u8]) -> Result<Vec<u8>, AllocError>
+    ensures { IfOk result (λ out. out.items ≡ response_with 200 media.now [] body.now) }
+{
+    let mut out = ok_head(alloc, media, body.len(), body.len())?;
+    out.extend_from_slice(body)?;
+    Ok(out)
+}
+
+// A response with status 200.
+fn ok_response(alloc: Global, media: &str, body: Vec<u8>) -> Result<Vec<u8>, AllocError>
+    ensures { IfOk result (λ out. out.items ≡ response_with 200 media.now [] body.items) }
+{
+    if body.len() <= SHORT_BODY {
+        response_behind(alloc, media, &body)
+    } else {
+        response_around(alloc, media, body)
+    }
+}
+
+// The response to an accepted command, as a JSON text.
 pub(crate) fn accepted_response(alloc: Global, text: Vec<u8>) -> Result<Vec<u8>, AllocError>
     ensures { IfOk result (λ out. out.items ≡ response_of (Json text.items)) }
 {
-    response_around(alloc, JSON, text)
+    ok_response(alloc, JSON, text)
 }
 
 // The response to a query of this kind, with the text that it shows.
@@ -139,7 +162,7 @@ pub(crate) fn seen_response(
 {
     match kind {
         QueryKind::Ledger | QueryKind::Minutes | QueryKind::Register | QueryKind::Evaluation => {
-            response_around(alloc, PLAIN_TEXT, text)
+            ok_response(alloc, PLAIN_TEXT, text)
         }
         QueryKind::Line
         | QueryKind::Releases
@@ -152,7 +175,7 @@ pub(crate) fn seen_response(
         | QueryKind::OwnTenders
         | QueryKind::Securities
         | QueryKind::Tenderers
-        | QueryKind::Contract => response_around(alloc, JSON, text),
+        | QueryKind::Contract => ok_response(alloc, JSON, text),
     }
 }
 

@@ -2,6 +2,7 @@
 use Rattle.std.specs.Prelude.{◌≡◌, ℕ, ◌+◌, ◌-◌, true, false, List, ◌∷◌, [], ◌++◌, Option, Some, None, Result, Ok, Err, IfOk, IfErr}
 use Rattle.std.proofs.Common.{sym, ◌∙◌, ap, subst, inr, arith}
 use Rattle.std.proofs.lemmas.List.{append_assoc}
+use Rattle.ocds_release.specs.Texts.{ocid_text}
 use Rattle.office_values.specs.declared.refusal.Refusal.{Refusal}
 use Rattle.office_values.specs.declared.refusal.Refusal.TheVariants.{Unavailable}
 use Rattle.office_values.specs.declared.settings.Publisher.{Publisher}
@@ -29,7 +30,7 @@ before_next seq n next = omega (arith, next)
 
 -- The release comes after the last one of its notice, and it joins the merge.
 pub follows : (publisher : Publisher) (x : Given) (r : Released) → IsReleased publisher x r → has_last_release r.notice (r.seq - 1) x.before ≡ true
-    → has_release r.notice (r.seq - 1 + 1) x.before ≡ false → HasMerge r.notice x.before → AreSoMany r.notice (r.seq - 1) x.before → FollowsReleases x
+    → has_release r.notice (r.seq - 1 + 1) x.before ≡ false → HasMerge (ocid_text publisher.prefix r.notice) r.notice x.before → AreSoMany r.notice (r.seq - 1) x.before → FollowsReleases publisher x
 follows publisher x r released there new merge many notice is =
     let found : Some r.notice ≡ Some notice = sym released.for_notice ∙ is in
     let same : r.notice ≡ notice = cc in
@@ -37,7 +38,7 @@ follows publisher x r released there new merge many notice is =
     let last = ap (λ k. has_last_release r.notice k x.before) (sym number) ∙ there in
     let next = ap (λ k. has_release r.notice (k + 1) x.before) (sym number) ∙ new in
     let counted = subst (λ (k : ℕ). AreSoMany r.notice k x.before) number many in
-    subst (λ (n : List ℕ). CanBeFollowed n x.before) same (record { last = last; next = next; merge = merge; counted = counted })
+    subst (λ (n : List ℕ). CanBeFollowed publisher n x.before) same (record { last = last; next = next; merge = merge; counted = counted })
 
 module _ (publisher : Publisher) (x : Given) (r : Released) (p : Publication) (released : IsReleased publisher x r) where
   abbrev puts_with : Option ReleaseRow → List Put
@@ -63,7 +64,7 @@ module _ (publisher : Publisher) (x : Given) (r : Released) (p : Publication) (r
       subst (ReadsBack x.before) (kept.release ∙ same) kept.reads
 
   -- The plan has both puts, or it is `Unavailable` because there is too little memory.
-  pub is_planned : IsCommand x.command → refusal_of x ≡ None → is_lacking x ≡ false → FollowsReleases x → (puts : List Put) (text : List ℕ) → puts ≡ effect office_readings x
+  pub is_planned : IsCommand x.command → refusal_of x ≡ None → is_lacking x ≡ false → FollowsReleases publisher x → (puts : List Put) (text : List ℕ) → puts ≡ effect office_readings x
       → text ≡ reply_text (accepted_reply x) → (KeepsItsReleases x → IsKept x.before r p) → (result : Result Plan Refusal)
       → IfOk result (λ (q : Plan). q.puts ≡ puts ++ both) → IfOk result (λ (q : Plan). q.reply ≡ text) → IfErr result (λ why. why ≡ Unavailable)
       → IsPlanned publisher x result

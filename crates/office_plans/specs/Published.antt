@@ -32,7 +32,7 @@ pub record IsPlan (publisher : Publisher) (x : Given) (planned : Plan) : Type 0 
   pub given : IsCommand x.command
   pub allowed : refusal_of x ≡ None
   pub whole : is_lacking x ≡ false
-  pub follows : FollowsReleases x
+  pub follows : FollowsReleases publisher x
   pub put : KeepsItsReleases x → IsPut publisher x planned
   pub reply : planned.reply ≡ reply_text (accepted_reply x)
 

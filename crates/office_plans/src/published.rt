@@ -2,6 +2,7 @@
 ghost use Rattle.std.specs.Prelude.{◌≡◌, ℕ, List, ◌+◌, ◌++◌, ◌-◌, ◌∷◌, [], None, Some, true, false, IfOk, IfErr, IfSome, IfNone, OnOk};
 ghost use Rattle.serde_json.specs.View.{view};
 ghost use Rattle.ocds_merge.specs.Stored.{IsStorable};
+ghost use Rattle.ocds_release.specs.Texts.{ocid_text};
 ghost use Rattle.office_base.specs.Transitions.{has_all_releases};
 ghost use Rattle.office_base.specs.Shelves.{Looks, LooksUp};
 ghost use Rattle.office_base.specs.Tables.{Tables, notice_at};
@@ -25,6 +26,7 @@ use crate::planned::Planned;
 use crate::release_numbers::has_releases_to;
 use ocds_release::event::Event;
 use ocds_release::laws::releases_can_be_kept;
+use ocds_release::ocid::ocid_of;
 use ocds_release::release_of::release_of_event;
 use office_base::counts::Sequence;
 use office_base::laws::looks_follow;
@@ -92,17 +94,18 @@ pub(crate) fn make_release<'a>(
 }
 
 // The release as it is stored, and the merge that it joins. Reads the numbers of the notice's releases and its merge, or all its releases if no merge is stored.
-// `Unavailable` if the releases aren't those before this one, or if the stored merge isn't an object as the office writes it. If no merge is stored, `Unavailable`
-// also if a release isn't such an object. So nothing is published over a release or after a gap.
+// `Unavailable` if the releases aren't those before this one, or if the stored merge isn't of this notice, as the office writes it. If no merge is stored,
+// `Unavailable` also if a release isn't. So nothing is published over a release or after a gap.
 fn keep<H: Lookups>(
     alloc: Global,
     shelf: &mut H,
+    publisher: &Publisher,
     released: Released,
 ) -> Result<Publication, Refusal>
     ensures kept { Looks H.meaning shelf.old shelf.new (λ s. IsStorable (view released.release) → KeepsReleasesOf released.notice s → IfOk result (IsKept s released)) }
     ensures follows { Looks H.meaning shelf.old shelf.new (λ s. OnOk result (has_last_release released.notice (released.seq - 1) s ≡ true)) }
     ensures next { Looks H.meaning shelf.old shelf.new (λ s. OnOk result (has_release released.notice (released.seq - 1 + 1) s ≡ false)) }
-    ensures goes_on { Looks H.meaning shelf.old shelf.new (λ s. OnOk result (HasMerge released.notice s)) }
+    ensures goes_on { Looks H.meaning shelf.old shelf.new (λ s. OnOk result (HasMerge (ocid_text publisher.now.prefix released.notice) released.notice s)) }
     ensures counted { Looks H.meaning shelf.old shelf.new (λ s. OnOk result (AreSoMany released.notice (released.seq - 1) s)) }
     ensures none { IfErr result (λ why. why ≡ Unavailable) }
 {
@@ -112,8 +115,10 @@ fn keep<H: Lookups>(
         return Err(Refusal::Unavailable);
     }
     let kept = load_kept(shelf, &released.notice)?;
+    let ocid = ocid_of(alloc, publisher, &released.notice)?;
     keep_release(
         alloc,
+        ocid.as_str(),
         released.notice,
         released.seq,
         released.moment,
@@ -139,20 +144,21 @@ fn with_publication(
 }
 
 /// The plan of an accepted command that publishes: its changes, the release, the merge that this joins, and the reply's text. `Unavailable` also if the
-/// notice's releases aren't those that it counts, or if its stored merge isn't an object as the office writes it. If no merge is stored, `Unavailable` also if a
-/// release isn't such an object. None of this can happen in a reached office.
+/// notice's releases aren't those that it counts, or if its stored merge isn't of this notice, as the office writes it. If no merge is stored, `Unavailable` also
+/// if a release isn't. None of this can happen in a reached office.
 pub(crate) fn published<H: Lookups>(
     alloc: Global,
     shelf: &mut H,
+    publisher: &Publisher,
     puts: Vec<Put>,
     text: Vec<u8>,
     released: Released,
 ) -> Result<Planned, Refusal>
-    ensures { Looks H.meaning shelf.old shelf.new (λ s. (publisher : PublisherOf) (x : Given) → x.before ≡ s → IsCommand x.command → refusal_of x ≡ None
-        → is_lacking x ≡ false → puts.items ≡ effect office_readings x → text.items ≡ reply_text (accepted_reply x) → IsReleased publisher x released
-        → IsPlanned publisher x result) }
+    ensures { Looks H.meaning shelf.old shelf.new (λ s. (x : Given) → x.before ≡ s → IsCommand x.command → refusal_of x ≡ None
+        → is_lacking x ≡ false → puts.items ≡ effect office_readings x → text.items ≡ reply_text (accepted_reply x) → IsReleased publisher.now x released
+        → IsPlanned publisher.now x result) }
 {
-    let publication = keep(alloc, shelf, released)?;
+    let publication = keep(alloc, shelf, publisher, released)?;
     with_publication(puts, text, publication)
 }
 

@@ -3,6 +3,7 @@ use Rattle.std.specs.Prelude.{◌≡◌, ℕ, ◌+◌, Bool, true, false, ◌||�
 use Rattle.serde_json.specs.Written.{compact_text}
 use Rattle.ocds_merge.specs.Merge.{merge_or_null}
 use Rattle.ocds_merge.specs.Stored.{KeepsMerge}
+use Rattle.ocds_release.specs.Texts.{ocid_text}
 use Rattle.ocds_release.specs.declared.event.Event.{Event}
 use Rattle.office_values.specs.declared.settings.Publisher.{Publisher}
 use Rattle.office_base.specs.declared.puts.Put.{Put}
@@ -58,16 +59,16 @@ abbrev pub has_release : List ℕ → ℕ → Tables → Bool
 has_release notice number t = is_some (release_at (notice, number) t)
 
 -- A new release can follow in this notice. Its releases have the numbers from 1 to its count, and no others, so the last one exists, and none has the next
--- number. Its merge, if stored, is an object as the office writes it. If no merge is stored, each release is one.
-pub record CanBeFollowed (notice : List ℕ) (t : Tables) : Type 0 where
+-- number. Its merge or, if none is stored, each release is of this notice, as this publisher's office writes it.
+pub record CanBeFollowed (publisher : Publisher) (notice : List ℕ) (t : Tables) : Type 0 where
   pub counted : AreSoMany notice (releases_in (notice_at notice t)) t
   pub last : has_last_release notice (releases_in (notice_at notice t)) t ≡ true
   pub next : has_release notice (releases_in (notice_at notice t) + 1) t ≡ false
-  pub merge : HasMerge notice t
+  pub merge : HasMerge (ocid_text publisher.prefix notice) notice t
 
 -- This is true of the notice for which the command publishes a release. A command that publishes nothing needs nothing.
-abbrev pub FollowsReleases : Given → Type 0
-FollowsReleases x = (notice : List ℕ) → published_for x.before x.command ≡ Some notice → CanBeFollowed notice x.before
+abbrev pub FollowsReleases : Publisher → Given → Type 0
+FollowsReleases publisher x = (notice : List ℕ) → published_for x.before x.command ≡ Some notice → CanBeFollowed publisher notice x.before
 
 -- The release and the merge that it joins can be read back. The definitions have numbers of any size, but a number of more than 64 bits in a text is read as a
 -- float. So this isn't true of every release, only of those that code made.

@@ -4,7 +4,7 @@ use Rattle.serde_json.specs.Data.{Data, null}
 use Rattle.serde_json.specs.Read.{read}
 use Rattle.serde_json.specs.Written.{compact_text, has_float}
 use Rattle.ocds_merge.specs.Compile.{body_of}
-use Rattle.ocds_merge.specs.Stored.{KeepsMerge, IsWrittenObject, IsStorable}
+use Rattle.ocds_merge.specs.Stored.{KeepsMerge, IsWrittenMerge, IsWrittenRelease, IsStorable}
 use Rattle.office_values.specs.Ids.{same_id}
 use Rattle.office_base.specs.Tables.{Tables, compiled_at, put_compiled, release_numbers, releases_of_notice}
 use Rattle.office_base.specs.declared.records.CompiledRow.{CompiledRow}
@@ -59,18 +59,19 @@ abbrev pub IsKeptOf : List ℕ → Tables → Kept → Type 0
 IsKeptOf notice t (Merge c) = compiled_at notice t ≡ Some c
 IsKeptOf notice t (Releases rows) = (compiled_at notice t ≡ None) × (rows ≡ releases_of_notice notice t)
 
--- Each of these releases is an object as the office writes it.
-abbrev pub AreObjects : List ReleaseRow → Type 0
-AreObjects rows = All (λ (r : ReleaseRow). IsWrittenObject r.text) rows
+-- Each of these rows has a release of the process with this `ocid`, as the office writes it.
+abbrev pub AreWritten : (ocid : List ℕ) → List ReleaseRow → Type 0
+AreWritten ocid rows = All (λ (r : ReleaseRow). IsWrittenRelease ocid r.text) rows
 
--- The loaded value can be continued: the merge is an object as the office writes it, or each of the releases is.
-abbrev pub CanGoOn : Kept → Type 0
-CanGoOn (Merge c) = IsWrittenObject c.text
-CanGoOn (Releases rows) = AreObjects rows
+-- The loaded value can be continued: the merge or, if none is stored, each release is of the process with this `ocid`, as the office writes it.
+abbrev pub CanGoOn : (ocid : List ℕ) → Kept → Type 0
+CanGoOn ocid (Merge c) = IsWrittenMerge ocid c.text
+CanGoOn ocid (Releases rows) = AreWritten ocid rows
 
--- The stored merge of this notice is an object as the office writes it or, if none is stored, each release is.
-abbrev pub HasMerge : List ℕ → Tables → Type 0
-HasMerge notice t = ((c : CompiledRow) → compiled_at notice t ≡ Some c → IsWrittenObject c.text) × (compiled_at notice t ≡ None → AreObjects (releases_of_notice notice t))
+-- The stored merge of this notice or, if none is stored, each of its releases is of the process with this `ocid`, as the office writes it.
+abbrev pub HasMerge : (ocid notice : List ℕ) → Tables → Type 0
+HasMerge ocid notice t =
+    ((c : CompiledRow) → compiled_at notice t ≡ Some c → IsWrittenMerge ocid c.text) × (compiled_at notice t ≡ None → AreWritten ocid (releases_of_notice notice t))
 
 -- The notice has a release of each number from 1 to this one, and no other.
 abbrev pub AreSoMany : List ℕ → ℕ → Tables → Type 0

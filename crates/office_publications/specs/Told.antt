@@ -2,7 +2,7 @@
 use Rattle.std.specs.Prelude.{◌≡◌, ◌≤◌, ◌<◌, ◌+◌, ℕ, List, Some, length, slice_get, All}
 use Rattle.ocds_merge.specs.Compile.{with_head}
 use Rattle.ocds_merge.specs.Merge.{merge_or_null}
-use Rattle.ocds_merge.specs.Stored.{IsWrittenObject}
+use Rattle.ocds_merge.specs.Stored.{IsWrittenRelease}
 use Rattle.ocds_release.specs.KeptReleases.{AreKept, HasText}
 use Rattle.ocds_release.specs.Opened.{moment_of_last}
 use Rattle.ocds_release.specs.Texts.{ocid_text}
@@ -47,16 +47,16 @@ pub record AreInSequence (notice : List ℕ) (s : Tables) : Type 0 where
 abbrev pub ReleasesAreInSequence : Type 0
 ReleasesAreInSequence = (publisher : Publisher) (s : Tables) → IsReached publisher s → (notice : List ℕ) → AreInSequence notice s
 
--- The release with this number exists, and its text is a JSON object as the office writes it.
-abbrev pub CanBeShown : List ℕ → ℕ → Tables → Type 0
-CanBeShown notice seq s = (r : ReleaseRow) × (release_at (notice, seq) s ≡ Some r) × IsWrittenObject r.text
+-- The row with this number exists, and has a release of the process with this `ocid`, as the office writes it.
+abbrev pub CanBeShown : (ocid notice : List ℕ) → ℕ → Tables → Type 0
+CanBeShown ocid notice seq s = (r : ReleaseRow) × (release_at (notice, seq) s ≡ Some r) × IsWrittenRelease ocid r.text
 
 -- This is true of each release of the notice up to this number.
-abbrev pub AreAllThere : List ℕ → ℕ → Tables → Type 0
-AreAllThere notice count s = (k : ℕ) → k < count → CanBeShown notice (k + 1) s
+abbrev pub AreAllThere : (ocid notice : List ℕ) → ℕ → Tables → Type 0
+AreAllThere ocid notice count s = (k : ℕ) → k < count → CanBeShown ocid notice (k + 1) s
 
--- The notice has the releases that its row counts, each as the office writes it, and no others. It is asked of any office, even of one to which no commands
--- lead.
-pub record HasReleases (notice : List ℕ) (s : Tables) : Type 0 where
-  pub there : AreAllThere notice (releases_in (notice_at notice s)) s
+-- The notice has the releases that its row counts, each as this publisher's office writes it, and no others. It is asked of any office, even of one to which no
+-- commands lead.
+pub record HasReleases (publisher : Publisher) (notice : List ℕ) (s : Tables) : Type 0 where
+  pub there : AreAllThere (ocid_text publisher.prefix notice) notice (releases_in (notice_at notice s)) s
   pub numbered : AreSoMany notice (releases_in (notice_at notice s)) s

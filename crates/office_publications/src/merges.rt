@@ -2,14 +2,16 @@
 ghost use Rattle.std.specs.Prelude.{◌≡◌, ℕ, ◌∷◌, [], ◌++◌, List, map, All, IfOk, OnOk, IfErr};
 ghost use Rattle.serde_json.specs.Data.{Data};
 ghost use Rattle.serde_json.specs.View.{view};
-ghost use Rattle.ocds_merge.specs.Stored.{KeepsMerge, IsWrittenObject, IsStorable};
+ghost use Rattle.ocds_merge.specs.Stored.{KeepsMerge, IsWrittenMerge, IsWrittenRelease, IsStorable};
 ghost use Rattle.ocds_merge.specs.Merge.{merge_or_null};
 ghost use Rattle.office_base.specs.Shelves.{LooksUp};
 ghost use Rattle.office_base.specs.Tables.{Tables};
 ghost use Rattle.office_values.specs.declared.refusal.Refusal.TheVariants.{Unavailable};
-ghost use Rattle.office_publications.specs.Merges.{bodies, body_in, AreObjects, CanGoOn, IsMergedOf, IsKeptOf, IsMerge};
+ghost use Rattle.office_publications.specs.Merges.{bodies, body_in, AreWritten, CanGoOn, IsMergedOf, IsKeptOf, IsMerge};
 
-use ocds_merge::{continue_text, merge_into, merge_to_text, object_from_text, without_head};
+use ocds_merge::{
+    continue_text, merge_into, merge_to_text, without_head, written_merge, written_release,
+};
 use office_base::json_text::JsonText;
 use office_base::records::{CompiledRow, ReleaseRow};
 use office_base::rows::Rows;
@@ -36,27 +38,28 @@ pub fn load_kept<H: Lookups>(shelf: &mut H, notice: &Id) -> Result<Kept, ShelfFa
     }
 }
 
-// A stored release without its head. `Unavailable` if memory is too small, or if the release isn't an object as the office writes it.
-fn body_of(alloc: Global, row: &ReleaseRow) -> Result<Value, Refusal>
+// A stored release without its head. `Unavailable` if memory is too small, or if the row has no release of the process with this `ocid`, as the office writes it.
+fn body_of(alloc: Global, ocid: &str, row: &ReleaseRow) -> Result<Value, Refusal>
     ensures body { IfOk result (λ body. view body ≡ body_in row.now) }
-    ensures object { OnOk result (IsWrittenObject row.now.text) }
+    ensures written { OnOk result (IsWrittenRelease ocid.now row.now.text) }
     ensures none { IfErr result (λ why. why ≡ Unavailable) }
 {
-    match object_from_text(alloc, row.text.as_str()) {
+    match written_release(alloc, ocid, row.text.as_str()) {
         Ok(release) => Ok(without_head(release)),
         Err(_) => Err(Refusal::Unavailable),
     }
 }
 
-// The merge of stored releases without their heads. `Unavailable` if memory is too small, or if a release isn't an object as the office writes it.
-fn merge_of(alloc: Global, rows: &[ReleaseRow]) -> Result<Value, Refusal>
+// The merge of stored releases without their heads. `Unavailable` if memory is too small, or if a row has no release of the process with this `ocid`, as the
+// office writes it.
+fn merge_of(alloc: Global, ocid: &str, rows: &[ReleaseRow]) -> Result<Value, Refusal>
     ensures merge { IfOk result (λ merge. view merge ≡ merge_or_null (map body_in rows.now)) }
-    ensures objects { OnOk result (AreObjects rows.now) }
+    ensures written { OnOk result (AreWritten ocid.now rows.now) }
     ensures none { IfErr result (λ why. why ≡ Unavailable) }
 {
     let mut merge = Value::Null;
     'rows: for row in rows {
-        let body = body_of(alloc, row)?;
+        let body = body_of(alloc, ocid, row)?;
         if merge_into(alloc, &mut merge, &body).is_err() {
             return Err(Refusal::Unavailable);
         }
@@ -64,14 +67,19 @@ fn merge_of(alloc: Global, rows: &[ReleaseRow]) -> Result<Value, Refusal>
     Ok(merge)
 }
 
-// The text of the merge of stored releases and one more body. `Unavailable` if memory is too small, or if a release isn't an object as the office writes it.
-fn merged_anew(alloc: Global, rows: &[ReleaseRow], body: &Value) -> Result<JsonText, Refusal>
+// The text of the merge of stored releases and one more body. `Unavailable` as in `merge_of`.
+fn merged_anew(
+    alloc: Global,
+    ocid: &str,
+    rows: &[ReleaseRow],
+    body: &Value,
+) -> Result<JsonText, Refusal>
     ensures keeps { IfOk result (λ text. All IsStorable (map body_in rows.now ++ (view body.now ∷ []))
         → KeepsMerge text (map body_in rows.now ++ (view body.now ∷ []))) }
-    ensures objects { OnOk result (AreObjects rows.now) }
+    ensures written { OnOk result (AreWritten ocid.now rows.now) }
     ensures none { IfErr result (λ why. why ≡ Unavailable) }
 {
-    let mut merge = merge_of(alloc, rows)?;
+    let mut merge = merge_of(alloc, ocid, rows)?;
     if merge_into(alloc, &mut merge, body).is_err() {
         return Err(Refusal::Unavailable);
     }
@@ -81,62 +89,68 @@ fn merged_anew(alloc: Global, rows: &[ReleaseRow], body: &Value) -> Result<JsonT
     }
 }
 
-// The text of a stored merge and one more body. `Unavailable` if memory is too small, or if the merge isn't an object as the office writes it. It isn't replaced
-// by a new one.
-fn carried_on(alloc: Global, kept: &CompiledRow, body: &Value) -> Result<JsonText, Refusal>
+// The text of a stored merge and one more body. `Unavailable` if memory is too small, or if the row has no merge of the process with this `ocid`, as the office
+// writes it. It isn't replaced by a new one.
+fn carried_on(
+    alloc: Global,
+    ocid: &str,
+    kept: &CompiledRow,
+    body: &Value,
+) -> Result<JsonText, Refusal>
     ensures keeps { IfOk result (λ text. (vs : List Data) → KeepsMerge kept.now.text vs → All IsStorable (vs ++ (view body.now ∷ []))
         → KeepsMerge text (vs ++ (view body.now ∷ []))) }
-    ensures object { OnOk result (IsWrittenObject kept.now.text) }
+    ensures written { OnOk result (IsWrittenMerge ocid.now kept.now.text) }
     ensures none { IfErr result (λ why. why ≡ Unavailable) }
 {
-    match continue_text(alloc, kept.text.as_str(), body) {
+    match continue_text(alloc, ocid, kept.text.as_str(), body) {
         Ok(text) => Ok(JsonText::from_string(text)),
         Err(_) => Err(Refusal::Unavailable),
     }
 }
 
-// The merge in a row. `Unavailable` if memory is too small, or if the merge isn't an object as the office writes it.
-fn merge_in(alloc: Global, kept: &CompiledRow) -> Result<Value, Refusal>
+// The merge in a row. `Unavailable` as in `carried_on`.
+fn merge_in(alloc: Global, ocid: &str, kept: &CompiledRow) -> Result<Value, Refusal>
     ensures merge { IfOk result (λ merge. (vs : List Data) → KeepsMerge kept.now.text vs → view merge ≡ merge_or_null vs) }
-    ensures object { OnOk result (IsWrittenObject kept.now.text) }
+    ensures written { OnOk result (IsWrittenMerge ocid.now kept.now.text) }
     ensures none { IfErr result (λ why. why ≡ Unavailable) }
 {
-    match object_from_text(alloc, kept.text.as_str()) {
+    match written_merge(alloc, ocid, kept.text.as_str()) {
         Ok(merge) => Ok(merge),
         Err(_) => Err(Refusal::Unavailable),
     }
 }
 
-/// The merge of a notice's releases without their heads. `Unavailable` if memory is too small, if the stored merge isn't an object as the office writes it or,
-/// if none is stored, if a release isn't one. No office that its commands made stores such a merge or release.
-pub fn merge_kept(alloc: Global, kept: &Kept) -> Result<Value, Refusal>
+/// The merge of a notice's releases without their heads. `Unavailable` if memory is too small, or if the stored merge isn't of the process with this `ocid`, as
+/// the office writes it. If no merge is stored, `Unavailable` also if a release isn't. No office that its commands made stores such a merge or release.
+pub fn merge_kept(alloc: Global, ocid: &str, kept: &Kept) -> Result<Value, Refusal>
     ensures merge { IfOk result (λ merge. (notice : List ℕ) (t : Tables) → IsKeptOf notice t kept.now → IsMergedOf notice t
         → view merge ≡ merge_or_null (bodies notice t)) }
-    ensures goes_on { OnOk result (CanGoOn kept.now) }
+    ensures goes_on { OnOk result (CanGoOn ocid.now kept.now) }
     ensures none { IfErr result (λ why. why ≡ Unavailable) }
 {
     match kept {
-        Kept::Merge(row) => merge_in(alloc, row),
-        Kept::Releases(rows) => merge_of(alloc, rows.as_slice()),
+        Kept::Merge(row) => merge_in(alloc, ocid, row),
+        Kept::Releases(rows) => merge_of(alloc, ocid, rows.as_slice()),
     }
 }
 
-/// The row of the merge of a notice's releases and one more, which is given without its head. `Unavailable` if memory is too small, if the stored merge isn't
-/// an object as the office writes it or, if none is stored, if a release isn't one. So nothing is published on top of a text that can't be continued.
+/// The row of the merge of a notice's releases and one more, which is given without its head. `Unavailable` as in `merge_kept`. So nothing is published on top
+/// of a text that can't be continued.
 pub fn merge_with(
     alloc: Global,
+    ocid: &str,
     kept: &Kept,
     notice: Id,
     body: &Value,
 ) -> Result<CompiledRow, Refusal>
     ensures merges { IfOk result (λ row. (t : Tables) → IsKeptOf notice t kept.now → IsMergedOf notice t → All IsStorable (bodies notice t ++ (view body.now ∷ []))
         → IsMerge notice (bodies notice t ++ (view body.now ∷ [])) row) }
-    ensures goes_on { OnOk result (CanGoOn kept.now) }
+    ensures goes_on { OnOk result (CanGoOn ocid.now kept.now) }
     ensures none { IfErr result (λ why. why ≡ Unavailable) }
 {
     let text = match kept {
-        Kept::Merge(row) => carried_on(alloc, row, body)?,
-        Kept::Releases(rows) => merged_anew(alloc, rows.as_slice(), body)?,
+        Kept::Merge(row) => carried_on(alloc, ocid, row, body)?,
+        Kept::Releases(rows) => merged_anew(alloc, ocid, rows.as_slice(), body)?,
     };
     Ok(CompiledRow { notice, text })
 }

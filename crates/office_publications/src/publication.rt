@@ -28,10 +28,11 @@ pub struct Publication {
 
 /// The row of a release, with its number, its moment and its compact text, and the row of the merge that it joins. A release can be stored if it has no floats
 /// and isn't nested more than 127 levels deep.
-/// If the merge is stored, time and memory grow with the release and the merge, and not with the number of releases. `Unavailable` if memory is too small, if
-/// the stored merge isn't an object as the office writes it or, if none is stored, if a release isn't one.
+/// If the merge is stored, time and memory grow with the release and the merge, and not with the number of releases. `Unavailable` if memory is too small, or if
+/// the stored merge isn't of the process with this `ocid`, as the office writes it. If no merge is stored, `Unavailable` also if a release isn't.
 pub fn keep_release(
     alloc: Global,
+    ocid: &str,
     notice: Id,
     seq: Sequence,
     t: Moment,
@@ -44,13 +45,13 @@ pub fn keep_release(
         → p.merge ≡ merged_row s p.release) }
     ensures read { IfOk result (λ p. IsStorable (view release) → (s : Tables) → IsKeptOf notice s kept.now → KeepsReleasesOf notice s
         → ReadsBack s p.release) }
-    ensures goes_on { OnOk result (CanGoOn kept.now) }
+    ensures goes_on { OnOk result (CanGoOn ocid.now kept.now) }
     ensures none { IfErr result (λ why. why ≡ Unavailable) }
 {
     merge_stays_storable();
     let text = JsonText::from_string(release.to_string(alloc)?);
     let body = without_head(release);
-    let merge = merge_with(alloc, kept, notice, &body)?;
+    let merge = merge_with(alloc, ocid, kept, notice, &body)?;
     Ok(Publication {
         release: ReleaseRow {
             notice,

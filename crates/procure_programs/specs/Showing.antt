@@ -25,7 +25,7 @@ use Rattle.procure_programs.specs.declared.showing.Printout.TheVariants.{Seen}
 
 -- The text is the one that the public sees by a query, and the facts that it shows hold.
 abbrev pub IsSeenWhole : Settings → Query → Tables → List ℕ → Type 0
-IsSeenWhole settings query s text = IsSeen settings.publisher Public query s (Ok text) × HasShown query s
+IsSeenWhole settings query s text = IsSeen settings.publisher Public query s (Ok text) × HasShown settings.publisher query s
 
 -- The result is the text that the public sees by a query, or the query's refusal. There is no other fault.
 abbrev pub IsShown : Settings → Query → Tables → Result (Vec ℕ Global) ProgramFault → Type 0

@@ -1,7 +1,8 @@
 //! Merges of releases, and compiled releases.
 use ocds_merge::{
-    StoredFault, compile, continue_text, is_written_object, merge_all, merge_from_text, merge_into,
-    merge_into_text, merge_to_text, object_from_text, with_compiled_head, without_head,
+    StoredFault, compile, continue_text, is_written_release, merge_all, merge_from_text,
+    merge_into, merge_into_text, merge_to_text, with_compiled_head, without_head, written_merge,
+    written_release,
 };
 use serde_json::Value;
 use std::alloc::Global;
@@ -311,30 +312,73 @@ fn takes_heads_off_and_puts_them_on(rt: HostRuntime) {
     assert!(rt; changes_head(rt.alloc(), release, r#"{"n":1}"#, compiled));
 }
 
-/// Whether a stored text is reported to be as the office writes it, and read as a merge that is stored as this text.
+/// Whether a text is read as a merge of the process `o`, and the merge is stored as this text.
 fn is_read_back(alloc: Global, kept: &str) -> bool {
-    match object_from_text(alloc, kept) {
-        Ok(merge) => {
-            matches!(is_written_object(alloc, kept), Ok(true)) && is_kept(alloc, &merge, kept)
-        }
+    match written_merge(alloc, "o", kept) {
+        Ok(merge) => is_kept(alloc, &merge, kept),
         Err(_) => false,
     }
 }
 
 #[test]
 fn reads_stored_merges(rt: HostRuntime) {
-    assert!(rt; is_read_back(rt.alloc(), r#"{"a":[{"id":"x"}]}"#));
-    assert!(rt; is_read_back(rt.alloc(), r#"{"a":-1,"b":"\u0001","c":"\n"}"#));
+    assert!(rt; is_read_back(rt.alloc(), r#"{"a":[{"id":"x"}],"ocid":"o"}"#));
+    assert!(rt; is_read_back(rt.alloc(), r#"{"a":-1,"b":"\u0001","c":"\n","ocid":"o"}"#));
 }
 
-/// Whether a text is reported not to be as the office writes it, and is neither read as such an object nor continued.
-fn is_unwritten(alloc: Global, text: &str, value: &Value) -> bool {
-    matches!(is_written_object(alloc, text), Ok(false))
-        && matches!(object_from_text(alloc, text), Err(StoredFault::Unreadable))
+/// Whether a text is reported to be a release of the process `o`, and read as one.
+fn is_release(alloc: Global, text: &str) -> bool {
+    matches!(is_written_release(alloc, "o", text), Ok(true))
+        && written_release(alloc, "o", text).is_ok()
+}
+
+// The second text has a sign and the third an escape in its date, so that a tree is made of each. Each is tried twice, because a test may refuse one allocation.
+#[test]
+fn knows_releases_as_the_office_writes_them(rt: HostRuntime) {
+    let alloc = rt.alloc();
+    for text in [
+        r#"{"date":"d","ocid":"o"}"#,
+        r#"{"a":-1,"date":"d","ocid":"o"}"#,
+        r#"{"date":"\n","ocid":"o"}"#,
+    ] {
+        assert!(rt; is_release(alloc, text) || is_release(alloc, text));
+    }
+}
+
+/// Whether a text is reported to be no release of the process `o`, and isn't read as one.
+fn is_no_release(alloc: Global, text: &str) -> bool {
+    matches!(is_written_release(alloc, "o", text), Ok(false))
         && matches!(
-            continue_text(alloc, text, value),
+            written_release(alloc, "o", text),
             Err(StoredFault::Unreadable)
         )
+}
+
+/// Whether a text is no release of the process `o`, and is neither read as a merge of it nor continued.
+fn is_unwritten(alloc: Global, text: &str, value: &Value) -> bool {
+    is_no_release(alloc, text)
+        && matches!(
+            written_merge(alloc, "o", text),
+            Err(StoredFault::Unreadable)
+        )
+        && matches!(
+            continue_text(alloc, "o", text, value),
+            Err(StoredFault::Unreadable)
+        )
+}
+
+// Tries twice, because a test may refuse one allocation.
+#[test]
+fn a_release_has_a_date(rt: HostRuntime) {
+    let alloc = rt.alloc();
+    for text in [
+        r#"{"ocid":"o"}"#,
+        r#"{"date":1,"ocid":"o"}"#,
+        r#"{"date":-1,"ocid":"o"}"#,
+        r#"{"date":["d"],"ocid":"o"}"#,
+    ] {
+        assert!(rt; is_no_release(alloc, text) || is_no_release(alloc, text));
+    }
 }
 
 // Tries twice, because a test may refuse one allocation.
@@ -354,8 +398,25 @@ fn tells_objects_from_other_values(rt: HostRuntime) -> Result<(), Fail> {
     Ok(())
 }
 
+/// Texts of another process or of none, each as the office would write it.
+const OF_OTHERS: [&str; 6] = [
+    r#"{"date":"d"}"#,
+    r#"{"date":"d","ocid":"oo"}"#,
+    r#"{"date":"d","ocid":""}"#,
+    r#"{"date":"d","ocid":1}"#,
+    r#"{"a":-1,"date":"d","ocid":"p"}"#,
+    r#"{"date":"d","tender":{"ocid":"o"}}"#,
+];
+
+#[test]
+fn tells_the_texts_of_other_processes(rt: HostRuntime) -> Result<(), Fail> {
+    let value = Value::from_str(rt.alloc(), r#"{"a":3}"#)?;
+    assert!(rt; are_unwritten(rt.alloc(), &OF_OTHERS, &value));
+    Ok(())
+}
+
 fn continues(alloc: Global, stored: &str, value: &Value, want: &str) -> bool {
-    match continue_text(alloc, stored, value) {
+    match continue_text(alloc, "o", stored, value) {
         Ok(text) => text.as_str() == want,
         Err(_) => false,
     }
@@ -367,8 +428,11 @@ fn continues_objects_as_the_office_writes_them(rt: HostRuntime) -> Result<(), Fa
     let alloc = rt.alloc();
     let value = Value::from_str(alloc, r#"{"a":3}"#)?;
     for (stored, want) in [
-        (r#"{"b":1}"#, r#"{"a":3,"b":1}"#),
-        (r#"{"a":2,"b":-1}"#, r#"{"a":3,"b":-1}"#),
+        (r#"{"b":1,"ocid":"o"}"#, r#"{"a":3,"b":1,"ocid":"o"}"#),
+        (
+            r#"{"a":2,"b":-1,"ocid":"o"}"#,
+            r#"{"a":3,"b":-1,"ocid":"o"}"#,
+        ),
     ] {
         assert!(rt;
             continues(alloc, stored, &value, want) || continues(alloc, stored, &value, want)
@@ -380,15 +444,30 @@ fn continues_objects_as_the_office_writes_them(rt: HostRuntime) -> Result<(), Fa
 /// Texts that store a merge in another form than the office's, each with its merge with one more value. Their names have no order, come twice, or have an
 /// escape; or they have spaces or a fraction.
 const OTHER_FORMS: [(&str, &str); 6] = [
-    (r#"{"b":1,"a":2}"#, r#"{"a":3,"b":1}"#),
     (
-        r#"{"c":{"e":1,"d":2},"a":2}"#,
-        r#"{"a":3,"c":{"d":2,"e":1}}"#,
+        r#"{"b":1,"a":2,"date":"d","ocid":"o"}"#,
+        r#"{"a":3,"b":1,"date":"d","ocid":"o"}"#,
     ),
-    (r#"{"a":2,"a":1}"#, r#"{"a":3}"#),
-    (r#"{"\u0061":2}"#, r#"{"a":3}"#),
-    (" { \"b\" : 1 }\n", r#"{"a":3,"b":1}"#),
-    (r#"{"b":0.5}"#, r#"{"a":3,"b":0.5}"#),
+    (
+        r#"{"c":{"e":1,"d":2},"a":2,"date":"d","ocid":"o"}"#,
+        r#"{"a":3,"c":{"d":2,"e":1},"date":"d","ocid":"o"}"#,
+    ),
+    (
+        r#"{"a":2,"a":1,"date":"d","ocid":"o"}"#,
+        r#"{"a":3,"date":"d","ocid":"o"}"#,
+    ),
+    (
+        r#"{"\u0061":2,"date":"d","ocid":"o"}"#,
+        r#"{"a":3,"date":"d","ocid":"o"}"#,
+    ),
+    (
+        " { \"b\" : 1, \"date\":\"d\",\"ocid\":\"o\" }\n",
+        r#"{"a":3,"b":1,"date":"d","ocid":"o"}"#,
+    ),
+    (
+        r#"{"b":0.5,"date":"d","ocid":"o"}"#,
+        r#"{"a":3,"b":0.5,"date":"d","ocid":"o"}"#,
+    ),
 ];
 
 // No text of another form is taken for one of the office's.

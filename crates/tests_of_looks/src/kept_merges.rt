@@ -1,5 +1,5 @@
-//! An office that stores no merge of a notice's releases. Its record is the same, and the next publication stores a merge. If a release isn't an object as the
-//! office writes it, nothing is published.
+//! An office that stores no merge of a notice's releases. Its record is the same, and the next publication stores a merge. If a release isn't of its notice,
+//! or isn't as the office writes it, nothing is published.
 use crate::copies::{LeftOut, copy_but};
 use crate::unreadable_texts::change_text;
 use crate::wrong_merges::NOT_GONE_ON;
@@ -121,9 +121,26 @@ fn releases_that_no_office_writes_are_not_merged(rt: HostRuntime) {
     let alloc = rt.alloc();
     assert!(rt; is_right_in_memory(alloc, "5"));
     assert!(rt; is_right_in_memory(alloc, "[]"));
-    assert!(rt; is_right_in_memory(alloc, r#"{"b":1,"a":1}"#));
+    assert!(rt;
+        is_right_in_memory(
+            alloc,
+            r#"{"ocid":"ocds-a1b2c3-N1","date":"2026-02-01T09:00:00Z"}"#
+        )
+    );
+    assert!(rt;
+        is_right_in_memory(
+            alloc,
+            r#"{"date":"2026-02-01T09:00:00Z","ocid":"ocds-a1b2c3-N2"}"#
+        )
+    );
+    assert!(rt; is_right_in_memory(alloc, r#"{"date":20260201,"ocid":"ocds-a1b2c3-N1"}"#));
     assert!(rt; is_right_in_sql(alloc, "5"));
-    assert!(rt; is_right_in_sql(alloc, r#"{"a":0.5}"#));
+    assert!(rt;
+        is_right_in_sql(
+            alloc,
+            r#"{"date":"2026-02-01T09:00:00Z","ocid":"ocds-a1b2c3-N2"}"#
+        )
+    );
 }
 
 #[test]

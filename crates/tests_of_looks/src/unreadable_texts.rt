@@ -1,4 +1,4 @@
-//! A stored release whose text isn't a JSON object as the office writes it is a fault of the store wherever it would be shown.
+//! A stored release that isn't of its notice, or isn't as the office writes it, is a fault of the store wherever it would be shown.
 use office_base::counts::Sequence;
 use office_base::json_text::JsonText;
 use office_base::puts::Put;
@@ -55,17 +55,21 @@ fn is_right(alloc: Global, text: &str) -> bool {
         || matches!(isnt_shown(alloc, MemoryShelf::new(alloc), text), Ok(true))
 }
 
-static UNWRITTEN: [&str; 10] = [
+// Texts that are no objects; objects that are written otherwise; then releases without a date, of another notice, and of none.
+static UNWRITTEN: [&str; 13] = [
     "",
     "1",
     "[]",
     "{\"a\":1",
     "{} {}",
     "{\"a\":1e999}",
-    "{\"b\":1,\"a\":1}",
-    "{\"a\":1,\"a\":1}",
-    "{\"a\": 1}",
-    "{\"a\":0.5}",
+    r#"{"ocid":"ocds-a1b2c3-N1","date":"2026-02-01T09:00:00Z"}"#,
+    r#"{"date":"","date":"2026-02-01T09:00:00Z","ocid":"ocds-a1b2c3-N1"}"#,
+    r#"{"date": "2026-02-01T09:00:00Z","ocid":"ocds-a1b2c3-N1"}"#,
+    r#"{"a":0.5,"date":"2026-02-01T09:00:00Z","ocid":"ocds-a1b2c3-N1"}"#,
+    r#"{"date":20260201,"ocid":"ocds-a1b2c3-N1"}"#,
+    r#"{"date":"2026-02-01T09:00:00Z","ocid":"ocds-a1b2c3-N2"}"#,
+    r#"{"date":"2026-02-01T09:00:00Z"}"#,
 ];
 
 fn are_right(alloc: Global, texts: &[&str]) -> bool {

@@ -1,5 +1,5 @@
-//! Merges that no office stores, put beside a notice's releases by another program. A merge that isn't an object as the office writes it is a fault of the store
-//! wherever it is needed.
+//! Merges that no office stores, put beside a notice's releases by another program. A merge that isn't of its notice, or isn't as the office writes it, is
+//! a fault of the store wherever it is needed.
 use office_base::json_text::JsonText;
 use office_base::puts::Put;
 use office_base::records::CompiledRow;
@@ -94,19 +94,22 @@ fn is_right_in_sql(alloc: Global, text: &str) -> bool {
     isnt_begun_anew_in_sql(alloc, text) || isnt_begun_anew_in_sql(alloc, text)
 }
 
-// Texts that are no objects; then objects with a name out of its order, a name twice, a blank, a float and an escape that isn't needed.
-static UNWRITTEN: [&str; 11] = [
+// Texts that are no objects; objects with a name out of its order, a name twice, a blank, a float and an escape that isn't needed; then merges of another notice
+// and of none.
+static UNWRITTEN: [&str; 13] = [
     "5",
     "[]",
     "null",
     " [{}]",
     r#""{}""#,
     "{",
-    r#"{"tender":{"id":"N1"},"a":1}"#,
-    r#"{"a":1,"a":1}"#,
-    r#"{ "a":1}"#,
-    r#"{"a":1.5}"#,
-    r#"{"a":"\u0061"}"#,
+    r#"{"tender":{"id":"N1"},"ocid":"ocds-a1b2c3-N1"}"#,
+    r#"{"ocid":"","ocid":"ocds-a1b2c3-N1"}"#,
+    r#"{ "ocid":"ocds-a1b2c3-N1"}"#,
+    r#"{"a":1.5,"ocid":"ocds-a1b2c3-N1"}"#,
+    r#"{"a":"\u0061","ocid":"ocds-a1b2c3-N1"}"#,
+    r#"{"ocid":"ocds-a1b2c3-N2"}"#,
+    r#"{"a":1}"#,
 ];
 
 fn are_right_in_memory(alloc: Global, texts: &[&str]) -> bool {
@@ -124,5 +127,5 @@ fn merges_that_no_office_writes_are_not_begun_anew(rt: HostRuntime) {
     assert!(rt; are_right_in_memory(alloc, &UNWRITTEN));
     assert!(rt; is_right_in_sql(alloc, "5"));
     assert!(rt; is_right_in_sql(alloc, "[]"));
-    assert!(rt; is_right_in_sql(alloc, r#"{"b":1,"a":1}"#));
+    assert!(rt; is_right_in_sql(alloc, r#"{"ocid":"ocds-a1b2c3-N2"}"#));
 }

@@ -5,7 +5,8 @@ ghost use Rattle.office_commands.specs.declared.command.QueryKind.TheVariants as
 ghost use Rattle.office_commands.specs.declared.queries.Query.TheVariants.{Ledger};
 ghost use Rattle.office_base.specs.Shelves.{Looks};
 ghost use Rattle.office_base.specs.Tables.{Tables};
-ghost use Rattle.office_desk.specs.Steps.{HasShown, IsShown, TellsQuery, read_text};
+ghost use Rattle.office_desk.specs.Balances.{LedgerAddsUp};
+ghost use Rattle.office_desk.specs.Steps.{IsShown, TellsQuery, read_text};
 
 use crate::balances::rows_add_up;
 use office_base::shelf::Lookups;
@@ -24,7 +25,7 @@ pub(crate) fn look<H: Lookups>(
     requires { may_look caller.now kinds.Ledger ≡ true }
     ensures looks { Looks H.meaning shelf.old shelf.new (λ s. IsShown caller.now Ledger s (read_text result)) }
     ensures tells { TellsQuery H.meaning shelf.old shelf.new caller.now Ledger result }
-    ensures shown { H.meaning.honest shelf.new → (s : Tables) → H.meaning.holds shelf.old s → OnOk result (HasShown Ledger s) }
+    ensures shown { H.meaning.honest shelf.new → (s : Tables) → H.meaning.holds shelf.old s → OnOk result (LedgerAddsUp s) }
 {
     let rows = shelf.ledger()?;
     if !rows_add_up(&rows) {

@@ -7,7 +7,8 @@ ghost use Rattle.office_base.specs.Shelves.{Looks};
 ghost use Rattle.office_base.specs.Tables.{Tables};
 ghost use Rattle.office_machine.specs.Replies.{LineSeen};
 ghost use Rattle.office_plans.specs.Replies.{reply_text};
-ghost use Rattle.office_desk.specs.Steps.{HasShown, IsShown, TellsQuery, read_text};
+ghost use Rattle.office_desk.specs.Balances.{LineAddsUp};
+ghost use Rattle.office_desk.specs.Steps.{IsShown, TellsQuery, read_text};
 
 use crate::balances::pots_add_up;
 use office_base::laws;
@@ -51,7 +52,7 @@ pub(crate) fn look<H: Lookups>(
     requires { may_look caller.now kinds.Line ≡ true }
     ensures looks { Looks H.meaning shelf.old shelf.new (λ s. IsShown caller.now (Line line) s (read_text result)) }
     ensures tells { TellsQuery H.meaning shelf.old shelf.new caller.now (Line line) result }
-    ensures shown { H.meaning.honest shelf.new → (s : Tables) → H.meaning.holds shelf.old s → OnOk result (HasShown (Line line) s) }
+    ensures shown { H.meaning.honest shelf.new → (s : Tables) → H.meaning.holds shelf.old s → OnOk result (LineAddsUp line s) }
 {
     laws::looks_follow::<H>();
     let Some(row) = shelf.get_line(&line)? else {

@@ -29,7 +29,7 @@ pub(crate) fn look_at_releases<H: Lookups>(
     requires { may_look caller.now kinds.Releases ≡ true }
     ensures looks { Looks H.meaning shelf.old shelf.new (λ s. IsSeen publisher.now caller.now (Releases notice) s (read_text result)) }
     ensures tells { TellsQuery H.meaning shelf.old shelf.new caller.now (Releases notice) result }
-    ensures shown { H.meaning.honest shelf.new → (s : Tables) → H.meaning.holds shelf.old s → OnOk result (HasShown (Releases notice) s) }
+    ensures shown { H.meaning.honest shelf.new → (s : Tables) → H.meaning.holds shelf.old s → OnOk result (HasShown publisher.now (Releases notice) s) }
 {
     laws::looks_follow::<H>();
     let Some(row) = shelf.get_notice(&notice)? else {
@@ -50,7 +50,7 @@ pub(crate) fn look_at_record<H: Lookups>(
     requires { may_look caller.now kinds.Record ≡ true }
     ensures looks { Looks H.meaning shelf.old shelf.new (λ s. IsSeen publisher.now caller.now (Record notice) s (read_text result)) }
     ensures tells { TellsQuery H.meaning shelf.old shelf.new caller.now (Record notice) result }
-    ensures shown { H.meaning.honest shelf.new → (s : Tables) → H.meaning.holds shelf.old s → OnOk result (HasShown (Record notice) s) }
+    ensures shown { H.meaning.honest shelf.new → (s : Tables) → H.meaning.holds shelf.old s → OnOk result (HasShown publisher.now (Record notice) s) }
 {
     laws::looks_follow::<H>();
     let Some(row) = shelf.get_notice(&notice)? else {

@@ -144,5 +144,5 @@ pub fn plan<H: Lookups>(
     let text = reply(alloc, asking, &rows, contract, kind, amount, release.seq)?;
     let places = places(alloc)?;
     let puts = puts(places, t, rows, entry, kind, amount, rationale)?;
-    published(alloc, shelf, puts, text, release)
+    published(alloc, shelf, publisher, puts, text, release)
 }

@@ -100,5 +100,5 @@ pub fn plan<H: Lookups>(
     )?;
     let text = notice_reply(alloc, asking, notice, release.seq, &rows.clock)?;
     let puts = puts(alloc, t, rows, deadline)?;
-    published(alloc, shelf, puts, text, release)
+    published(alloc, shelf, publisher, puts, text, release)
 }

@@ -251,5 +251,5 @@ pub fn plan<H: Lookups>(
     let release = release(alloc, shelf, publisher, asking, &rows, notice, lot, best)?;
     let text = reply(alloc, asking, &rows, lot, best, release.seq)?;
     let puts = puts(alloc, t, rows)?;
-    published(alloc, shelf, puts, text, release)
+    published(alloc, shelf, publisher, puts, text, release)
 }

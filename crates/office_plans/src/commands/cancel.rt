@@ -146,5 +146,5 @@ pub fn plan<H: Lookups>(
     let release = release(alloc, publisher, asking, &rows, notice, &rationale)?;
     let text = notice_reply(alloc, asking, notice, release.seq, &rows.clock)?;
     let puts = puts(alloc, t, rows)?;
-    published(alloc, shelf, puts, text, release)
+    published(alloc, shelf, publisher, puts, text, release)
 }

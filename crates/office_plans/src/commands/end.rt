@@ -120,5 +120,5 @@ pub fn plan<H: Lookups>(
     let text = reply(alloc, asking, &rows, contract, release.seq)?;
     let places = places(alloc)?;
     let puts = puts(places, t, rows, how)?;
-    published(alloc, shelf, puts, text, release)
+    published(alloc, shelf, publisher, puts, text, release)
 }

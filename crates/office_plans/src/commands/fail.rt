@@ -126,5 +126,5 @@ pub fn plan<H: Lookups>(
     let release = release(alloc, publisher, asking, &rows, row)?;
     let text = reply(alloc, asking, &rows, award, release.seq)?;
     let puts = puts(alloc, t, rows)?;
-    published(alloc, shelf, puts, text, release)
+    published(alloc, shelf, publisher, puts, text, release)
 }

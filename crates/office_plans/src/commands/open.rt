@@ -140,5 +140,5 @@ pub fn plan<H: Lookups>(
         release.seq,
     )?;
     let puts = puts(alloc, t, rows, tenders)?;
-    published(alloc, shelf, puts, text, release)
+    published(alloc, shelf, publisher, puts, text, release)
 }

@@ -129,5 +129,5 @@ pub fn plan<H: Lookups>(
     let text = reply(alloc, asking, &rows, contract, amount, release.seq)?;
     let places = places(alloc)?;
     let puts = puts(places, t, rows, entry, amount)?;
-    published(alloc, shelf, puts, text, release)
+    published(alloc, shelf, publisher, puts, text, release)
 }

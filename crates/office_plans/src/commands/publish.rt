@@ -121,5 +121,5 @@ pub fn plan<H: Lookups>(
     let release = release(alloc, publisher, asking, &rows, notice, &content)?;
     let text = notice_reply(alloc, asking, notice, release.seq, &rows.clock)?;
     let puts = puts(alloc, t, rows, notice, content)?;
-    published(alloc, shelf, puts, text, release)
+    published(alloc, shelf, publisher, puts, text, release)
 }

@@ -149,5 +149,5 @@ pub fn plan<H: Lookups>(
     let text = reply(alloc, asking, &rows, award, release.seq)?;
     let places = places(alloc, &rows)?;
     let puts = puts(places, t, rows, security)?;
-    published(alloc, shelf, puts, text, release)
+    published(alloc, shelf, publisher, puts, text, release)
 }

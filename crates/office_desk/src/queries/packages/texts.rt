@@ -1,6 +1,6 @@
 //! The texts of the packages of a notice's releases and of its record, made of the stored texts. One look-up lists the notice's releases. If they aren't those
-//! that the notice's row counts, or if one of them isn't as the office writes it, nothing is shown.
-ghost use Rattle.std.specs.Prelude.{◌≡◌, ◌∷◌, ◌++◌, [], true, IfOk, IfErr, OnOk, List, Some, map, string_bytes};
+//! that the notice's row counts, or if one of them isn't a release of this notice as the office writes it, nothing is shown.
+ghost use Rattle.std.specs.Prelude.{◌≡◌, ◌∷◌, [], true, All, IfOk, IfErr, OnOk, List, Some, map};
 ghost use Rattle.serde_json.specs.View.{view};
 ghost use Rattle.ocds_merge.specs.Compile.{with_head};
 ghost use Rattle.ocds_merge.specs.Merge.{merge_or_null};
@@ -12,7 +12,7 @@ ghost use Rattle.office_base.specs.Tables.{Tables, notice_at, releases_of_notice
 ghost use Rattle.office_base.specs.declared.records.ReleaseRow.{ReleaseRow as Row};
 ghost use Rattle.office_machine.specs.Counted.{releases_in};
 ghost use Rattle.office_machine.specs.Fates.{numbers};
-ghost use Rattle.office_publications.specs.Merges.{AreSoMany, HasMerge, bodies};
+ghost use Rattle.office_publications.specs.Merges.{AreSoMany, HasMerge, IsMergedOf, bodies};
 ghost use Rattle.office_publications.specs.Packages.{packages};
 ghost use Rattle.office_publications.specs.Standing.{IsReached};
 ghost use Rattle.office_publications.specs.Told.{AreAllThere, IsInRange};
@@ -20,7 +20,8 @@ ghost use Rattle.office_desk.specs.Extent.{IsExtentOf, IsWritten};
 ghost use Rattle.office_values.specs.Moments.{moment_text};
 ghost use Rattle.office_values.specs.declared.refusal.Refusal.TheVariants.{Unavailable};
 
-use ocds_merge::{is_written_object, with_compiled_head};
+use ocds_merge::{is_written_release, with_compiled_head};
+use ocds_release::ocid::ocid_of;
 use ocds_release::package_texts::{PackageText, open_record, open_releases};
 use office_base::counts::ReleaseCount;
 use office_base::laws::looks_follow;
@@ -33,7 +34,7 @@ use office_values::moment::Moment;
 use office_values::refusal::Refusal;
 use office_values::settings::Publisher;
 use serde_json::Value;
-use std::alloc::{AllocError, Global};
+use std::alloc::Global;
 
 /// The extent of a notice's releases: the bytes of their texts with a comma each, and the moment of the last release, if there is one.
 #[derive(Clone, Copy)]
@@ -55,14 +56,19 @@ fn with_release(extent: Extent, release: &ReleaseRow) -> Extent
     }
 }
 
-// The extent with one more release, if its text is a JSON object as the office writes it.
-fn with_written(alloc: Global, extent: Extent, release: &ReleaseRow) -> Result<Extent, Refusal>
+// The extent with one more release, if its text is a release of the process with this `ocid`, as the office writes it.
+fn with_written(
+    alloc: Global,
+    ocid: &str,
+    extent: Extent,
+    release: &ReleaseRow,
+) -> Result<Extent, Refusal>
     ensures last { IfOk result (λ with. with.last ≡ Some release.now.moment) }
     ensures range { OnOk result (IsInRange release.now) }
-    ensures written { OnOk result (IsWritten release.now) }
+    ensures written { OnOk result (IsWritten ocid.now release.now) }
     ensures none { IfErr result (λ why. why ≡ Unavailable) }
 {
-    match is_written_object(alloc, release.text.as_str()) {
+    match is_written_release(alloc, ocid, release.text.as_str()) {
         Ok(true) => Ok(with_release(extent, release)),
         Ok(false) | Err(_) => Err(Refusal::Unavailable),
     }
@@ -103,9 +109,10 @@ fn load_releases<H: Lookups>(
     }
 }
 
-// The extent of these releases, if each of their texts is a JSON object as the office writes it.
-fn measure(alloc: Global, rows: &[ReleaseRow]) -> Result<Extent, Refusal>
+// The extent of these releases, if each of their texts is a release of the process with this `ocid`, as the office writes it.
+fn measure(alloc: Global, ocid: &str, rows: &[ReleaseRow]) -> Result<Extent, Refusal>
     ensures is { IfOk result (λ extent. IsExtentOf extent rows.now) }
+    ensures written { OnOk result (All (IsWritten ocid.now) rows.now) }
     ensures none { IfErr result (λ why. why ≡ Unavailable) }
 {
     let mut extent = Extent {
@@ -113,7 +120,7 @@ fn measure(alloc: Global, rows: &[ReleaseRow]) -> Result<Extent, Refusal>
         last: None,
     };
     for row in rows {
-        extent = with_written(alloc, extent, row)?;
+        extent = with_written(alloc, ocid, extent, row)?;
     }
     Ok(extent)
 }
@@ -175,8 +182,8 @@ fn releases_package(
 }
 
 /// The package of a notice's releases, made of their stored texts. It builds no tree and writes no text again. `Unavailable` also if the notice has no release,
-/// or if its releases don't have the numbers from 1 to this count. `Unavailable` also if one of them isn't an object as the office writes it. None of this can
-/// happen in a reached office.
+/// or if its releases don't have the numbers from 1 to this count. `Unavailable` also if one of them isn't a release of this notice as the office writes it.
+/// None of this can happen in a reached office.
 pub(super) fn releases_text<H: Lookups>(
     alloc: Global,
     shelf: &mut H,
@@ -186,44 +193,25 @@ pub(super) fn releases_text<H: Lookups>(
 ) -> Result<Vec<u8>, Refusal>
     ensures looks { Looks H.meaning shelf.old shelf.new (λ s. IsReached publisher.now s → releases_in (notice_at notice.now s) ≡ count
         → IfOk result (λ text. text.items ≡ packages publisher.now (queries.Releases notice.now) s)) }
-    ensures there { Looks H.meaning shelf.old shelf.new (λ s. OnOk result (AreAllThere notice.now count s)) }
+    ensures there { Looks H.meaning shelf.old shelf.new (λ s. OnOk result (AreAllThere (ocid_text publisher.now.prefix notice.now) notice.now count s)) }
     ensures numbered { Looks H.meaning shelf.old shelf.new (λ s. OnOk result (AreSoMany notice.now count s)) }
     ensures none { IfErr result (λ why. why ≡ Unavailable) }
 {
     numbering();
+    let ocid = ocid_of(alloc, publisher, notice)?;
     let rows = load_releases(shelf, notice, count)?;
-    let extent = measure(alloc, &rows)?;
+    let extent = measure(alloc, ocid.as_str(), &rows)?;
     let opened = releases_package(alloc, publisher, notice, extent)?;
     whole_text(opened, &rows)
 }
 
-fn dashed(alloc: Global, first: &str, second: &str) -> Result<String, AllocError>
-    ensures { IfOk result (λ text. string_bytes text ≡ first.now ++ 45 ∷ second.now) }
-{
-    format!(in alloc; "{first}-{second}")
-}
-
-// The OCID of the notice.
-fn ocid_of(alloc: Global, publisher: &Publisher, notice: &Id) -> Result<String, AllocError>
-    ensures { IfOk result (λ text. string_bytes text ≡ ocid_text publisher.now.prefix notice.now) }
-{
-    dashed(alloc, publisher.prefix.as_str(), notice.as_str())
-}
-
 // The compiled release, made of the merge of the releases and the moment of the last one.
-fn compiled(
-    alloc: Global,
-    publisher: &Publisher,
-    notice: &Id,
-    last: Moment,
-    merge: Value,
-) -> Result<Value, Refusal>
-    ensures release { IfOk result (λ release. view release ≡ with_head (ocid_text publisher.now.prefix notice.now) (moment_text last) (view merge)) }
+fn compiled(alloc: Global, ocid: &str, last: Moment, merge: Value) -> Result<Value, Refusal>
+    ensures release { IfOk result (λ release. view release ≡ with_head ocid.now (moment_text last) (view merge)) }
     ensures none { IfErr result (λ why. why ≡ Unavailable) }
 {
-    let ocid = ocid_of(alloc, publisher, notice)?;
     let date = last.to_text();
-    match with_compiled_head(alloc, ocid.as_str(), date.as_str(), merge) {
+    match with_compiled_head(alloc, ocid, date.as_str(), merge) {
         Ok(release) => Ok(release),
         Err(_) => Err(Refusal::Unavailable),
     }
@@ -233,18 +221,18 @@ fn compiled(
 fn load_compiled<H: Lookups>(
     alloc: Global,
     shelf: &mut H,
-    publisher: &Publisher,
+    ocid: &str,
     notice: &Id,
     last: Moment,
 ) -> Result<Value, Refusal>
-    ensures looks { Looks H.meaning shelf.old shelf.new (λ s. IfOk result (λ release. IsReached publisher.now s
-        → view release ≡ with_head (ocid_text publisher.now.prefix notice.now) (moment_text last) (merge_or_null (bodies notice.now s)))) }
-    ensures merge { Looks H.meaning shelf.old shelf.new (λ s. OnOk result (HasMerge notice.now s)) }
+    ensures looks { Looks H.meaning shelf.old shelf.new (λ s. IfOk result (λ release. IsMergedOf notice.now s
+        → view release ≡ with_head ocid.now (moment_text last) (merge_or_null (bodies notice.now s)))) }
+    ensures merge { Looks H.meaning shelf.old shelf.new (λ s. OnOk result (HasMerge ocid.now notice.now s)) }
     ensures none { IfErr result (λ why. why ≡ Unavailable) }
 {
     let kept = load_kept(shelf, notice)?;
-    let merge = merge_kept(alloc, &kept)?;
-    compiled(alloc, publisher, notice, last, merge)
+    let merge = merge_kept(alloc, ocid, &kept)?;
+    compiled(alloc, ocid, last, merge)
 }
 
 // The beginning of the package of a notice's record, before the first of its releases, which have this extent. The compiled release is dropped after it is
@@ -253,19 +241,20 @@ fn record_package<H: Lookups>(
     alloc: Global,
     shelf: &mut H,
     publisher: &Publisher,
+    ocid: &str,
     notice: &Id,
     extent: Extent,
 ) -> Result<PackageText, Refusal>
-    ensures looks { Looks H.meaning shelf.old shelf.new (λ s. IfOk result (λ opened. IsReached publisher.now s → IsExtentOf extent (releases_of_notice notice.now s)
+    ensures looks { Looks H.meaning shelf.old shelf.new (λ s. IfOk result (λ opened. ocid.now ≡ ocid_text publisher.now.prefix notice.now → IsReached publisher.now s → IsExtentOf extent (releases_of_notice notice.now s)
         → completed opened (releases_of_notice notice.now s) ≡ packages publisher.now (queries.Record notice.now) s)) }
-    ensures merge { Looks H.meaning shelf.old shelf.new (λ s. OnOk result (HasMerge notice.now s)) }
+    ensures merge { Looks H.meaning shelf.old shelf.new (λ s. OnOk result (HasMerge ocid.now notice.now s)) }
     ensures none { IfErr result (λ why. why ≡ Unavailable) }
 {
     told();
     let Some(last) = extent.last else {
         return Err(Refusal::Unavailable);
     };
-    let release = load_compiled(alloc, shelf, publisher, notice, last)?;
+    let release = load_compiled(alloc, shelf, ocid, notice, last)?;
     match open_record(alloc, publisher, notice, last, &release, extent.bytes) {
         Ok(opened) => Ok(opened),
         Err(_) => Err(Refusal::Unavailable),
@@ -283,15 +272,16 @@ pub(super) fn record_text<H: Lookups>(
 ) -> Result<Vec<u8>, Refusal>
     ensures looks { Looks H.meaning shelf.old shelf.new (λ s. IsReached publisher.now s → releases_in (notice_at notice.now s) ≡ count
         → IfOk result (λ text. text.items ≡ packages publisher.now (queries.Record notice.now) s)) }
-    ensures there { Looks H.meaning shelf.old shelf.new (λ s. OnOk result (AreAllThere notice.now count s)) }
+    ensures there { Looks H.meaning shelf.old shelf.new (λ s. OnOk result (AreAllThere (ocid_text publisher.now.prefix notice.now) notice.now count s)) }
     ensures numbered { Looks H.meaning shelf.old shelf.new (λ s. OnOk result (AreSoMany notice.now count s)) }
-    ensures merge { Looks H.meaning shelf.old shelf.new (λ s. OnOk result (HasMerge notice.now s)) }
+    ensures merge { Looks H.meaning shelf.old shelf.new (λ s. OnOk result (HasMerge (ocid_text publisher.now.prefix notice.now) notice.now s)) }
     ensures none { IfErr result (λ why. why ≡ Unavailable) }
 {
     numbering();
     looks_follow::<H>();
+    let ocid = ocid_of(alloc, publisher, notice)?;
     let rows = load_releases(shelf, notice, count)?;
-    let extent = measure(alloc, &rows)?;
-    let opened = record_package(alloc, shelf, publisher, notice, extent)?;
+    let extent = measure(alloc, ocid.as_str(), &rows)?;
+    let opened = record_package(alloc, shelf, publisher, ocid.as_str(), notice, extent)?;
     whole_text(opened, &rows)
 }

@@ -1,10 +1,11 @@
-use Rattle.std.specs.Prelude.{◌≡◌, Result, Ok, Err, IfOk}
+use Rattle.std.specs.Prelude.{◌≡◌, ℕ, List, Result, Ok, Err, IfOk, OnOk}
+use Rattle.std.proofs.Common.{subst, ◌∙◌}
 use Rattle.serde_json.specs.View.{view}
 use Rattle.ocds_merge.specs.Stored.{IsStorable}
 use Rattle.office_values.specs.declared.refusal.Refusal.{Refusal}
 use Rattle.office_base.specs.Tables.{Tables}
 use Rattle.office_publications.specs.Keeping.{KeepsReleasesOf, ReadsBack, merged_row}
-use Rattle.office_publications.specs.Merges.{IsKeptOf}
+use Rattle.office_publications.specs.Merges.{HasMerge, IsKeptOf}
 use Rattle.office_publications.specs.declared.merges.Kept.{Kept}
 use Rattle.office_publications.specs.declared.publication.Publication.{Publication}
 use Rattle.office_plans.specs.Released.{IsKept, as_row}
@@ -40,5 +41,6 @@ returns-clause-goes_on g c =
       c.looks_follow.ensures _ _ _ counted.0 loaded.0,
       λ honest s held.
           let here = counted.0.same (loaded.0.before honest) s held in
-          has_merge_on c.args.released.notice s _ c.keep_release.result (loaded.1 honest s here) c.keep_release.ensures.goes_on,
+          subst (λ (o : List ℕ). OnOk c.keep_release.result (HasMerge o c.args.released.notice s)) (c.as_str.ensures.value ∙ c.in_ok-ocid.ensures)
+          (has_merge_on c.as_str.result.now c.args.released.notice s _ c.keep_release.result (loaded.1 honest s here) c.keep_release.ensures.goes_on),
     )

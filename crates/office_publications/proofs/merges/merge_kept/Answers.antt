@@ -1,9 +1,9 @@
 use Rattle.std.proofs.Common.{subst}
 use Rattle.std.specs.Prelude.{List, OnOk}
 use Rattle.office_base.specs.declared.records.ReleaseRow.{ReleaseRow}
-use Rattle.office_publications.specs.Merges.{AreObjects}
+use Rattle.office_publications.specs.Merges.{AreWritten}
 use Rattle.office_publications.proofs.merges.merge_kept.Goals as goal
 
 pub returns-in-Releases-clause-goes_on : goal.returns-in-Releases-clause-goes_on
 returns-in-Releases-clause-goes_on c =
-    rw c.in-Releases.is (subst (λ (rows : List ReleaseRow). OnOk c.merge_of.result (AreObjects rows)) c.as_slice.ensures c.merge_of.ensures.objects)
+    rw c.in-Releases.is (subst (λ (rows : List ReleaseRow). OnOk c.merge_of.result (AreWritten c.args.ocid.now rows)) c.as_slice.ensures c.merge_of.ensures.written)

@@ -4,9 +4,9 @@ use Rattle.std.specs.Result.{is_err}
 use Rattle.std.proofs.lemmas.List.{take_more, take_all, map-append}
 use Rattle.std.proofs.lemmas.List.Elements.{All-more}
 use Rattle.ocds_merge.specs.Merge.{merge_or_null}
-use Rattle.ocds_merge.specs.Stored.{IsWrittenObject}
+use Rattle.ocds_merge.specs.Stored.{IsWrittenRelease}
 use Rattle.office_base.specs.declared.records.ReleaseRow.{ReleaseRow}
-use Rattle.office_publications.specs.Merges.{AreObjects, body_in}
+use Rattle.office_publications.specs.Merges.{AreWritten, body_in}
 use Rattle.office_publications.proofs.merges.merge_of.Goals as goal
 
 -- a fact about a successful result
@@ -22,12 +22,13 @@ rows-preserved c =
     let more : take (at + 1) rows ≡ take at rows ++ (row ∷ []) = search (rules, take_more) in
     let mapped = ap (map body_in) more ∙ map-append body_in (take at rows) (row ∷ []) in
     let merged = of_ok c.merge_into.result _ (sym c.is_err.ensures.value ∙ c.if-is_err.false) c.merge_into.ensures.merges (map body_in (take at rows)) c.rows.invariant.0 in
-    let object : IsWrittenObject (slice_index_or rows at row).text = subst (λ (r : ReleaseRow). IsWrittenObject r.text) c.row-item.is c.in_ok-body.ensures.object in (
+    let ocid = c.args.ocid.now in
+    let written : IsWrittenRelease ocid (slice_index_or rows at row).text = subst (λ (r : ReleaseRow). IsWrittenRelease ocid r.text) c.row-item.is c.in_ok-body.ensures.written in (
       merged ∙ ap merge_or_null (ap (λ b. map body_in (take at rows) ++ (b ∷ [])) c.in_ok-body.ensures.body ∙ sym mapped),
-      All-more (λ (r : ReleaseRow). IsWrittenObject r.text) rows at row c.rows-test.true c.rows.invariant.1 object,
+      All-more (λ (r : ReleaseRow). IsWrittenRelease ocid r.text) rows at row c.rows-test.true c.rows.invariant.1 written,
     )
 
-pub returns-clause-objects : goal.returns-clause-objects
-returns-clause-objects c =
+pub returns-clause-written : goal.returns-clause-written
+returns-clause-written c =
     let all : take c.rows.row-index c.args.rows.now ≡ c.args.rows.now = take_all c.rows.row-index c.args.rows.now (omega arith) in
-    subst AreObjects all c.rows.invariant.1
+    subst (AreWritten c.args.ocid.now) all c.rows.invariant.1

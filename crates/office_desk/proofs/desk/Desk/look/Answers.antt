@@ -15,7 +15,7 @@ returns-clause-looks g c =
 pub returns-clause-shown : goal.returns-clause-shown
 returns-clause-shown g c =
     let family : DeskOf g.row.H.Denot → Type 0 = λ d. g.H.Lookups.meaning.honest c.look_at.new.shelf → (s : Tables) → g.H.Lookups.meaning.holds d.shelf s
-    → OnOk c.look_at.result (HasShown c.args.query s) in
+    → OnOk c.look_at.result (HasShown d.settings.publisher c.args.query s) in
     subst family c.self.view_is c.look_at.ensures.shown
 
 pub returns-clause-tells : goal.returns-clause-tells

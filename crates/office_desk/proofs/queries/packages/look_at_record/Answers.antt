@@ -8,5 +8,5 @@ returns-clause-shown g c honest s held =
     let before = shown.there.0.before honest in
     let found = c.in_ok-row.ensures.0 in
     let here = found.0.same before s held in
-    record_shown c.args.notice s c.in-Some.row c.record_text.result (sym c.in-Some.is ∙ found.1 before s held)
+    record_shown c.args.publisher.now c.args.notice s c.in-Some.row c.record_text.result (sym c.in-Some.is ∙ found.1 before s held)
     (shown.there.1 honest s here) (shown.numbered.1 honest s here) (shown.merge.1 honest s here)

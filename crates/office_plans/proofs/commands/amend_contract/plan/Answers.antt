@@ -35,7 +35,7 @@ returns-clause-looks g c =
     let puts = puts_on ruled _ _ moment (λ (rows : AmendContractRows) (t : ℕ). amend_contract_puts rows t a.entry a.kind a.amount a.rationale) _ c.in_ok-puts.ensures.puts s are refl in
     let row = sym c.as_ref.ensures.value ∙ ap option_copied c.unwrap-row.ensures in
     let made = c.in_ok-release.ensures.release s a.contract are row in
-    joined a.publisher.now (given_by a.asking.now s (AmendContract a.contract a.entry a.kind a.amount a.rationale)) refl tt allowed whole puts (c.in_ok-text.ensures.told s a.entry a.rationale are (numbered_contract made (contract_at a.contract s) refl) allowed) made)
+    joined (given_by a.asking.now s (AmendContract a.contract a.entry a.kind a.amount a.rationale)) refl tt allowed whole puts (c.in_ok-text.ensures.told s a.entry a.rationale are (numbered_contract made (contract_at a.contract s) refl) allowed) made)
 
 pub returns-in_err-rows-clause-tells : goal.returns-in_err-rows-clause-tells
 returns-in_err-rows-clause-tells g c =

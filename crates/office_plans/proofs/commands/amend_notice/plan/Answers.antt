@@ -31,7 +31,7 @@ returns-clause-looks g c =
     let allowed = refused_on ruled _ _ moment _ c.requires c.refusal.ensures s are ∙ c.in_default.is in
     let puts = puts_on ruled _ _ moment (λ (rows : AmendNoticeRows) (t : ℕ). amend_notice_puts rows t a.deadline) _ c.in_ok-puts.ensures.puts s are refl in
     let made = c.in_ok-release.ensures.release s are in
-    joined a.publisher.now (given_by a.asking.now s (AmendNotice a.notice a.deadline a.rationale)) refl tt allowed refl puts (c.in_ok-text.ensures s (numbered_notice made a.notice refl) (ap (λ (rows : AmendNoticeRows). rows.clock) are)) made)
+    joined (given_by a.asking.now s (AmendNotice a.notice a.deadline a.rationale)) refl tt allowed refl puts (c.in_ok-text.ensures s (numbered_notice made a.notice refl) (ap (λ (rows : AmendNoticeRows). rows.clock) are)) made)
 
 pub returns-in_err-rows-clause-tells : goal.returns-in_err-rows-clause-tells
 returns-in_err-rows-clause-tells g c =

@@ -47,7 +47,7 @@ returns-clause-looks g c =
     let whole : is_lacking (given_by a.asking.now s (Award a.notice a.lot)) ≡ false = λ i. there i || new i in
     let puts = puts_on ruled _ _ moment (λ (rows : AwardRows) (t : ℕ). award_puts rows t) _ c.in_ok-puts.ensures.puts s are (same_puts a.notice a.lot s (time_of (given_by a.asking.now s (Award a.notice a.lot)))) in
     let made = released are c.best_tender-best.ensures in
-    joined a.publisher.now (given_by a.asking.now s (Award a.notice a.lot)) refl tt allowed whole puts (c.in_ok-text.ensures s a.notice are c.best_tender-best.ensures (numbered_notice made a.notice refl)) made)
+    joined (given_by a.asking.now s (Award a.notice a.lot)) refl tt allowed whole puts (c.in_ok-text.ensures s a.notice are c.best_tender-best.ensures (numbered_notice made a.notice refl)) made)
 
 pub returns-in_err-rows-clause-tells : goal.returns-in_err-rows-clause-tells
 returns-in_err-rows-clause-tells g c =

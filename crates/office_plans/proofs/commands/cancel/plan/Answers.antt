@@ -48,7 +48,7 @@ returns-clause-looks g c =
     (sym (c.cancels_agree.ensures.puts (lines_named s (map line_of_lot (filter is_open_lot (lots_of_notice a.notice s)))) s.lines (cancel_rows s a.notice)
     (time_of (given_by a.asking.now s (Cancel a.notice a.rationale))) (lines_agree c.rows_are_kept.ensures s line_of_lot (filter is_open_lot (lots_of_notice a.notice s))))) in
     let made = c.in_ok-release.ensures.release s named in
-    joined a.publisher.now (given_by a.asking.now s (Cancel a.notice a.rationale)) refl tt allowed whole puts
+    joined (given_by a.asking.now s (Cancel a.notice a.rationale)) refl tt allowed whole puts
     (c.in_ok-text.ensures s (numbered_notice made a.notice refl) (ap (λ (rows : CancelRows). rows.clock) named)) made)
 
 pub returns-in_err-found-clause-tells : goal.returns-in_err-found-clause-tells

@@ -40,7 +40,7 @@ returns-clause-looks g c =
     (c.readings_are_put.ensures office_readings.read (open_rows s a.notice) time (sealed_tenders a.notice s)
     ∙ ap (λ (ts : List OpenedTender). opened_with s.clock time (notice_at a.notice s) ts) (sym (read.0 ∙ tenders_are a.notice s))) in
     let made = released are (c.as_slice.ensures ∙ read.0) in
-    joined a.publisher.now (given_by a.asking.now s (Open a.notice)) refl tt allowed read.1 puts (c.in_ok-text.ensures s are (c.as_slice-2.ensures ∙ read.0) (numbered_notice made a.notice refl)) made)
+    joined (given_by a.asking.now s (Open a.notice)) refl tt allowed read.1 puts (c.in_ok-text.ensures s are (c.as_slice-2.ensures ∙ read.0) (numbered_notice made a.notice refl)) made)
 
 pub returns-in_err-rows-clause-tells : goal.returns-in_err-rows-clause-tells
 returns-in_err-rows-clause-tells g c =

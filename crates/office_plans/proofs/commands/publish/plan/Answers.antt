@@ -53,4 +53,4 @@ returns g c =
     (sym (c.publishes_agree.ensures.puts (lines_named s (map line_of_new a.content.lots)) s.lines (publish_rows s a.notice)
     (time_of (given_by a.asking.now s (Publish a.notice a.content))) a.notice a.content (lines_agree c.rows_are_kept.ensures s line_of_new a.content.lots))) in
     let made = c.in_ok-release.ensures.release s are in
-    joined a.publisher.now (given_by a.asking.now s (Publish a.notice a.content)) refl c.as_slice.ensures.differ allowed (sym found ∙ c.if-found.false) puts (c.in_ok-text.ensures s (numbered_notice made a.notice refl) (ap (λ (rows : PublishRows). rows.clock) are)) made)
+    joined (given_by a.asking.now s (Publish a.notice a.content)) refl c.as_slice.ensures.differ allowed (sym found ∙ c.if-found.false) puts (c.in_ok-text.ensures s (numbered_notice made a.notice refl) (ap (λ (rows : PublishRows). rows.clock) are)) made)

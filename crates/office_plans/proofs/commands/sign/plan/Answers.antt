@@ -43,7 +43,7 @@ returns-clause-looks g c =
     let puts = puts_on ruled _ _ moment (λ (rows : SignRows) (t : ℕ). sign_puts rows t a.security) _ c.in_ok-puts.ensures.puts s are refl in
     let row = sym c.as_ref.ensures.value ∙ ap option_copied c.unwrap-row.ensures in
     let made = released a.award a.security are row in
-    joined a.publisher.now (given_by a.asking.now s (Sign a.award a.security)) refl tt allowed whole puts (c.in_ok-text.ensures s a.security are (numbered_award made (award_at a.award s) refl)) made)
+    joined (given_by a.asking.now s (Sign a.award a.security)) refl tt allowed whole puts (c.in_ok-text.ensures s a.security are (numbered_award made (award_at a.award s) refl)) made)
 
 pub returns-in_err-rows-clause-tells : goal.returns-in_err-rows-clause-tells
 returns-in_err-rows-clause-tells g c =

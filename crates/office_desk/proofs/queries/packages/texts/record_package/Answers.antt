@@ -8,7 +8,6 @@ use Rattle.ocds_merge.specs.Merge.{merge_or_null}
 use Rattle.ocds_release.specs.KeptReleases.{HasText}
 use Rattle.ocds_release.specs.Opened.{completed, moment_of_last}
 use Rattle.ocds_release.specs.Packages.{record_package}
-use Rattle.ocds_release.specs.Texts.{ocid_text}
 use Rattle.office_base.specs.Tables.{releases_of_notice}
 use Rattle.office_values.specs.Moments.{moment_text}
 use Rattle.office_publications.specs.Merges.{bodies}
@@ -20,7 +19,7 @@ use Rattle.office_desk.proofs.queries.packages.texts.record_package.Goals as goa
 pub returns-in-Ok-clause-looks : goal.returns-in-Ok-clause-looks
 returns-in-Ok-clause-looks g c = (
   c.load_compiled.ensures.looks.0,
-  λ honest s held stands extent.
+  λ honest s held own stands extent.
       let notice = c.args.notice.now in
       let publisher = c.args.publisher.now in
       let rows = releases_of_notice notice s in
@@ -28,8 +27,8 @@ returns-in-Ok-clause-looks g c = (
       let last = subst family c.in-Some.is extent.last in
       let told : IsCompiled publisher notice s = c.told.ensures.records publisher s stands notice last.0 extent.range in
       let release : view c.in_ok-release.release ≡ compiled_told publisher notice s =
-      c.in_ok-release.ensures.looks.1 honest s held stands
-      ∙ (λ i. with_head (ocid_text publisher.prefix notice) (moment_text (sym last.1 i)) (merge_or_null (bodies notice s)))
+      c.in_ok-release.ensures.looks.1 honest s held (stands.keeps.merged notice)
+      ∙ (λ i. with_head (own i) (moment_text (sym last.1 i)) (merge_or_null (bodies notice s)))
       ∙ sym told.is in
       filled (λ (ds : List Data). completed c.in-Ok.opened rows ≡ compact_text (record_package publisher notice ds (view c.in_ok-release.release))) rows
       (releases_told notice s) (c.told.ensures.releases publisher s stands notice) last.0

@@ -1,7 +1,7 @@
 use Rattle.std.proofs.Common.{◌≡◌, ◌∙◌, ℕ, List, ◌∷◌, ◌++◌, sym, subst, append-nil}
 use Rattle.std.specs.Prelude.{IfOk, string_bytes}
 use Rattle.ocds_release.specs.Texts.{ocid_text}
-use Rattle.office_desk.proofs.queries.packages.texts.ocid_of.Goals as goal
+use Rattle.ocds_release.proofs.ocid.ocid_of.Goals as goal
 
 pub returns : goal.returns
 returns c =
