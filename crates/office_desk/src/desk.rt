@@ -229,8 +229,8 @@ impl<H: Shelf + Drop> Desk<H> {
         self.commit(planned)
     }
 
-    /// Answers a query, which changes nothing. A package is shown only if each release that its notice's row counts exists and is as the office writes it, and a budget line
-    /// only if its balances add up. A refused query gets its refusal, or the store has counted another fault.
+    /// Answers a query, which changes nothing. A package is shown only if each release that its notice's row counts exists, as the office writes it. A budget line
+    /// is shown only if its balances add up. A refused query gets its refusal, or the store has counted another fault.
     pub fn look(&mut self, caller: &Caller, query: Query) -> Result<Vec<u8>, Refusal>
         ensures looks { Looks H.meaning self.old.shelf self.new.shelf (λ s. IsSeen self.old.settings.publisher caller.now query s (read_text result)) }
         ensures shown { H.meaning.honest self.new.shelf → (s : Tables) → H.meaning.holds self.old.shelf s → OnOk result (HasShown self.old.settings.publisher query s) }

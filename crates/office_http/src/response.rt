@@ -21,7 +21,7 @@ const PLAIN_TEXT: &str = "text/plain; charset=utf-8";
 // The capacity for the head of a response, in bytes.
 const HEAD_ROOM: usize = 192;
 
-// A body of at most so many bytes is copied behind its head. A longer one has its head put before it.
+// A body of at most so many bytes is copied to the end of its head. A longer one has its head put before it.
 const SHORT_BODY: usize = 4096;
 
 // The phrase of a status.
@@ -105,11 +105,11 @@ fn put_before(out: &mut Vec<u8>, front: &[u8]) -> Result<(), AllocError>
     Ok(())
 }
 
-// The head of a response with status 200, before a body of this length, with room for so many bytes behind it.
-fn ok_head(alloc: Global, media: &str, length: usize, room: usize) -> Result<Vec<u8>, AllocError>
+// The head of a response with status 200, before a body of this length, with the capacity for so many bytes more.
+fn ok_head(alloc: Global, media: &str, length: usize, more: usize) -> Result<Vec<u8>, AllocError>
     ensures { IfOk result (λ out. out.items ≡ head_start 200 media.now length ++ codes "\r\nConnection: close\r\n\r\n") }
 {
-    let mut out = Vec::with_capacity(alloc, HEAD_ROOM.saturating_add(room))?;
+    let mut out = Vec::with_capacity(alloc, HEAD_ROOM.saturating_add(more))?;
     put_head(&mut out, 200, media, length)?;
     out.extend_from_slice(b"\r\nConnection: close\r\n\r\n")?;
     Ok(out)

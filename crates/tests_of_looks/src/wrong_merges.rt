@@ -94,8 +94,8 @@ fn is_right_in_sql(alloc: Global, text: &str) -> bool {
     isnt_begun_anew_in_sql(alloc, text) || isnt_begun_anew_in_sql(alloc, text)
 }
 
-// Texts that are no objects; objects with a name out of its order, a name twice, a blank, a float and an escape that isn't needed; then merges of another notice
-// and of none.
+// Texts that are no objects; objects with a name out of its order, a name twice, a blank, a float and an escape that isn't needed. The last ones are merges of
+// another notice and of none.
 static UNWRITTEN: [&str; 13] = [
     "5",
     "[]",
