@@ -135,8 +135,8 @@ fn is_text_of(alloc: Global, value: &Value, text: &str) -> Result<bool, NoMemory
     Ok(written.as_str() == text)
 }
 
-/// The text of the merge after one more value. `Unreadable` if the stored text isn't a merge of the process with this `ocid`, as the office writes it. So nothing
-/// is merged with a text that another program wrote.
+/// The text of the merge after one more value. `Unreadable` if the stored text isn't a merge of the process with this `ocid`, as the office writes it.
+/// So nothing is merged with a text that another program wrote.
 pub fn continue_text(
     alloc: Global,
     ocid: &str,
