@@ -22,8 +22,7 @@ is_clerk_name name = pointwise nat_eq name (codes "clerk")
 -- No tenderer needs to be looked up: the name or the key is absent, or the name is `clerk` or isn't an identifier.
 abbrev pub names_no_tenderer : Option (List ℕ) → Option (List ℕ) → Bool
 names_no_tenderer (Some name) (Some key) = is_clerk_name name || not (is_id name)
-names_no_tenderer (Some name) None = true
-names_no_tenderer None key = true
+names_no_tenderer name key = true
 
 -- The clerk, if the key fits the digest in the settings.
 abbrev pub clerk_with_key : Settings → List ℕ → Result Caller Refusal
@@ -42,6 +41,5 @@ tenderer_named s name key = if is_id name then tenderer_with_key name key (tende
 -- `BadKey`.
 abbrev pub caller_of : Settings → Tables → Option (List ℕ) → Option (List ℕ) → Result Caller Refusal
 caller_of settings s None None = Ok Public
-caller_of settings s None (Some key) = Err BadKey
-caller_of settings s (Some name) None = Err BadKey
 caller_of settings s (Some name) (Some key) = if is_clerk_name name then clerk_with_key settings key else tenderer_named s name key
+caller_of settings s name key = Err BadKey

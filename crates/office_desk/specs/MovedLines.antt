@@ -19,7 +19,7 @@ use Rattle.office_desk.specs.Balances.{pots_add_up}
 abbrev pub line_adds_up : Tables → Option LineRow → Bool
 line_adds_up s line = option_map_or (λ (row : LineRow). pots_add_up (pots_of row s)) line true
 
--- Each line whose money the command moves adds up. It is named by a row of the budget file, or it is the line of a lot.
+-- Each line whose money the command moves adds up. It is a line of the budget file, of a lot that is published, or of a lot that the office has.
 abbrev pub moved_lines_add_up : Command → Tables → Bool
 moved_lines_add_up (commands.Import batch rows) s = list_all (λ (row : BudgetRow). line_adds_up s (line_at row.line s)) rows
 moved_lines_add_up (commands.Publish notice content) s = list_all (λ (lot : NewLot). line_adds_up s (line_at lot.line s)) content.lots

@@ -45,8 +45,8 @@ abbrev pub IsOfficeAfter : {S : Type 0} → Meaning S → Publisher → S → (T
 IsOfficeAfter M publisher old x u = (t : Tables) → M.holds old t → KeepsItsReleases (x t) → (refusal_of (x t) ≡ None) × (u ≡ next_with_merges publisher (x t))
 
 -- The effect of a command that was asked for. After Ok the command is done, if the notice for which it publishes keeps its releases. No row that it needs
--- was missing, and each line adds up whose money it moved. After a refusal nothing has changed. A stop leaves the tables without the command or with all of it. After a refusal it leaves only what it could leave before, and after
--- `Unavailable` perhaps the tables with the command.
+-- was missing, and each line adds up whose money it moved. After a refusal nothing has changed. A stop leaves the tables without the command or with all of
+-- it. After a refusal it leaves only what it could leave before, and after `Unavailable` perhaps the tables with the command.
 pub record Does {S T : Type 0} (M : Meaning S) (publisher : Publisher) (old new : S) (result : Result T Refusal) (x : Tables → Given) : Type 0 where
   pub before : M.honest new → M.honest old
   pub all : M.honest new → (t : Tables) → M.holds old t → KeepsItsReleases (x t) → OnOk result (M.holds new (next_with_merges publisher (x t)))
@@ -75,8 +75,8 @@ IsNotOverdrawn None entries = Unit {0}
 IsNotOverdrawn (Some c) entries = is_overdrawn entries c ≡ false
 
 -- The facts that an answer shows hold, even if no commands lead to this office. On a line, alone or in the ledger, the four balances add up to the
--- appropriation. For the releases, each release that the notice's row counts exists, and is a release of this notice as the office writes it. For the record, so is its merge. A contract
--- isn't overdrawn.
+-- appropriation. For the releases, each release that the notice's row counts exists, and is a release of this notice as the office writes it. For the record,
+-- its merge is too. A contract isn't overdrawn.
 abbrev pub HasShown : Publisher → Query → Tables → Type 0
 HasShown publisher (queries.Line line) s = LineAddsUp line s
 HasShown publisher queries.Ledger s = LedgerAddsUp s

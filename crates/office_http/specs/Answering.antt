@@ -4,6 +4,7 @@ use Rattle.office_commands.specs.declared.command.QueryKind.{QueryKind}
 use Rattle.office_commands.specs.declared.command.QueryKind.TheVariants as kinds
 use Rattle.office_values.specs.declared.refusal.Refusal.{Refusal}
 use Rattle.office_values.specs.declared.refusal.Refusal.TheVariants as refusals
+use Rattle.office_values.specs.declared.settings.Publisher.{Publisher}
 use Rattle.office_values.specs.declared.settings.Settings.{Settings}
 use Rattle.office_base.specs.Tables.{Tables}
 use Rattle.office_base.specs.Shelves.{Meaning}
@@ -60,15 +61,13 @@ reply_to_meant settings s moment (Sees caller query) = told_as (told (packages s
 
 -- The office after the answer.
 abbrev pub tables_after : Settings → Tables → ℕ → Meant → Tables
-tables_after settings s moment (Refuses why method) = s
 tables_after settings s moment (Gives by command) = office_kept (refusal_of (given s moment by command)) settings.publisher (given s moment by command)
-tables_after settings s moment (Sees caller query) = s
+tables_after settings s moment m = s
 
 -- The meaning is a command that isn't refused.
 abbrev pub is_accepted : Tables → ℕ → Meant → Bool
-is_accepted s moment (Refuses why method) = false
 is_accepted s moment (Gives caller command) = is_none (refusal_of (given s moment caller command))
-is_accepted s moment (Sees caller query) = false
+is_accepted s moment m = false
 
 -- The response if memory is too small or the store fails.
 abbrev pub unavailable_text : List ℕ
@@ -130,7 +129,7 @@ office_answers = record {
   refusal = fault_text;
 }
 
--- A desk holds this office: it has its settings, and its store holds its tables. The office is a reached one.
+-- A desk holds this office: the desk has the office's settings, and its store holds the office's tables. The office is a reached one.
 abbrev pub StandsAs : {S : Type 0} → Meaning S → DeskOf S → Held → Type 0
 StandsAs M desk h = ((desk.settings ≡ h.settings) × M.holds desk.shelf h.tables) × IsReached h.settings.publisher h.tables
 
@@ -144,9 +143,8 @@ IsAnswered M settings old new moment m text =
 
 -- A command is given, these tables have each row that it needs, and each line adds up whose money it moves.
 abbrev pub GivesWhole : Tables → Meant → Type 0
-GivesWhole s (Refuses why method) = ⊥
 GivesWhole s (Gives caller command) = ((rule_of command).lacks s ≡ false) × (moved_lines_add_up command s ≡ true)
-GivesWhole s (Sees caller query) = ⊥
+GivesWhole s m = ⊥
 
 -- The store still holds the tables that it held. Otherwise a command is given, with its rows and lines as `GivesWhole` says, and the answer is a 200 in JSON,
 -- like that to an accepted command. The new tables aren't said here.
@@ -160,15 +158,13 @@ is_done busy s moment m = is_accepted s moment m && not busy
 
 -- The condition for a right answer to a query: a package needs a reached office.
 abbrev pub NeedsMeant : Settings → Tables → Meant → Type 0
-NeedsMeant settings s (Refuses why method) = Unit {0}
-NeedsMeant settings s (Gives caller command) = Unit {0}
 NeedsMeant settings s (Sees caller query) = Needs settings.publisher query s
+NeedsMeant settings s m = Unit {0}
 
 -- If a command is given, the notice for which it publishes keeps its releases.
 abbrev pub KeepsMeant : Tables → ℕ → Meant → Type 0
-KeepsMeant s moment (Refuses why method) = Unit {0}
 KeepsMeant s moment (Gives caller command) = KeepsItsReleases (given s moment caller command)
-KeepsMeant s moment (Sees caller query) = Unit {0}
+KeepsMeant s moment m = Unit {0}
 
 -- This text is the answer, perhaps `Unavailable`, and only a command that is done changes the tables. They are then those that the specification defines, if the
 -- command's notice keeps its releases. This holds of any tables in the store that have what the query needs, even if no commands lead to them.
@@ -183,14 +179,14 @@ abbrev pub IsRefusedText : List ℕ → Type 0
 IsRefusedText text = (why : Refusal) × (method : Option Allow) × (text ≡ response_of (Refused why method))
 
 -- A refused request gets a refusal. A query gets one too, or all facts that its answer shows hold (`HasShown`).
-abbrev pub ShowsMeant : Settings → Meant → Tables → List ℕ → Type 0
-ShowsMeant settings (Refuses why method) s text = IsRefusedText text
-ShowsMeant settings (Gives caller command) s text = Unit {0}
-ShowsMeant settings (Sees caller query) s text = HasShown settings.publisher query s ⊎ IsRefusedText text
+abbrev pub ShowsMeant : Publisher → Meant → Tables → List ℕ → Type 0
+ShowsMeant publisher (Refuses why method) s text = IsRefusedText text
+ShowsMeant publisher (Gives caller command) s text = Unit {0}
+ShowsMeant publisher (Sees caller query) s text = HasShown publisher query s ⊎ IsRefusedText text
 
 -- This holds of any tables in the store.
 abbrev pub ShowsOnlyWhole : {S : Type 0} → Meaning S → Settings → S → S → (Tables → Meant) → List ℕ → Type 0
-ShowsOnlyWhole M settings old new m text = M.honest new → (s : Tables) → M.holds old s → ShowsMeant settings (m s) s text
+ShowsOnlyWhole M settings old new m text = M.honest new → (s : Tables) → M.holds old s → ShowsMeant settings.publisher (m s) s text
 
 -- The request at the beginning of the bytes was answered.
 pub record AnswersRequest {S : Type 0} (M : Meaning S) (settings : Settings) (old new : S) (moment : ℕ) (input text : List ℕ) : Type 0 where

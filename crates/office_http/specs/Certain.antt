@@ -35,15 +35,13 @@ refusal_meant s moment (Sees caller query) = option_map (λ (why : Refusal). (wh
 
 -- The decision needs no memory. Only an import and a publication need some, for the budget lines that they name.
 abbrev pub takes_none : Meant → Bool
-takes_none (Refuses why method) = true
 takes_none (Gives caller command) = not (gathers_lines command)
-takes_none (Sees caller query) = true
+takes_none m = true
 
 -- The meaning is found without memory. There is no such route, the caller isn't known or may not use it, or the command or query is read without memory.
 abbrev pub is_found : List ℕ → Result Route (Refusal × Option Allow) → Result Caller Refusal → Bool
-is_found body (Err why) asker = true
-is_found body (Ok route) (Err why) = true
 is_found body (Ok route) (Ok caller) = is_read_at_once route.endpoint body || not (may_ask caller route.endpoint)
+is_found body route caller = true
 
 -- If meaning and decision need no memory, a refused request gets its refusal, or the store has counted another fault.
 abbrev pub TellsCertain : {S : Type 0} → Meaning S → Settings → S → S → ℕ → RequestView → List ℕ → Type 0

@@ -18,9 +18,8 @@ use Rattle.office_http.specs.Answering.{Held, answer_bytes, fault_text, meant_in
 
 -- The accepted commands after the meaning of a request, the last one first. A refusal and a query add nothing.
 abbrev pub joined_meant : Tables → ℕ → Meant → List Given → List Given
-joined_meant s moment (Refuses why method) xs = xs
 joined_meant s moment (Gives caller command) xs = accepted_by (refusal_of (given s moment caller command)) (given s moment caller command) xs
-joined_meant s moment (Sees caller query) xs = xs
+joined_meant s moment m xs = xs
 
 -- An answer of `Unavailable` adds nothing either.
 abbrev pub joined_with : Bool → Tables → ℕ → Meant → List Given → List Given

@@ -14,7 +14,7 @@ use Rattle.office_wire.specs.Sending.{AppendsPart}
 use Rattle.tender_papers.specs.Listing.{listing_text}
 use Rattle.procure_config.specs.Configuration.{settings_in}
 use Rattle.procure_config.specs.Faults.{no_memory, no_route, of_settings}
-use Rattle.procure_config.specs.Jobs.{Asked, Desk, Evaluation, Ledger, Minutes, Notices, ReadBudget, ReadTender, Record, Serve}
+use Rattle.procure_config.specs.Jobs.{Asked, Evaluation, Ledger, Minutes, Notices, Record}
 use Rattle.procure_config.specs.declared.fault.ProgramFault.{ProgramFault}
 use Rattle.procure_config.specs.declared.fault.ProgramFault.TheVariants as fault
 use Rattle.procure_config.specs.declared.fault.ProgramFault.TheVariants.{Refused}
@@ -66,15 +66,12 @@ AsksOfNotice query notice (Err told) = (¬ (IsId notice)) × (told ≡ no_route)
 
 -- The printout that the words ask for, or none if they ask for something else.
 abbrev pub AsksPrintout : Asked → Result (Option Printout) ProgramFault → Type 0
-AsksPrintout (Desk config) result = result ≡ Ok None
-AsksPrintout (Serve config store port count) result = result ≡ Ok None
 AsksPrintout (Ledger config store) result = result ≡ Ok (Some (Seen queries.Ledger))
 AsksPrintout (Minutes config store notice) result = AsksOfNotice queries.Minutes notice result
 AsksPrintout (Record config store notice) result = AsksOfNotice queries.Record notice result
 AsksPrintout (Notices config store) result = result ≡ Ok (Some printouts.Notices)
 AsksPrintout (Evaluation config store notice) result = AsksOfNotice queries.Evaluation notice result
-AsksPrintout (ReadTender items file) result = result ≡ Ok None
-AsksPrintout (ReadBudget file) result = result ≡ Ok None
+AsksPrintout asked result = result ≡ Ok None
 
 -- A fault of the settings: memory is too small, a member is faulty, or the settings can't be read.
 abbrev pub IsOfSettings : ProgramFault → Type 0
