@@ -56,7 +56,7 @@ put_over_at true q k d a b e later =
 put_over_at false q k d a b e later =
     get_member-put_other q k d a (apart q k e) ∙ later (apart q k e) ∙ sym (get_member-put_other q k d b (apart q k e))
 
-put_over : (q k : List ℕ) (d : Data) (a b : Members) → ((q ≡ k → ⊥) → get_member q a ≡ get_member q b) → get_member q (put k d a) ≡ get_member q (put k d b)
+pub put_over : (q k : List ℕ) (d : Data) (a b : Members) → ((q ≡ k → ⊥) → get_member q a ≡ get_member q b) → get_member q (put k d a) ≡ get_member q (put k d b)
 put_over q k d a b later = put_over_at _ q k d a b refl later
 
 sorted_head : (ocid date : List ℕ) (ms : Members) → IsSorted ms → IsSorted (put_head ocid date ms)

@@ -26,3 +26,4 @@ pub mod ReadKept
 pub mod ReadWritten
 pub mod PassLaw
 pub mod TextLaw
+pub mod HeadStep

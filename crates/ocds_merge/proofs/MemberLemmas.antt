@@ -68,7 +68,7 @@ same_members a b g h is =
 
 -- ---- the first member, and the others
 
-both : (a b : Bool) → T a → T b → T (a && b)
+pub both : (a b : Bool) → T a → T b → T (a && b)
 both true b p q = q
 both false b p q = p
 

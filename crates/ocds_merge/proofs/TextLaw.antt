@@ -32,7 +32,7 @@ onto (string s) v = refl
 onto (array ds) v = refl
 onto (object ms) v = refl
 
-one_more : (vs : List Data) (v : Data) → TextIsKept v → unwrap_or (step (Some (merge_or_null vs)) v) null ≡ merge_or_null (vs ++ v ∷ [])
+pub one_more : (vs : List Data) (v : Data) → TextIsKept v → unwrap_or (step (Some (merge_or_null vs)) v) null ≡ merge_or_null (vs ++ v ∷ [])
 one_more vs v kept =
     ap (λ (o : Option Data). unwrap_or o null)
     (onto (merge_or_null vs) v ∙ ap (λ (o : Option Data). step o v) (merged_not_null vs) ∙ sym (merged_law vs v (kept_proper v kept)))

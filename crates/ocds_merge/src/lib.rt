@@ -4,6 +4,7 @@
 //! `specs/Compile.antt` state it; values hold no floats.
 #![tactic(auto)]
 
+mod compiled;
 mod compiling;
 mod examples;
 mod head;
@@ -25,6 +26,7 @@ mod unspliced;
 mod writes;
 mod written;
 
+pub use compiled::compiled_text;
 pub use compiling::compile;
 pub use examples::{worked_columns, worked_compilations, worked_merges};
 pub use head::{with_compiled_head, without_head};
