@@ -221,13 +221,13 @@ fn push_record(
     text: &mut Vec<u8>,
     publisher: &Publisher,
     notice: Id,
-    compiled: &Value,
+    compiled: &[u8],
 ) -> Result<(), AllocError>
-    ensures { OnOk result ((items rest : List ℕ) (d : Data) → compact_text d ≡ 91 ∷ items → has_float (view compiled.now) ≡ false
-        → text.new.items ++ (items ++ 125 ∷ rest) ≡ text.old.items ++ (compact_text (ordered_record publisher.now notice (view compiled.now) d) ++ rest)) }
+    ensures { OnOk result ((items rest : List ℕ) (d release : Data) → compact_text d ≡ 91 ∷ items → compiled.now ≡ compact_text release
+        → text.new.items ++ (items ++ 125 ∷ rest) ≡ text.old.items ++ (compact_text (ordered_record publisher.now notice release d) ++ rest)) }
 {
     text.push(b'{')?;
-    push_value(alloc, text, false, "compiledRelease", compiled)?;
+    push_member(alloc, text, false, "compiledRelease", compiled)?;
     push_part(
         alloc,
         text,
@@ -288,11 +288,11 @@ fn opened_record(
     publisher: &Publisher,
     notice: Id,
     published: Moment,
-    compiled: &Value,
+    compiled: &[u8],
     room: usize,
 ) -> Result<PackageText, AllocError>
-    ensures { IfOk result (λ pack. (rows : List Kept) (d : Data) (ds : List Data) → AreKept rows (d ∷ ds) → moment_of_last rows ≡ published → HasText (view compiled.now)
-        → completed pack rows ≡ compact_text (record_in publisher.now notice (d ∷ ds) (view compiled.now))) }
+    ensures { IfOk result (λ pack. (rows : List Kept) (d : Data) (ds : List Data) (release : Data) → AreKept rows (d ∷ ds) → moment_of_last rows ≡ published
+        → HasText release → compiled.now ≡ compact_text release → completed pack rows ≡ compact_text (record_in publisher.now notice (d ∷ ds) release)) }
 {
     let mut before = before_list(alloc, publisher, published, "records")?;
     push_record(alloc, &mut before, publisher, notice, compiled)?;
@@ -301,18 +301,19 @@ fn opened_record(
     Ok(package)
 }
 
-/// Opens the text of the record package of a notice, with its compiled release. The caller then adds the stored releases in sequence, at least one, as in
-/// `open_releases`.
+/// Opens the text of the record package of a notice, with the text of its compiled release. The caller then adds the stored releases in sequence, at least one,
+/// as in `open_releases`.
 pub fn open_record(
     alloc: Global,
     publisher: &Publisher,
     notice: &Id,
     published: Moment,
-    compiled: &Value,
+    compiled: &str,
     room: usize,
 ) -> Result<PackageText, NoMemory>
-    ensures { IfOk result (λ pack. (rows : List Kept) (d : Data) (ds : List Data) → AreKept rows (d ∷ ds) → moment_of_last rows ≡ published → HasText (view compiled.now)
-        → completed pack rows ≡ compact_text (record_in publisher.now notice.now (d ∷ ds) (view compiled.now))) }
+    ensures { IfOk result (λ pack. (rows : List Kept) (d : Data) (ds : List Data) (release : Data) → AreKept rows (d ∷ ds) → moment_of_last rows ≡ published
+        → HasText release → compiled.now ≡ compact_text release → completed pack rows ≡ compact_text (record_in publisher.now notice.now (d ∷ ds) release)) }
 {
+    let compiled = compiled.as_bytes();
     Ok(opened_record(alloc, publisher, *notice, published, compiled, room)?)
 }

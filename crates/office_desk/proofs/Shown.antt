@@ -1,9 +1,6 @@
 -- The rows that the package of a notice's record shows exist.
-use Rattle.std.specs.Prelude.{◌≡◌, ℕ, List, Option, Some, Result, Ok, Err, IfOk, OnOk}
-use Rattle.std.proofs.Common.{ap, ◌∙◌, subst}
-use Rattle.serde_json.specs.Data.{Data}
-use Rattle.serde_json.specs.View.{view}
-use Rattle.serde_json.specs.declared.value.Value.{Value}
+use Rattle.std.specs.Prelude.{◌≡◌, ℕ, List, Option, Some, Result, Ok, Err, OnOk}
+use Rattle.std.proofs.Common.{subst}
 use Rattle.ocds_release.specs.Texts.{ocid_text}
 use Rattle.office_values.specs.declared.settings.Publisher.{Publisher}
 use Rattle.office_base.specs.declared.records.NoticeRow.{NoticeRow}
@@ -11,12 +8,6 @@ use Rattle.office_base.specs.Tables.{Tables, notice_at}
 use Rattle.office_machine.specs.Counted.{releases_in}
 use Rattle.office_publications.specs.Merges.{AreSoMany, HasMerge}
 use Rattle.office_publications.specs.Told.{AreAllThere, HasReleases}
-
--- A release that is made of a merge is made of the merge that it equals.
-pub made_of : {E : Type 0} (result : Result Value E) (Stands : Type 0) (make : Data → Data) (merge told : Data) → IfOk result (λ release. view release ≡ make merge)
-    → (Stands → merge ≡ told) → IfOk result (λ release. Stands → view release ≡ make told)
-made_of (Ok release) Stands make merge told is same = λ stands. is ∙ ap make (same stands)
-made_of (Err why) Stands make merge told is same = tt
 
 -- What holds anyway holds of a result.
 pub on_ok_any : {T E : Type 0} (result : Result T E) (P : Type 0) → P → OnOk result P

@@ -1,7 +1,9 @@
 //! The merge of a notice's releases, as it is stored and continued.
-ghost use Rattle.std.specs.Prelude.{◌≡◌, ℕ, ◌∷◌, [], ◌++◌, List, map, All, IfOk, OnOk, IfErr};
+ghost use Rattle.std.specs.Prelude.{◌≡◌, ℕ, ◌∷◌, [], ◌++◌, List, map, All, IfOk, OnOk, IfErr, string_bytes};
 ghost use Rattle.serde_json.specs.Data.{Data};
 ghost use Rattle.serde_json.specs.View.{view};
+ghost use Rattle.serde_json.specs.Written.{compact_text};
+ghost use Rattle.ocds_merge.specs.Compile.{with_head};
 ghost use Rattle.ocds_merge.specs.Stored.{KeepsMerge, IsWrittenMerge, IsWrittenRelease, IsStorable};
 ghost use Rattle.ocds_merge.specs.Merge.{merge_or_null};
 ghost use Rattle.office_base.specs.Shelves.{LooksUp};
@@ -10,7 +12,7 @@ ghost use Rattle.office_values.specs.declared.refusal.Refusal.TheVariants.{Unava
 ghost use Rattle.office_publications.specs.Merges.{bodies, body_in, AreWritten, CanGoOn, IsMergedOf, IsKeptOf, IsMerge};
 
 use ocds_merge::{
-    continue_text, merge_into, merge_to_text, without_head, written_merge, written_release,
+    compiled_text, continue_text, merge_into, merge_to_text, without_head, written_release,
 };
 use office_base::json_text::JsonText;
 use office_base::records::{CompiledRow, ReleaseRow};
@@ -108,33 +110,63 @@ fn carried_on(
     }
 }
 
-// The merge in a row. `Unavailable` as in `carried_on`.
-fn merge_in(alloc: Global, ocid: &str, kept: &CompiledRow) -> Result<Value, Refusal>
-    ensures merge { IfOk result (λ merge. (vs : List Data) → KeepsMerge kept.now.text vs → view merge ≡ merge_or_null vs) }
-    ensures written { OnOk result (IsWrittenMerge ocid.now kept.now.text) }
+// The text of the compiled release with this date, made of the text of its merge. `Unavailable` as in `carried_on`.
+fn compiled_in(alloc: Global, ocid: &str, date: &str, merge: &str) -> Result<String, Refusal>
+    ensures text { IfOk result (λ text. (vs : List Data) → KeepsMerge merge.now vs → All IsStorable vs
+        → string_bytes text ≡ compact_text (with_head ocid.now date.now (merge_or_null vs))) }
+    ensures written { OnOk result (IsWrittenMerge ocid.now merge.now) }
     ensures none { IfErr result (λ why. why ≡ Unavailable) }
 {
-    match written_merge(alloc, ocid, kept.text.as_str()) {
-        Ok(merge) => Ok(merge),
+    match compiled_text(alloc, ocid, date, merge) {
+        Ok(text) => Ok(text),
         Err(_) => Err(Refusal::Unavailable),
     }
 }
 
-/// The merge of a notice's releases without their heads. `Unavailable` if memory is too small, or if the stored merge isn't of the process with this `ocid`, as
+// The text of the merge of stored releases without their heads. `Unavailable` as in `merge_of`.
+fn merge_text_of(alloc: Global, ocid: &str, rows: &[ReleaseRow]) -> Result<String, Refusal>
+    ensures keeps { IfOk result (λ text. All IsStorable (map body_in rows.now) → KeepsMerge (string_bytes text) (map body_in rows.now)) }
+    ensures written { OnOk result (AreWritten ocid.now rows.now) }
+    ensures none { IfErr result (λ why. why ≡ Unavailable) }
+{
+    let merge = merge_of(alloc, ocid, rows)?;
+    match merge_to_text(alloc, &merge) {
+        Ok(text) => Ok(text),
+        Err(_) => Err(Refusal::Unavailable),
+    }
+}
+
+// The text of the compiled release with this date, made of all stored releases. `Unavailable` as in `merge_of`.
+fn compiled_anew(
+    alloc: Global,
+    ocid: &str,
+    date: &str,
+    rows: &[ReleaseRow],
+) -> Result<String, Refusal>
+    ensures text { IfOk result (λ text. All IsStorable (map body_in rows.now)
+        → string_bytes text ≡ compact_text (with_head ocid.now date.now (merge_or_null (map body_in rows.now)))) }
+    ensures written { OnOk result (AreWritten ocid.now rows.now) }
+    ensures none { IfErr result (λ why. why ≡ Unavailable) }
+{
+    let merge = merge_text_of(alloc, ocid, rows)?;
+    compiled_in(alloc, ocid, date, merge.as_str())
+}
+
+/// The text of a notice's compiled release with this date. `Unavailable` if memory is too small, or if the stored merge isn't of the process with this `ocid`, as
 /// the office writes it. If no merge is stored, `Unavailable` also if a release isn't. No office that its commands made stores such a merge or release.
-pub fn merge_kept(alloc: Global, ocid: &str, kept: &Kept) -> Result<Value, Refusal>
-    ensures merge { IfOk result (λ merge. (notice : List ℕ) (t : Tables) → IsKeptOf notice t kept.now → IsMergedOf notice t
-        → view merge ≡ merge_or_null (bodies notice t)) }
+pub fn compiled_of(alloc: Global, ocid: &str, date: &str, kept: &Kept) -> Result<String, Refusal>
+    ensures text { IfOk result (λ text. (notice : List ℕ) (t : Tables) → IsKeptOf notice t kept.now → IsMergedOf notice t → All IsStorable (bodies notice t)
+        → string_bytes text ≡ compact_text (with_head ocid.now date.now (merge_or_null (bodies notice t)))) }
     ensures goes_on { OnOk result (CanGoOn ocid.now kept.now) }
     ensures none { IfErr result (λ why. why ≡ Unavailable) }
 {
     match kept {
-        Kept::Merge(row) => merge_in(alloc, ocid, row),
-        Kept::Releases(rows) => merge_of(alloc, ocid, rows.as_slice()),
+        Kept::Merge(row) => compiled_in(alloc, ocid, date, row.text.as_str()),
+        Kept::Releases(rows) => compiled_anew(alloc, ocid, date, rows.as_slice()),
     }
 }
 
-/// The row of the merge of a notice's releases and one more, which is given without its head. `Unavailable` as in `merge_kept`. So nothing is published on top
+/// The row of the merge of a notice's releases and one more, which is given without its head. `Unavailable` as in `compiled_of`. So nothing is published on top
 /// of a text that can't be continued.
 pub fn merge_with(
     alloc: Global,

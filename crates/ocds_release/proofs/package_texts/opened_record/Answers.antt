@@ -1,7 +1,7 @@
 use Rattle.std.proofs.Common.{◌≡◌, ◌∙◌, ◌++◌, ◌∷◌, [], ℕ, List, ap, sym, refl, codes, false, true}
 use Rattle.std.proofs.lemmas.List.{append_assoc}
 use Rattle.serde_json.specs.Data.{Data, object, no_members, no_items, member}
-use Rattle.serde_json.specs.View.{view, items_of}
+use Rattle.serde_json.specs.View.{items_of}
 use Rattle.serde_json.specs.Written.{compact_text, items_text, members_text}
 use Rattle.office_values.specs.Moments.{moment_text}
 use Rattle.ocds_merge.specs.Compile.{last_date}
@@ -14,23 +14,22 @@ use Rattle.ocds_release.proofs.PackageTexts.{kept_list, kept_last, records_in_or
 use Rattle.ocds_release.proofs.package_texts.opened_record.Goals as goal
 
 pub returns : goal.returns
-returns c rows d ds kept at_last shown =
+returns c rows d ds release kept at_last shown is =
     let publisher = c.args.publisher.now in
     let notice = c.args.notice in
-    let compiled = view c.args.compiled.now in
     let before = c.in_ok-before.before.items in
     let with_record = c.push_record.new.text.items in
     let route = codes "/record" in
     let tail : List ℕ = members_text true (tail_members publisher notice route) in
     let items : List ℕ = items_text false (items_of (d ∷ ds)) in
-    let one = ordered_record publisher notice compiled (array_of (d ∷ ds)) in
+    let one = ordered_record publisher notice release (array_of (d ∷ ds)) in
     let at : moment_text c.args.published ≡ last_date (d ∷ ds) = ap moment_text (sym at_last) ∙ sym (kept_last rows d ds kept) in
-    let whole : record_of publisher notice (d ∷ ds) compiled ≡ one =
-    ap object (record_in_order (ocid_text publisher.prefix notice) compiled d (items_of ds) shown.filled) in
+    let whole : record_of publisher notice (d ∷ ds) release ≡ one =
+    ap object (record_in_order (ocid_text publisher.prefix notice) release d (items_of ds) shown.filled) in
     ap (λ pack. completed pack rows) c.in_ok-package.ensures
     ∙ ap (λ (r : List ℕ). with_record ++ (spliced false rows ++ r)) c.in_ok-behind.ensures
     ∙ ap (λ (r : List ℕ). with_record ++ r) (sym (append_assoc (spliced false rows) (93 ∷ []) (125 ∷ 93 ∷ tail)) ∙ ap (λ (r : List ℕ). r ++ 125 ∷ 93 ∷ tail) (kept_list false rows (d ∷ ds) kept))
-    ∙ c.in_ok-push_record.ensures items (93 ∷ tail) (array_of (d ∷ ds)) refl shown.no_float
+    ∙ c.in_ok-push_record.ensures items (93 ∷ tail) (array_of (d ∷ ds)) release refl is
     ∙ ap (λ (r : List ℕ). before ++ r) (sym (append_assoc (compact_text one) (93 ∷ []) tail))
     ∙ c.in_ok-before.ensures notice route (compact_text one ++ 93 ∷ []) (array_of (one ∷ [])) refl
     ∙ ap compact_text (sym (ap object (records_in_order publisher.extensions (moment_text c.args.published) (address publisher.base notice route) (codes "1.1")

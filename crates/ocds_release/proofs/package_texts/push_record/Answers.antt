@@ -1,25 +1,26 @@
-use Rattle.std.proofs.Common.{◌≡◌, ◌∙◌, ◌++◌, ◌∷◌, [], codes, true, false}
+use Rattle.std.proofs.Common.{◌≡◌, ◌∙◌, ◌++◌, ◌∷◌, [], ℕ, List, ap, codes, true, false}
 use Rattle.serde_json.specs.Data.{member, no_members}
-use Rattle.serde_json.specs.View.{view}
-use Rattle.serde_json.specs.Written.{members_text}
+use Rattle.serde_json.specs.Written.{compact_text, members_text}
 use Rattle.ocds_release.specs.Objects.{text}
 use Rattle.ocds_release.specs.Texts.{ocid_text}
+use Rattle.ocds_release.specs.Inside.Splicing.{member_text}
 use Rattle.ocds_release.proofs.PackageTexts.{opened, pushed, before_rest}
 use Rattle.ocds_release.proofs.package_texts.push_record.Goals as goal
 
 pub returns : goal.returns
-returns c items rest d list whole =
+returns c items rest d release list whole =
     let old = c.args.text.now.items in
     let start = c.push.new.self.items in
-    let first = c.push_value.new.text.items in
+    let first = c.push_member.new.text.items in
     let second = c.push_part.new.text.items in
-    let third = c.push_member.new.text.items in
-    let compiled = view c.args.compiled.now in
+    let third = c.push_member-2.new.text.items in
     let ocid = text (ocid_text c.args.publisher.now.prefix c.args.notice) in
     let last = member (codes "releases") d no_members in
     let both = member (codes "ocid") ocid last in
-    let body : third ++ (items ++ 125 ∷ []) ≡ start ++ members_text false (member (codes "compiledRelease") compiled both) =
-    opened third second true (codes "releases") d items no_members c.in_ok-push_member.ensures list
+    let is : first ≡ start ++ member_text false (codes "compiledRelease") (compact_text release) =
+    c.in_ok-push_member.ensures ∙ ap (λ (bytes : List ℕ). start ++ member_text false (codes "compiledRelease") bytes) whole in
+    let body : third ++ (items ++ 125 ∷ []) ≡ start ++ members_text false (member (codes "compiledRelease") release both) =
+    opened third second true (codes "releases") d items no_members c.in_ok-push_member-2.ensures list
     ∙ pushed second first true (codes "ocid") ocid last c.in_ok-push_part.ensures
-    ∙ pushed first start false (codes "compiledRelease") compiled both (c.in_ok-push_value.ensures whole) in
-    before_rest third items old start (members_text false (member (codes "compiledRelease") compiled both)) rest body c.in_ok-push.ensures.items
+    ∙ pushed first start false (codes "compiledRelease") release both is in
+    before_rest third items old start (members_text false (member (codes "compiledRelease") release both)) rest body c.in_ok-push.ensures.items

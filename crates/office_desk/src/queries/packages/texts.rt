@@ -1,9 +1,10 @@
 //! The texts of the packages of a notice's releases and of its record, made of the stored texts. One look-up lists the notice's releases. If they aren't those
 //! that the notice's row counts, or if one of them isn't a release of this notice as the office writes it, nothing is shown.
-ghost use Rattle.std.specs.Prelude.{◌≡◌, ◌∷◌, [], true, All, IfOk, IfErr, OnOk, List, Some, map};
-ghost use Rattle.serde_json.specs.View.{view};
+ghost use Rattle.std.specs.Prelude.{◌≡◌, ◌∷◌, [], true, All, IfOk, IfErr, OnOk, List, Some, map, string_bytes};
+ghost use Rattle.serde_json.specs.Written.{compact_text};
 ghost use Rattle.ocds_merge.specs.Compile.{with_head};
 ghost use Rattle.ocds_merge.specs.Merge.{merge_or_null};
+ghost use Rattle.ocds_merge.specs.Stored.{IsStorable};
 ghost use Rattle.ocds_release.specs.Opened.{completed};
 ghost use Rattle.ocds_release.specs.Texts.{ocid_text};
 ghost use Rattle.office_commands.specs.declared.queries.Query.TheVariants as queries;
@@ -20,20 +21,19 @@ ghost use Rattle.office_desk.specs.Extent.{IsExtentOf, IsWritten};
 ghost use Rattle.office_values.specs.Moments.{moment_text};
 ghost use Rattle.office_values.specs.declared.refusal.Refusal.TheVariants.{Unavailable};
 
-use ocds_merge::{is_written_release, with_compiled_head};
+use ocds_merge::is_written_release;
 use ocds_release::ocid::ocid_of;
 use ocds_release::package_texts::{PackageText, open_record, open_releases};
 use office_base::counts::ReleaseCount;
 use office_base::laws::looks_follow;
 use office_base::records::ReleaseRow;
 use office_base::shelf::Lookups;
-use office_publications::laws::{numbering, told};
-use office_publications::merges::{load_kept, merge_kept};
+use office_publications::laws::{numbering, releases_can_be_merged, told};
+use office_publications::merges::{compiled_of, load_kept};
 use office_values::id::Id;
 use office_values::moment::Moment;
 use office_values::refusal::Refusal;
 use office_values::settings::Publisher;
-use serde_json::Value;
 use std::alloc::Global;
 
 /// The extent of a notice's releases: the bytes of their texts with a comma each, and the moment of the last release, if there is one.
@@ -205,38 +205,25 @@ pub(super) fn releases_text<H: Lookups>(
     whole_text(opened, &rows)
 }
 
-// The compiled release, made of the merge of the releases and the moment of the last one.
-fn compiled(alloc: Global, ocid: &str, last: Moment, merge: Value) -> Result<Value, Refusal>
-    ensures release { IfOk result (λ release. view release ≡ with_head ocid.now (moment_text last) (view merge)) }
-    ensures none { IfErr result (λ why. why ≡ Unavailable) }
-{
-    let date = last.to_text();
-    match with_compiled_head(alloc, ocid, date.as_str(), merge) {
-        Ok(release) => Ok(release),
-        Err(_) => Err(Refusal::Unavailable),
-    }
-}
-
-// The compiled release of a notice, made of its stored merge and the moment of its last release.
+// The text of a notice's compiled release, made of its stored merge and the moment of its last release.
 fn load_compiled<H: Lookups>(
     alloc: Global,
     shelf: &mut H,
     ocid: &str,
     notice: &Id,
     last: Moment,
-) -> Result<Value, Refusal>
-    ensures looks { Looks H.meaning shelf.old shelf.new (λ s. IfOk result (λ release. IsMergedOf notice.now s
-        → view release ≡ with_head ocid.now (moment_text last) (merge_or_null (bodies notice.now s)))) }
+) -> Result<String, Refusal>
+    ensures looks { Looks H.meaning shelf.old shelf.new (λ s. IfOk result (λ text. IsMergedOf notice.now s → All IsStorable (bodies notice.now s)
+        → string_bytes text ≡ compact_text (with_head ocid.now (moment_text last) (merge_or_null (bodies notice.now s))))) }
     ensures merge { Looks H.meaning shelf.old shelf.new (λ s. OnOk result (HasMerge ocid.now notice.now s)) }
     ensures none { IfErr result (λ why. why ≡ Unavailable) }
 {
     let kept = load_kept(shelf, notice)?;
-    let merge = merge_kept(alloc, ocid, &kept)?;
-    compiled(alloc, ocid, last, merge)
+    let date = last.to_text();
+    compiled_of(alloc, ocid, date.as_str(), &kept)
 }
 
-// The beginning of the package of a notice's record, before the first of its releases, which have this extent. The compiled release is dropped after it is
-// written.
+// The beginning of the package of a notice's record, before the first of its releases, which have this extent.
 fn record_package<H: Lookups>(
     alloc: Global,
     shelf: &mut H,
@@ -251,11 +238,19 @@ fn record_package<H: Lookups>(
     ensures none { IfErr result (λ why. why ≡ Unavailable) }
 {
     told();
+    releases_can_be_merged();
     let Some(last) = extent.last else {
         return Err(Refusal::Unavailable);
     };
     let release = load_compiled(alloc, shelf, ocid, notice, last)?;
-    match open_record(alloc, publisher, notice, last, &release, extent.bytes) {
+    match open_record(
+        alloc,
+        publisher,
+        notice,
+        last,
+        release.as_str(),
+        extent.bytes,
+    ) {
         Ok(opened) => Ok(opened),
         Err(_) => Err(Refusal::Unavailable),
     }

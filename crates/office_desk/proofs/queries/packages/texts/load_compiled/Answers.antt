@@ -1,12 +1,23 @@
-use Rattle.serde_json.specs.Data.{Data}
-use Rattle.serde_json.specs.View.{view}
+use Rattle.std.proofs.Common.{◌≡◌, ℕ, List, All, Result, Ok, Err, String, Global, IfOk, string_bytes, subst}
+use Rattle.serde_json.specs.Written.{compact_text}
 use Rattle.ocds_merge.specs.Compile.{with_head}
 use Rattle.ocds_merge.specs.Merge.{merge_or_null}
-use Rattle.office_plans.proofs.KeptObjects.{has_merge_any}
-use Rattle.office_publications.specs.Merges.{IsMergedOf, bodies}
+use Rattle.ocds_merge.specs.Stored.{IsStorable}
 use Rattle.office_values.specs.Moments.{moment_text}
-use Rattle.office_desk.proofs.Shown.{made_of}
+use Rattle.office_values.specs.declared.refusal.Refusal.{Refusal}
+use Rattle.office_base.specs.Tables.{Tables}
+use Rattle.office_plans.proofs.KeptObjects.{has_merge_any}
+use Rattle.office_publications.specs.Merges.{IsKeptOf, IsMergedOf, bodies}
+use Rattle.office_publications.specs.declared.merges.Kept.{Kept}
 use Rattle.office_desk.proofs.queries.packages.texts.load_compiled.Goals as goal
+
+-- The text that was made of what was loaded is that of these tables.
+loaded_text : (ocid date notice : List ℕ) (s : Tables) (kept : Kept) (result : Result (String Global) Refusal) → IsKeptOf notice s kept
+    → IfOk result (λ text. (notice : List ℕ) (t : Tables) → IsKeptOf notice t kept → IsMergedOf notice t → All IsStorable (bodies notice t)
+    → string_bytes text ≡ compact_text (with_head ocid date (merge_or_null (bodies notice t))))
+    → IfOk result (λ text. IsMergedOf notice s → All IsStorable (bodies notice s) → string_bytes text ≡ compact_text (with_head ocid date (merge_or_null (bodies notice s))))
+loaded_text ocid date notice s kept (Ok text) is made = made notice s is
+loaded_text ocid date notice s kept (Err why) is made = tt
 
 pub returns-clause-looks : goal.returns-clause-looks
 returns-clause-looks g c =
@@ -14,14 +25,14 @@ returns-clause-looks g c =
     let notice = c.args.notice.now in (
       loaded.0,
       λ honest s held.
-          made_of c.compiled.result (IsMergedOf notice s) (λ (d : Data). with_head c.args.ocid.now (moment_text c.args.last) d)
-          (view c.in_ok-merge.merge) (merge_or_null (bodies notice s)) c.compiled.ensures.release
-          (λ (merged : IsMergedOf notice s). c.in_ok-merge.ensures.merge notice s (loaded.1 honest s held) merged),
+          subst (λ (date : List ℕ). IfOk c.compiled_of.result (λ text. IsMergedOf notice s → All IsStorable (bodies notice s)
+          → string_bytes text ≡ compact_text (with_head c.args.ocid.now date (merge_or_null (bodies notice s))))) ?
+          (loaded_text c.args.ocid.now c.as_str.result.now notice s c.in_ok-kept.kept c.compiled_of.result (loaded.1 honest s held) c.compiled_of.ensures.text),
     )
 
 pub returns-clause-merge : goal.returns-clause-merge
 returns-clause-merge g c =
     let loaded = c.in_ok-kept.ensures.0 in (
       loaded.0,
-      λ honest s held. has_merge_any c.args.ocid.now c.args.notice.now s c.in_ok-kept.kept c.compiled.result (loaded.1 honest s held) c.in_ok-merge.ensures.goes_on,
+      λ honest s held. has_merge_any c.args.ocid.now c.args.notice.now s c.in_ok-kept.kept c.compiled_of.result (loaded.1 honest s held) c.compiled_of.ensures.goes_on,
     )

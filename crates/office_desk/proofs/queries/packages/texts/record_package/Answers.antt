@@ -1,11 +1,9 @@
-use Rattle.std.proofs.Common.{◌≡◌, ◌<◌, ◌∙◌, List, length, Option, sym, ap, subst}
+use Rattle.std.proofs.Common.{◌≡◌, ◌<◌, ◌∙◌, List, length, Option, string_bytes, sym, ap, subst}
 use Rattle.std.specs.Prelude.{ℕ, IfSome}
 use Rattle.serde_json.specs.Data.{Data}
-use Rattle.serde_json.specs.View.{view}
 use Rattle.serde_json.specs.Written.{compact_text}
 use Rattle.ocds_merge.specs.Compile.{with_head}
 use Rattle.ocds_merge.specs.Merge.{merge_or_null}
-use Rattle.ocds_release.specs.KeptReleases.{HasText}
 use Rattle.ocds_release.specs.Opened.{completed, moment_of_last}
 use Rattle.ocds_release.specs.Packages.{record_package}
 use Rattle.office_base.specs.Tables.{releases_of_notice}
@@ -26,12 +24,11 @@ returns-in-Ok-clause-looks g c = (
       let family : Option ℕ → Type 0 = λ o. IfSome o (λ moment. (0 < length rows) × (moment_of_last rows ≡ moment)) in
       let last = subst family c.in-Some.is extent.last in
       let told : IsCompiled publisher notice s = c.told.ensures.records publisher s stands notice last.0 extent.range in
-      let release : view c.in_ok-release.release ≡ compiled_told publisher notice s =
-      c.in_ok-release.ensures.looks.1 honest s held (stands.keeps.merged notice)
-      ∙ (λ i. with_head (own i) (moment_text (sym last.1 i)) (merge_or_null (bodies notice s)))
-      ∙ sym told.is in
-      filled (λ (ds : List Data). completed c.in-Ok.opened rows ≡ compact_text (record_package publisher notice ds (view c.in_ok-release.release))) rows
+      let release : string_bytes c.in_ok-release.release ≡ compact_text (compiled_told publisher notice s) =
+      c.in_ok-release.ensures.looks.1 honest s held (stands.keeps.merged notice) (c.releases_can_be_merged.ensures.storable s notice stands.keeps.releases)
+      ∙ (λ i. compact_text (with_head (own i) (moment_text (sym last.1 i)) (merge_or_null (bodies notice s))))
+      ∙ ap compact_text (sym told.is) in
+      filled (λ (ds : List Data). completed c.in-Ok.opened rows ≡ compact_text (record_package publisher notice ds (compiled_told publisher notice s))) rows
       (releases_told notice s) (c.told.ensures.releases publisher s stands notice) last.0
-      (λ d ds kept. c.in-Ok.ensures rows d ds kept last.1 (subst HasText (sym release) told.has_text))
-      ∙ ap (λ (d : Data). compact_text (record_package publisher notice (releases_told notice s) d)) release,
+      (λ d ds kept. c.in-Ok.ensures rows d ds (compiled_told publisher notice s) kept last.1 told.has_text (c.as_str.ensures.value ∙ release)),
 )
