@@ -11,7 +11,7 @@ use Rattle.office_publications.specs.Merges.{IsKeptOf, IsMergedOf, bodies}
 use Rattle.office_publications.specs.declared.merges.Kept.{Kept}
 use Rattle.office_desk.proofs.queries.packages.texts.load_compiled.Goals as goal
 
--- The text that was made of what was loaded is that of these tables.
+-- A compiled release that was made of the loaded value has the text for these tables.
 loaded_text : (ocid date notice : List ℕ) (s : Tables) (kept : Kept) (result : Result (String Global) Refusal) → IsKeptOf notice s kept
     → IfOk result (λ text. (notice : List ℕ) (t : Tables) → IsKeptOf notice t kept → IsMergedOf notice t → All IsStorable (bodies notice t)
     → string_bytes text ≡ compact_text (with_head ocid date (merge_or_null (bodies notice t))))
