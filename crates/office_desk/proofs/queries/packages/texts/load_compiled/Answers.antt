@@ -1,13 +1,12 @@
-use Rattle.std.proofs.Common.{◌≡◌, ℕ, List, All, Result, Ok, Err, String, Global, IfOk, string_bytes, subst}
+use Rattle.std.proofs.Common.{◌≡◌, ◌∙◌, ℕ, List, All, Result, Ok, Err, String, Global, IfOk, OnOk, string_bytes, subst}
 use Rattle.serde_json.specs.Written.{compact_text}
 use Rattle.ocds_merge.specs.Compile.{with_head}
 use Rattle.ocds_merge.specs.Merge.{merge_or_null}
 use Rattle.ocds_merge.specs.Stored.{IsStorable}
-use Rattle.office_values.specs.Moments.{moment_text}
 use Rattle.office_values.specs.declared.refusal.Refusal.{Refusal}
 use Rattle.office_base.specs.Tables.{Tables}
 use Rattle.office_plans.proofs.KeptObjects.{has_merge_any}
-use Rattle.office_publications.specs.Merges.{IsKeptOf, IsMergedOf, bodies}
+use Rattle.office_publications.specs.Merges.{CanGoOn, HasMerge, IsKeptOf, IsMergedOf, bodies}
 use Rattle.office_publications.specs.declared.merges.Kept.{Kept}
 use Rattle.office_desk.proofs.queries.packages.texts.load_compiled.Goals as goal
 
@@ -19,20 +18,27 @@ loaded_text : (ocid date notice : List ℕ) (s : Tables) (kept : Kept) (result :
 loaded_text ocid date notice s kept (Ok text) is made = made notice s is
 loaded_text ocid date notice s kept (Err why) is made = tt
 
+-- If it was made, the loaded value can be continued, and so can what is stored.
+loaded_merge : (ocid notice : List ℕ) (s : Tables) (kept : Kept) (result : Result (String Global) Refusal) → IsKeptOf notice s kept → OnOk result (CanGoOn ocid kept)
+    → OnOk result (HasMerge ocid notice s)
+loaded_merge ocid notice s kept (Ok text) is goes = has_merge_any {E = Refusal} ocid notice s kept (Ok text) is goes
+loaded_merge ocid notice s kept (Err why) is goes = tt
+
 pub returns-clause-looks : goal.returns-clause-looks
 returns-clause-looks g c =
     let loaded = c.in_ok-kept.ensures.0 in
+    let ocid = c.args.ocid.now in
     let notice = c.args.notice.now in (
       loaded.0,
       λ honest s held.
           subst (λ (date : List ℕ). IfOk c.compiled_of.result (λ text. IsMergedOf notice s → All IsStorable (bodies notice s)
-          → string_bytes text ≡ compact_text (with_head c.args.ocid.now date (merge_or_null (bodies notice s))))) ?
-          (loaded_text c.args.ocid.now c.as_str.result.now notice s c.in_ok-kept.kept c.compiled_of.result (loaded.1 honest s held) c.compiled_of.ensures.text),
+          → string_bytes text ≡ compact_text (with_head ocid date (merge_or_null (bodies notice s))))) (c.as_str.ensures ∙ c.to_text-date.ensures)
+          (loaded_text ocid c.as_str.result.now notice s c.in_ok-kept.kept c.compiled_of.result (loaded.1 honest s held) c.compiled_of.ensures.text),
     )
 
 pub returns-clause-merge : goal.returns-clause-merge
 returns-clause-merge g c =
     let loaded = c.in_ok-kept.ensures.0 in (
       loaded.0,
-      λ honest s held. has_merge_any c.args.ocid.now c.args.notice.now s c.in_ok-kept.kept c.compiled_of.result (loaded.1 honest s held) c.compiled_of.ensures.goes_on,
+      λ honest s held. loaded_merge c.args.ocid.now c.args.notice.now s c.in_ok-kept.kept c.compiled_of.result (loaded.1 honest s held) c.compiled_of.ensures.goes_on,
     )

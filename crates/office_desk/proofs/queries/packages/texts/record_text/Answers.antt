@@ -4,6 +4,7 @@ use Rattle.office_desk.proofs.Placed.{all_there}
 use Rattle.office_desk.proofs.Shown.{on_ok_any}
 use Rattle.office_desk.specs.Extent.{IsWritten}
 use Rattle.ocds_release.specs.Texts.{ocid_text}
+use Rattle.office_publications.specs.Merges.{HasMerge}
 use Rattle.office_publications.specs.Told.{AreAllThere}
 use Rattle.office_desk.proofs.queries.packages.texts.record_text.Goals as goal
 
@@ -25,4 +26,17 @@ returns-clause-there g c =
           on_ok_any c.whole_text.result (AreAllThere own notice count s)
           (subst (λ (o : List ℕ). AreAllThere o notice count s) (c.as_str.ensures.value ∙ c.in_ok-ocid.ensures)
           (all_there ocid notice count s many places (subst (All (IsWritten ocid)) same c.in_ok-extent.ensures.written))),
+    )
+
+pub returns-clause-merge : goal.returns-clause-merge
+returns-clause-merge g c =
+    let looked = c.in_ok-rows.ensures.looks in
+    let step = c.in_ok-opened.ensures.merge in
+    let notice = c.args.notice.now in
+    let own = ocid_text c.args.publisher.now.prefix notice in (
+      c.looks_follow.ensures _ _ _ looked.0 step.0,
+      λ honest s held.
+          let before = step.0.before honest in
+          on_ok_any c.whole_text.result (HasMerge own notice s)
+          (subst (λ (o : List ℕ). HasMerge o notice s) (c.as_str-2.ensures.value ∙ c.in_ok-ocid.ensures) (step.1 honest s (looked.0.same before s held))),
     )
