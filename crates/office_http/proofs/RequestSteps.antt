@@ -4,6 +4,7 @@ use Rattle.std.specs.Prelude.{IfOk}
 use Rattle.office_commands.specs.declared.command.Caller.{Caller}
 use Rattle.office_values.specs.declared.refusal.Refusal.{Refusal}
 use Rattle.office_values.specs.declared.refusal.Refusal.TheVariants.{Unavailable}
+use Rattle.office_values.specs.declared.settings.Publisher.{Publisher}
 use Rattle.office_values.specs.declared.settings.Settings.{Settings}
 use Rattle.office_base.specs.Tables.{Tables}
 use Rattle.office_base.specs.Shelves.{Meaning}
@@ -94,10 +95,10 @@ module _ {S : Type 0} (M : Meaning S) (settings : Settings) (old new : S) (s : T
 -- ---- the rows that an answer shows
 
 -- The text of a refusal shows nothing, whatever the meaning is.
-pub refused_shows : (settings : Settings) (m : Meant) (s : Tables) (text : List ℕ) → IsRefusedText text → ShowsMeant settings m s text
-refused_shows settings (Refuses why method) s text refused = refused
-refused_shows settings (Gives caller command) s text refused = tt
-refused_shows settings (Sees caller query) s text refused = inr refused
+pub refused_shows : (publisher : Publisher) (m : Meant) (s : Tables) (text : List ℕ) → IsRefusedText text → ShowsMeant publisher m s text
+refused_shows publisher (Refuses why method) s text refused = refused
+refused_shows publisher (Gives caller command) s text refused = tt
+refused_shows publisher (Sees caller query) s text refused = inr refused
 
 pub tells_some : (why : Refusal) (method : Option Allow) (text : List ℕ) → TellsRefusal why method text → IsRefusedText text
 tells_some why method text (inl is) = (why, method, is)
@@ -105,19 +106,19 @@ tells_some why method text (inr is) = (Unavailable, None, is)
 
 module _ (settings : Settings) (s : Tables) (text : List ℕ) (request : RequestView) (route : Route) (caller : Caller) (read : Result Asked Refusal) where
   read_shown : routed request.head.method request.head.target ≡ Ok route → Ok caller ≡ who settings s (credentials_of request.head.fields)
-      → (read ≡ asked_by_route caller route request) ⊎ (read ≡ Err Unavailable) → ShowsMeant settings (meant_asked caller read) s text → ShowsMeant settings (meant settings request s) s text
+      → (read ≡ asked_by_route caller route request) ⊎ (read ≡ Err Unavailable) → ShowsMeant settings.publisher (meant_asked caller read) s text → ShowsMeant settings.publisher (meant settings request s) s text
   read_shown at by (inl is) shown =
-      subst (λ (m : Meant). ShowsMeant settings m s text)
+      subst (λ (m : Meant). ShowsMeant settings.publisher m s text)
       (ap (λ (r : Result Asked Refusal). meant_asked caller r) is
       ∙ sym (ap (λ (r : Result Route (Refusal × Option Allow)). meant_at settings request s r) at ∙ ap (λ (c : Result Caller Refusal). meant_by route request c) (sym by)))
       shown
   read_shown at by (inr is) shown =
-      refused_shows settings (meant settings request s) s text (subst (λ (r : Result Asked Refusal). ShowsMeant settings (meant_asked caller r) s text) is shown)
+      refused_shows settings.publisher (meant settings request s) s text (subst (λ (r : Result Asked Refusal). ShowsMeant settings.publisher (meant_asked caller r) s text) is shown)
 
   -- The answer to the query shows rows that exist.
   pub asked_shown : routed request.head.method request.head.target ≡ Ok route
       → (Ok caller ≡ who settings s (credentials_of request.head.fields)) ⊎ (let none : Result Caller Refusal = Err Unavailable in Ok caller ≡ none)
-      → (read ≡ asked_by_route caller route request) ⊎ (read ≡ Err Unavailable) → ShowsMeant settings (meant_asked caller read) s text → ShowsMeant settings (meant settings request s) s text
+      → (read ≡ asked_by_route caller route request) ⊎ (read ≡ Err Unavailable) → ShowsMeant settings.publisher (meant_asked caller read) s text → ShowsMeant settings.publisher (meant settings request s) s text
   asked_shown at (inl by) is shown = read_shown at by is shown
   asked_shown at (inr never) is shown = absurd (cc)
 

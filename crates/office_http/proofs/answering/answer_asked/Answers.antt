@@ -30,12 +30,12 @@ returns-in-Err-clause-answered g c =
 pub returns-in-Ok-Does-clause-shown : goal.returns-in-Ok-Does-clause-shown
 returns-in-Ok-Does-clause-shown g c honest s held =
     let is : Ok (Does c.in-Ok-Does.command) ≡ c.args.asked = search rules in
-    subst (λ (a : Result Asked Refusal). ShowsMeant c.args.desk.now.settings (meant_asked c.args.caller.now a) s c.answer_command.result) is tt
+    subst (λ (a : Result Asked Refusal). ShowsMeant c.args.desk.now.settings.publisher (meant_asked c.args.caller.now a) s c.answer_command.result) is tt
 
 pub returns-in-Err-clause-shown : goal.returns-in-Err-clause-shown
 returns-in-Err-clause-shown g c honest s held =
     let is : Err c.in-Err.refusal ≡ c.args.asked = search rules in
-    subst (λ (a : Result Asked Refusal). ShowsMeant c.args.desk.now.settings (meant_asked c.args.caller.now a) s c.refuse.result) is (tells_some c.in-Err.refusal None c.refuse.result (inl c.refuse.ensures))
+    subst (λ (a : Result Asked Refusal). ShowsMeant c.args.desk.now.settings.publisher (meant_asked c.args.caller.now a) s c.refuse.result) is (tells_some c.in-Err.refusal None c.refuse.result (inl c.refuse.ensures))
 
 pub returns-in-Ok-Does-clause-changes : goal.returns-in-Ok-Does-clause-changes
 returns-in-Ok-Does-clause-changes g c =

@@ -45,11 +45,11 @@ returns-clause-answered g c honest s held stands =
 
 pub returns-in-Err-clause-shown : goal.returns-in-Err-clause-shown
 returns-in-Err-clause-shown g c honest s held =
-    refused_shows c.args.desk.now.settings (meant c.args.desk.now.settings c.args.request.now s) s c.refuse.result (tells_some c.in-Err.refusal c.in-Err.method c.refuse.result (inl c.refuse.ensures))
+    refused_shows c.args.desk.now.settings.publisher (meant c.args.desk.now.settings c.args.request.now s) s c.refuse.result (tells_some c.in-Err.refusal c.in-Err.method c.refuse.result (inl c.refuse.ensures))
 
 pub returns-in-Err-caller_of-clause-shown : goal.returns-in-Err-caller_of-clause-shown
 returns-in-Err-caller_of-clause-shown g c honest s held =
-    refused_shows c.args.desk.now.settings (meant c.args.desk.now.settings c.args.request.now s) s c.refuse-in-Err-caller_of.result
+    refused_shows c.args.desk.now.settings.publisher (meant c.args.desk.now.settings c.args.request.now s) s c.refuse-in-Err-caller_of.result
     (tells_some c.in-Err-caller_of.refusal None c.refuse-in-Err-caller_of.result (inl c.refuse-in-Err-caller_of.ensures))
 
 pub returns-clause-shown : goal.returns-clause-shown
