@@ -8,9 +8,9 @@ use tests_transcripts::published::PUBLISHED;
 use tests_transcripts::session::played;
 use tests_transcripts::setup::{MONEY, NOTICE, TENDERERS};
 
-// To be played after PUBLISHED. A procurement to the end of its contract, with every kind of command except for a cancellation, and several queries. The line is
-// asked for after each command that moves its money.
-static TO_THE_END: &str = r#"
+// To be played after PUBLISHED. A procurement to its contract and an amendment of that. With PAID, PAID_LINE and ENDED, which follow, it has every kind of command
+// except for a cancellation, and several queries. The line is asked for after each command that moves its money.
+static TO_A_CONTRACT: &str = r#"
 at 2026-02-10T09:00:00Z clerk POST /notices/N1/amend
 > {"deadline":"2026-03-01T12:00:00Z","rationale":"Once more"}
 = 200 {"moment":"2026-02-10T09:00:00Z","notice":"N1","release":2}
@@ -94,14 +94,20 @@ at 2026-04-01T09:00:00Z clerk POST /contracts/2/amend
 
 at 2026-04-01T09:00:00Z public GET /lines/1000
 = 200 {"appropriation":1000,"contracted":500,"free":500,"line":"1000","paid":0,"reserved":0,"title":"Roads"}
+"#;
 
+static PAID: &str = r#"
 at 2026-04-01T09:00:00Z clerk POST /contracts/2/pay
 > {"id":"P1","amount":200}
 = 200 {"contract":2,"moment":"2026-04-01T09:00:00Z","outstanding":300,"release":9}
+"#;
 
+static PAID_LINE: &str = r#"
 at 2026-04-01T09:00:00Z public GET /lines/1000
 = 200 {"appropriation":1000,"contracted":300,"free":500,"line":"1000","paid":200,"reserved":0,"title":"Roads"}
+"#;
 
+static ENDED: &str = r#"
 at 2026-05-01T09:00:00Z clerk POST /contracts/2/end
 > {"how":"regular"}
 = 200 {"contract":2,"moment":"2026-05-01T09:00:00Z","outstanding":0,"release":10}
@@ -203,16 +209,21 @@ fn breaks(alloc: Global, left: u64, sums: Sums, transcripts: &[&str]) -> Option<
 }
 
 // Plays the transcripts over a store that fails at its first call, then at its second, and so on, until it doesn't fail any more. That happens within 1000
-// calls.
-fn breaks_anywhere(alloc: Global, sums: Sums, transcripts: &[&str]) -> bool {
+// calls. The result is the number of calls; None if an answer isn't as written.
+fn calls(alloc: Global, sums: Sums, transcripts: &[&str]) -> Option<u64> {
     for left in 0..1000 {
         match breaks(alloc, left, sums, transcripts) {
             Some(true) => {}
-            Some(false) => return true,
-            None => return false,
+            Some(false) => return Some(left),
+            None => return None,
         }
     }
-    false
+    None
+}
+
+// Whether all answers are as written, wherever the store fails.
+fn breaks_anywhere(alloc: Global, sums: Sums, transcripts: &[&str]) -> bool {
+    calls(alloc, sums, transcripts).is_some()
 }
 
 #[test]
@@ -222,7 +233,16 @@ fn a_store_that_breaks_changes_nothing(rt: HostRuntime) {
         breaks_anywhere(
             alloc,
             Sums::AddedUp,
-            &[MONEY, TENDERERS, NOTICE, PUBLISHED, TO_THE_END]
+            &[
+                MONEY,
+                TENDERERS,
+                NOTICE,
+                PUBLISHED,
+                TO_A_CONTRACT,
+                PAID,
+                PAID_LINE,
+                ENDED
+            ]
         ),
         "to the end"
     );
@@ -239,9 +259,64 @@ fn a_store_that_remembers_sums_breaks_unnoticed(rt: HostRuntime) {
         breaks_anywhere(
             alloc,
             Sums::Remembered,
-            &[MONEY, TENDERERS, NOTICE, PUBLISHED, TO_THE_END]
+            &[
+                MONEY,
+                TENDERERS,
+                NOTICE,
+                PUBLISHED,
+                TO_A_CONTRACT,
+                PAID,
+                PAID_LINE,
+                ENDED
+            ]
         )
     );
+}
+
+// The calls of a query of the line after a payment, and of the same query once more. None if an answer isn't as written.
+fn line_calls(alloc: Global) -> Option<(u64, u64)> {
+    let paid = calls(
+        alloc,
+        Sums::Remembered,
+        &[MONEY, TENDERERS, NOTICE, PUBLISHED, TO_A_CONTRACT, PAID],
+    )?;
+    let asked = calls(
+        alloc,
+        Sums::Remembered,
+        &[
+            MONEY,
+            TENDERERS,
+            NOTICE,
+            PUBLISHED,
+            TO_A_CONTRACT,
+            PAID,
+            PAID_LINE,
+        ],
+    )?;
+    let again = calls(
+        alloc,
+        Sums::Remembered,
+        &[
+            MONEY,
+            TENDERERS,
+            NOTICE,
+            PUBLISHED,
+            TO_A_CONTRACT,
+            PAID,
+            PAID_LINE,
+            PAID_LINE,
+        ],
+    )?;
+    Some((asked.saturating_sub(paid), again.saturating_sub(asked)))
+}
+
+// A payment doesn't make a store forget the sums of its line: the next query of the line asks for no more than one that is repeated.
+#[test]
+fn a_payment_forgets_no_sums(rt: HostRuntime) {
+    match line_calls(rt.alloc()) {
+        Some((asked, again)) => assert!(rt; asked == again && asked > 0),
+        None => assert!(rt; false),
+    }
 }
 
 // Whether an import over a store that fails at its first call gets this answer, and then the usual one over the office that the store holds.
