@@ -195,7 +195,7 @@ pub record AnswersRequest {S : Type 0} (M : Meaning S) (settings : Settings) (ol
   pub stands : IsRequest input request rest
   pub answered : IsAnswered M settings old new moment (meant settings request) text
   pub changes : ChangesOnlyAccepting M old new (meant settings request) text
-  pub shown : ShowsOnlyWhole M old new (meant settings request) text
+  pub shown : ShowsOnlyWhole M settings old new (meant settings request) text
   pub sight : TellsAtSight settings request text
   pub certain : TellsCertain M settings old new moment request text
   pub told : IsTold M settings old new moment (meant settings request) text

@@ -7,4 +7,4 @@ pub returns : goal.returns
 returns c =
     let body = c.args.body.now in
     around (head_start 200 c.args.media.now) (codes "\r\nConnection: close\r\n\r\n") body c.in_ok-out.out.items c.in_ok-out.out.items
-    c.extend_from_slice.new.self.items c.len.result c.len.ensures c.in_ok-out.ensures refl c.in_ok-extend_from_slice.ensures.items
+    c.extend_from_slice.new.self.items (length body) refl c.in_ok-out.ensures refl c.in_ok-extend_from_slice.ensures.items
