@@ -7,7 +7,7 @@ use Rattle.office_http.proofs.LeftSteps.{stops_then}
 use Rattle.office_base.specs.Faults.{HasRisen}
 use Rattle.office_http.proofs.CertainSteps.{Certain, certain_asked, certain_nobody, certain_route}
 use Rattle.office_http.proofs.AlwaysTold.{Tells, tells_asked, tells_no_route, tells_nobody}
-use Rattle.office_http.specs.Answering.{NeedsMeant}
+use Rattle.office_http.specs.Answering.{NeedsMeant, ShowsMeant}
 use Rattle.office_http.proofs.SightSteps.{sight_of_asker, sight_of_nobody, sight_of_route}
 use Rattle.office_http.proofs.RequestSteps.{asked_answered, asked_gives, asked_shown, caller_refused, refused_shows, route_refused, tells_some}
 use Rattle.office_http.proofs.answering.answer_read.Goals as goal
@@ -55,9 +55,10 @@ returns-in-Err-caller_of-clause-shown g c honest s held =
 pub returns-clause-shown : goal.returns-clause-shown
 returns-clause-shown g c honest s held =
     let before = c.answer_asked.ensures.before honest in
+    let family : Settings → Type 0 = λ u. ShowsMeant u.publisher (meant_asked c.in-Ok-caller_of.caller c.command_of-asked.result) s c.answer_asked.result in
     asked_shown c.args.desk.now.settings s c.answer_asked.result c.args.request.now c.in-Ok.route c.in-Ok-caller_of.caller c.command_of-asked.result (sym c.in-Ok.ensures)
     (c.in-Ok-caller_of.ensures.looks.1 before s held) c.command_of-asked.ensures.asked
-    (c.answer_asked.ensures.shown honest s (c.caller_of.ensures.looks.0.same before s held))
+    (subst family c.caller_of.ensures.settings (c.answer_asked.ensures.shown honest s (c.caller_of.ensures.looks.0.same before s held)))
 
 pub returns-clause-changes : goal.returns-clause-changes
 returns-clause-changes g c honest s held =
