@@ -273,7 +273,7 @@ fn a_store_that_remembers_sums_breaks_unnoticed(rt: HostRuntime) {
     );
 }
 
-// The calls of a query of the line after a payment, and of the same query once more. None if an answer isn't as written.
+// The calls of a query of the line after a payment, and those of a second query of it. None if an answer isn't as written.
 fn line_calls(alloc: Global) -> Option<(u64, u64)> {
     let paid = calls(
         alloc,
