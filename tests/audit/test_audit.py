@@ -297,8 +297,8 @@ def test_ledgers_of_days(made, tmp_path):
 
 
 def test_fault_of_a_served_office(made, serving, tmp_path):
-    """A compiled release of another notice is found from the outside."""
-    script = next(script for rule, _, script in FAULTS_OF_FILES if rule == "merges_are_of_their_releases")
+    """A compiled release that isn't the merge is found from the outside, if it is of its notice. The office shows no other notice's."""
+    script = "UPDATE compiled SET text = replace(text, 'Kerbs', 'Curbs') WHERE notice = 'N1'"
     office = serving(made.changed(tmp_path / "office.db", script))
     assert ("compiled_is_the_merge", "notices N1") in made.found("--base", f"http://127.0.0.1:{office.port}", "--notice", "N1")
 

@@ -69,7 +69,7 @@ CHANGES = [
     ("promises", OFFICE, "ensures served {", "ensures serves {", 1, "call office_http::office::serve_one doesn't have all of"),
     ("promises", "crates/office_base/src/shelf.rt", "fn apply(", "fn change(", 1, "names no function of crates/office_base/src/shelf.rt"),
     ("promises", PROMISES, "(clauses `kept`, `joins`)", "(clauses `kept`, `Joinses`)", 1, "no source has the name Joinses"),
-    ("promises", PROMISES, "In the program: this is proved like the accounts", "This is proved like the accounts", 1, "this promise has no line"),
+    ("promises", PROMISES, "In the program: proved like the accounts", "Proved like the accounts", 1, "this promise has no line"),
 ]
 
 
