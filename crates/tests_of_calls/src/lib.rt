@@ -5,6 +5,8 @@
 #[cfg(test)]
 mod budget_files;
 #[cfg(test)]
+mod compiled;
+#[cfg(test)]
 mod merged_texts;
 #[cfg(test)]
 mod merges;
@@ -22,6 +24,8 @@ mod requests_read;
 mod rights;
 #[cfg(test)]
 mod runs;
+#[cfg(test)]
+mod stored_merges;
 #[cfg(test)]
 mod streams;
 #[cfg(test)]
