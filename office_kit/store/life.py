@@ -3,6 +3,7 @@
 It takes five seconds, mostly waiting for a deadline.
 """
 import math
+import re
 import time
 from collections.abc import Mapping
 from typing import Any
@@ -76,6 +77,15 @@ class Life(Client[Answer]):
         """Signs an award, with a security of its own name if an amount is given."""
         return int(self.sign(award, f"P{award}" if security else None, security)["contract"])
 
+    def names(self) -> dict[str, object]:
+        """The values that scripts name in braces: the numbers that the office gave."""
+        return {**self.receipt, **vars(self)}
+
+    def filled(self, text: str) -> str:
+        """A text with the office's value in the place of each name in braces."""
+        names = self.names()
+        return re.sub(r"\{(\w+)\}", lambda found: str(names[found[1]]), text)
+
     def wait(self) -> None:
         """Waits until the deadline is over."""
         if time.time() >= self.deadline:
@@ -86,7 +96,11 @@ class Life(Client[Answer]):
 class AuditedLife(Life):
     """The office that tests/audit/test_audit.py audits."""
 
-    running = cancelled = active = broken = failed = contract = 0
+    running = active = broken = failed = contract = 0
+
+    def names(self) -> dict[str, object]:
+        moments = {name: text_of(self.deadline + later) for name, later in (("moved", 90_000), ("further", 180_000), ("start", 20_000_000))}
+        return {**super().names(), "in_time": self.deadline - 1, **moments}
 
     def before_the_deadline(self) -> None:
         """The budget, the tenderers, eight notices and their tenders. N3 is cancelled, N5 continues to receive, and tenders for N8 may be withdrawn late."""
@@ -142,7 +156,7 @@ class AuditedLife(Life):
         self.pay(self.running, "P1", 100)
         for named in ("ended", "kept", "active", "open"):
             self.judge(named)
-        self.cancelled = self.award_of("N4", "L1")
+        self.award("N4", "L1")
         self.contract_of(self.award_of("N4", "L2"))
         self.cancel("N4")
         self.active = self.award_of("N6", "L1")
