@@ -15,6 +15,8 @@ from office_kit.common import CONFIG, check, stand_in
 EMPTY = "LEDGER\nline\tappropriation\tfree\treserved\tcontracted\tpaid\n"
 # The end of a program that can't use its file: its status, its output and its line on standard error.
 REFUSED = 1, "", "procure: store\n"
+# A journal that SQLite must roll back.
+JOURNAL = b"\xd9\xd5\x05\xf9\x20\xa1\x63\xd7" + bytes(504)
 VERSION_1 = Path(__file__).parents[2] / "tests" / "version_1"
 
 
