@@ -7,20 +7,19 @@ import fcntl
 import os
 import sqlite3
 import subprocess
-import tempfile
 import time
 from contextlib import closing
-from pathlib import Path
 
 import pytest
 
 from office_kit.common import CONFIG, exchange, import_of, look, made_shim, timed_exchange
 from office_kit.store import pages
-from office_kit.store.files import EMPTY, REFUSED, copied, made_line, printed, sqlite, told, wrong
+from office_kit.store.files import EMPTY, JOURNAL, REFUSED, copied, made_line, printed, sqlite, told, wrong
 from office_kit.store.served import server
+from office_kit.store.shims import STOPPING
 
 pytestmark = [pytest.mark.needs("sqlite3", "cc"), pytest.mark.budget(100)]
-LISTENS, BESIDE = 60, "-procure-new"
+LISTENS = 60
 # The fields of the header and of the page after it, by the format of SQLite's files: name, length and value.
 FIELDS = (
     ("what every database begins with", 16, int.from_bytes(b"SQLite format 3\0", "big")),
@@ -71,34 +70,28 @@ NO_LINKS = "int link(const char *from, const char *to) { (void)from; (void)to; e
 
 
 class Folder:
-    """A folder for a file, and the program."""
+    """A folder for a file, and the program. A start puts the file under the name `spare` first."""
 
     def __init__(self, program, path):
-        self.program, self.path, self.file = program, str(path), os.path.join(path, "office.db")
-
-    def at(self, name):
-        return os.path.join(self.path, name)
-
-    def put(self, name, content=b"", mode=0o644):
-        with open(self.at(name), "wb") as file:
-            file.write(content)
-        os.chmod(self.at(name), mode)
+        self.program, self.path, self.file = program, path, path / "office.db"
+        self.log, self.spare = path / "office.db-wal", path / "office.db-procure-new"
 
     def ledger(self, name="office.db", **more):
         """The program's answer for the file: its status, and its output."""
-        return told(printed(self.program, self.at(name), env={**os.environ, **more}))
+        return told(printed(self.program, str(self.path / name), env={**os.environ, **more}))
 
-    def names(self):
-        return sorted(os.listdir(self.path))
+    def contents(self):
+        """The bytes of each file of the folder, by its name."""
+        return {path.name: content(path) for path in sorted(self.path.iterdir())}
 
     def is_new(self, name="office.db"):
         """The program makes an office there, in pages of a new file, and leaves nothing beside it but its log."""
         self.ledger(name)
         assert self.ledger(name) == (0, EMPTY, "")
-        pages.check_size(self.at(name), pages.NEW)
-        said = said_of(self.at(name))
+        pages.check_size(self.path / name, pages.NEW)
+        said = said_of(self.path / name)
         assert (said["integrity_check"], said["page_size"], said["journal_mode"]) == ("ok", pages.NEW, "wal")
-        assert not any(name.endswith(BESIDE) for name in self.names()), f"something is left: {self.names()}"
+        assert not [*self.path.glob("*-procure-new")]
 
 
 @pytest.fixture
@@ -117,41 +110,14 @@ def said_of(path):
 
 def content(path):
     """The bytes of a file; none if there is no file."""
-    if not os.path.exists(path):
-        return b""
-    with open(path, "rb") as file:
-        return file.read()
+    return path.read_bytes() if path.exists() else b""
 
 
 # ---- The page that is put there.
 
-def stopped(folder, shim, at):
-    """Starts the program over the file, and stops it before its N-th call. Returns whether it was stopped."""
-    ended = folder.ledger(LD_PRELOAD=shim, STOP_AT=str(at))
-    assert ended[0] == -9 or ended in [(0, EMPTY, made_line(folder.file)), (0, EMPTY, "")]
-    return ended[0] == -9
-
-
-def is_page_alone(folder):
-    """Whether the file is unchanged since it was put there, with nothing written into it or its log."""
-    return len(content(folder.file)) == pages.NEW and not content(folder.file + "-wal")
-
-
-def test_placed(folder):
-    """Each field has the right value."""
-    shim, at = made_shim(STOPPING, folder.path), 1
-    while not is_page_alone(folder):
-        for name in ("", "-wal"):
-            if os.path.exists(folder.file + name):
-                os.remove(folder.file + name)
-        assert stopped(folder, shim, at), "the program ends before it was seen to put a file there"
-        at += 1
-    assert content(folder.file) == PAGE
-
-
 def test_sqlite_takes_the_page(folder):
     """sqlite3 takes it for a sound database with no table, makes a table in it, and keeps its pages."""
-    folder.put("office.db", PAGE)
+    folder.file.write_bytes(PAGE)
     assert said_of(folder.file) == SAYS
     sqlite(folder.file, "CREATE TABLE notes (text TEXT); INSERT INTO notes VALUES ('a');")
     said = said_of(folder.file)
@@ -161,7 +127,7 @@ def test_sqlite_takes_the_page(folder):
 @pytest.mark.parametrize("what", PLANTED)
 def test_planted_in_the_page(folder, what):
     place, value = PLANTED[what]
-    folder.put("office.db", PAGE[:place] + bytes([value]) + PAGE[place + 1:])
+    folder.file.write_bytes(PAGE[:place] + bytes([value]) + PAGE[place + 1:])
     assert said_of(folder.file) != SAYS
 
 
@@ -171,23 +137,24 @@ def test_new(folder):
     folder.is_new()
     others = os.umask(0o022)
     os.umask(others)
-    assert os.stat(folder.file).st_mode & 0o777 == 0o644 & ~others
+    assert folder.file.stat().st_mode & 0o777 == 0o644 & ~others
 
 
 def test_new_beside_remains(folder):
     """With the remains of a start that was stopped, and with an empty log and an empty journal."""
-    folder.put("office.db-wal")
-    folder.put("office.db-journal")
-    folder.put("office.db" + BESIDE, b"left by a start that was stopped")
+    folder.log.touch()
+    (folder.path / "office.db-journal").touch()
+    folder.spare.write_bytes(b"left by a start that was stopped")
     folder.is_new()
 
 
 def test_new_by_a_link(folder):
     """Through a linked folder, whose files only their owners may remove."""
-    os.mkdir(folder.at("office"), 0o1777)
-    os.symlink("office", folder.at("link"))
+    linked = folder.path / "office"
+    linked.mkdir(0o1777)
+    (folder.path / "link").symlink_to("office")
     folder.is_new("link/office.db")
-    assert sorted(os.listdir(folder.at("office"))) == ["office.db", "office.db-wal"]
+    assert sorted(os.listdir(linked)) == ["office.db", "office.db-wal"]
 
 
 def test_new_waits(folder):
@@ -197,81 +164,78 @@ def test_new_waits(folder):
     started = subprocess.Popen([folder.program, "ledger", CONFIG, folder.file], stdout=subprocess.DEVNULL, stderr=subprocess.DEVNULL)
     try:
         time.sleep(1)
-        assert started.poll() is None and not folder.names()
+        assert started.poll() is None and not folder.contents()
     finally:
         os.close(lock)
     assert started.wait(LISTENS) == 0
     folder.is_new()
 
 
-def test_no_links(program, tmp_path, tmp_path_factory):
+def test_no_links(folder, tmp_path_factory):
     """On a file system without hard links the office is made with pages of 4,096 bytes, and nothing is left."""
-    folder, shim = Folder(program, tmp_path), made_shim(NO_LINKS, str(tmp_path_factory.mktemp("shim")))
+    shim = made_shim(NO_LINKS, str(tmp_path_factory.mktemp("shim")))
     assert [folder.ledger(LD_PRELOAD=shim) for _ in range(2)] == [(0, EMPTY, made_line(folder.file)), (0, EMPTY, "")]
     pages.check_size(folder.file, pages.FORMER)
-    assert folder.names() == ["office.db", "office.db-wal"]
+    assert [*folder.contents()] == ["office.db", "office.db-wal"]
 
 
 @pytest.mark.parametrize("name", ["office.db", "link.db"])
 @pytest.mark.parametrize("what", [b"", b"x"], ids=["empty", "one byte"])
 def test_empty(folder, what, name):
     """It becomes an office with pages of 4,096 bytes, and stays the same file, with its mode."""
-    folder.put("office.db", what, 0o640)
-    os.symlink("office.db", folder.at("link.db"))
-    found = os.stat(folder.file)
+    folder.file.write_bytes(what)
+    folder.file.chmod(0o640)
+    (folder.path / "link.db").symlink_to("office.db")
+    found = folder.file.stat()
     folder.ledger(name)
     assert folder.ledger(name) == (0, EMPTY, "")
     pages.check_size(folder.file, pages.FORMER)
     assert said_of(folder.file)["integrity_check"] == "ok"
-    stays = os.stat(folder.file)
+    stays = folder.file.stat()
     assert (stays.st_ino, stays.st_mode) == (found.st_ino, found.st_mode)
-    assert folder.names() == ["link.db", "office.db", "office.db-wal"]
+    assert [*folder.contents()] == ["link.db", "office.db", "office.db-wal"]
 
 
 # ---- What the program leaves alone.
 
 def old_log(folder):
     """Leaves a log with the import of a server that was killed, and no file to it."""
-    with server(folder.program, folder.file, 10) as (process, port):
+    with server(folder.program, folder.file) as (_, port):
         timed_exchange(port, import_of(b"B1", [b"1000,add,600,Roads"]), LISTENS)
-        process.kill()
-    assert content(folder.file + "-wal")
-    os.remove(folder.file)
+    folder.file.unlink()
 
 
-def empty_file(folder, change):
-    folder.put("office.db")
-    change()
-
-
+# Whether there is an empty file, and what is made beside it or in its place.
 ALONE = {
-    "a second name": lambda folder: empty_file(folder, lambda: os.link(folder.file, folder.at("second.db"))),
-    "a journal": lambda folder: empty_file(folder, lambda: folder.put("office.db-journal", b"\xd9\xd5\x05\xf9\x20\xa1\x63\xd7" + bytes(504))),
-    "a link that leads nowhere": lambda folder: os.symlink("absent.db", folder.file),
-    "a log whose file is gone": old_log,
+    "a second name": (True, lambda folder: os.link(folder.file, folder.path / "second.db")),
+    "a journal": (True, lambda folder: (folder.path / "office.db-journal").write_bytes(JOURNAL)),
+    "a link that leads nowhere": (False, lambda folder: folder.file.symlink_to("absent.db")),
+    "a log whose file is gone": (False, old_log),
 }
 
 
 @pytest.mark.parametrize("what", ALONE)
 def test_left_alone(folder, what):
     """Such a file is refused, and stays unchanged."""
-    ALONE[what](folder)
-    before = {it: content(folder.at(it)) for it in folder.names()}
+    is_empty, make = ALONE[what]
+    if is_empty:
+        folder.file.touch()
+    make(folder)
+    before = folder.contents()
     assert folder.ledger() == REFUSED
-    after = {it: content(folder.at(it)) for it in folder.names()}
     # (An empty log may be new.)
-    assert after in (before, {**before, "office.db-wal": b""})
+    assert folder.contents() in (before, {**before, "office.db-wal": b""})
 
 
 def test_second_name_of_a_stopped_start(folder):
     """The program removes the second name that a stopped start leaves. Another file of that name stays."""
     ledger = imported(folder, 1, 400)
-    os.link(folder.file, folder.file + BESIDE)
+    os.link(folder.file, folder.spare)
     assert folder.ledger() == (0, ledger, "")
-    assert not os.path.exists(folder.file + BESIDE)
-    folder.put("office.db" + BESIDE, b"another file")
+    assert not folder.spare.exists()
+    folder.spare.write_bytes(b"another file")
     assert folder.ledger() == (0, ledger, "")
-    assert content(folder.file + BESIDE) == b"another file"
+    assert content(folder.spare) == b"another file"
 
 
 # ---- Files that exist.
@@ -324,15 +288,20 @@ def test_two_at_once(folder, turn):
     folder.is_new()
 
 
+# ---- Starts that are stopped.
+
 def test_stops(program, tmp_path):
-    """After each stop the file is missing, or the one page, or a whole office, and the next start continues from there."""
+    """The program is stopped before its N-th call that changes a file or a folder. Each time the file is missing, or the one page, or a whole office, and the
+    next start continues from there."""
     shim, seen, at, runs = made_shim(STOPPING, str(tmp_path)), set(), 1, True
     while runs:
-        with tempfile.TemporaryDirectory(dir=tmp_path) as place:
-            folder = Folder(program, place)
-            runs = stopped(folder, shim, at)
-            seen.add(state_of(folder))
-            folder.is_new()
+        folder = Folder(program, tmp_path / str(at))
+        folder.path.mkdir()
+        ended = folder.ledger(LD_PRELOAD=shim, STOP_AT=str(at))
+        runs = ended[0] == -9
+        assert runs or ended in [(0, EMPTY, made_line(folder.file)), (0, EMPTY, "")]
+        seen.add(state_of(folder))
+        folder.is_new()
         # Once an office's tables are written a few of its calls are enough.
         at += 1 if at < 24 else 9
     assert seen == {"no file", "the page", "more"}
@@ -340,18 +309,21 @@ def test_stops(program, tmp_path):
 
 def state_of(folder):
     """The state of the path after a stop. Anything else is a fault."""
-    if not os.path.exists(folder.file):
+    found = content(folder.file)
+    if not folder.file.exists():
         return "no file"
-    if is_page_alone(folder):
-        assert content(folder.file) == PAGE, "the page isn't whole"
+    if len(found) == pages.NEW and not content(folder.log):
+        assert found == PAGE, "the page isn't whole"
         return "the page"
-    assert len(content(folder.file)) % pages.NEW == 0, "the file ends within a page"
+    assert len(found) % pages.NEW == 0, "the file ends within a page"
     said = said_of(folder.file)
     assert (said.get("integrity_check"), said.get("page_size")) == ("ok", pages.NEW)
     return "more"
 
 
-# Programs that are wrong: what each does to the file $3 before the program (PAGE has the bytes of a new file), and the test that must find it.
+# ---- Programs that are wrong.
+
+# What each does to the file $3 before the program (PAGE has the bytes of a new file), and the test that must find it.
 WRONG = {
     "pages of 4,096 bytes in a new file": ('[ -s "$3" ] || sqlite3 "$3" "PRAGMA page_size = 4096; VACUUM;"', test_new),
     "a page beside a log of another file": ('[ ! -s "$3-wal" ] || [ -s "$3" ] || cp PAGE "$3"', lambda folder: test_left_alone(folder, [*ALONE][-1])),
@@ -360,20 +332,15 @@ WRONG = {
     "a page in an empty file": ('[ ! -e "$3" ] || [ -s "$3" ] || cp PAGE "$3"', lambda folder: test_empty(folder, b"", "office.db")),
     "other pages in a file that is there": (f'[ ! -s "$3" ] || sqlite3 "$3" "{SMALL}" > "$3.out"', lambda folder: test_keeps(folder, 512)),
     "something that is left": (': > "$3-procure-new"', test_new),
-    "half a page": ('[ -s "$3" ] || { head -c 512 PAGE > "$3"; kill -9 $$; }', lambda folder: test_stops(folder.program, Path(folder.path))),
+    "half a page": ('[ -s "$3" ] || { head -c 512 PAGE > "$3"; kill -9 $$; }', lambda folder: test_stops(folder.program, folder.path)),
 }
 
 
-def in_front(program, folder, script):
-    """A program that does this before ours."""
-    page = os.path.join(folder, "page")
-    with open(page, "wb") as file:
-        file.write(PAGE)
-    return wrong(folder, script.replace("PAGE", page) + '\nexec PROGRAM "$@"', program)
-
-
 @pytest.mark.parametrize("what", WRONG)
-def test_planted(program, tmp_path, tmp_path_factory, what):
+def test_planted(folder, tmp_path_factory, what):
     script, test = WRONG[what]
+    elsewhere = tmp_path_factory.mktemp("wrong")
+    (elsewhere / "page").write_bytes(PAGE)
+    folder.program = wrong(elsewhere, script.replace("PAGE", str(elsewhere / "page")) + '\nexec PROGRAM "$@"', folder.program)
     with pytest.raises((AssertionError, FileNotFoundError)):
-        test(Folder(in_front(program, str(tmp_path_factory.mktemp("wrong")), script), tmp_path))
+        test(folder)
