@@ -9,7 +9,6 @@ import mmap
 import os
 import shutil
 import subprocess
-from collections.abc import Callable
 
 from office_kit.common import made_shim
 from office_kit.store.shims import FAULTY_DISK
@@ -58,11 +57,12 @@ class SmallDisk:
         self.folder, self.ballast = folder, os.path.join(folder, "ballast")
         subprocess.run(["mount", "-t", "tmpfs", "-o", f"size={self.SIZE}", "tmpfs", folder], check=True)
 
-    def leave(self, pages: int, begin: Callable[[], None]) -> None:
-        """Empties it, calls `begin`, and leaves space for so many pages."""
+    def clear(self) -> None:
         for name in os.listdir(self.folder):
             os.remove(os.path.join(self.folder, name))
-        begin()
+
+    def leave(self, pages: int) -> None:
+        """Leaves space for so many pages."""
         with open(self.ballast, "wb") as file:
             os.posix_fallocate(file.fileno(), 0, shutil.disk_usage(self.folder).free - pages * self.PAGE)
 

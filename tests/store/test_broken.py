@@ -1,8 +1,8 @@
 """Over an office's file in which rows are missing or changed, no command that needs them is accepted. No line is shown that doesn't add up, and no command
 moves money of it.
 
-The program makes an office with a notice in each state. In a copy of its file SQLite deletes a row or changes a sum; office_kit/store/broken_trials.sql has
-the changes for commands. A command is refused: as `Unavailable`, or with the refusal that says what is missing, if the trial names one. Nothing in the file
+The program makes an office with a notice in each state. In a copy of its file SQLite deletes a row or changes a sum; office_kit/store/broken_trials.sql
+has the changes for commands, and broken_sums.sql those of sums. A command is refused: as `Unavailable`, or with the refusal that says what is missing, if the trial names one. Nothing in the file
 changes. A few rows may be missing because the command doesn't need them; `tools/audit` finds that they are missing. A line is shown with the sums that SQLite
 finds, or is `Unavailable` if appropriation = free + reserved + contracted + paid doesn't hold. The ledger is shown if all lines add up. Faults of programs
 are found.
@@ -20,13 +20,14 @@ from office_kit.audit.office import SUMS
 from office_kit.client import COMMANDS as METHODS, Client, Port, Requests, answer_of
 from office_kit.common import ROOT, exchange, look
 from office_kit.store.broken_trials import ANEW, COMMANDS, MAY, MOVES, BrokenLife, trials
-from office_kit.store.files import dump, printed, sqlite, wrong
+from office_kit.store.files import dump, printed, scripts_of, sqlite, wrong
 from office_kit.store.served import Serving, server
 
 pytestmark = [pytest.mark.needs("sqlite3"), pytest.mark.time, pytest.mark.budget(180)]
 AUDIT = os.path.join(ROOT, "tools", "audit")
 LISTENS, UNAVAILABLE = 300, "Unavailable"
 TRIALS = {trial.name: trial for trial in trials()}
+CHANGES = {"nothing": "", **{name: script for (name,), script in scripts_of("broken_sums.sql")}}
 LINES, NAMES = ("1000", "2000"), ("appropriation", "free", "reserved", "contracted", "paid")
 
 
@@ -104,30 +105,6 @@ def test_command(whole, name, tmp_path):
 
 
 # ---- Sums.
-
-CHANGES = {
-    "nothing": "",
-    "one more is free": "UPDATE lines SET free = free + 1 WHERE line = '1000'",
-    "one less is free": "UPDATE lines SET free = free - 1 WHERE line = '2000'",
-    "all is free": "UPDATE lines SET free = appropriation",
-    "one less was appropriated": "UPDATE lines SET appropriation = appropriation - 1 WHERE line = '1000'",
-    "one was moved to another line": "UPDATE lines SET free = free + CASE line WHEN '1000' THEN 1 ELSE -1 END",
-    "one more is reserved": "UPDATE lots SET reserved = reserved + 1 WHERE notice = 'R' AND lot = 'L2'",
-    "one more is reserved and one less free": "UPDATE lots SET reserved = reserved + 1 WHERE notice = 'R' AND lot = 'L1'; "
-                                              "UPDATE lines SET free = free - 1 WHERE line = '1000'",
-    "a lot is gone": "DELETE FROM lots WHERE notice = 'A' AND lot = 'L2'",
-    "the lot of the contract is gone": "DELETE FROM lots WHERE notice = 'C' AND lot = 'L1'",
-    "the contract is gone": "DELETE FROM contracts",
-    "one more was signed": "UPDATE contracts SET signed = signed + 1",
-    "one was released": "UPDATE contracts SET released = released + 1",
-    "the raise is gone": "DELETE FROM entries WHERE kind = 'raise'",
-    "the payment is gone": "DELETE FROM entries WHERE kind = 'payment'",
-    "the payment is a cut": "UPDATE entries SET kind = 'cut' WHERE kind = 'payment'",
-    "one more was paid": "UPDATE entries SET amount = amount + 1 WHERE kind = 'payment'",
-    "more was paid than was signed": "UPDATE entries SET amount = 100000 WHERE kind = 'payment'",
-    "a line is gone": "DELETE FROM lines WHERE line = '2000'",
-}
-
 
 def sums_of(path, lines="SELECT line FROM lines"):
     """The sums of lines, as SQLite finds them. A line that doesn't add up is Unavailable."""

@@ -43,9 +43,14 @@ class Folder:
         self.path.chmod(0o777)
 
     def found(self):
-        """The content of the folder by name, without empty logs."""
-        there = {path.name: content_of(path) for path in self.path.iterdir()}
-        return {name: it for name, it in there.items() if not (name.endswith("-wal") and stat.S_ISREG(it[0]) and it[1] < LEAST)}
+        """By the names of the folder, without empty logs: the mode, the size, and a file's bytes if they may be read."""
+        found = {}
+        for path in self.path.iterdir():
+            about = path.lstat()
+            is_file = stat.S_ISREG(about.st_mode)
+            if not is_file or about.st_size >= LEAST or not path.name.endswith("-wal"):
+                found[path.name] = about.st_mode, about.st_size, path.read_bytes() if is_file and os.access(path, os.R_OK) else None
+        return found
 
     def run(self, job="ledger", name="office.db", **how):
         """Runs a program over the file of that name, in the folder."""
@@ -77,12 +82,6 @@ class Folder:
         assert self.run()[1] == EMPTY, "an office is made"
         pages.check_size(self.file, self.size)
         sqlite(self.file, script)
-
-
-def content_of(path):
-    """The mode of an entry, its size, and a file's bytes if they may be read."""
-    about = path.lstat()
-    return about.st_mode, about.st_size, path.read_bytes() if stat.S_ISREG(about.st_mode) and os.access(path, os.R_OK) else None
 
 
 @pytest.fixture(scope="module")
@@ -308,12 +307,6 @@ def test_beside(folder):
     assert sqlite(folder.file, "SELECT text FROM notes; SELECT version FROM office;") == ["a", "b", "2"], "its own rows stay"
 
 
-def test_one_byte(folder):
-    """SQLite treats a file of one byte as empty."""
-    folder.file.write_bytes(b"x")
-    assert folder.run()[1] == EMPTY, "one byte is nothing"
-
-
 def served(folder, line):
     """The standard error of a server that is killed after an import of this line."""
     with server(folder.program, "office.db", cwd=folder.path, stderr=subprocess.PIPE) as (process, port):
@@ -353,12 +346,11 @@ SILENT = 'exec PROGRAM "$@" 2> /dev/null'
 NO_INDEX = """[ -e "$3" ] && sqlite3 "$3" .schema | grep -q 'INDEX more' && exit 1; exec PROGRAM "$@\""""
 NO_ANIMAL = """[ "$(find . -size +1k -name '*-wal')" ] && sqlite3 "$3" "DELETE FROM seals WHERE animal = 'a';"; exec PROGRAM "$@\""""
 OTHER_PAGES = 'PROGRAM "$@"; sqlite3 "$3" "PRAGMA journal_mode = DELETE; PRAGMA page_size = 2048; VACUUM;" > /dev/null'
-no_write = functools.partial(test_no_right, what="a file that may not be written")
 a_text = functools.partial(test_no_database, what="a text")
 other_lines = functools.partial(test_no_office, what="another table of the name lines")
 # Such programs, the test that finds each, and the words that it must say.
 WRONG = {
-    "no right is needed": (TAKEN, no_write, "serve ended with (0"),
+    "no right is needed": (TAKEN, functools.partial(test_no_right, what="a file that may not be written"), "serve ended with (0"),
     "a folder is taken": (TAKEN, functools.partial(test_no_file, what="a folder"), "serve ended with (0"),
     "a text is taken": (TAKEN, a_text, "serve ended with (0"),
     "another database is taken": (TAKEN, other_lines, "serve ended with (0"),
@@ -381,7 +373,6 @@ WRONG = {
     "an office is made over a log": ('rm -f "$3-wal"; exec PROGRAM "$@"', test_used_log, "a new office is said once"),
     "a damaged log is dropped": (f'[ "$1" = ledger ] && {{ {COPIED}; }}; exec PROGRAM "$@"', test_used_log, "bit 0 of byte 0 of the log: ledger ended"),
     "serve doesn't say that it made an office": (SILENT, test_used_log, "a new office is said once"),
-    "one byte is refused": ('[ "$(cat "$3" 2> /dev/null)" = x ] && exit 1; exec PROGRAM "$@"', test_one_byte, "one byte is nothing"),
     "no database becomes an office": ("echo procure: store >&2; exit 1", test_beside, "it becomes an office"),
     "a row of another table goes": ("""PROGRAM "$@"; sqlite3 "$3" "DELETE FROM notes WHERE text = 'b';\"""", test_beside, "its own rows stay"),
     "it isn't said that an office was made": (SILENT, test_beside, "it is said once, and not ''"),

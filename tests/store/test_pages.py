@@ -9,6 +9,7 @@ import sqlite3
 import subprocess
 import time
 from contextlib import closing
+from pathlib import Path
 
 import pytest
 
@@ -20,39 +21,9 @@ from office_kit.store.shims import STOPPING
 
 pytestmark = [pytest.mark.needs("sqlite3", "cc"), pytest.mark.budget(100)]
 LISTENS = 60
-# The fields of the header and of the page after it, by the format of SQLite's files: name, length and value.
-FIELDS = (
-    ("what every database begins with", 16, int.from_bytes(b"SQLite format 3\0", "big")),
-    ("the page size", 2, 1024),
-    ("the format for who writes it: with a log", 1, 2),
-    ("the format for who reads it: with a log", 1, 2),
-    ("the bytes of a page that are kept for another use", 1, 0),
-    ("the most of a page that a row may take", 1, 64),
-    ("the least", 1, 32),
-    ("the least in a leaf", 1, 32),
-    ("the count of changes", 4, 0),
-    ("the count of pages", 4, 1),
-    ("the first free page", 4, 0),
-    ("the count of free pages", 4, 0),
-    ("the version of the list of tables", 4, 1),
-    ("the format of tables", 4, 4),
-    ("the size of a cache", 4, 0),
-    ("the largest root page, with auto-vacuum", 4, 0),
-    ("the encoding of texts: UTF-8", 4, 1),
-    ("the version of who uses it", 4, 0),
-    ("incremental vacuum", 4, 0),
-    ("the program that it belongs to", 4, 0),
-    ("what is kept for later", 20, 0),
-    ("the count of changes that the count of pages is of", 4, 0),
-    ("the release of SQLite", 4, 3_045_000),
-    ("the kind of the page: a leaf of a table", 1, 13),
-    ("the first free block", 2, 0),
-    ("the count of rows", 2, 0),
-    ("where the rows' bytes begin", 2, 1024),
-    ("the fragments", 1, 0),
-    ("the rest", 916, 0),
-)
-PAGE = b"".join(value.to_bytes(length, "big") for _, length, value in FIELDS)
+# The page of a new file: the fields of the header and of the page after it, by the format of SQLite's files.
+FIELDS = [line.split("\t") for line in Path(__file__).with_name("first_page.tsv").read_text().splitlines()[1:]]
+PAGE = b"SQLite format 3\0" + b"".join(int(value).to_bytes(int(length), "big") for length, value, _ in FIELDS[1:])
 # The answers of sqlite3 about the one page.
 SAYS = {
     "integrity_check": "ok", "page_size": 1024, "page_count": 1, "freelist_count": 0, "journal_mode": "wal", "encoding": "UTF-8", "auto_vacuum": 0,
@@ -187,7 +158,7 @@ def test_empty(folder, what, name):
     folder.file.chmod(0o640)
     (folder.path / "link.db").symlink_to("office.db")
     found = folder.file.stat()
-    folder.ledger(name)
+    assert folder.ledger(name)[:2] == (0, EMPTY)
     assert folder.ledger(name) == (0, EMPTY, "")
     pages.check_size(folder.file, pages.FORMER)
     assert said_of(folder.file)["integrity_check"] == "ok"
@@ -329,6 +300,7 @@ WRONG = {
     "a page beside a log of another file": ('[ ! -s "$3-wal" ] || [ -s "$3" ] || cp PAGE "$3"', lambda folder: test_left_alone(folder, [*ALONE][-1])),
     "another file in the place of an empty one": ('[ ! -e "$3" ] || [ -s "$3" ] || { cp PAGE "$3.new"; mv "$3.new" "$3"; }',
                                                   lambda folder: test_empty(folder, b"", "office.db")),
+    "one byte is refused": ('[ "$(cat "$3" 2> /dev/null)" != x ] || exit 1', lambda folder: test_empty(folder, b"x", "office.db")),
     "a page in an empty file": ('[ ! -e "$3" ] || [ -s "$3" ] || cp PAGE "$3"', lambda folder: test_empty(folder, b"", "office.db")),
     "other pages in a file that is there": (f'[ ! -s "$3" ] || sqlite3 "$3" "{SMALL}" > "$3.out"', lambda folder: test_keeps(folder, 512)),
     "something that is left": (': > "$3-procure-new"', test_new),
