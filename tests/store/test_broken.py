@@ -1,11 +1,10 @@
 """Over an office's file in which rows are missing or changed, no command that needs them is accepted. No line is shown that doesn't add up, and no command
 moves money of it.
 
-The program makes an office with a notice in each state. In a copy of its file SQLite deletes a row or changes a sum; office_kit/store/broken_trials.sql
-has the changes for commands, and broken_sums.sql those of sums. A command is refused: as `Unavailable`, or with the refusal that says what is missing, if the trial names one. Nothing in the file
-changes. A few rows may be missing because the command doesn't need them; `tools/audit` finds that they are missing. A line is shown with the sums that SQLite
-finds, or is `Unavailable` if appropriation = free + reserved + contracted + paid doesn't hold. The ledger is shown if all lines add up. Faults of programs
-are found.
+The program makes an office with a notice in each state. In a copy of its file SQLite deletes a row (office_kit/store/broken_trials.sql) or changes a sum
+(broken_sums.sql). A command is refused: as `Unavailable`, or with the refusal that says what is missing, if the trial names one. Nothing in the file changes.
+A few rows may be missing because the command doesn't need them; `tools/audit` finds that they are missing. A line is shown with the sums that SQLite finds,
+or is `Unavailable` if appropriation = free + reserved + contracted + paid doesn't hold. The ledger is shown if all lines add up. Faults of programs are found.
 """
 import os
 import re

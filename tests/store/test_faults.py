@@ -46,22 +46,23 @@ def rows_in(path, room):
         return rows_of(path, room=room) if file.read(16) == b"SQLite format 3\0" else {}
 
 
-class Office:
-    """An office's file, and the server over it, as a supervisor runs it. It serves so many connections, or three times those of a run without a fault."""
+class Office(contextlib.ExitStack):
+    """An office's file, and the server over it, as a supervisor runs it. It serves so many connections, or three times those of a run without a fault. `close`
+    kills it."""
 
     def __init__(self, trial, path, count=None):
-        self.trial, self.path, self.stack = trial, path, contextlib.ExitStack()
-        self.count = count or 3 * (len(trial.play.steps) + len(trial.play.looks) + 2)
+        super().__init__()
+        self.trial, self.path, self.count = trial, path, count or 3 * (len(trial.play.steps) + len(trial.play.looks) + 2)
 
     def start(self):
         """Whether the server listens; else it has ended with `procure: store`."""
         self.port, self.taken = free_port(), 0
         words = serve_words(self.trial.program, self.path, self.port, self.count)
-        self.process = self.stack.enter_context(running(words, env=self.trial.disk.environment(), stderr=subprocess.PIPE))
+        self.process = self.enter_context(running(words, env=self.trial.disk.environment(), stderr=subprocess.PIPE))
         end = time.monotonic() + LISTENS
         while self.ask(IDLE)[0] is None:
             if self.process.poll() is not None:
-                self.has_failed()
+                self.end()
                 return False
             assert time.monotonic() < end, "the server doesn't listen"
             time.sleep(0.002)
@@ -87,24 +88,17 @@ class Office:
         return [self.ask(it)[1] for it in self.trial.play.looks]
 
     def end(self):
-        """Waits for a server that ends on its own, and returns its status."""
+        """Waits for a server that ends on its own, and returns its status. Before its last connection it ends with `procure: store`."""
         errors = self.process.communicate(timeout=LISTENS)[1].decode().replace(made_line(self.path), "", 1)
         assert (self.process.returncode, errors) in ((0, ""), (REFUSED[0], REFUSED[2]))
+        assert self.process.returncode != 0 or self.taken >= self.count, "the server ended with status 0 before its last connection"
         return self.process.returncode
-
-    def has_failed(self):
-        """A server that doesn't answer has ended with `procure: store`."""
-        assert self.end() != 0, "the server ended with status 0 before its last connection"
 
     def use_up(self):
         """Asks until the server has served all connections, and returns its status."""
         while self.taken < self.count:
             self.ask(IDLE)
         return self.end()
-
-    def close(self):
-        """Kills the server."""
-        self.stack.close()
 
 
 class Trial:
@@ -115,7 +109,7 @@ class Trial:
         self.made, self.size, self.small, self.is_patient, self.tally = 0, 0, None, False, Counter()
         self.disk.begin()
         count = (len(self.play.steps) + 1) * (len(self.play.looks) + 2)
-        with contextlib.closing(Office(self, self.new_file(self.room), count)) as office:
+        with Office(self, self.new_file(self.room), count) as office:
             assert office.start()
             self.states = [self.reached(office, step) for step in (None, *self.play.steps)]
             assert office.use_up() == 0 and rows_in(office.path, self.room) == self.states[-1][1], "without a fault the server doesn't leave what it answered"
@@ -154,7 +148,7 @@ class Trial:
         """The server's behaviour after a command that it didn't carry out."""
         looked = office.ask(self.play.looks[0])[0]
         if looked is None:
-            office.has_failed()
+            office.end()
             return ENDED
         answers = [office.send(step)[0]]
         if answers[0] == 503:
@@ -184,7 +178,7 @@ class Trial:
     def run(self, path):
         """A play over a new file with the fault that was chosen before. The file of a failed run stays."""
         at = 0
-        with contextlib.closing(Office(self, path)) as office:
+        with Office(self, path) as office:
             if not office.start():
                 at = self.repaired(office, 0, NOT_OPENED)
             while at < len(self.play.steps):

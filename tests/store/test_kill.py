@@ -25,16 +25,15 @@ EACH_FILE, LONGEST = 10, 0.4
 
 
 def import_request(batch):
-    return import_of(batch.encode(), [b"%s-%d,add,%d,Roads" % (batch.encode(), line, line + 1) for line in range(LINES)])
+    return import_of(batch.encode(), [f"{batch}-{line},add,{line + 1},Roads".encode() for line in range(LINES)])
 
 
 class File:
     """An office's file, the imports that were sent to it and those that were answered with 200."""
 
     def __init__(self, folder, number):
-        self.path = os.path.join(folder, f"office{number}.db")
-        self.number, self.sent, self.answered = number, set(), set()
-        self.size = pages.SIZES[number % len(pages.SIZES)]
+        self.path, self.number, self.size = os.path.join(folder, f"office{number}.db"), number, pages.SIZES[number % len(pages.SIZES)]
+        self.sent, self.answered = set(), set()
         pages.begin(self.path, self.size)
 
     def send(self, port, listens, stopped):
@@ -178,18 +177,13 @@ WRONG = {
 }
 
 
-@pytest.mark.parametrize("what", PLANTED)
-def test_planted(program, left, what):
-    plant, said = PLANTED[what]
+@pytest.mark.parametrize("what", [*PLANTED, *WRONG])
+def test_planted(program, left, what, tmp_path):
+    change, said = {**PLANTED, **WRONG}[what]
+    if what in WRONG:
+        program, change = wrong(tmp_path, change, program), None
     with pytest.raises(AssertionError, match=re.escape(said)):
-        judge_planted(program, left, plant)
-
-
-@pytest.mark.parametrize("what", WRONG)
-def test_wrong_program(program, left, what, tmp_path):
-    script, said = WRONG[what]
-    with pytest.raises(AssertionError, match=re.escape(said)):
-        judge_planted(wrong(tmp_path, script, program), left)
+        judge_planted(program, left, change)
 
 
 def test_wrong_program_with_another_file(program, tmp_path):
