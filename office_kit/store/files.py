@@ -15,17 +15,15 @@ from office_kit.common import CONFIG, check, stand_in
 EMPTY = "LEDGER\nline\tappropriation\tfree\treserved\tcontracted\tpaid\n"
 # The end of a program that can't use its file: its status, its output and its line on standard error.
 REFUSED = 1, "", "procure: store\n"
-# A journal that SQLite must roll back.
-JOURNAL = b"\xd9\xd5\x05\xf9\x20\xa1\x63\xd7" + bytes(504)
 VERSION_1 = Path(__file__).parents[2] / "tests" / "version_1"
 
 
-def scripts_of(name: str) -> list[tuple[list[str], str]]:
-    """The scripts of a file of SQL in this folder, each with the lines of the comment before it. A blank line ends a script."""
+def scripts_of(name: str | Path, mark: str = "-- ") -> list[tuple[list[str], str]]:
+    """The scripts of a file, which is in this folder unless its path is absolute, each with the lines of the comment before it. A blank line ends a script."""
     found = []
     for part in (Path(__file__).parent / name).read_text(encoding="utf-8").split("\n\n"):
         lines = part.splitlines()
-        said = [line.removeprefix("-- ") for line in lines if line.startswith("-- ")]
+        said = [line.removeprefix(mark) for line in lines if line.startswith(mark)]
         found.append((said, "\n".join(lines[len(said):])))
     return [(said, script) for said, script in found if script]
 

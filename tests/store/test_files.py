@@ -6,10 +6,8 @@ programs that behave wrongly are found.
 """
 import functools
 import os
-import random
 import re
 import shutil
-import socket
 import stat
 import subprocess
 import tempfile
@@ -20,7 +18,7 @@ import pytest
 
 from office_kit.common import CONFIG, free_port, import_of, look, running, timed_exchange
 from office_kit.store import pages
-from office_kit.store.files import EMPTY, JOURNAL, REFUSED, dump, made_line, sqlite, told, unlike, wrong
+from office_kit.store.files import EMPTY, REFUSED, dump, made_line, scripts_of, sqlite, told, unlike, wrong
 from office_kit.store.served import server
 
 pytestmark = [pytest.mark.needs("sqlite3"), pytest.mark.budget(120)]
@@ -30,6 +28,8 @@ LEAST = 32 + 24 + 512
 # The bytes of a log's head and of the first page's head in it. One of them is a gate: before it is written, the log holds nothing.
 HEADS, GATE = 32 + 24, 40
 MADE = made_line("office.db")
+# The scripts that make what is refused. Their file says how they run.
+SCRIPTS = {name: script for (name,), script in scripts_of(Path(__file__).with_name("refused_files.txt"), "# ")}
 # A user who has only the rights of all users, if the tests run as root.
 NOBODY = {"user": 65534, "group": 65534, "extra_groups": []} if os.geteuid() == 0 else {}
 
@@ -135,127 +135,18 @@ def test_a_reader(folder):
     assert folder.run()[1] == EMPTY, "then it can be opened"
 
 
-NO_RIGHT = {
-    "a file that may not be written": {"office.db": 0o444},
-    "a file that may not be read": {"office.db": 0o000},
-    "a file and its log that may not be written": {"office.db": 0o444, "office.db-wal": 0o444},
-    "a log that may not be written": {"office.db": 0o666, "office.db-wal": 0o444},
-    "a folder that may not be written, without the log": {"office.db": 0o666, "": 0o555},
-    "a folder that may not be written, without the file": {"": 0o555},
-}
-
-
-@pytest.mark.parametrize("what", NO_RIGHT)
-def test_no_right(folder, what):
-    modes = NO_RIGHT[what]
-    if "office.db" in modes:
-        folder.office()
-    if "office.db-wal" in modes:
-        folder.log.touch()
-    for name, mode in modes.items():
-        (folder.path / name).chmod(mode)
-    folder.refused(**NOBODY)
-
-
-def bind(file):
-    with socket.socket(socket.AF_UNIX) as listener:
-        listener.bind(str(file))
-
-
-# The things in place of a file: how each is made, and the name that the program gets.
-NO_FILE = {
-    "a folder": (os.mkdir, "office.db"),
-    "a pipe": (os.mkfifo, "office.db"),
-    "a socket": (bind, "office.db"),
-    "a device": (id, "/dev/null"),
-    "a missing folder": (id, "absent/office.db"),
-    "a file in place of a folder": (Path.touch, "office.db/office.db"),
-    "a link to a missing folder": (lambda file: file.symlink_to("absent/office.db"), "office.db"),
-    "a long name": (id, "a" * 300),
-    "a name that is memory's": (id, ":memory:"),
-    "a URI": (id, "file:office.db"),
-    "no name": (id, ""),
-}
-
-
-@pytest.mark.parametrize("what", NO_FILE)
-def test_no_file(folder, what):
-    make, name = NO_FILE[what]
-    make(folder.file)
-    folder.refused(name)
-
-
-# The things that are made beside an office's file.
-BESIDE = {
-    "a second name": lambda folder: os.link(folder.file, folder.path / "copy.db"),
-    "a journal": lambda folder: (folder.path / "office.db-journal").write_bytes(JOURNAL),
-    "a log that is a folder": lambda folder: folder.log.mkdir(),
-}
-
-
-@pytest.mark.parametrize("what", BESIDE)
-def test_no_file_alone(folder, what):
-    folder.office()
-    BESIDE[what](folder)
-    folder.refused()
-
-
-# The bytes of files that are no database, made of an office's.
-NO_DATABASE = {
-    "a text": lambda whole, size: b"line,kind,amount,title\n" * 500,
-    "a short text": lambda whole, size: b"LEDGER\n",
-    "two bytes": lambda whole, size: b"SQ",
-    "zeros": lambda whole, size: bytes(2 * size),
-    "noise": lambda whole, size: random.Random(7).randbytes(4 * size),
-    "the head of a database": lambda whole, size: whole[:100],
-    "the first page alone": lambda whole, size: whole[:size],
-    "a file that was cut": lambda whole, size: whole[:len(whole) // 2],
-    "a file that was cut within a page": lambda whole, size: whole[:-100],
-    "a page of zeros": lambda whole, size: whole[:size] + bytes(size) + whole[2 * size:],
-}
-
-
-@pytest.mark.parametrize("what", NO_DATABASE)
-def test_no_database(folder, what):
-    folder.office("INSERT INTO lines VALUES ('1000', 'Roads', 5, 5);")
-    folder.file.write_bytes(NO_DATABASE[what](folder.file.read_bytes(), folder.size))
-    folder.refused()
-
-
-# Scripts of sqlite3 that make databases other than offices.
-FOREIGN = {
-    "another table of the name lines": "CREATE TABLE lines (line TEXT PRIMARY KEY, text TEXT); INSERT INTO lines VALUES ('1000', 'a');",
-    "another table of the name office": "CREATE TABLE office (version INTEGER PRIMARY KEY, rooms INTEGER); INSERT INTO office VALUES (12, 1);",
-    "a table of the name office, without a version": "CREATE TABLE office (room TEXT); INSERT INTO office VALUES ('12');",
-    "an index of a name of the office's": "CREATE TABLE notes (text TEXT); CREATE INDEX lots_of_line ON notes (text);",
-    "a table of the name performance": "CREATE TABLE performance (play TEXT); INSERT INTO performance VALUES ('a');",
-    "a view of the name notices": "CREATE TABLE notes (text TEXT); CREATE VIEW notices AS SELECT text FROM notes;",
-    "a table Lots, by other letters": "CREATE TABLE LOTS (room TEXT);",
-    "a table of the name seals, beside an empty log": "PRAGMA journal_mode = WAL; CREATE TABLE seals (animal TEXT);",
-}
-# Scripts of sqlite3 that change an office so that the program doesn't know it.
-UNKNOWN = {
-    "no row of the office": "DELETE FROM office;",
-    "two rows of the office": "INSERT INTO office VALUES (1, 0, 0, 0);",
-    "another version": "UPDATE office SET version = 3;",
-    "version 1, among tables of version 2": "UPDATE office SET version = 1;",
-    "no table of the office": "DROP TABLE office;",
-    "a key of another form": "CREATE TABLE kept AS SELECT * FROM office; DROP TABLE office;"
-                             "CREATE TABLE office (version INT NOT NULL, moment INTEGER, receipts INTEGER, awards INTEGER, PRIMARY KEY (version)) STRICT;"
-                             "INSERT INTO office SELECT * FROM kept; DROP TABLE kept;",
-}
-
-
-@pytest.mark.parametrize("what", {**FOREIGN, **UNKNOWN})
-def test_no_office(folder, what):
-    """`sqlite3` also finds the same rows afterwards."""
-    if what in FOREIGN:
-        folder.database(FOREIGN[what])
-    else:
-        folder.office(UNKNOWN[what])
-    before = dump(folder.file)
-    folder.refused()
-    assert dump(folder.file) == before
+@pytest.mark.parametrize("what", SCRIPTS)
+def test_refused(folder, what):
+    """In other databases and in unknown offices `sqlite3` also finds the same rows afterwards."""
+    kind = what.partition(": ")[0]
+    if kind not in ("no file", "no database", "another database"):
+        folder.office("INSERT INTO lines VALUES ('1000', 'Roads', 5, 5);")
+    how = {"cwd": folder.path, "env": {**os.environ, "SIZE": str(folder.size)}, "stdout": subprocess.PIPE, "text": True, "check": True}
+    printed = subprocess.run(["sh", "-ec", SCRIPTS[what]], **how).stdout
+    has_rows = kind in ("another database", "an unknown office")
+    before = dump(folder.file) if has_rows else None
+    folder.refused(printed.strip() if printed else "office.db", **(NOBODY if kind == "no right" else {}))
+    assert not has_rows or dump(folder.file) == before
 
 
 # The changes that sqlite3 makes to a table. One of its columns is named.
@@ -346,12 +237,12 @@ SILENT = 'exec PROGRAM "$@" 2> /dev/null'
 NO_INDEX = """[ -e "$3" ] && sqlite3 "$3" .schema | grep -q 'INDEX more' && exit 1; exec PROGRAM "$@\""""
 NO_ANIMAL = """[ "$(find . -size +1k -name '*-wal')" ] && sqlite3 "$3" "DELETE FROM seals WHERE animal = 'a';"; exec PROGRAM "$@\""""
 OTHER_PAGES = 'PROGRAM "$@"; sqlite3 "$3" "PRAGMA journal_mode = DELETE; PRAGMA page_size = 2048; VACUUM;" > /dev/null'
-a_text = functools.partial(test_no_database, what="a text")
-other_lines = functools.partial(test_no_office, what="another table of the name lines")
+a_text = functools.partial(test_refused, what="no database: a text")
+other_lines = functools.partial(test_refused, what="another database: another table of the name lines")
 # Such programs, the test that finds each, and the words that it must say.
 WRONG = {
-    "no right is needed": (TAKEN, functools.partial(test_no_right, what="a file that may not be written"), "serve ended with (0"),
-    "a folder is taken": (TAKEN, functools.partial(test_no_file, what="a folder"), "serve ended with (0"),
+    "no right is needed": (TAKEN, functools.partial(test_refused, what="no right: a file that may not be written"), "serve ended with (0"),
+    "a folder is taken": (TAKEN, functools.partial(test_refused, what="no file: a folder"), "serve ended with (0"),
     "a text is taken": (TAKEN, a_text, "serve ended with (0"),
     "another database is taken": (TAKEN, other_lines, "serve ended with (0"),
     "a table is dropped": ('[ "$1" = ledger ] && sqlite3 "$3" "DROP TABLE IF EXISTS lines;"; exec PROGRAM "$@"', other_lines, "ledger ended with (0"),

@@ -15,7 +15,7 @@ import pytest
 
 from office_kit.common import CONFIG, exchange, import_of, look, made_shim, timed_exchange
 from office_kit.store import pages
-from office_kit.store.files import EMPTY, JOURNAL, REFUSED, copied, made_line, printed, sqlite, told, wrong
+from office_kit.store.files import EMPTY, REFUSED, copied, made_line, printed, sqlite, told, wrong
 from office_kit.store.served import server
 from office_kit.store.shims import STOPPING
 
@@ -179,7 +179,7 @@ def old_log(folder):
 # Whether there is an empty file, and what is made beside it or in its place.
 ALONE = {
     "a second name": (True, lambda folder: os.link(folder.file, folder.path / "second.db")),
-    "a journal": (True, lambda folder: (folder.path / "office.db-journal").write_bytes(JOURNAL)),
+    "a journal": (True, lambda folder: (folder.path / "office.db-journal").write_bytes(b"\xd9\xd5\x05\xf9\x20\xa1\x63\xd7" + bytes(504))),
     "a link that leads nowhere": (False, lambda folder: folder.file.symlink_to("absent.db")),
     "a log whose file is gone": (False, old_log),
 }
