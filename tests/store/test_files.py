@@ -4,7 +4,6 @@ Refused means: within three seconds the program has ended with status 1 and `pro
 folder has its bytes and its mode; only an empty log may be new or different. A database that uses none of the office's names becomes an office too. Stand-in
 programs that behave wrongly are found.
 """
-import functools
 import os
 import re
 import shutil
@@ -229,59 +228,21 @@ def test_used_log(folder):
     assert (ledger.count("\t600\t600\t"), errors) == (2, ""), "its own bytes give the ledger"
 
 
-# The stand-ins, with PROGRAM as the program: accept everything, or refuse as the program does and then do something more.
-TAKEN, REFUSES = 'PROGRAM "$@" 2> /dev/null; exit 0', 'PROGRAM "$@" && exit; '
-COPIED = 'copy=$(dirname "$3")/copy.db; cp "$3" "$copy" 2> /dev/null; job=$1 settings=$2; shift 3; exec PROGRAM "$job" "$settings" "$copy" "$@"'
-NO_LEDGER = '[ "$1" = ledger ] && { echo procure: store >&2; exit 1; }; exec PROGRAM "$@"'
-SILENT = 'exec PROGRAM "$@" 2> /dev/null'
-NO_INDEX = """[ -e "$3" ] && sqlite3 "$3" .schema | grep -q 'INDEX more' && exit 1; exec PROGRAM "$@\""""
-NO_ANIMAL = """[ "$(find . -size +1k -name '*-wal')" ] && sqlite3 "$3" "DELETE FROM seals WHERE animal = 'a';"; exec PROGRAM "$@\""""
-OTHER_PAGES = 'PROGRAM "$@"; sqlite3 "$3" "PRAGMA journal_mode = DELETE; PRAGMA page_size = 2048; VACUUM;" > /dev/null'
-a_text = functools.partial(test_refused, what="no database: a text")
-other_lines = functools.partial(test_refused, what="another database: another table of the name lines")
-# Such programs, the test that finds each, and the words that it must say.
-WRONG = {
-    "no right is needed": (TAKEN, functools.partial(test_refused, what="no right: a file that may not be written"), "serve ended with (0"),
-    "a folder is taken": (TAKEN, functools.partial(test_refused, what="no file: a folder"), "serve ended with (0"),
-    "a text is taken": (TAKEN, a_text, "serve ended with (0"),
-    "another database is taken": (TAKEN, other_lines, "serve ended with (0"),
-    "a table is dropped": ('[ "$1" = ledger ] && sqlite3 "$3" "DROP TABLE IF EXISTS lines;"; exec PROGRAM "$@"', other_lines, "ledger ended with (0"),
-    "a row goes from the log": (NO_ANIMAL, test_foreign_log, "finds in it has changed"),
-    "another status": (REFUSES + "exit 2", a_text, "serve ended with (2"),
-    "another error": ('PROGRAM "$@" 2> /dev/null && exit; echo procure: input >&2; exit 1', a_text, "'procure: input"),
-    "a line is printed": (REFUSES + "echo LEDGER; exit 1", a_text, "'LEDGER"),
-    "it takes long": (REFUSES + f"sleep {AT_ONCE}; exit 1", a_text, "s to refuse"),
-    "a byte is written": (REFUSES + 'printf x >> "$3"; exit 1', a_text, "serve changed ['office.db']"),
-    "another mode": (REFUSES + 'chmod 700 "$3"; exit 1', a_text, "serve changed ['office.db']"),
-    "the file goes": (REFUSES + 'rm "$3"; exit 1', a_text, "serve changed ['office.db']"),
-    "a new journal": (REFUSES + 'echo x > "$3-journal"; exit 1', a_text, "serve changed ['office.db-journal']"),
-    "a new log with a page": (REFUSES + 'head -c 9999 /dev/zero > "$3-wal"; exit 1', a_text, "serve changed ['office.db-wal']"),
-    "a served file is read": (f'[ "$1" = ledger ] && {{ {COPIED}; }}; exec PROGRAM "$@"', test_two_servers, "ledger ended with (0"),
-    "a served file isn't locked": (f'[ "$1" = serve ] && {{ {COPIED}; }}; exec PROGRAM "$@"', test_a_reader, "sqlite3 finds the file locked, and not"),
-    "a file that was served isn't opened": (NO_LEDGER, test_two_servers, "then it can be opened"),
-    "a file that was read isn't opened": (NO_LEDGER, test_a_reader, "then it can be opened"),
-    "changes in the log are taken": (TAKEN, test_foreign_log, "changes in the log of another database: refused"),
-    "an office is made over a log": ('rm -f "$3-wal"; exec PROGRAM "$@"', test_used_log, "a new office is said once"),
-    "a damaged log is dropped": (f'[ "$1" = ledger ] && {{ {COPIED}; }}; exec PROGRAM "$@"', test_used_log, "bit 0 of byte 0 of the log: ledger ended"),
-    "serve doesn't say that it made an office": (SILENT, test_used_log, "a new office is said once"),
-    "no database becomes an office": ("echo procure: store >&2; exit 1", test_beside, "it becomes an office"),
-    "a row of another table goes": ("""PROGRAM "$@"; sqlite3 "$3" "DELETE FROM notes WHERE text = 'b';\"""", test_beside, "its own rows stay"),
-    "it isn't said that an office was made": (SILENT, test_beside, "it is said once, and not ''"),
-    "an office that lacks a table is taken": (TAKEN, test_another_form, "lines is gone: ledger ended with (0"),
-    "an office with an index more is refused": (NO_INDEX, test_another_form, "lines has an index more"),
-    "other pages": (OTHER_PAGES, test_beside, "has pages of 2048"),
-}
+# Programs that are wrong: the fault, the test that finds it, with its case, the words that it must say, and the script.
+WRONG = {fault: (test, said, script) for (fault, test, said), script in scripts_of(Path(__file__).with_name("wrong_programs.txt"), "# ")}
+TESTS = {test.__name__: test for test in (test_two_servers, test_a_reader, test_refused, test_another_form, test_foreign_log, test_beside, test_used_log)}
 
 
-@pytest.mark.parametrize("what", WRONG)
-def test_planted(folder, what):
-    script, test, said = WRONG[what]
-    folder.program = wrong(os.path.dirname(folder.program), script, folder.program)
+@pytest.mark.parametrize("fault", WRONG)
+def test_planted(folder, fault):
+    test, said, script = WRONG[fault]
+    name, *case = test.split(" ", 1)
+    folder.program = wrong(os.path.dirname(folder.program), script.replace("AT_ONCE", str(AT_ONCE)), folder.program)
     with pytest.raises((AssertionError, pytest.fail.Exception), match=re.escape(said)):
-        test(folder)
+        TESTS[name](folder, *case)
 
 
 def test_nothing_planted(folder):
     """A program that leaves a new log without a page passes."""
-    folder.program = wrong(os.path.dirname(folder.program), REFUSES + ': > "$3-wal"; exit 1', folder.program)
-    a_text(folder)
+    folder.program = wrong(os.path.dirname(folder.program), 'PROGRAM "$@" && exit; : > "$3-wal"; exit 1', folder.program)
+    test_refused(folder, "no database: a text")
