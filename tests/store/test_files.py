@@ -146,6 +146,7 @@ def test_refused(folder, what):
     before = dump(folder.file) if has_rows else None
     folder.refused(printed.strip() if printed else "office.db", **(NOBODY if kind == "no right" else {}))
     assert not has_rows or dump(folder.file) == before
+    assert kind != "no file" or not folder.log.exists() or not folder.log.stat().st_size
 
 
 # The changes that sqlite3 makes to a table. One of its columns is named.

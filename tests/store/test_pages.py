@@ -167,48 +167,6 @@ def test_empty(folder, what, name):
     assert [*folder.contents()] == ["link.db", "office.db", "office.db-wal"]
 
 
-# ---- What the program leaves alone.
-
-def old_log(folder):
-    """Leaves a log with the import of a server that was killed, and no file to it."""
-    with server(folder.program, folder.file) as (_, port):
-        timed_exchange(port, import_of(b"B1", [b"1000,add,600,Roads"]), LISTENS)
-    folder.file.unlink()
-
-
-# Whether there is an empty file, and what is made beside it or in its place.
-ALONE = {
-    "a second name": (True, lambda folder: os.link(folder.file, folder.path / "second.db")),
-    "a journal": (True, lambda folder: (folder.path / "office.db-journal").write_bytes(b"\xd9\xd5\x05\xf9\x20\xa1\x63\xd7" + bytes(504))),
-    "a link that leads nowhere": (False, lambda folder: folder.file.symlink_to("absent.db")),
-    "a log whose file is gone": (False, old_log),
-}
-
-
-@pytest.mark.parametrize("what", ALONE)
-def test_left_alone(folder, what):
-    """Such a file is refused, and stays unchanged."""
-    is_empty, make = ALONE[what]
-    if is_empty:
-        folder.file.touch()
-    make(folder)
-    before = folder.contents()
-    assert folder.ledger() == REFUSED
-    # (An empty log may be new.)
-    assert folder.contents() in (before, {**before, "office.db-wal": b""})
-
-
-def test_second_name_of_a_stopped_start(folder):
-    """The program removes the second name that a stopped start leaves. Another file of that name stays."""
-    ledger = imported(folder, 1, 400)
-    os.link(folder.file, folder.spare)
-    assert folder.ledger() == (0, ledger, "")
-    assert not folder.spare.exists()
-    folder.spare.write_bytes(b"another file")
-    assert folder.ledger() == (0, ledger, "")
-    assert content(folder.spare) == b"another file"
-
-
 # ---- Files that exist.
 
 def imported(folder, number, lines):
@@ -244,6 +202,17 @@ def test_planted_file_that_is_taken_for_a_new_one(folder):
     pages.begin(folder.file, pages.FORMER)
     with pytest.raises(AssertionError, match="has pages of 4096 bytes"):
         folder.is_new()
+
+
+def test_second_name_of_a_stopped_start(folder):
+    """The program removes the second name that a stopped start leaves. Another file of that name stays."""
+    ledger = imported(folder, 1, 400)
+    os.link(folder.file, folder.spare)
+    assert folder.ledger() == (0, ledger, "")
+    assert not folder.spare.exists()
+    folder.spare.write_bytes(b"another file")
+    assert folder.ledger() == (0, ledger, "")
+    assert content(folder.spare) == b"another file"
 
 
 @pytest.mark.parametrize("turn", range(8))
@@ -297,7 +266,6 @@ def state_of(folder):
 # What each does to the file $3 before the program (PAGE has the bytes of a new file), and the test that must find it.
 WRONG = {
     "pages of 4,096 bytes in a new file": ('[ -s "$3" ] || sqlite3 "$3" "PRAGMA page_size = 4096; VACUUM;"', test_new),
-    "a page beside a log of another file": ('[ ! -s "$3-wal" ] || [ -s "$3" ] || cp PAGE "$3"', lambda folder: test_left_alone(folder, [*ALONE][-1])),
     "another file in the place of an empty one": ('[ ! -e "$3" ] || [ -s "$3" ] || { cp PAGE "$3.new"; mv "$3.new" "$3"; }',
                                                   lambda folder: test_empty(folder, b"", "office.db")),
     "one byte is refused": ('[ "$(cat "$3" 2> /dev/null)" != x ] || exit 1', lambda folder: test_empty(folder, b"x", "office.db")),
