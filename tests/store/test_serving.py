@@ -63,17 +63,13 @@ def place(program, shim, tmp_path):
     return Place(program, shim, tmp_path)
 
 
-def sending(stream, sent):
-    """A client that has sent these bytes and will send no more."""
+def client(port, sent, patience=LISTENS):
+    """A client that has sent these bytes, once the server listens, and will send no more."""
+    stream = connect(port, patience)
     stream.settimeout(3 * PATIENCE)
     stream.sendall(sent)
     stream.shutdown(socket.SHUT_WR)
     return stream
-
-
-def client(port, sent):
-    """Such a client, once the server listens."""
-    return sending(connect(port, LISTENS), sent)
 
 
 def told(stream):
@@ -152,16 +148,12 @@ def statuses_of(process, port, lines):
     with contextlib.suppress(OSError):
         for line in lines:
             while process.poll() is None:
-                with contextlib.suppress(ConnectionRefusedError):
-                    statuses += told(sending(socket.create_connection((HOST, port)), imported(line)))[0]
+                # (It may not listen yet.)
+                with contextlib.suppress(SystemExit):
+                    statuses += told(client(port, imported(line), patience=0))[0]
                     break
                 time.sleep(0.01)
     return statuses
-
-
-def has_line(ledger, line):
-    """Whether a ledger has a line."""
-    return f"\n{line}\t" in ledger
 
 
 def ending(place, flushes, lines, db):
@@ -169,7 +161,7 @@ def ending(place, flushes, lines, db):
     with place.controlled(db, len(lines), FLUSHES=str(flushes)) as (process, port):
         statuses, errors = statuses_of(process, port, lines), errors_of(process, db)
     ledger = ledger_of(place.program, db)
-    assert all(has_line(ledger, line) for line, answer in zip(lines, statuses) if answer == b"200"), "an accepted line is missing"
+    assert all(f"\n{line}\t" in ledger for line, answer in zip(lines, statuses) if answer == b"200"), "an accepted line is missing"
     return statuses, process.returncode, errors
 
 
@@ -206,12 +198,12 @@ def test_the_end(place, size):
         assert told(client(port, IMPORT))[0] == [b"200"], "the import is answered"
         assert os.path.getsize(db + "-wal") > EMPTY_LOG, "it stands in the log"
         told(client(port, LOOK))
-    assert has_line(seen_alone(program, db), 1000), "the file alone has the line"
+    assert "\n1000\t" in seen_alone(program, db), "the file alone has the line"
     with server(program, db, 2) as (_, port):
         told(client(port, imported(1001)))
     assert os.path.getsize(db + "-wal") > EMPTY_LOG
-    assert has_line(ledger_of(program, db), 1001), "a program that prints shows it"
-    assert has_line(seen_alone(program, db), 1001)
+    assert "\n1001\t" in ledger_of(program, db), "a program that prints shows it"
+    assert "\n1001\t" in seen_alone(program, db)
     pages.check_size(db, size)
 
 
