@@ -5,7 +5,7 @@ the file alone shows nothing. The test tries that too, and tries which witnesses
 unseen are unseen.
 """
 import json
-from collections.abc import Callable
+from collections.abc import Callable, Iterator
 from pathlib import Path
 from typing import Any
 
@@ -118,38 +118,19 @@ def put(folder: str, name: str, text: str) -> None:
     Path(folder, name).write_text(text)
 
 
+CHANGES: dict[str, Callable[..., None]] = {change.__name__: change for change in (rewrite, replace, lose_notice, put)}
+
+
+def faults_outside() -> Iterator[tuple[Any, ...]]:
+    """The faults of planted_answers.tsv. A tab and the end of a line are written as \\t and \\n there."""
+    for line in Path(__file__).with_name("planted_answers.tsv").read_text(encoding="utf-8").splitlines()[1:]:
+        rule, row, further, change, *given = line.split("\t")
+        yield rule, row, (CHANGES[change], *(it.replace("\\t", "\t").replace("\\n", "\n") for it in given)), *further.split()
+
+
 # Faults of answers without a file: the rule, the row, the change of their folder with its arguments, and further arguments of the audit.
 FAULTS_OUTSIDE: list[tuple[Any, ...]] = [
     ("heads_are_in_sequence", "releases N1/5", (plant, ["releases-N1.json"], lambda package, _: lose(package, 4))),
     ("events_come_once", "notices N1", (plant, ["releases-N1.json", "record-N1.json"], lambda package, _: pay_twice(package))),
-    ("releases_follow_each_other", "releases N1/11", (rewrite, "N1", '"amount":150,', '"amount":250,')),
-    ("releases_follow_each_other", "releases N1/8", (rewrite, "N1", '"amount":630,', '"amount":640,')),
-    ("releases_follow_each_other", "releases N1/6", (rewrite, "N1", '"amount":570,', '"amount":530,')),
-    ("releases_follow_each_other", "releases N1/10", (rewrite, "N1", '"payee":{"id":"T-T1"', '"payee":{"id":"T-T3"')),
-    ("releases_follow_each_other", "releases N1/3", (rewrite, "N1", '"numberOfTenderers":4', '"numberOfTenderers":3')),
-    ("releases_follow_each_other", "releases N4/2", (rewrite, "N4", '"T-T2"', '"T-A2"')),
-    ("minutes_are_of_the_releases", "notices N1", (replace, "minutes-N1.txt", "\t570\t", "\t571\t")),
-    ("minutes_are_of_the_releases", "notices N1", (replace, "minutes-N1.txt", "Firm T4", "Firm T6")),
-    ("minutes_are_of_the_releases", "notices N2", (rewrite, "N2", '"amount":250,', '"amount":260,')),
-    ("minutes_are_of_the_releases", "notices N5", (put, "minutes-N5.txt", "MINUTES\n")),
-    ("ledger_covers_the_releases", "office 1", (rewrite, "N2", '"amount":100,', '"amount":140,')),
-    ("ledger_covers_the_releases", "office 1", (rewrite, "N2", '"amount":100,', '"amount":60,'), "--complete"),
-    ("ledger_covers_the_releases", "office 1", (lose_notice, "N5"), "--complete"),
-    ("awards_are_told_in_turn", "office 1", (lose_notice, "N2"), "--complete"),
-    ("awards_are_told_in_turn", "notices N6", (rewrite, "N6", '"id":"{active}"', '"id":"{running}"')),
-    ("receipts_are_told_in_turn", "notices N2", (replace, "minutes-N1.txt", "\t{other}\t", "\t{low}\t")),
-    ("receipts_are_told_in_turn", "notices N2", (rewrite, "N1", '"startDate":"', '"startDate":"{start}","is":"')),
-    ("listed_notices_are_of_the_releases", "notices N1", (replace, "notices.json", "Notice N1 ", "Notice N0 ")),
-    ("listed_notices_are_of_the_releases", "notices N3", (replace, "notices.json", '"cancelled"', '"receiving"')),
-    ("listed_notices_are_of_the_releases", "notices N5", (replace, "notices.json", '"notice":"N5"', '"notice":"N50"'), "--complete"),
-    ("listed_notices_are_of_the_releases", "notices N7", (lose_notice, "N7"), "--complete"),
-    ("terms_are_of_the_releases", "notices N1", (replace, "terms-N1.json", '"estimate":600', '"estimate":601')),
-    ("terms_are_of_the_releases", "notices N2", (replace, "terms-N2.json", '"points"', '"price"')),
-    ("terms_are_of_the_releases", "notices N5", (replace, "terms-N5.json", '"deadline":"20', '"deadline":"19')),
-    ("terms_are_of_the_releases", "notices N5", (replace, "terms-N5.json", '"receiving"', '"opened"'), "--complete"),
-    ("evaluations_are_of_the_minutes", "notices N1", (replace, "evaluation-N1.txt", "\tpriced\t570\t", "\tpriced\t571\t")),
-    ("evaluations_are_of_the_minutes", "notices N4", (replace, "evaluation-N4.txt", "award\t", "award\t1")),
-    ("evaluations_are_of_the_minutes", "notices N5", (put, "evaluation-N5.txt", "EVALUATION\tN5\nEND\n")),
-    ("evaluations_are_of_the_minutes", "notices N6", (put, "evaluation-N6.txt", "EVALUATION\tN6\n")),
-    ("tenderers_are_known_alike", "notices N4", (rewrite, "N4", "Firm T1", "Firm T6")),
+    *faults_outside(),
 ]
