@@ -1,8 +1,9 @@
 """The plays of tests/store/test_faults.py: commands, each with its moment, that an office accepts one after another, and not twice if that would do harm."""
-from typing import Any, NamedTuple
+from typing import NamedTuple
 
-from office_kit.client import Client, Requests, lot, notice, tender
+from office_kit.client import Client, Requests, lot, notice
 from office_kit.common import STRIDE, import_of
+from office_kit.store.life import offer
 
 
 class Step(NamedTuple):
@@ -31,14 +32,6 @@ DEADLINE = 1_772_366_400
 LINES, BATCHES, ROWS, TITLE = 2_500, 90, 250, b"Roads and bridges ".ljust(200, b".")
 
 
-def offer(unit: int) -> str:
-    return tender((3, unit))
-
-
-def published(line: str, security: int, performance: int = 0) -> dict[str, Any]:
-    return notice("2026-02-28T12:00:00Z", lot("L1", line, 600, security), performance=performance)
-
-
 def life() -> Play:
     """Two procurements with every kind of command. Before the deadline a tender is modified, one is withdrawn, and a notice is cancelled. After it a tender is
     late, and an award fails."""
@@ -47,7 +40,7 @@ def life() -> Play:
         import_of(b"B1", [b"1000,add,100000,Roads", b"2000,add,5000,Schools"]),
         office.register("T1"),
         office.register("T2"),
-        office.publish("N1", published("1000", 50, 40)),
+        office.publish("N1", notice("2026-02-28T12:00:00Z", lot("L1", "1000", 600, 50), performance=40)),
         office.present("T1", "N1", "L1", offer(150), "G1", 50),
         office.present("T2", "N1", "L1", offer(140), "G1", 50),
         office.amend_notice("N1", "2026-03-01T12:00:00Z"),
@@ -55,7 +48,7 @@ def life() -> Play:
         office.withdraw("T2", 2),
         office.present("T2", "N1", "L1", offer(120), "G1", 50),
         import_of(b"B2", [b"2000,cut,1000,Schools", b"3000,add,700,Parks"]),
-        office.publish("N2", published("2000", 0)),
+        office.publish("N2", notice("2026-02-28T12:00:00Z", lot("L1", "2000"), performance=0)),
         office.present("T1", "N2", "L1", offer(10)),
         office.cancel("N2"),
     ]

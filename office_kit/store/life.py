@@ -14,7 +14,6 @@ from office_kit.common import fail
 # The items of each lot.
 QUANTITIES = (3, 10)
 ITEMS = [(f"Part I{number}", quantity) for number, quantity in enumerate(QUANTITIES, 1)]
-TENDERERS = ["T1", "T2", "T3", "T4", "T5"]
 
 
 def part(name: str, line: str, estimate: int, security: int) -> dict[str, Any]:
@@ -105,7 +104,7 @@ class AuditedLife(Life):
     def before_the_deadline(self) -> None:
         """The budget, the tenderers, eight notices and their tenders. N3 is cancelled, N5 continues to receive, and tenders for N8 may be withdrawn late."""
         self.import_budget("B1", budget("1000,add,100000,Roads", "2000,add,100000,Schools", "2000,cut,5000,Schools", "3000,add,0007,Parks"))
-        self.enrol_in_time(*TENDERERS)
+        self.enrol_in_time("T1", "T2", "T3", "T4", "T5")
         self.announce_all()
         self.submit("dear", "T1", "N1", "L1", offer(90, 30, wrong=20), 50)
         self.submit("first", "T2", "N1", "L1", offer(100, 30), 60)

@@ -118,7 +118,7 @@ def put(folder: str, name: str, text: str) -> None:
     Path(folder, name).write_text(text)
 
 
-CHANGES: dict[str, Callable[..., None]] = {change.__name__: change for change in (rewrite, replace, lose_notice, put)}
+CHANGES: dict[str, Callable[..., None]] = {"rewrite": rewrite, "replace": replace, "lose_notice": lose_notice, "put": put}
 
 
 def faults_outside() -> Iterator[tuple[Any, ...]]:

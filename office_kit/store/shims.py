@@ -1,14 +1,8 @@
 """Libraries that tests load before the C library (LD_PRELOAD; office_kit/common.py has their head, SHIM_HEAD)."""
 from pathlib import Path
 
-
-def source_of(name: str) -> str:
-    """The source of a library, which is beside this."""
-    return Path(__file__).with_name(name).read_text(encoding="utf-8")
-
-
 # A clock, a disk that fails once (faulty_disk.py), and a process that is stopped before a call: their heads say how each is controlled.
-CLOCK, FAULTY_DISK, STOPPING = (source_of(name) for name in ("clock.c", "faulty_disk.c", "stopping.c"))
+CLOCK, FAULTY_DISK, STOPPING = (Path(__file__).with_name(name).read_text(encoding="utf-8") for name in ("clock.c", "faulty_disk.c", "stopping.c"))
 # The functions that allocate: each refuses if `is_refused`, which the library defines before, returns true.
 ALLOCATORS = r"""
 void *malloc(size_t n) { REAL(void *, "malloc", size_t); return is_refused() ? NULL : real(n); }

@@ -136,11 +136,6 @@ def try_sums(whole, change, program, folder):
     return right
 
 
-@pytest.mark.parametrize("change", CHANGES)
-def test_sums(whole, change, tmp_path):
-    try_sums(whole, CHANGES[change], whole.program, tmp_path)
-
-
 def test_sums_that_are_not_shown(whole, tmp_path):
     assert try_sums(whole, CHANGES["one more is free"], whole.program, tmp_path).count(UNAVAILABLE) == 2
 
@@ -159,9 +154,10 @@ def try_moves(whole, change, program, folder):
     return len(wrongly)
 
 
+@pytest.mark.parametrize("test", [try_sums, try_moves])
 @pytest.mark.parametrize("change", CHANGES)
-def test_moves(whole, change, tmp_path):
-    try_moves(whole, CHANGES[change], whole.program, tmp_path)
+def test_change(whole, change, test, tmp_path):
+    test(whole, CHANGES[change], whole.program, tmp_path)
 
 
 def test_moves_that_are_refused(whole, tmp_path):
@@ -170,14 +166,13 @@ def test_moves_that_are_refused(whole, tmp_path):
 
 # ---- Planted faults.
 
-WHOLE = 'cp WHOLE "$3"; exec PROGRAM "$@"'
+WHOLE, SIGN = 'cp WHOLE "$3"; exec PROGRAM "$@"', TRIALS["sign, its lot"]
 # The work of a stand-in for the program over a file, $3, the test that must find it, with what it tries, and the words that it must say.
 WRONG = {
-    "the whole file is served": (WHOLE, try_trial, TRIALS["sign, its lot"], "accepted"),
-    "a row goes behind a refusal": ('PROGRAM "$@"; sqlite3 "$3" "DELETE FROM lines;"', try_trial, TRIALS["sign, its lot"], "refused, and changed"),
-    "another refusal": ('cp "$3" "$3-2"; sqlite3 "$3-2" "DELETE FROM awards;"; exec PROGRAM "$1" "$2" "$3-2" "$4" "$5"', try_trial, TRIALS["sign, its lot"],
-                        "told NoSuch award"),
-    "another end": ('PROGRAM "$@"; exit 7', try_trial, TRIALS["sign, its lot"], "ended with (7"),
+    "the whole file is served": (WHOLE, try_trial, SIGN, "accepted"),
+    "a row goes behind a refusal": ('PROGRAM "$@"; sqlite3 "$3" "DELETE FROM lines;"', try_trial, SIGN, "refused, and changed"),
+    "another refusal": ('cp "$3" "$3-2"; sqlite3 "$3-2" "DELETE FROM awards;"; exec PROGRAM "$1" "$2" "$3-2" "$4" "$5"', try_trial, SIGN, "told NoSuch award"),
+    "another end": ('PROGRAM "$@"; exit 7', try_trial, SIGN, "ended with (7"),
     "the sums of another file": (WHOLE, try_sums, CHANGES["one more is free"], "other sums"),
     "nothing is shown": ('rm -f "$3"; exec PROGRAM "$@" 2> /dev/null', try_sums, CHANGES["nothing"], "other sums"),
     "money of another file is moved": (WHOLE, try_moves, CHANGES["all is free"], "import: accepted"),

@@ -29,10 +29,9 @@ from office_kit.store.files import REFUSED, made_line, rows_of
 
 pytestmark = [pytest.mark.needs("cc"), pytest.mark.budget(150)]
 LISTENS, IDLE = 60, look(b"/lines/none")
-# The things that a server did after a fault.
-NOT_OPENED, ENDED, LOOKED, WENT_ON = ("ended before it listened", "ended behind the answer", "answered looks, and 503 to commands, and was killed",
-                                      "did the same command at the next try")
-IN_PLACE, LAST = "did the same command once there was room", "ended with status 1 behind its last answer"
+# Things that a server did after a fault.
+LOOKED, WENT_ON = "answered looks, and 503 to commands, and was killed", "did the same command at the next try"
+IN_PLACE = "did the same command once there was room"
 # The most places at which a fault is tried, in the short form and in the long form.
 MOST, LONG_MOST = 6, {"life": 60, "imports": 20}
 
@@ -149,7 +148,7 @@ class Trial:
         looked = office.ask(self.play.looks[0])[0]
         if looked is None:
             office.end()
-            return ENDED
+            return "ended behind the answer"
         answers = [office.send(step)[0]]
         if answers[0] == 503:
             answers.append(office.send(step)[0])
@@ -180,7 +179,7 @@ class Trial:
         at = 0
         with Office(self, path) as office:
             if not office.start():
-                at = self.repaired(office, 0, NOT_OPENED)
+                at = self.repaired(office, 0, "ended before it listened")
             while at < len(self.play.steps):
                 step = self.play.steps[at]
                 status, response = office.send(step)
@@ -200,7 +199,7 @@ class Trial:
         assert self.position(office, at) == at
         pages.check_size(office.path, self.page_size)
         if has_failed:
-            self.tally[LAST] += 1
+            self.tally["ended with status 1 behind its last answer"] += 1
             assert self.begins(office, at)
 
     def spread(self, what, is_long):

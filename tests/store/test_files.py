@@ -29,6 +29,7 @@ HEADS, GATE = 32 + 24, 40
 MADE = made_line("office.db")
 # The scripts that make what is refused. Their file says how they run.
 SCRIPTS = {name: script for (name,), script in scripts_of(Path(__file__).with_name("refused_files.txt"), "# ")}
+ALL_JOBS = ("serve", "ledger", "notices", "minutes", "evaluation", "record")
 # A user who has only the rights of all users, if the tests run as root.
 NOBODY = {"user": 65534, "group": 65534, "extra_groups": []} if os.geteuid() == 0 else {}
 
@@ -68,9 +69,6 @@ class Folder:
             changed = unlike(before, self.found())
             assert not changed, f"{job} changed {changed}"
 
-    def refused_by_all(self, name="office.db"):
-        self.refused(name, ("serve", "ledger", "notices", "minutes", "evaluation", "record"))
-
     def database(self, script):
         """A database that sqlite3 makes."""
         sqlite(self.file, f"PRAGMA page_size = {self.size};{script}")
@@ -104,8 +102,8 @@ def test_two_servers(folder):
     with server(folder.program, folder.file, 3) as (process, port):
         timed_exchange(port, import_of(b"B1", [b"1000,add,600,Roads"]), LISTENS)
         (folder.path / "link.db").symlink_to("office.db")
-        folder.refused_by_all()
-        folder.refused_by_all("link.db")
+        folder.refused("office.db", ALL_JOBS)
+        folder.refused("link.db", ALL_JOBS)
         timed_exchange(port, import_of(b"B2", [b"1000,add,1,Roads"]))
         assert b"1000\t601\t601\t0\t0\t0\n" in timed_exchange(port, look(b"/ledger"))[0]
         assert process.wait(LISTENS) == 0
@@ -126,7 +124,7 @@ def test_a_reader(folder):
     with running(["sqlite3", "-batch", folder.file], stdin=subprocess.PIPE, stdout=subprocess.PIPE, text=True, bufsize=1) as reader:
         reader.stdin.write("BEGIN; SELECT count(*) FROM lines;\n")
         assert reader.stdout.readline() == "0\n"
-        folder.refused_by_all()
+        folder.refused("office.db", ALL_JOBS)
         reader.stdin.write("SELECT count(*) FROM office;\n")
         assert reader.stdout.readline() == "1\n"
         reader.stdin.close()

@@ -15,7 +15,7 @@ import pytest
 
 from office_kit.common import free_port, import_of, is_whole, look, running, serve_words, timed_exchange, what_came
 from office_kit.store import pages
-from office_kit.store.files import copied, sqlite, wrong
+from office_kit.store.files import copied, rows_of, sqlite, wrong
 from office_kit.store.served import MANY, server
 
 pytestmark = [pytest.mark.needs("sqlite3"), pytest.mark.budget(90)]
@@ -66,17 +66,16 @@ def kill_once(program, file):
 
 
 def found_by_sqlite(file):
-    """The lines that sqlite3 finds in a copy: those of whole imports, of all that were answered, and of none that wasn't sent."""
+    """The lines that SQLite finds in a copy: those of whole imports, of all that were answered, and of none that wasn't sent."""
     if not os.path.exists(file.path):
         assert not file.answered, "no file is left"
         return set()
-    with copied(file.path) as path:
-        assert sqlite(path, "PRAGMA integrity_check;", may_fail=True) == ["ok"], "integrity_check"
-        if "lines" not in sqlite(path, "SELECT name FROM sqlite_master WHERE type = 'table';"):
-            assert not file.answered, "no tables"
-            return set()
-        batches = set(sqlite(path, "SELECT batch FROM batches;"))
-        lines = set(sqlite(path, "SELECT line || ' ' || appropriation || ' ' || free FROM lines;"))
+    rows = rows_of(file.path)
+    if "lines" not in rows:
+        assert not file.answered, "no tables"
+        return set()
+    batches = {batch for batch, *_ in rows["batches"]}
+    lines = {f"{line} {appropriation} {free}" for line, _, appropriation, free in rows["lines"]}
     wanted = {f"{batch}-{line} {line + 1} {line + 1}" for batch in batches for line in range(LINES)}
     assert file.answered <= batches, "it lacks imports that were answered"
     assert batches <= file.sent, "it has imports that were not sent"

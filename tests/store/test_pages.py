@@ -228,8 +228,6 @@ def test_two_at_once(folder, turn):
     folder.is_new()
 
 
-# ---- Starts that are stopped.
-
 def test_stops(program, tmp_path):
     """The program is stopped before its N-th call that changes a file or a folder. Each time the file is missing, or the one page, or a whole office, and the
     next start continues from there."""
@@ -261,9 +259,7 @@ def state_of(folder):
     return "more"
 
 
-# ---- Programs that are wrong.
-
-# What each does to the file $3 before the program (PAGE has the bytes of a new file), and the test that must find it.
+# Programs that are wrong: what each does to the file $3 before the program (PAGE has the bytes of a new file), and the test that must find it.
 WRONG = {
     "pages of 4,096 bytes in a new file": ('[ -s "$3" ] || sqlite3 "$3" "PRAGMA page_size = 4096; VACUUM;"', test_new),
     "another file in the place of an empty one": ('[ ! -e "$3" ] || [ -s "$3" ] || { cp PAGE "$3.new"; mv "$3.new" "$3"; }',

@@ -48,9 +48,12 @@ class Place:
             yield port
             assert process.wait(LISTENS) == 0, "it ends with 0"
 
-    def controlled(self, db, count, **control):
-        """A server with the library, which gets these variables."""
-        return server(self.program, db, count, env={**os.environ, "LD_PRELOAD": self.shim, **control}, stderr=subprocess.PIPE)
+    def ended(self, db, requests, **control):
+        """The answers of a server with the library, which gets these variables; the status and the errors with which it ends on its own."""
+        with server(self.program, db, len(requests), env={**os.environ, "LD_PRELOAD": self.shim, **control}, stderr=subprocess.PIPE) as (process, port):
+            answers = answers_until_the_end(process, port, requests)
+            errors = process.communicate(timeout=LISTENS)[1].decode().replace(made_line(db), "", 1)
+        return answers, process.returncode, errors
 
 
 @pytest.fixture(scope="module")
@@ -82,9 +85,18 @@ def told(stream):
     return head.split(b" ")[1:2], body
 
 
-def errors_of(process, db):
-    """The errors of a program that ends on its own, without the line that an office was made."""
-    return process.communicate(timeout=LISTENS)[1].decode().replace(made_line(db), "", 1)
+def answers_until_the_end(process, port, requests):
+    """The answers to these requests until the program ends, perhaps before it listens."""
+    answers = []
+    with contextlib.suppress(OSError):
+        for request in requests:
+            while process.poll() is None:
+                # (It may not listen yet.)
+                with contextlib.suppress(SystemExit):
+                    answers.append(told(client(port, request, patience=0)))
+                    break
+                time.sleep(0.01)
+    return answers
 
 
 # ---- Clients.
@@ -120,19 +132,12 @@ def test_a_silent_client(place):
         assert told(behind)[0] == [b"200"], "the next one is answered"
 
 
-# ---- The clock.
-
 @pytest.mark.parametrize("second", MOMENTS, ids=[second or "no clock" for second in MOMENTS])
 def test_moment(place, second):
     """The moment of a command is the clock's second, until the last of 2099; any later second counts as that. Without a moment the program ends."""
-    with place.controlled(place.db, 1, SECOND=second) as (process, port):
-        try:
-            body = told(client(port, IMPORT))[1]
-        except OSError:
-            body = b""
-        errors = errors_of(process, place.db)
+    answers, status, errors = place.ended(place.db, [IMPORT], SECOND=second)
     right = (b'{"batch":"B1","moment":"%s","rows":1}' % MOMENTS[second].encode(), 0, "") if MOMENTS[second] else (b"", 1, "procure: input\n")
-    assert (body, process.returncode, errors) == right, "it is the clock's"
+    assert (b"".join(body for _, body in answers), status, errors) == right, "it is the clock's"
 
 
 # ---- A disk that fails.
@@ -142,36 +147,15 @@ def imported(line):
     return import_of(b"B%d" % line, [b"%d,add,600,Roads" % line])
 
 
-def statuses_of(process, port, lines):
-    """The statuses of imports of these lines until the program ends, perhaps before it listens."""
-    statuses = []
-    with contextlib.suppress(OSError):
-        for line in lines:
-            while process.poll() is None:
-                # (It may not listen yet.)
-                with contextlib.suppress(SystemExit):
-                    statuses += told(client(port, imported(line), patience=0))[0]
-                    break
-                time.sleep(0.01)
-    return statuses
-
-
-def ending(place, flushes, lines, db):
-    """The end of a program whose disk flushes so often: the statuses of its answers, its own status and its last lines. Accepted commands are kept."""
-    with place.controlled(db, len(lines), FLUSHES=str(flushes)) as (process, port):
-        statuses, errors = statuses_of(process, port, lines), errors_of(process, db)
-    ledger = ledger_of(place.program, db)
-    assert all(f"\n{line}\t" in ledger for line, answer in zip(lines, statuses) if answer == b"200"), "an accepted line is missing"
-    return statuses, process.returncode, errors
-
-
 def test_a_flush_that_fails(place, size):
-    """A disk refuses to flush, sooner or later. The program answers the current request and ends."""
+    """A disk refuses to flush, sooner or later. The program answers the current request and ends. Accepted commands are kept."""
     lines, unavailable = range(1000, 1004), 0
     for flushes in range(1000):
         db = str(place.folder / f"{flushes}.db")
         pages.begin(db, size)
-        statuses, status, errors = ending(place, flushes, lines, db)
+        answers, status, errors = place.ended(db, [imported(line) for line in lines], FLUSHES=str(flushes))
+        statuses, ledger = [it for told_status, _ in answers for it in told_status], ledger_of(place.program, db)
+        assert all(f"\n{line}\t" in ledger for line, answer in zip(lines, statuses) if answer == b"200"), "an accepted line is missing"
         if status == 0:
             assert (statuses, errors) == (len(lines) * [b"200"], ""), "all are answered with 200 then"
             break
@@ -181,8 +165,6 @@ def test_a_flush_that_fails(place, size):
         unavailable += statuses[-1:] == [b"503"]
     assert unavailable >= len(lines), f"{len(lines)} imports are answered with 503 in turn, and not {unavailable}"
 
-
-# ---- The end.
 
 def seen_alone(program, db):
     """The ledger of a copy of the file without its log, after the log was found without a page."""
@@ -206,8 +188,6 @@ def test_the_end(place, size):
     assert "\n1001\t" in seen_alone(program, db)
     pages.check_size(db, size)
 
-
-# ---- Extensions.
 
 def packages(program, settings):
     """The bodies of a notice's releases and of its record."""
