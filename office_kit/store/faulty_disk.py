@@ -31,7 +31,6 @@ class FaultyDisk:
             self.fields = memoryview(mmap.mmap(file.fileno(), FIELDS * 8)).cast("q")
 
     def environment(self) -> dict[str, str]:
-        """The environment that a program needs."""
         return {**os.environ, "LD_PRELOAD": self.shim, "FAULTS": self.path}
 
     def begin(self, flush: int = 0, left: int = ALL, write: int = 0) -> None:

@@ -17,7 +17,6 @@ ITEMS = [(f"Part I{number}", quantity) for number, quantity in enumerate(QUANTIT
 
 
 def part(name: str, line: str, estimate: int, security: int) -> dict[str, Any]:
-    """A lot of two items."""
     return lot(name, line, estimate, security, *ITEMS, title=f"Lot {name}")
 
 
@@ -86,7 +85,6 @@ class Life(Client[Answer]):
         return re.sub(r"\{(\w+)\}", lambda found: str(names[found[1]]), text)
 
     def wait(self) -> None:
-        """Waits until the deadline is over."""
         if time.time() >= self.deadline:
             fail("the deadline came before all tenders were in: the machine is too busy")
         wait_until(self.deadline + 1.05)

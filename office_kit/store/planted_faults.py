@@ -43,7 +43,6 @@ def filled(what: Any, life: AuditedLife) -> Any:
 
 
 def lose(package: Json, place: int) -> None:
-    """Loses the release of this place."""
     del package["releases"][place]
 
 
@@ -96,7 +95,6 @@ def replace(folder: str, name: str, before: str, after: str) -> None:
 
 
 def lose_notice(folder: str, notice: str) -> None:
-    """Loses all answers on a notice."""
     for path in Path(folder).glob(f"*-{notice}.*"):
         path.unlink()
 
@@ -114,7 +112,6 @@ def plant(folder: str, names: list[str], change: Callable[[Any, Any], Any]) -> N
 
 
 def put(folder: str, name: str, text: str) -> None:
-    """Adds an answer."""
     Path(folder, name).write_text(text)
 
 

@@ -140,8 +140,6 @@ def test_sums_that_are_not_shown(whole, tmp_path):
     assert try_sums(whole, CHANGES["one more is free"], whole.program, tmp_path).count(UNAVAILABLE) == 2
 
 
-# ---- Moves.
-
 def try_moves(whole, change, program, folder):
     """A command that moves money of a line that doesn't add up is refused, and changes nothing. Returns how many such commands there are."""
     path = whole.copy(folder, change)

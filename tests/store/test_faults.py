@@ -83,7 +83,6 @@ class Office(contextlib.ExitStack):
         return self.ask(step.text)
 
     def looks(self):
-        """The server's answers to all queries."""
         return [self.ask(it)[1] for it in self.trial.play.looks]
 
     def end(self):
@@ -212,17 +211,16 @@ class Trial:
         return range(1, count + 1) if count <= most else [1 + at * (count - 1) // (most - 1) for at in range(most)]
 
     def fail_once(self, **order):
-        """A play in which a call fails."""
         self.disk.begin(**order)
         self.run(self.new_file(self.room))
         assert self.disk.fields[FAILED] == 1, f"no call failed by {order}"
         self.tally[f"on {self.disk.place()}"] += 1
 
 
-LONG_PLAYS = [pytest.param(("imports", size), marks=pytest.mark.long, id=f"imports-{size}") for size in pages.SIZES]
+LONG = {"life": [], "imports": [pytest.mark.long]}
 
 
-@pytest.fixture(scope="module", params=[*(pytest.param(("life", size), id=f"life-{size}") for size in pages.SIZES), *LONG_PLAYS])
+@pytest.fixture(scope="module", params=[pytest.param((play, size), marks=LONG[play], id=f"{play}-{size}") for play in PLAYS for size in pages.SIZES])
 def trial(request, program, tmp_path_factory):
     return Trial(program, *request.param, tmp_path_factory.mktemp("faults"))
 

@@ -26,7 +26,6 @@ AT_ONCE, LISTENS = 3 * float(os.environ["SLOWNESS"]), 60
 LEAST = 32 + 24 + 512
 # The bytes of a log's head and of the first page's head in it. One of them is a gate: before it is written, the log holds nothing.
 HEADS, GATE = 32 + 24, 40
-MADE = made_line("office.db")
 # The scripts that make what is refused. Their file says how they run.
 SCRIPTS = {name: script for (name,), script in scripts_of(Path(__file__).with_name("refused_files.txt"), "# ")}
 ALL_JOBS = ("serve", "ledger", "notices", "minutes", "evaluation", "record")
@@ -191,7 +190,7 @@ def test_beside(folder):
     folder.database("CREATE TABLE notes (text TEXT); INSERT INTO notes VALUES ('a'), ('b');")
     first, second = folder.run(), folder.run()
     assert (first[1], second[1]) == (EMPTY, EMPTY), "it becomes an office"
-    assert (first[2], second[2]) == (MADE, ""), f"it is said once, and not {first[2]!r} and {second[2]!r}"
+    assert (first[2], second[2]) == (made_line("office.db"), ""), f"it is said once, and not {first[2]!r} and {second[2]!r}"
     pages.check_size(folder.file, folder.size)
     assert sqlite(folder.file, "SELECT text FROM notes; SELECT version FROM office;") == ["a", "b", "2"], "its own rows stay"
 
@@ -208,7 +207,7 @@ def test_used_log(folder):
     """A server that is killed early leaves everything in the log, beside a file without a table. With another bit in the log's head, without the file, or
     beside an empty file, the log is refused. Its own bytes give the ledger again."""
     pages.begin(folder.file, folder.size)
-    assert [served(folder, line) for line in (1000, 2000)] == [MADE, ""], "a new office is said once"
+    assert [served(folder, line) for line in (1000, 2000)] == [made_line("office.db"), ""], "a new office is said once"
     assert folder.file.stat().st_size <= folder.size and folder.log.stat().st_size > LEAST, "the file has no table"
     whole = folder.log.read_bytes()
     for at in (*range(GATE), *range(GATE + 1, HEADS)):

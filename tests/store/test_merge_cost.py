@@ -21,8 +21,7 @@ from office_kit.common import free_port, running, serve_words
 pytestmark = pytest.mark.needs("valgrind")
 # Seconds to wait for a server under valgrind.
 PATIENCE = 300
-AMENDMENTS, PAYMENTS = 5, 225
-MOST = 75
+AMENDMENTS, PAYMENTS, MOST = 5, 225, 75
 VALGRIND = ("valgrind", "--tool=cachegrind", "--cache-sim=no", "--cachegrind-out-file=/dev/null")
 
 
@@ -67,7 +66,6 @@ class Merges:
         return int(count[1].replace(",", "")), len(text.encode())
 
     def rate(self, amount):
-        """The instructions for each byte."""
         count, size = self.cost(amount)
         rate = (count - self.least) / AMENDMENTS / (size - self.few)
         print(f"a merge of {size} bytes: {rate:.1f} instructions a byte")

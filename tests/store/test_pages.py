@@ -84,8 +84,6 @@ def content(path):
     return path.read_bytes() if path.exists() else b""
 
 
-# ---- The page that is put there.
-
 def test_sqlite_takes_the_page(folder):
     """sqlite3 takes it for a sound database with no table, makes a table in it, and keeps its pages."""
     folder.file.write_bytes(PAGE)
@@ -101,8 +99,6 @@ def test_planted_in_the_page(folder, what):
     folder.file.write_bytes(PAGE[:place] + bytes([value]) + PAGE[place + 1:])
     assert said_of(folder.file) != SAYS
 
-
-# ---- New files.
 
 def test_new(folder):
     folder.is_new()
@@ -166,8 +162,6 @@ def test_empty(folder, what, name):
     assert (stays.st_ino, stays.st_mode) == (found.st_ino, found.st_mode)
     assert [*folder.contents()] == ["link.db", "office.db", "office.db-wal"]
 
-
-# ---- Files that exist.
 
 def imported(folder, number, lines):
     """Serves the file for an import and a query: the ledger then has so many lines."""

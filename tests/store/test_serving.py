@@ -143,7 +143,6 @@ def test_moment(place, second):
 # ---- A disk that fails.
 
 def imported(line):
-    """An import of this line, in a batch of its own."""
     return import_of(b"B%d" % line, [b"%d,add,600,Roads" % line])
 
 
@@ -212,7 +211,6 @@ def test_extensions(place):
 # ---- Servers that are wrong.
 
 def response_of(status, body):
-    """A response as the program makes it."""
     return b"HTTP/1.1 %s\r\nContent-Length: %d\r\n\r\n%s" % (status, len(body), body)
 
 
