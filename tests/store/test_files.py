@@ -26,7 +26,7 @@ AT_ONCE, LISTENS = 3 * float(os.environ["SLOWNESS"]), 60
 LEAST = 32 + 24 + 512
 # The bytes of a log's head and of the first page's head in it. One of them is a gate: before it is written, the log holds nothing.
 HEADS, GATE = 32 + 24, 40
-# The scripts that make what is refused. Their file says how they run.
+# The scripts that make files which are refused. Their file says how they run.
 SCRIPTS = {name: script for (name,), script in scripts_of(Path(__file__).with_name("refused_files.txt"), "# ")}
 ALL_JOBS = ("serve", "ledger", "notices", "minutes", "evaluation", "record")
 # A user who has only the rights of all users, if the tests run as root.
