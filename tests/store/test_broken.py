@@ -165,7 +165,7 @@ def test_moves_that_are_refused(whole, tmp_path):
 # ---- Planted faults.
 
 WHOLE, SIGN = 'cp WHOLE "$3"; exec PROGRAM "$@"', TRIALS["sign, its lot"]
-# Stand-ins for the program: the work of each on a file, $3; the test that must find it; the trial or change for this test; and the words that it must say.
+# Stand-ins for the program: the work of each on a file, $3, and the test that must find it. This test gets a trial or a change, and must say the words.
 WRONG = {
     "the whole file is served": (WHOLE, try_trial, SIGN, "accepted"),
     "a row goes behind a refusal": ('PROGRAM "$@"; sqlite3 "$3" "DELETE FROM lines;"', try_trial, SIGN, "refused, and changed"),
