@@ -8,6 +8,7 @@ import copy
 import os
 import random
 import re
+import sqlite3
 import threading
 import time
 
@@ -164,7 +165,8 @@ PLANTED = {
     "an import that wasn't sent": (f"INSERT INTO batches SELECT 'F0B3', moment, rows FROM batches WHERE batch = 'F0B2'; {NEXT}", "not sent"),
     "no tables": ("DROP TABLE lines;", "no tables"),
     "no file": (os.remove, "no file is left"),
-    "a page that no table has": ("PRAGMA writable_schema = ON; DELETE FROM sqlite_schema WHERE name = 'notices';", "integrity_check"),
+    "an index that no table has": ("PRAGMA writable_schema = ON; DELETE FROM sqlite_schema WHERE name = 'notices';", "orphan index"),
+    "a page that no table has": ("PRAGMA writable_schema = ON; DELETE FROM sqlite_schema WHERE tbl_name = 'notices';", "integrity_check"),
     "pages of another size": (f"PRAGMA journal_mode = DELETE; PRAGMA page_size = {pages.NEW}; VACUUM;", "has pages of"),
 }
 # Programs that open such a file after the kill, and the words that must be said of each.
@@ -181,7 +183,7 @@ def test_planted(program, left, what, tmp_path):
     change, said = {**PLANTED, **WRONG}[what]
     if what in WRONG:
         program, change = wrong(tmp_path, change, program), None
-    with pytest.raises(AssertionError, match=re.escape(said)):
+    with pytest.raises((AssertionError, sqlite3.DatabaseError), match=re.escape(said)):
         judge_planted(program, left, change)
 
 
