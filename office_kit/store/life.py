@@ -77,7 +77,7 @@ class Life(Client[Answer]):
 
     def names(self) -> dict[str, object]:
         """The values that scripts name in braces: the numbers that the office gave."""
-        return {**self.receipt, **vars(self)}
+        return {**vars(self), **self.receipt}
 
     def filled(self, text: str) -> str:
         """A text with the office's value in the place of each name in braces."""
@@ -97,7 +97,7 @@ class AuditedLife(Life):
 
     def names(self) -> dict[str, object]:
         moments = {name: text_of(self.deadline + later) for name, later in (("moved", 90_000), ("further", 180_000), ("start", 20_000_000))}
-        return {**super().names(), "in_time": self.deadline - 1, **moments}
+        return {**super().names(), "active": self.active, "in_time": self.deadline - 1, **moments}
 
     def before_the_deadline(self) -> None:
         """The budget, the tenderers, eight notices and their tenders. N3 is cancelled, N5 continues to receive, and tenders for N8 may be withdrawn late."""

@@ -114,8 +114,6 @@ def test_kills(program, tmp_path, seed, is_long):
     assert any(file.answered for file in files)
 
 
-# ---- Planted faults.
-
 def three_imports(program, folder):
     """A file that a kill left after three imports. The last counts as one that wasn't answered."""
     file = File(folder, 0)
