@@ -3,6 +3,7 @@
 It takes five seconds, mostly waiting for a deadline.
 """
 import math
+import re
 import time
 from collections.abc import Mapping
 from typing import Any
@@ -13,11 +14,9 @@ from office_kit.common import fail
 # The items of each lot.
 QUANTITIES = (3, 10)
 ITEMS = [(f"Part I{number}", quantity) for number, quantity in enumerate(QUANTITIES, 1)]
-TENDERERS = ["T1", "T2", "T3", "T4", "T5"]
 
 
 def part(name: str, line: str, estimate: int, security: int) -> dict[str, Any]:
-    """A lot of two items."""
     return lot(name, line, estimate, security, *ITEMS, title=f"Lot {name}")
 
 
@@ -76,8 +75,16 @@ class Life(Client[Answer]):
         """Signs an award, with a security of its own name if an amount is given."""
         return int(self.sign(award, f"P{award}" if security else None, security)["contract"])
 
+    def names(self) -> dict[str, object]:
+        """The values that scripts name in braces: the numbers that the office gave."""
+        return {**vars(self), **self.receipt}
+
+    def filled(self, text: str) -> str:
+        """A text with the office's value in the place of each name in braces."""
+        names = self.names()
+        return re.sub(r"\{(\w+)\}", lambda found: str(names[found[1]]), text)
+
     def wait(self) -> None:
-        """Waits until the deadline is over."""
         if time.time() >= self.deadline:
             fail("the deadline came before all tenders were in: the machine is too busy")
         wait_until(self.deadline + 1.05)
@@ -86,12 +93,16 @@ class Life(Client[Answer]):
 class AuditedLife(Life):
     """The office that tests/audit/test_audit.py audits."""
 
-    running = cancelled = active = broken = failed = contract = 0
+    running = active = broken = failed = contract = 0
+
+    def names(self) -> dict[str, object]:
+        moments = {name: text_of(self.deadline + later) for name, later in (("moved", 90_000), ("further", 180_000), ("start", 20_000_000))}
+        return {**super().names(), "active": self.active, "in_time": self.deadline - 1, **moments}
 
     def before_the_deadline(self) -> None:
         """The budget, the tenderers, eight notices and their tenders. N3 is cancelled, N5 continues to receive, and tenders for N8 may be withdrawn late."""
         self.import_budget("B1", budget("1000,add,100000,Roads", "2000,add,100000,Schools", "2000,cut,5000,Schools", "3000,add,0007,Parks"))
-        self.enrol_in_time(*TENDERERS)
+        self.enrol_in_time("T1", "T2", "T3", "T4", "T5")
         self.announce_all()
         self.submit("dear", "T1", "N1", "L1", offer(90, 30, wrong=20), 50)
         self.submit("first", "T2", "N1", "L1", offer(100, 30), 60)
@@ -142,7 +153,7 @@ class AuditedLife(Life):
         self.pay(self.running, "P1", 100)
         for named in ("ended", "kept", "active", "open"):
             self.judge(named)
-        self.cancelled = self.award_of("N4", "L1")
+        self.award("N4", "L1")
         self.contract_of(self.award_of("N4", "L2"))
         self.cancel("N4")
         self.active = self.award_of("N6", "L1")

@@ -21,19 +21,13 @@ def begin(path: str, size: int) -> None:
         base.close()
 
 
-def size_of(path: str) -> int:
-    """The size of its pages that a database file names: in two bytes, where 1 means 65,536."""
+def check_size(path: str, size: int) -> None:
+    """Checks that a file is a database with pages of this size, which it names in two bytes: 1 means 65,536."""
     with open(path, "rb") as file:
         head = file.read(18)
     check(f"{path} is no database", head.startswith(b"SQLite format 3\0"))
     named = int.from_bytes(head[16:], "big")
-    return 65_536 if named == 1 else named
-
-
-def check_size(path: str, size: int) -> None:
-    """Checks that a file has pages of this size."""
-    found = size_of(path)
-    check(f"{path} has pages of {found} bytes, and not of {size}", found == size)
+    check(f"{path} has pages of {named} bytes, and not of {size}", named == (1 if size == 65_536 else size))
 
 
 def sizes_of(words: str) -> list[int]:

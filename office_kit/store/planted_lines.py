@@ -61,13 +61,9 @@ def cut(lines: list[Json], route: str) -> None:
     del lines[at(lines, route)]["roles"]
 
 
-def again(lines: list[Json], route: str) -> None:
-    """Adds the last line of a route a second time."""
-    lines.append(dict(lines[at(lines, route)]))
-
-
-def invented(lines: list[Json], route: str) -> None:
-    lines.append({**lines[-1], "route": f"POST {route}", "status": 200})
+def added(lines: list[Json], route: str, **members: object) -> None:
+    """Adds the last line of a route a second time, with these members."""
+    lines.append({**lines[at(lines, route)], **members})
 
 
 def swapped(lines: list[Json], _: str) -> None:
@@ -93,8 +89,8 @@ FAULTS_OF_LINES: list[tuple[Any, ...]] = [
     (GONE, "releases N2/5", put, PAY, {"body": OTHER.replace("P1", "P2")}),
     # A line too many: of a command that was refused to somebody, the same line again, and one of no command.
     (MANY, f"front {WRONG}", put, WRONG, {"status": 200}),
-    (MANY, f"front {PAY}", again, PAY, {}),
-    (MANY, f"front {WRONG}", invented, WRONG, {}),
+    (MANY, f"front {PAY}", added, PAY, {}),
+    (MANY, f"front {WRONG}", added, WRONG, {"status": 200}),
     # The name is lost, or the bodies are others.
     ("commands_have_a_name", "releases N2/5", put, PAY, {"name": ""}),
     (BODIES, "releases N2/5", put, PAY, {"body": OTHER}),

@@ -1,25 +1,8 @@
 """Libraries that tests load before the C library (LD_PRELOAD; office_kit/common.py has their head, SHIM_HEAD)."""
+from pathlib import Path
 
-# The clock shows the second that SECOND names, and can't be read if that is empty. Flushes fail, from the one on whose number FLUSHES names.
-# (A program with AddressSanitizer asks for the clock before `dlsym` can be called.)
-CLOCK = r"""
-#include <sys/syscall.h>
-int clock_gettime(clockid_t id, struct timespec *at) {
-    const char *second = getenv("SECOND");
-    if (id != CLOCK_REALTIME || !second) return (int)syscall(SYS_clock_gettime, id, at);
-    if (!*second) { errno = EPERM; return -1; }
-    at->tv_sec = atoll(second);
-    at->tv_nsec = 999999999;
-    return 0;
-}
-int fdatasync(int file) {
-    static long flushed;
-    const char *flushes = getenv("FLUSHES");
-    if (flushes && flushed++ >= atol(flushes)) { errno = EIO; return -1; }
-    return (int)syscall(SYS_fdatasync, file);
-}
-"""
-
+# A clock, a disk that fails once (faulty_disk.py), and a process that is stopped before a call: their heads say how each is controlled.
+CLOCK, FAULTY_DISK, STOPPING = (Path(__file__).with_name(name).read_text(encoding="utf-8") for name in ("clock.c", "faulty_disk.c", "stopping.c"))
 # The functions that allocate: each refuses if `is_refused`, which the library defines before, returns true.
 ALLOCATORS = r"""
 void *malloc(size_t n) { REAL(void *, "malloc", size_t); return is_refused() ? NULL : real(n); }

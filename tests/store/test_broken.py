@@ -1,11 +1,10 @@
 """Over an office's file in which rows are missing or changed, no command that needs them is accepted. No line is shown that doesn't add up, and no command
 moves money of it.
 
-The program makes an office with a notice in each state. In a copy of its file SQLite deletes a row or changes a sum; office_kit/store/broken_trials.py has
-the changes for commands. A command is refused: as `Unavailable`, or with the refusal that says what is missing, if the trial names one. Nothing in the file
-changes. A few rows may be missing because the command doesn't need them; `tools/audit` finds that they are missing. A line is shown with the sums that SQLite
-finds, or is `Unavailable` if appropriation = free + reserved + contracted + paid doesn't hold. The ledger is shown if all lines add up. Faults of programs
-are found.
+The program makes an office with a notice in each state. In a copy of its file SQLite deletes a row (office_kit/store/broken_trials.sql) or changes a sum
+(broken_sums.sql). A command is refused: as `Unavailable`, or with the refusal that says what is missing, if the trial names one. Nothing in the file changes.
+A few rows may be missing because the command doesn't need them; `tools/audit` finds that they are missing. A line is shown with the sums that SQLite finds,
+or is `Unavailable` if appropriation = free + reserved + contracted + paid doesn't hold. The ledger is shown if all lines add up. Faults of programs are found.
 """
 import os
 import re
@@ -19,14 +18,16 @@ import pytest
 from office_kit.audit.office import SUMS
 from office_kit.client import COMMANDS as METHODS, Client, Port, Requests, answer_of
 from office_kit.common import ROOT, exchange, look
-from office_kit.store.broken_trials import ANEW, COMMANDS, MAY, MOVES, BrokenLife, trials_of
-from office_kit.store.files import dump, printed, sqlite, wrong
+from office_kit.store.broken_trials import ANEW, COMMANDS, MAY, MOVES, BrokenLife, trials
+from office_kit.store.files import dump, printed, scripts_of, sqlite, wrong
 from office_kit.store.served import Serving, server
 
 pytestmark = [pytest.mark.needs("sqlite3"), pytest.mark.time, pytest.mark.budget(180)]
 AUDIT = os.path.join(ROOT, "tools", "audit")
 LISTENS, UNAVAILABLE = 300, "Unavailable"
-TRIALS = {trial.name: trial for trial in trials_of(*COMMANDS)}
+TRIALS = {trial.name: trial for trial in trials()}
+CHANGES = {"nothing": "", **{name: script for (name,), script in scripts_of("broken_sums.sql")}}
+LINES, NAMES = ("1000", "2000"), ("appropriation", "free", "reserved", "contracted", "paid")
 
 
 class Whole:
@@ -41,7 +42,6 @@ class Whole:
         sqlite(self.path, "PRAGMA wal_checkpoint(TRUNCATE);")
 
     def request_of(self, command):
-        """The bytes of a command."""
         method, arguments = COMMANDS[command]
         return getattr(Client(Requests(), self.life.key_of), method)(*arguments(self.life))
 
@@ -103,48 +103,7 @@ def test_command(whole, name, tmp_path):
     try_trial(whole, TRIALS[name], whole.program, tmp_path)
 
 
-# The work of a stand-in for the program over a file, $3, before or after it, and the words that the test must say of it.
-WRONG = {
-    "the whole file is served": ('cp WHOLE "$3"; exec PROGRAM "$@"', "accepted"),
-    "a row goes behind a refusal": ('PROGRAM "$@"; sqlite3 "$3" "DELETE FROM lines;"', "refused, and changed"),
-    "another refusal": ('cp "$3" "$3-2"; sqlite3 "$3-2" "DELETE FROM awards;"; exec PROGRAM "$1" "$2" "$3-2" "$4" "$5"', "told NoSuch award"),
-    "another end": ('PROGRAM "$@"; exit 7', "ended with (7"),
-}
-
-
-@pytest.mark.parametrize("what", WRONG)
-def test_planted_in_commands(whole, what, tmp_path):
-    script, said = WRONG[what]
-    with pytest.raises(AssertionError, match=re.escape(said)):
-        try_trial(whole, TRIALS["sign, its lot"], wrong(tmp_path, script.replace("WHOLE", whole.path), whole.program), tmp_path)
-
-
 # ---- Sums.
-
-LINES, NAMES = ("1000", "2000"), ("appropriation", "free", "reserved", "contracted", "paid")
-CHANGES = {
-    "nothing": "",
-    "one more is free": "UPDATE lines SET free = free + 1 WHERE line = '1000'",
-    "one less is free": "UPDATE lines SET free = free - 1 WHERE line = '2000'",
-    "all is free": "UPDATE lines SET free = appropriation",
-    "one less was appropriated": "UPDATE lines SET appropriation = appropriation - 1 WHERE line = '1000'",
-    "one was moved to another line": "UPDATE lines SET free = free + CASE line WHEN '1000' THEN 1 ELSE -1 END",
-    "one more is reserved": "UPDATE lots SET reserved = reserved + 1 WHERE notice = 'R' AND lot = 'L2'",
-    "one more is reserved and one less free": "UPDATE lots SET reserved = reserved + 1 WHERE notice = 'R' AND lot = 'L1'; "
-                                              "UPDATE lines SET free = free - 1 WHERE line = '1000'",
-    "a lot is gone": "DELETE FROM lots WHERE notice = 'A' AND lot = 'L2'",
-    "the lot of the contract is gone": "DELETE FROM lots WHERE notice = 'C' AND lot = 'L1'",
-    "the contract is gone": "DELETE FROM contracts",
-    "one more was signed": "UPDATE contracts SET signed = signed + 1",
-    "one was released": "UPDATE contracts SET released = released + 1",
-    "the raise is gone": "DELETE FROM entries WHERE kind = 'raise'",
-    "the payment is gone": "DELETE FROM entries WHERE kind = 'payment'",
-    "the payment is a cut": "UPDATE entries SET kind = 'cut' WHERE kind = 'payment'",
-    "one more was paid": "UPDATE entries SET amount = amount + 1 WHERE kind = 'payment'",
-    "more was paid than was signed": "UPDATE entries SET amount = 100000 WHERE kind = 'payment'",
-    "a line is gone": "DELETE FROM lines WHERE line = '2000'",
-}
-
 
 def sums_of(path, lines="SELECT line FROM lines"):
     """The sums of lines, as SQLite finds them. A line that doesn't add up is Unavailable."""
@@ -173,31 +132,13 @@ def answers_of(program, path):
 def try_sums(whole, change, program, folder):
     path = whole.copy(folder, change)
     right = right_answers(path)
-    assert answers_of(program, path) == [*right, right[-1]]
+    assert answers_of(program, path) == [*right, right[-1]], "other sums"
     return right
-
-
-@pytest.mark.parametrize("change", CHANGES)
-def test_sums(whole, change, tmp_path):
-    try_sums(whole, CHANGES[change], whole.program, tmp_path)
 
 
 def test_sums_that_are_not_shown(whole, tmp_path):
     assert try_sums(whole, CHANGES["one more is free"], whole.program, tmp_path).count(UNAVAILABLE) == 2
 
-
-WRONG_SUMS = {"the sums of another file": ('cp "WHOLE" "$3"; exec PROGRAM "$@"', "one more is free"),
-              "nothing is shown": ('rm -f "$3"; exec PROGRAM "$@" 2> /dev/null', "nothing")}
-
-
-@pytest.mark.parametrize("what", WRONG_SUMS)
-def test_planted_in_sums(whole, what, tmp_path):
-    script, change = WRONG_SUMS[what]
-    with pytest.raises(AssertionError, match="(?s)assert .*=="):
-        try_sums(whole, CHANGES[change], wrong(tmp_path, script.replace("WHOLE", whole.path), whole.program), tmp_path)
-
-
-# ---- Moves.
 
 def try_moves(whole, change, program, folder):
     """A command that moves money of a line that doesn't add up is refused, and changes nothing. Returns how many such commands there are."""
@@ -211,15 +152,33 @@ def try_moves(whole, change, program, folder):
     return len(wrongly)
 
 
+@pytest.mark.parametrize("test", [try_sums, try_moves])
 @pytest.mark.parametrize("change", CHANGES)
-def test_moves(whole, change, tmp_path):
-    try_moves(whole, CHANGES[change], whole.program, tmp_path)
+def test_change(whole, change, test, tmp_path):
+    test(whole, CHANGES[change], whole.program, tmp_path)
 
 
 def test_moves_that_are_refused(whole, tmp_path):
     assert try_moves(whole, CHANGES["all is free"], whole.program, tmp_path) == len(MOVES) - 1
 
 
-def test_planted_in_moves(whole, tmp_path):
-    with pytest.raises(AssertionError, match="import: accepted"):
-        try_moves(whole, CHANGES["all is free"], wrong(tmp_path, f'cp {whole.path} "$3"; exec PROGRAM "$@"', whole.program), tmp_path)
+# ---- Planted faults.
+
+WHOLE, SIGN = 'cp WHOLE "$3"; exec PROGRAM "$@"', TRIALS["sign, its lot"]
+# Stand-ins for the program: the work of each on a file, $3, and the test that must find it. This test gets a trial or a change, and must say the words.
+WRONG = {
+    "the whole file is served": (WHOLE, try_trial, SIGN, "accepted"),
+    "a row goes behind a refusal": ('PROGRAM "$@"; sqlite3 "$3" "DELETE FROM lines;"', try_trial, SIGN, "refused, and changed"),
+    "another refusal": ('cp "$3" "$3-2"; sqlite3 "$3-2" "DELETE FROM awards;"; exec PROGRAM "$1" "$2" "$3-2" "$4" "$5"', try_trial, SIGN, "told NoSuch award"),
+    "another end": ('PROGRAM "$@"; exit 7', try_trial, SIGN, "ended with (7"),
+    "the sums of another file": (WHOLE, try_sums, CHANGES["one more is free"], "other sums"),
+    "nothing is shown": ('rm -f "$3"; exec PROGRAM "$@" 2> /dev/null', try_sums, CHANGES["nothing"], "other sums"),
+    "money of another file is moved": (WHOLE, try_moves, CHANGES["all is free"], "import: accepted"),
+}
+
+
+@pytest.mark.parametrize("what", WRONG)
+def test_planted(whole, what, tmp_path):
+    script, test, given, said = WRONG[what]
+    with pytest.raises(AssertionError, match=re.escape(said)):
+        test(whole, given, wrong(tmp_path, script.replace("WHOLE", whole.path), whole.program), tmp_path)

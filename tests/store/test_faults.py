@@ -11,6 +11,7 @@ isn't answered with 200. The test then sends a query and the same command, to fi
 the server's answers, each command that was answered with 200 is stored, and none in part; the next one may be. The play continues from there to its end. A
 server whose file is shut, so that it answers 503 to everything, has ended with `procure: store` on its own.
 """
+import contextlib
 import os
 import shutil
 import socket
@@ -20,7 +21,7 @@ from collections import Counter
 
 import pytest
 
-from office_kit.common import HOST, free_port, look, read_all, serve_words
+from office_kit.common import HOST, free_port, look, read_all, running, serve_words
 from office_kit.store import pages
 from office_kit.store.fault_plays import PLAYS
 from office_kit.store.faulty_disk import ALL, EVEN, FAILED, FLUSHES, NONE, ODD, WRITES, FaultyDisk, SmallDisk
@@ -28,10 +29,9 @@ from office_kit.store.files import REFUSED, made_line, rows_of
 
 pytestmark = [pytest.mark.needs("cc"), pytest.mark.budget(150)]
 LISTENS, IDLE = 60, look(b"/lines/none")
-# The things that a server did after a fault.
-NOT_OPENED, ENDED, LOOKED, WENT_ON = ("ended before it listened", "ended behind the answer", "answered looks, and 503 to commands, and was killed",
-                                      "did the same command at the next try")
-IN_PLACE, LAST = "did the same command once there was room", "ended with status 1 behind its last answer"
+# Things that a server did after a fault.
+LOOKED, WENT_ON = "answered looks, and 503 to commands, and was killed", "did the same command at the next try"
+IN_PLACE = "did the same command once there was room"
 # The most places at which a fault is tried, in the short form and in the long form.
 MOST, LONG_MOST = 6, {"life": 60, "imports": 20}
 
@@ -45,20 +45,23 @@ def rows_in(path, room):
         return rows_of(path, room=room) if file.read(16) == b"SQLite format 3\0" else {}
 
 
-class Office:
-    """An office's file, and the server over it, as a supervisor runs it."""
+class Office(contextlib.ExitStack):
+    """An office's file, and the server over it, as a supervisor runs it. It serves so many connections, or three times those of a run without a fault. `close`
+    kills it."""
 
-    def __init__(self, trial, path, count):
-        self.program, self.disk, self.play, self.path, self.count, self.process = trial.program, trial.disk, trial.play, path, count, None
+    def __init__(self, trial, path, count=None):
+        super().__init__()
+        self.trial, self.path, self.count = trial, path, count or 3 * (len(trial.play.steps) + len(trial.play.looks) + 2)
 
     def start(self):
         """Whether the server listens; else it has ended with `procure: store`."""
         self.port, self.taken = free_port(), 0
-        self.process = subprocess.Popen(serve_words(self.program, self.path, self.port, self.count), env=self.disk.environment(), stderr=subprocess.PIPE)
+        words = serve_words(self.trial.program, self.path, self.port, self.count)
+        self.process = self.enter_context(running(words, env=self.trial.disk.environment(), stderr=subprocess.PIPE))
         end = time.monotonic() + LISTENS
         while self.ask(IDLE)[0] is None:
             if self.process.poll() is not None:
-                self.has_failed()
+                self.end()
                 return False
             assert time.monotonic() < end, "the server doesn't listen"
             time.sleep(0.002)
@@ -76,33 +79,24 @@ class Office:
         return (int(response.split(b" ", 2)[1]), response) if response.startswith(b"HTTP/1.1 ") else (None, response)
 
     def send(self, step):
-        self.disk.set_clock(step.second)
+        self.trial.disk.set_clock(step.second)
         return self.ask(step.text)
 
     def looks(self):
-        """The server's answers to all queries."""
-        return [self.ask(it)[1] for it in self.play.looks]
+        return [self.ask(it)[1] for it in self.trial.play.looks]
 
     def end(self):
-        """Waits for a server that ends on its own, and returns its status."""
+        """Waits for a server that ends on its own, and returns its status. Before its last connection it ends with `procure: store`."""
         errors = self.process.communicate(timeout=LISTENS)[1].decode().replace(made_line(self.path), "", 1)
         assert (self.process.returncode, errors) in ((0, ""), (REFUSED[0], REFUSED[2]))
+        assert self.process.returncode != 0 or self.taken >= self.count, "the server ended with status 0 before its last connection"
         return self.process.returncode
-
-    def has_failed(self):
-        """A server that doesn't answer has ended with `procure: store`."""
-        assert self.end() != 0, "the server ended with status 0 before its last connection"
 
     def use_up(self):
         """Asks until the server has served all connections, and returns its status."""
         while self.taken < self.count:
             self.ask(IDLE)
         return self.end()
-
-    def kill(self):
-        if self.process and self.process.poll() is None:
-            self.process.kill()
-            self.process.communicate()
 
 
 class Trial:
@@ -111,38 +105,26 @@ class Trial:
     def __init__(self, program, play, page_size, room):
         self.program, self.play, self.page_size, self.room, self.disk = program, PLAYS[play](), page_size, str(room), FaultyDisk(str(room))
         self.made, self.size, self.small, self.is_patient, self.tally = 0, 0, None, False, Counter()
-        office = self.office(self.room, (len(self.play.steps) + 1) * (len(self.play.looks) + 2))
         self.disk.begin()
-        try:
-            self.states = [self.reached(office, at) for at in range(len(self.play.steps) + 1)]
+        count = (len(self.play.steps) + 1) * (len(self.play.looks) + 2)
+        with Office(self, self.new_file(self.room), count) as office:
+            assert office.start()
+            self.states = [self.reached(office, step) for step in (None, *self.play.steps)]
             assert office.use_up() == 0 and rows_in(office.path, self.room) == self.states[-1][1], "without a fault the server doesn't leave what it answered"
             pages.check_size(office.path, page_size)
-        finally:
-            office.kill()
 
-    def next_path(self, folder):
-        return os.path.join(folder, f"office{self.made + 1}.db")
-
-    def office(self, folder, count=None):
-        """A new file, and its server for so many connections, or for three times those of a run without a fault."""
-        path = self.next_path(folder)
-        if not os.path.exists(path):
-            pages.begin(path, self.page_size)
+    def new_file(self, folder):
+        """The path of a new file in pages of the size."""
         self.made += 1
-        return Office(self, path, count or 3 * (len(self.play.steps) + len(self.play.looks) + 2))
+        path = os.path.join(folder, f"office{self.made}.db")
+        pages.begin(path, self.page_size)
+        return path
 
-    def reached(self, office, at):
-        """The state after the first commands without a fault."""
-        assert at or office.start()
-        assert not at or office.send(self.play.steps[at - 1])[0] == 200, f"without a fault {self.play.steps[at - 1].name} is refused"
+    def reached(self, office, step):
+        """The state that a command leaves without a fault."""
+        assert not step or office.send(step)[0] == 200, f"without a fault {step.name} is refused"
         self.size = max(self.size, sum(os.path.getsize(it) for it in (office.path, office.path + "-wal") if os.path.exists(it)))
         return office.looks(), rows_in(office.path, self.room)
-
-    def places(self):
-        """How many flushes and writes a run without a fault has, and how many pages its files had at most."""
-        self.disk.begin()
-        self.run(self.room)
-        return {"flush": self.disk.fields[FLUSHES], "write": self.disk.fields[WRITES], "full": self.size // SmallDisk.PAGE}
 
     def position(self, office, answered):
         """How many commands the files have: those that were answered, or the next one too."""
@@ -164,8 +146,8 @@ class Trial:
         """The server's behaviour after a command that it didn't carry out."""
         looked = office.ask(self.play.looks[0])[0]
         if looked is None:
-            office.has_failed()
-            return ENDED
+            office.end()
+            return "ended behind the answer"
         answers = [office.send(step)[0]]
         if answers[0] == 503:
             answers.append(office.send(step)[0])
@@ -182,21 +164,21 @@ class Trial:
         if did in (WENT_ON, IN_PLACE):
             self.tally["answered"] += 1
             return at + 1
-        office.kill()
+        office.close()
         found = self.position(office, at)
         if self.small and self.small.is_full():
             self.tally["listened on the full disk"] += self.begins(office, found)
-            office.kill()
+            office.close()
             self.small.make_room()
         assert self.begins(office, found), f"{office.path} isn't opened again"
         return found
 
-    def run(self, folder):
-        """A play with the fault that was chosen before. The file of a failed run stays."""
-        office, at = self.office(folder), 0
-        try:
+    def run(self, path):
+        """A play over a new file with the fault that was chosen before. The file of a failed run stays."""
+        at = 0
+        with Office(self, path) as office:
             if not office.start():
-                at = self.repaired(office, 0, NOT_OPENED)
+                at = self.repaired(office, 0, "ended before it listened")
             while at < len(self.play.steps):
                 step = self.play.steps[at]
                 status, response = office.send(step)
@@ -204,10 +186,8 @@ class Trial:
                 self.tally["answered"] += status == 200
                 at = at + 1 if status == 200 else self.repaired(office, at, self.behaves(office, step))
             self.finish(office)
-        finally:
-            office.kill()
         self.tally["runs"] += 1
-        for part in filter(os.path.exists, (office.path, office.path + "-wal")):
+        for part in filter(os.path.exists, (path, path + "-wal")):
             os.remove(part)
 
     def finish(self, office):
@@ -218,27 +198,29 @@ class Trial:
         assert self.position(office, at) == at
         pages.check_size(office.path, self.page_size)
         if has_failed:
-            self.tally[LAST] += 1
+            self.tally["ended with status 1 behind its last answer"] += 1
             assert self.begins(office, at)
 
     def spread(self, what, is_long):
-        """At most so many numbers of the places of a fault, evenly spread."""
-        count, most = self.places()[what], LONG_MOST[self.play.name] if is_long else MOST
+        """Numbers of the places of a fault, evenly spread. A run without one counts its flushes and its writes. The third is the pages of its files at most."""
+        self.disk.begin()
+        self.run(self.new_file(self.room))
+        count = {"flush": self.disk.fields[FLUSHES], "write": self.disk.fields[WRITES], "full": self.size // SmallDisk.PAGE}[what]
+        most = LONG_MOST[self.play.name] if is_long else MOST
         self.tally.clear()
         return range(1, count + 1) if count <= most else [1 + at * (count - 1) // (most - 1) for at in range(most)]
 
     def fail_once(self, **order):
-        """A play in which a call fails."""
         self.disk.begin(**order)
-        self.run(self.room)
+        self.run(self.new_file(self.room))
         assert self.disk.fields[FAILED] == 1, f"no call failed by {order}"
         self.tally[f"on {self.disk.place()}"] += 1
 
 
-LONG_PLAYS = [pytest.param(("imports", size), marks=pytest.mark.long, id=f"imports-{size}") for size in pages.SIZES]
+LONG = {"life": [], "imports": [pytest.mark.long]}
 
 
-@pytest.fixture(scope="module", params=[*(pytest.param(("life", size), id=f"life-{size}") for size in pages.SIZES), *LONG_PLAYS])
+@pytest.fixture(scope="module", params=[pytest.param((play, size), marks=LONG[play], id=f"{play}-{size}") for play in PLAYS for size in pages.SIZES])
 def trial(request, program, tmp_path_factory):
     return Trial(program, *request.param, tmp_path_factory.mktemp("faults"))
 
@@ -266,8 +248,10 @@ def test_full(trial, is_long, tmp_path):
         for room in trial.spread("full", is_long):
             for trial.is_patient in (True, False):
                 trial.disk.begin()
-                trial.small.leave(room - 1, lambda: pages.begin(trial.next_path(str(tmp_path)), trial.page_size))
-                trial.run(str(tmp_path))
+                trial.small.clear()
+                path = trial.new_file(str(tmp_path))
+                trial.small.leave(room - 1)
+                trial.run(path)
     finally:
         # (The files of a failed run stay, even when the disk is unmounted.)
         shutil.copytree(tmp_path, f"{tmp_path}-kept", ignore=shutil.ignore_patterns("ballast"))

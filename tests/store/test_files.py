@@ -4,22 +4,20 @@ Refused means: within three seconds the program has ended with status 1 and `pro
 folder has its bytes and its mode; only an empty log may be new or different. A database that uses none of the office's names becomes an office too. Stand-in
 programs that behave wrongly are found.
 """
-import hashlib
 import os
-import random
 import re
 import shutil
-import socket
 import stat
 import subprocess
 import tempfile
 import time
+from pathlib import Path
 
 import pytest
 
 from office_kit.common import CONFIG, free_port, import_of, look, running, timed_exchange
 from office_kit.store import pages
-from office_kit.store.files import EMPTY, REFUSED, dump, made_line, sqlite, told, wrong
+from office_kit.store.files import EMPTY, REFUSED, dump, made_line, scripts_of, sqlite, told, unlike, wrong
 from office_kit.store.served import server
 
 pytestmark = [pytest.mark.needs("sqlite3"), pytest.mark.budget(120)]
@@ -28,7 +26,9 @@ AT_ONCE, LISTENS = 3 * float(os.environ["SLOWNESS"]), 60
 LEAST = 32 + 24 + 512
 # The bytes of a log's head and of the first page's head in it. One of them is a gate: before it is written, the log holds nothing.
 HEADS, GATE = 32 + 24, 40
-MADE = made_line("office.db")
+# The scripts that make files which are refused. Their file says how they run.
+SCRIPTS = {name: script for (name,), script in scripts_of(Path(__file__).with_name("refused_files.txt"), "# ")}
+ALL_JOBS = ("serve", "ledger", "notices", "minutes", "evaluation", "record")
 # A user who has only the rights of all users, if the tests run as root.
 NOBODY = {"user": 65534, "group": 65534, "extra_groups": []} if os.geteuid() == 0 else {}
 
@@ -36,30 +36,24 @@ NOBODY = {"user": 65534, "group": 65534, "extra_groups": []} if os.geteuid() == 
 class Folder:
     """A folder of one trial, where everybody may read and write, and the size of its file's pages."""
 
-    def __init__(self, program, size):
-        self.program, self.size, self.place = program, size, tempfile.TemporaryDirectory(prefix="procure-files-")
-        self.path = self.place.name
-        os.chmod(self.path, 0o777)
-        self.file = self.at("office.db")
-
-    def __enter__(self):
-        return self
-
-    def __exit__(self, *_):
-        os.chmod(self.path, 0o777)
-        self.place.cleanup()
-
-    def at(self, name):
-        return os.path.join(self.path, name)
+    def __init__(self, program, size, path):
+        self.program, self.size, self.path = program, size, Path(path)
+        self.file, self.log = self.path / "office.db", self.path / "office.db-wal"
+        self.path.chmod(0o777)
 
     def found(self):
-        """The content of the folder by name, without empty logs."""
-        there = {name: of(self.at(name)) for name in os.listdir(self.path)}
-        return {name: it for name, it in there.items() if not (name.endswith("-wal") and stat.S_ISREG(it[0]) and it[1] < LEAST)}
+        """By the names of the folder, without empty logs: the mode, the size, and a file's bytes if they may be read."""
+        found = {}
+        for path in self.path.iterdir():
+            about = path.lstat()
+            is_file = stat.S_ISREG(about.st_mode)
+            if not is_file or about.st_size >= LEAST or not path.name.endswith("-wal"):
+                found[path.name] = about.st_mode, about.st_size, path.read_bytes() if is_file and os.access(path, os.R_OK) else None
+        return found
 
     def run(self, job="ledger", name="office.db", **how):
         """Runs a program over the file of that name, in the folder."""
-        more = [str(free_port()), "1"] if job == "serve" else ["N1"] if job in ("minutes", "evaluation", "record") else []
+        more = {"serve": [str(free_port()), "1"], "ledger": [], "notices": []}.get(job, ["N1"])
         words = [self.program, job, os.path.join(os.path.dirname(self.program), "office.toml"), name, *more]
         return told(subprocess.run(words, cwd=self.path, stdin=subprocess.DEVNULL, capture_output=True, text=True, timeout=LISTENS, **how))
 
@@ -71,26 +65,8 @@ class Folder:
             took = time.monotonic() - begun
             assert ended == REFUSED, f"{job} ended with {ended}"
             assert took < AT_ONCE, f"{job} took {took:.1f} s to refuse"
-            after = self.found()
-            changed = [it for it in before if before[it] != after.get(it)]
+            changed = unlike(before, self.found())
             assert not changed, f"{job} changed {changed}"
-            new = [it for it in after if it not in before]
-            assert not new, f"{job} made {new}"
-
-    def refused_by_all(self, name="office.db"):
-        self.refused(name, ("serve", "ledger", "notices", "minutes", "evaluation", "record"))
-
-    def keeps(self, how):
-        """sqlite3 finds the same in the file and its log afterwards."""
-        before = dump(self.file)
-        how()
-        assert dump(self.file) == before, "what sqlite3 finds in it has changed"
-
-    def begin(self):
-        """Makes the file with pages of its size."""
-        pages.begin(self.file, self.size)
-        if os.path.exists(self.file):
-            os.chmod(self.file, 0o666)
 
     def database(self, script):
         """A database that sqlite3 makes."""
@@ -98,54 +74,35 @@ class Folder:
 
     def office(self, script="SELECT count(*) FROM lines;"):
         """An office in the file alone, changed by a script of sqlite3."""
-        self.begin()
+        pages.begin(self.file, self.size)
         assert self.run()[1] == EMPTY, "an office is made"
         pages.check_size(self.file, self.size)
         sqlite(self.file, script)
-
-
-def of(path):
-    """The kind of the entry and its mode, its size, and the digest of a file's bytes if they may be read."""
-    about = os.lstat(path)
-    is_read = stat.S_ISREG(about.st_mode) and os.access(path, os.R_OK)
-    return about.st_mode, about.st_size, hashlib.sha256(read(path)).digest() if is_read else None
-
-
-def read(path):
-    with open(path, "rb") as file:
-        return file.read()
-
-
-def write(path, content):
-    with open(path, "wb") as file:
-        file.write(content)
 
 
 @pytest.fixture(scope="module")
 def everybody(program):
     """A copy of the program, beside the settings, that everybody may run."""
     with tempfile.TemporaryDirectory(prefix="procure-files-") as folder:
-        os.chmod(folder, 0o755)
-        os.chmod(shutil.copy(CONFIG, folder), 0o644)
-        copy = shutil.copy(program, folder)
-        os.chmod(copy, 0o755)
+        for path, mode in ((folder, 0o755), (shutil.copy(CONFIG, folder), 0o644), (copy := shutil.copy(program, folder), 0o755)):
+            os.chmod(path, mode)
         yield copy
 
 
 @pytest.fixture
 def folder(everybody, size):
-    with Folder(everybody, size) as made:
-        yield made
+    with tempfile.TemporaryDirectory(prefix="procure-files-") as path:
+        yield Folder(everybody, size, path)
 
 
 def test_two_servers(folder):
     """While a file is served, other programs are refused, even through a link. The server keeps running."""
-    folder.begin()
+    pages.begin(folder.file, folder.size)
     with server(folder.program, folder.file, 3) as (process, port):
         timed_exchange(port, import_of(b"B1", [b"1000,add,600,Roads"]), LISTENS)
-        os.symlink("office.db", folder.at("link.db"))
-        folder.refused_by_all()
-        folder.refused_by_all("link.db")
+        (folder.path / "link.db").symlink_to("office.db")
+        folder.refused("office.db", ALL_JOBS)
+        folder.refused("link.db", ALL_JOBS)
         timed_exchange(port, import_of(b"B2", [b"1000,add,1,Roads"]))
         assert b"1000\t601\t601\t0\t0\t0\n" in timed_exchange(port, look(b"/ledger"))[0]
         assert process.wait(LISTENS) == 0
@@ -154,7 +111,7 @@ def test_two_servers(folder):
 
 def test_a_reader(folder):
     """While a file is served, `sqlite3` finds it locked. While `sqlite3` reads it, the program refuses it, and the reader continues."""
-    folder.begin()
+    pages.begin(folder.file, folder.size)
     with server(folder.program, folder.file, 2) as (process, port):
         timed_exchange(port, look(b"/ledger"), LISTENS)
         before = folder.found()
@@ -166,7 +123,7 @@ def test_a_reader(folder):
     with running(["sqlite3", "-batch", folder.file], stdin=subprocess.PIPE, stdout=subprocess.PIPE, text=True, bufsize=1) as reader:
         reader.stdin.write("BEGIN; SELECT count(*) FROM lines;\n")
         assert reader.stdout.readline() == "0\n"
-        folder.refused_by_all()
+        folder.refused("office.db", ALL_JOBS)
         reader.stdin.write("SELECT count(*) FROM office;\n")
         assert reader.stdout.readline() == "1\n"
         reader.stdin.close()
@@ -174,122 +131,19 @@ def test_a_reader(folder):
     assert folder.run()[1] == EMPTY, "then it can be opened"
 
 
-NO_RIGHT = {
-    "a file that may not be written": {"office.db": 0o444},
-    "a file that may not be read": {"office.db": 0o000},
-    "a file and its log that may not be written": {"office.db": 0o444, "office.db-wal": 0o444},
-    "a log that may not be written": {"office.db": 0o666, "office.db-wal": 0o444},
-    "a folder that may not be written, without the log": {"office.db": 0o666, "": 0o555},
-    "a folder that may not be written, without the file": {"": 0o555},
-}
-
-
-@pytest.mark.parametrize("what", NO_RIGHT)
-def test_no_right(folder, what):
-    modes = NO_RIGHT[what]
-    if "office.db" in modes:
-        folder.office()
-    if "office.db-wal" in modes:
-        write(folder.at("office.db-wal"), b"")
-    for name, mode in modes.items():
-        os.chmod(folder.at(name), mode)
-    folder.refused(**NOBODY)
-
-
-def bind(folder):
-    with socket.socket(socket.AF_UNIX) as listener:
-        listener.bind(folder.file)
-
-
-def with_office(folder, change):
-    folder.office()
-    change(folder.file)
-
-
-JOURNAL = b"\xd9\xd5\x05\xf9\x20\xa1\x63\xd7" + bytes(504)
-# The things in place of a file: how each is made, and the name that the program gets.
-NO_FILE = {
-    "a folder": (lambda folder: os.mkdir(folder.file), "office.db"),
-    "a pipe": (lambda folder: os.mkfifo(folder.file), "office.db"),
-    "a socket": (bind, "office.db"),
-    "a device": (id, "/dev/null"),
-    "a missing folder": (id, "absent/office.db"),
-    "a file in place of a folder": (lambda folder: write(folder.file, b""), "office.db/office.db"),
-    "a link to a missing folder": (lambda folder: os.symlink("absent/office.db", folder.file), "office.db"),
-    "a second name": (lambda folder: with_office(folder, lambda file: os.link(file, folder.at("copy.db"))), "office.db"),
-    "a journal": (lambda folder: with_office(folder, lambda file: write(file + "-journal", JOURNAL)), "office.db"),
-    "a log that is a folder": (lambda folder: with_office(folder, lambda file: os.mkdir(file + "-wal")), "office.db"),
-    "a long name": (id, "a" * 300),
-    "a name that is memory's": (id, ":memory:"),
-    "a URI": (id, "file:office.db"),
-    "no name": (id, ""),
-}
-
-
-@pytest.mark.parametrize("what", NO_FILE)
-def test_no_file(folder, what):
-    make, name = NO_FILE[what]
-    make(folder)
-    folder.refused(name)
-
-
-# The bytes of files that are no database, made of an office's.
-NO_DATABASE = {
-    "a text": lambda whole, size: b"line,kind,amount,title\n" * 500,
-    "a short text": lambda whole, size: b"LEDGER\n",
-    "two bytes": lambda whole, size: b"SQ",
-    "zeros": lambda whole, size: bytes(2 * size),
-    "noise": lambda whole, size: random.Random(7).randbytes(4 * size),
-    "the head of a database": lambda whole, size: whole[:100],
-    "the first page alone": lambda whole, size: whole[:size],
-    "a file that was cut": lambda whole, size: whole[:len(whole) // 2],
-    "a file that was cut within a page": lambda whole, size: whole[:-100],
-    "a page of zeros": lambda whole, size: whole[:size] + bytes(size) + whole[2 * size:],
-}
-
-
-@pytest.mark.parametrize("what", NO_DATABASE)
-def test_no_database(folder, what):
-    folder.office("INSERT INTO lines VALUES ('1000', 'Roads', 5, 5);")
-    whole = read(folder.file)
-    for name in os.listdir(folder.path):
-        os.remove(folder.at(name))
-    write(folder.file, NO_DATABASE[what](whole, folder.size))
-    folder.refused()
-
-
-# Scripts of sqlite3 that make databases other than offices.
-FOREIGN = {
-    "another table of the name lines": "CREATE TABLE lines (line TEXT PRIMARY KEY, text TEXT); INSERT INTO lines VALUES ('1000', 'a');",
-    "another table of the name office": "CREATE TABLE office (version INTEGER PRIMARY KEY, rooms INTEGER); INSERT INTO office VALUES (12, 1);",
-    "a table of the name office, without a version": "CREATE TABLE office (room TEXT); INSERT INTO office VALUES ('12');",
-    "an index of a name of the office's": "CREATE TABLE notes (text TEXT); CREATE INDEX lots_of_line ON notes (text);",
-    "a table of the name performance": "CREATE TABLE performance (play TEXT); INSERT INTO performance VALUES ('a');",
-    "a view of the name notices": "CREATE TABLE notes (text TEXT); CREATE VIEW notices AS SELECT text FROM notes;",
-    "a table Lots, by other letters": "CREATE TABLE LOTS (room TEXT);",
-    "a table of the name seals, beside an empty log": "PRAGMA journal_mode = WAL; CREATE TABLE seals (animal TEXT);",
-}
-# Scripts of sqlite3 that change an office so that the program doesn't know it.
-UNKNOWN = {
-    "no row of the office": "DELETE FROM office;",
-    "two rows of the office": "INSERT INTO office VALUES (1, 0, 0, 0);",
-    "another version": "UPDATE office SET version = 3;",
-    "version 1, among tables of version 2": "UPDATE office SET version = 1;",
-    "no table of the office": "DROP TABLE office;",
-    "a key of another form": "CREATE TABLE kept AS SELECT * FROM office; DROP TABLE office;"
-                             "CREATE TABLE office (version INT NOT NULL, moment INTEGER, receipts INTEGER, awards INTEGER, PRIMARY KEY (version)) STRICT;"
-                             "INSERT INTO office SELECT * FROM kept; DROP TABLE kept;",
-}
-
-
-@pytest.mark.parametrize("what", {**FOREIGN, **UNKNOWN})
-def test_no_office(folder, what):
-    """`sqlite3` also finds the same rows afterwards."""
-    if what in FOREIGN:
-        folder.database(FOREIGN[what])
-    else:
-        folder.office(UNKNOWN[what])
-    folder.keeps(folder.refused)
+@pytest.mark.parametrize("what", SCRIPTS)
+def test_refused(folder, what):
+    """In other databases and in unknown offices `sqlite3` also finds the same rows afterwards."""
+    kind = what.partition(": ")[0]
+    if kind not in ("no file", "no database", "another database"):
+        folder.office("INSERT INTO lines VALUES ('1000', 'Roads', 5, 5);")
+    how = {"cwd": folder.path, "env": {**os.environ, "SIZE": str(folder.size)}, "stdout": subprocess.PIPE, "text": True, "check": True}
+    printed = subprocess.run(["sh", "-ec", SCRIPTS[what]], **how).stdout
+    has_rows = kind in ("another database", "an unknown office")
+    before = dump(folder.file) if has_rows else None
+    folder.refused(printed.strip() if printed else "office.db", **(NOBODY if kind == "no right" else {}))
+    assert not has_rows or dump(folder.file) == before
+    assert kind != "no file" or not folder.log.exists() or not folder.log.stat().st_size
 
 
 # The changes that sqlite3 makes to a table. One of its columns is named.
@@ -308,15 +162,15 @@ def test_another_form(folder):
     """An office in which one of its tables was changed, each in turn, is refused. One with an additional index that isn't unique is opened."""
     folder.office()
     tables = sqlite(folder.file, "SELECT name, (SELECT name FROM pragma_table_info(sqlite_master.name)) FROM sqlite_master WHERE type = 'table';")
-    whole = read(folder.file)
+    whole = folder.file.read_bytes()
     assert len(tables) == 17
     for table, column in (line.split("|") for line in tables):
         for what, script in CHANGES.items():
-            write(folder.file, whole)
+            folder.file.write_bytes(whole)
             sqlite(folder.file, script.format(table=table, column=column))
             ended = folder.run()
             assert ended == REFUSED, f"{table} {what}: ledger ended with {ended}"
-        write(folder.file, whole)
+        folder.file.write_bytes(whole)
         sqlite(folder.file, f"CREATE INDEX more ON {table} ({column});")
         ended = folder.run()
         assert ended == (0, EMPTY, ""), f"{table} has an index more: ledger ended with {ended}"
@@ -325,10 +179,10 @@ def test_another_form(folder):
 def test_foreign_log(folder):
     """Changes in the log of another database may be moved into its file. `sqlite3` finds the same rows in the two afterwards."""
     folder.database("PRAGMA journal_mode = WAL;\n.dbconfig no_ckpt_on_close on\nCREATE TABLE seals (animal TEXT); INSERT INTO seals VALUES ('a');")
-    assert os.path.getsize(folder.file + "-wal") > LEAST
-    ended = []
-    folder.keeps(lambda: ended.append(folder.run()))
-    assert ended == [REFUSED], "changes in the log of another database: refused"
+    assert folder.log.stat().st_size > LEAST
+    before = dump(folder.file)
+    assert folder.run() == REFUSED, "changes in the log of another database: refused"
+    assert dump(folder.file) == before, "what sqlite3 finds in it has changed"
 
 
 def test_beside(folder):
@@ -336,15 +190,9 @@ def test_beside(folder):
     folder.database("CREATE TABLE notes (text TEXT); INSERT INTO notes VALUES ('a'), ('b');")
     first, second = folder.run(), folder.run()
     assert (first[1], second[1]) == (EMPTY, EMPTY), "it becomes an office"
-    assert (first[2], second[2]) == (MADE, ""), f"it is said once, and not {first[2]!r} and {second[2]!r}"
+    assert (first[2], second[2]) == (made_line("office.db"), ""), f"it is said once, and not {first[2]!r} and {second[2]!r}"
     pages.check_size(folder.file, folder.size)
     assert sqlite(folder.file, "SELECT text FROM notes; SELECT version FROM office;") == ["a", "b", "2"], "its own rows stay"
-
-
-def test_one_byte(folder):
-    """SQLite treats a file of one byte as empty."""
-    write(folder.file, b"x")
-    assert folder.run()[1] == EMPTY, "one byte is nothing"
 
 
 def served(folder, line):
@@ -358,79 +206,41 @@ def served(folder, line):
 def test_used_log(folder):
     """A server that is killed early leaves everything in the log, beside a file without a table. With another bit in the log's head, without the file, or
     beside an empty file, the log is refused. Its own bytes give the ledger again."""
-    folder.begin()
-    assert [served(folder, line) for line in (1000, 2000)] == [MADE, ""], "a new office is said once"
-    log = folder.file + "-wal"
-    assert os.path.getsize(folder.file) <= folder.size and os.path.getsize(log) > LEAST, "the file has no table"
-    whole = read(log)
+    pages.begin(folder.file, folder.size)
+    assert [served(folder, line) for line in (1000, 2000)] == [made_line("office.db"), ""], "a new office is said once"
+    assert folder.file.stat().st_size <= folder.size and folder.log.stat().st_size > LEAST, "the file has no table"
+    whole = folder.log.read_bytes()
     for at in (*range(GATE), *range(GATE + 1, HEADS)):
-        write(log, whole[:at] + bytes([whole[at] ^ 1 << at % 8]) + whole[at + 1:])
+        folder.log.write_bytes(whole[:at] + bytes([whole[at] ^ 1 << at % 8]) + whole[at + 1:])
         try:
             folder.refused()
         except AssertionError as why:
             pytest.fail(f"bit {at % 8} of byte {at} of the log: {why}")
-    write(log, whole)
-    os.rename(folder.file, folder.at("aside"))
+    folder.log.write_bytes(whole)
+    aside = folder.file.rename(folder.path / "aside")
     folder.refused()
-    write(folder.file, b"")
+    folder.file.touch()
     folder.refused()
-    os.replace(folder.at("aside"), folder.file)
+    aside.replace(folder.file)
     _, ledger, errors = folder.run()
     assert (ledger.count("\t600\t600\t"), errors) == (2, ""), "its own bytes give the ledger"
 
 
-# The stand-ins, with PROGRAM as the program: accept everything, or refuse as the program does and then do something more.
-TAKEN, REFUSES = 'PROGRAM "$@" 2> /dev/null; exit 0', 'PROGRAM "$@" && exit; '
-COPIED = 'copy=$(dirname "$3")/copy.db; cp "$3" "$copy" 2> /dev/null; job=$1 settings=$2; shift 3; exec PROGRAM "$job" "$settings" "$copy" "$@"'
-NO_LEDGER = '[ "$1" = ledger ] && { echo procure: store >&2; exit 1; }; exec PROGRAM "$@"'
-# Such programs, the test that finds each with what it is given, and the words that it must say.
-WRONG = {
-    "no right is needed": (TAKEN, test_no_right, "a file that may not be written", "serve ended with (0"),
-    "a folder is taken": (TAKEN, test_no_file, "a folder", "serve ended with (0"),
-    "a text is taken": (TAKEN, test_no_database, "a text", "serve ended with (0"),
-    "another database is taken": (TAKEN, test_no_office, "another table of the name lines", "serve ended with (0"),
-    "a table is dropped": ('[ "$1" = ledger ] && sqlite3 "$3" "DROP TABLE IF EXISTS lines;"; exec PROGRAM "$@"', test_no_office,
-                           "another table of the name lines", "ledger ended with (0"),
-    "a row goes from the log": ("""[ "$(find . -size +1k -name '*-wal')" ] && sqlite3 "$3" "DELETE FROM seals WHERE animal = 'a';"; exec PROGRAM "$@\"""",
-                                test_foreign_log, None, "finds in it has changed"),
-    "another status": (REFUSES + "exit 2", test_no_database, "a text", "serve ended with (2"),
-    "another error": ('PROGRAM "$@" 2> /dev/null && exit; echo procure: input >&2; exit 1', test_no_database, "a text", "'procure: input"),
-    "a line is printed": (REFUSES + "echo LEDGER; exit 1", test_no_database, "a text", "'LEDGER"),
-    "it takes long": (REFUSES + f"sleep {AT_ONCE}; exit 1", test_no_database, "a text", "s to refuse"),
-    "a byte is written": (REFUSES + 'printf x >> "$3"; exit 1', test_no_database, "a text", "serve changed ['office.db']"),
-    "another mode": (REFUSES + 'chmod 700 "$3"; exit 1', test_no_database, "a text", "serve changed ['office.db']"),
-    "the file goes": (REFUSES + 'rm "$3"; exit 1', test_no_database, "a text", "serve changed ['office.db']"),
-    "a new journal": (REFUSES + 'echo x > "$3-journal"; exit 1', test_no_database, "a text", "serve made ['office.db-journal']"),
-    "a new log with a page": (REFUSES + 'head -c 9999 /dev/zero > "$3-wal"; exit 1', test_no_database, "a text", "serve made ['office.db-wal']"),
-    "a served file is read": (f'[ "$1" = ledger ] && {{ {COPIED}; }}; exec PROGRAM "$@"', test_two_servers, None, "ledger ended with (0"),
-    "a served file isn't locked": (f'[ "$1" = serve ] && {{ {COPIED}; }}; exec PROGRAM "$@"', test_a_reader, None, "sqlite3 finds the file locked, and not"),
-    "a file that was served isn't opened": (NO_LEDGER, test_two_servers, None, "then it can be opened"),
-    "a file that was read isn't opened": (NO_LEDGER, test_a_reader, None, "then it can be opened"),
-    "changes in the log are taken": (TAKEN, test_foreign_log, None, "changes in the log of another database: refused"),
-    "an office is made over a log": ('rm -f "$3-wal"; exec PROGRAM "$@"', test_used_log, None, "a new office is said once"),
-    "a damaged log is dropped": (f'[ "$1" = ledger ] && {{ {COPIED}; }}; exec PROGRAM "$@"', test_used_log, None, "bit 0 of byte 0 of the log: ledger ended"),
-    "serve doesn't say that it made an office": ('exec PROGRAM "$@" 2> /dev/null', test_used_log, None, "a new office is said once"),
-    "one byte is refused": ('[ "$(cat "$3" 2> /dev/null)" = x ] && exit 1; exec PROGRAM "$@"', test_one_byte, None, "one byte is nothing"),
-    "no database becomes an office": ("echo procure: store >&2; exit 1", test_beside, None, "it becomes an office"),
-    "a row of another table goes": ("""PROGRAM "$@"; sqlite3 "$3" "DELETE FROM notes WHERE text = 'b';\"""", test_beside, None, "its own rows stay"),
-    "it isn't said that an office was made": ('exec PROGRAM "$@" 2> /dev/null', test_beside, None, "it is said once, and not ''"),
-    "an office that lacks a table is taken": (TAKEN, test_another_form, None, "lines is gone: ledger ended with (0"),
-    "an office with an index more is refused": ("[ -e \"$3\" ] && sqlite3 \"$3\" .schema | grep -q 'INDEX more' && exit 1; exec PROGRAM \"$@\"",
-                                                test_another_form, None, "lines has an index more"),
-    "other pages": ('PROGRAM "$@"; sqlite3 "$3" "PRAGMA journal_mode = DELETE; PRAGMA page_size = 2048; VACUUM;" > /dev/null', test_beside, None,
-                    "has pages of 2048"),
-}
+# Programs that are wrong: the fault, the test that finds it, with its case, the words that it must say, and the script.
+WRONG = {fault: (test, said, script) for (fault, test, said), script in scripts_of(Path(__file__).with_name("wrong_programs.txt"), "# ")}
+TESTS = {test.__name__: test for test in (test_two_servers, test_a_reader, test_refused, test_another_form, test_foreign_log, test_beside, test_used_log)}
 
 
-@pytest.mark.parametrize("what", WRONG)
-def test_planted(everybody, size, what):
-    script, test, given, said = WRONG[what]
-    with Folder(wrong(os.path.dirname(everybody), script, everybody), size) as folder:
-        with pytest.raises((AssertionError, pytest.fail.Exception), match=re.escape(said)):
-            test(folder, *[given] if given else [])
+@pytest.mark.parametrize("fault", WRONG)
+def test_planted(folder, fault):
+    test, said, script = WRONG[fault]
+    name, *case = test.split(" ", 1)
+    folder.program = wrong(os.path.dirname(folder.program), script.replace("AT_ONCE", str(AT_ONCE)), folder.program)
+    with pytest.raises((AssertionError, pytest.fail.Exception), match=re.escape(said)):
+        TESTS[name](folder, *case)
 
 
-def test_nothing_planted(everybody, size):
+def test_nothing_planted(folder):
     """A program that leaves a new log without a page passes."""
-    with Folder(wrong(os.path.dirname(everybody), REFUSES + ': > "$3-wal"; exit 1', everybody), size) as folder:
-        test_no_database(folder, "a text")
+    folder.program = wrong(os.path.dirname(folder.program), 'PROGRAM "$@" && exit; : > "$3-wal"; exit 1', folder.program)
+    test_refused(folder, "no database: a text")

@@ -8,6 +8,7 @@ import copy
 import os
 import random
 import re
+import sqlite3
 import threading
 import time
 
@@ -15,7 +16,7 @@ import pytest
 
 from office_kit.common import free_port, import_of, is_whole, look, running, serve_words, timed_exchange, what_came
 from office_kit.store import pages
-from office_kit.store.files import copied, sqlite, wrong
+from office_kit.store.files import copied, rows_of, sqlite, wrong
 from office_kit.store.served import MANY, server
 
 pytestmark = [pytest.mark.needs("sqlite3"), pytest.mark.budget(90)]
@@ -25,16 +26,15 @@ EACH_FILE, LONGEST = 10, 0.4
 
 
 def import_request(batch):
-    return import_of(batch.encode(), [b"%s-%d,add,%d,Roads" % (batch.encode(), line, line + 1) for line in range(LINES)])
+    return import_of(batch.encode(), [f"{batch}-{line},add,{line + 1},Roads".encode() for line in range(LINES)])
 
 
 class File:
     """An office's file, the imports that were sent to it and those that were answered with 200."""
 
     def __init__(self, folder, number):
-        self.path = os.path.join(folder, f"office{number}.db")
-        self.number, self.sent, self.answered = number, set(), set()
-        self.size = pages.SIZES[number % len(pages.SIZES)]
+        self.path, self.number, self.size = os.path.join(folder, f"office{number}.db"), number, pages.SIZES[number % len(pages.SIZES)]
+        self.sent, self.answered = set(), set()
         pages.begin(self.path, self.size)
 
     def send(self, port, listens, stopped):
@@ -67,17 +67,16 @@ def kill_once(program, file):
 
 
 def found_by_sqlite(file):
-    """The lines that sqlite3 finds in a copy: those of whole imports, of all that were answered, and of none that wasn't sent."""
+    """The lines that SQLite finds in a copy: those of whole imports, of all that were answered, and of none that wasn't sent."""
     if not os.path.exists(file.path):
         assert not file.answered, "no file is left"
         return set()
-    with copied(file.path) as path:
-        assert sqlite(path, "PRAGMA integrity_check;", may_fail=True) == ["ok"], "integrity_check"
-        if "lines" not in sqlite(path, "SELECT name FROM sqlite_master WHERE type = 'table';"):
-            assert not file.answered, "no tables"
-            return set()
-        batches = set(sqlite(path, "SELECT batch FROM batches;"))
-        lines = set(sqlite(path, "SELECT line || ' ' || appropriation || ' ' || free FROM lines;"))
+    rows = rows_of(file.path)
+    if "lines" not in rows:
+        assert not file.answered, "no tables"
+        return set()
+    batches = {batch for batch, *_ in rows["batches"]}
+    lines = {f"{line} {appropriation} {free}" for line, _, appropriation, free in rows["lines"]}
     wanted = {f"{batch}-{line} {line + 1} {line + 1}" for batch in batches for line in range(LINES)}
     assert file.answered <= batches, "it lacks imports that were answered"
     assert batches <= file.sent, "it has imports that were not sent"
@@ -114,8 +113,6 @@ def test_kills(program, tmp_path, seed, is_long):
     print(f"{sum(len(file.answered) for file in files)} imports were answered, and all are there whole")
     assert any(file.answered for file in files)
 
-
-# ---- Planted faults.
 
 def three_imports(program, folder):
     """A file that a kill left after three imports. The last counts as one that wasn't answered."""
@@ -166,7 +163,8 @@ PLANTED = {
     "an import that wasn't sent": (f"INSERT INTO batches SELECT 'F0B3', moment, rows FROM batches WHERE batch = 'F0B2'; {NEXT}", "not sent"),
     "no tables": ("DROP TABLE lines;", "no tables"),
     "no file": (os.remove, "no file is left"),
-    "a page that no table has": ("PRAGMA writable_schema = ON; DELETE FROM sqlite_schema WHERE name = 'notices';", "integrity_check"),
+    "an index that no table has": ("PRAGMA writable_schema = ON; DELETE FROM sqlite_schema WHERE name = 'notices';", "orphan index"),
+    "a page that no table has": ("PRAGMA writable_schema = ON; DELETE FROM sqlite_schema WHERE tbl_name = 'notices';", "integrity_check"),
     "pages of another size": (f"PRAGMA journal_mode = DELETE; PRAGMA page_size = {pages.NEW}; VACUUM;", "has pages of"),
 }
 # Programs that open such a file after the kill, and the words that must be said of each.
@@ -178,18 +176,13 @@ WRONG = {
 }
 
 
-@pytest.mark.parametrize("what", PLANTED)
-def test_planted(program, left, what):
-    plant, said = PLANTED[what]
-    with pytest.raises(AssertionError, match=re.escape(said)):
-        judge_planted(program, left, plant)
-
-
-@pytest.mark.parametrize("what", WRONG)
-def test_wrong_program(program, left, what, tmp_path):
-    script, said = WRONG[what]
-    with pytest.raises(AssertionError, match=re.escape(said)):
-        judge_planted(wrong(tmp_path, script, program), left)
+@pytest.mark.parametrize("what", [*PLANTED, *WRONG])
+def test_planted(program, left, what, tmp_path):
+    change, said = {**PLANTED, **WRONG}[what]
+    if what in WRONG:
+        program, change = wrong(tmp_path, change, program), None
+    with pytest.raises((AssertionError, sqlite3.DatabaseError), match=re.escape(said)):
+        judge_planted(program, left, change)
 
 
 def test_wrong_program_with_another_file(program, tmp_path):

@@ -21,19 +21,14 @@ from office_kit.common import free_port, running, serve_words
 pytestmark = pytest.mark.needs("valgrind")
 # Seconds to wait for a server under valgrind.
 PATIENCE = 300
-AMENDMENTS, PAYMENTS = 5, 225
-MOST = 75
+AMENDMENTS, PAYMENTS, MOST = 5, 225, 75
 VALGRIND = ("valgrind", "--tool=cachegrind", "--cache-sim=no", "--cachegrind-out-file=/dev/null")
-
-
-def payment(number, amount=12):
-    return {"date": "2026-04-01T09:00:00Z", "id": f"P{number}", "payee": {"id": "T-acme", "name": "Acme"}, "payer": {"id": "B-city", "name": "City Office"},
-            "value": {"amount": amount, "currency": "EUR"}}
 
 
 def with_payments(text, amount):
     """The text of a merge with a contract and its payments, of which the first has this amount."""
-    paid = [payment(number, *([] if number else [amount])) for number in range(PAYMENTS)]
+    payment = {"date": "2026-04-01T09:00:00Z", "payee": {"id": "T-acme", "name": "Acme"}, "payer": {"id": "B-city", "name": "City Office"}}
+    paid = [{**payment, "id": f"P{number}", "value": {"amount": 12 if number else amount, "currency": "EUR"}} for number in range(PAYMENTS)]
     contract = {"awardID": "A1", "id": "C1", "implementation": {"transactions": paid}, "status": "active", "value": {"amount": 600, "currency": "EUR"}}
     return json.dumps({**json.loads(text), "contracts": [contract]}, separators=(",", ":"), sort_keys=True)
 
@@ -71,10 +66,10 @@ class Merges:
         return int(count[1].replace(",", "")), len(text.encode())
 
     def rate(self, amount):
-        """The instructions for each byte."""
         count, size = self.cost(amount)
-        print(f"a merge of {size} bytes: {(count - self.least) / AMENDMENTS / (size - self.few):.1f} instructions a byte")
-        return (count - self.least) / AMENDMENTS / (size - self.few)
+        rate = (count - self.least) / AMENDMENTS / (size - self.few)
+        print(f"a merge of {size} bytes: {rate:.1f} instructions a byte")
+        return rate
 
 
 @pytest.fixture(scope="module")

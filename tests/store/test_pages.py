@@ -7,7 +7,6 @@ import fcntl
 import os
 import sqlite3
 import subprocess
-import tempfile
 import time
 from contextlib import closing
 from pathlib import Path
@@ -18,42 +17,13 @@ from office_kit.common import CONFIG, exchange, import_of, look, made_shim, time
 from office_kit.store import pages
 from office_kit.store.files import EMPTY, REFUSED, copied, made_line, printed, sqlite, told, wrong
 from office_kit.store.served import server
+from office_kit.store.shims import STOPPING
 
 pytestmark = [pytest.mark.needs("sqlite3", "cc"), pytest.mark.budget(100)]
-LISTENS, BESIDE = 60, "-procure-new"
-# The fields of the header and of the page after it, by the format of SQLite's files: name, length and value.
-FIELDS = (
-    ("what every database begins with", 16, int.from_bytes(b"SQLite format 3\0", "big")),
-    ("the page size", 2, 1024),
-    ("the format for who writes it: with a log", 1, 2),
-    ("the format for who reads it: with a log", 1, 2),
-    ("the bytes of a page that are kept for another use", 1, 0),
-    ("the most of a page that a row may take", 1, 64),
-    ("the least", 1, 32),
-    ("the least in a leaf", 1, 32),
-    ("the count of changes", 4, 0),
-    ("the count of pages", 4, 1),
-    ("the first free page", 4, 0),
-    ("the count of free pages", 4, 0),
-    ("the version of the list of tables", 4, 1),
-    ("the format of tables", 4, 4),
-    ("the size of a cache", 4, 0),
-    ("the largest root page, with auto-vacuum", 4, 0),
-    ("the encoding of texts: UTF-8", 4, 1),
-    ("the version of who uses it", 4, 0),
-    ("incremental vacuum", 4, 0),
-    ("the program that it belongs to", 4, 0),
-    ("what is kept for later", 20, 0),
-    ("the count of changes that the count of pages is of", 4, 0),
-    ("the release of SQLite", 4, 3_045_000),
-    ("the kind of the page: a leaf of a table", 1, 13),
-    ("the first free block", 2, 0),
-    ("the count of rows", 2, 0),
-    ("where the rows' bytes begin", 2, 1024),
-    ("the fragments", 1, 0),
-    ("the rest", 916, 0),
-)
-PAGE = b"".join(value.to_bytes(length, "big") for _, length, value in FIELDS)
+LISTENS = 60
+# The page of a new file: the fields of the header and of the page after it, by the format of SQLite's files.
+FIELDS = [line.split("\t") for line in Path(__file__).with_name("first_page.tsv").read_text().splitlines()[1:]]
+PAGE = b"SQLite format 3\0" + b"".join(int(value).to_bytes(int(length), "big") for length, value, _ in FIELDS[1:])
 # The answers of sqlite3 about the one page.
 SAYS = {
     "integrity_check": "ok", "page_size": 1024, "page_count": 1, "freelist_count": 0, "journal_mode": "wal", "encoding": "UTF-8", "auto_vacuum": 0,
@@ -66,78 +36,33 @@ PLANTED = {
     "an index in place of a table": (100, 10), "a row that isn't there": (104, 1), "fragments": (107, 70), "rows past the page's end": (105, 5),
 }
 SMALL = "PRAGMA journal_mode = delete; PRAGMA page_size = 1024; VACUUM;"
-# A library that comes before the C library and ends the process before its N-th call that changes a file or a folder. All else goes to the C library.
-STOPPING = r"""
-static void step(void) {
-    static long left;
-    if (!left) left = atol(getenv("STOP_AT"));
-    if (!--left) kill(getpid(), SIGKILL);
-}
-int fsync(int fd) { REAL(int, "fsync", int); step(); return real(fd); }
-int fdatasync(int fd) { REAL(int, "fdatasync", int); step(); return real(fd); }
-int fchmod(int fd, mode_t mode) { REAL(int, "fchmod", int, mode_t); step(); return real(fd, mode); }
-int fchown(int fd, uid_t user, gid_t group) { REAL(int, "fchown", int, uid_t, gid_t); step(); return real(fd, user, group); }
-int ftruncate(int fd, off_t length) { REAL(int, "ftruncate", int, off_t); step(); return real(fd, length); }
-int ftruncate64(int fd, off_t length) { return ftruncate(fd, length); }
-int unlink(const char *path) { REAL(int, "unlink", const char *); step(); return real(path); }
-int link(const char *from, const char *to) { REAL(int, "link", const char *, const char *); step(); return real(from, to); }
-int rename(const char *from, const char *to) { REAL(int, "rename", const char *, const char *); step(); return real(from, to); }
-ssize_t pwrite(int fd, const void *bytes, size_t size, off_t at) {
-    REAL(ssize_t, "pwrite", int, const void *, size_t, off_t);
-    step();
-    return real(fd, bytes, size, at);
-}
-ssize_t pwrite64(int fd, const void *bytes, size_t size, off_t at) { return pwrite(fd, bytes, size, at); }
-int open(const char *path, int flags, ...) {
-    REAL(int, "open", const char *, int, ...);
-    va_list rest;
-    va_start(rest, flags);
-    int mode = flags & O_CREAT ? va_arg(rest, int) : 0;
-    va_end(rest);
-    if (flags & O_CREAT) step();
-    return real(path, flags, mode);
-}
-int open64(const char *path, int flags, ...) {
-    va_list rest;
-    va_start(rest, flags);
-    int mode = flags & O_CREAT ? va_arg(rest, int) : 0;
-    va_end(rest);
-    return open(path, flags, mode);
-}
-"""
 # A library by which no file gets a second name, as on a file system without hard links.
 NO_LINKS = "int link(const char *from, const char *to) { (void)from; (void)to; errno = EPERM; return -1; }"
 
 
 class Folder:
-    """A folder for a file, and the program."""
+    """A folder for a file, and the program. A start puts the file under the name `spare` first."""
 
     def __init__(self, program, path):
-        self.program, self.path, self.file = program, str(path), os.path.join(path, "office.db")
-
-    def at(self, name):
-        return os.path.join(self.path, name)
-
-    def put(self, name, content=b"", mode=0o644):
-        with open(self.at(name), "wb") as file:
-            file.write(content)
-        os.chmod(self.at(name), mode)
+        self.program, self.path, self.file = program, path, path / "office.db"
+        self.log, self.spare = path / "office.db-wal", path / "office.db-procure-new"
 
     def ledger(self, name="office.db", **more):
         """The program's answer for the file: its status, and its output."""
-        return told(printed(self.program, self.at(name), env={**os.environ, **more}))
+        return told(printed(self.program, str(self.path / name), env={**os.environ, **more}))
 
-    def names(self):
-        return sorted(os.listdir(self.path))
+    def contents(self):
+        """The bytes of each file of the folder, by its name."""
+        return {path.name: content(path) for path in sorted(self.path.iterdir())}
 
     def is_new(self, name="office.db"):
         """The program makes an office there, in pages of a new file, and leaves nothing beside it but its log."""
         self.ledger(name)
         assert self.ledger(name) == (0, EMPTY, "")
-        pages.check_size(self.at(name), pages.NEW)
-        said = said_of(self.at(name))
+        pages.check_size(self.path / name, pages.NEW)
+        said = said_of(self.path / name)
         assert (said["integrity_check"], said["page_size"], said["journal_mode"]) == ("ok", pages.NEW, "wal")
-        assert not any(name.endswith(BESIDE) for name in self.names()), f"something is left: {self.names()}"
+        assert not [*self.path.glob("*-procure-new")]
 
 
 @pytest.fixture
@@ -156,41 +81,12 @@ def said_of(path):
 
 def content(path):
     """The bytes of a file; none if there is no file."""
-    if not os.path.exists(path):
-        return b""
-    with open(path, "rb") as file:
-        return file.read()
-
-
-# ---- The page that is put there.
-
-def stopped(folder, shim, at):
-    """Starts the program over the file, and stops it before its N-th call. Returns whether it was stopped."""
-    ended = folder.ledger(LD_PRELOAD=shim, STOP_AT=str(at))
-    assert ended[0] == -9 or ended in [(0, EMPTY, made_line(folder.file)), (0, EMPTY, "")]
-    return ended[0] == -9
-
-
-def is_page_alone(folder):
-    """Whether the file is unchanged since it was put there, with nothing written into it or its log."""
-    return len(content(folder.file)) == pages.NEW and not content(folder.file + "-wal")
-
-
-def test_placed(folder):
-    """Each field has the right value."""
-    shim, at = made_shim(STOPPING, folder.path), 1
-    while not is_page_alone(folder):
-        for name in ("", "-wal"):
-            if os.path.exists(folder.file + name):
-                os.remove(folder.file + name)
-        assert stopped(folder, shim, at), "the program ends before it was seen to put a file there"
-        at += 1
-    assert content(folder.file) == PAGE
+    return path.read_bytes() if path.exists() else b""
 
 
 def test_sqlite_takes_the_page(folder):
     """sqlite3 takes it for a sound database with no table, makes a table in it, and keeps its pages."""
-    folder.put("office.db", PAGE)
+    folder.file.write_bytes(PAGE)
     assert said_of(folder.file) == SAYS
     sqlite(folder.file, "CREATE TABLE notes (text TEXT); INSERT INTO notes VALUES ('a');")
     said = said_of(folder.file)
@@ -200,33 +96,32 @@ def test_sqlite_takes_the_page(folder):
 @pytest.mark.parametrize("what", PLANTED)
 def test_planted_in_the_page(folder, what):
     place, value = PLANTED[what]
-    folder.put("office.db", PAGE[:place] + bytes([value]) + PAGE[place + 1:])
+    folder.file.write_bytes(PAGE[:place] + bytes([value]) + PAGE[place + 1:])
     assert said_of(folder.file) != SAYS
 
-
-# ---- New files.
 
 def test_new(folder):
     folder.is_new()
     others = os.umask(0o022)
     os.umask(others)
-    assert os.stat(folder.file).st_mode & 0o777 == 0o644 & ~others
+    assert folder.file.stat().st_mode & 0o777 == 0o644 & ~others
 
 
 def test_new_beside_remains(folder):
     """With the remains of a start that was stopped, and with an empty log and an empty journal."""
-    folder.put("office.db-wal")
-    folder.put("office.db-journal")
-    folder.put("office.db" + BESIDE, b"left by a start that was stopped")
+    folder.log.touch()
+    (folder.path / "office.db-journal").touch()
+    folder.spare.write_bytes(b"left by a start that was stopped")
     folder.is_new()
 
 
 def test_new_by_a_link(folder):
     """Through a linked folder, whose files only their owners may remove."""
-    os.mkdir(folder.at("office"), 0o1777)
-    os.symlink("office", folder.at("link"))
+    linked = folder.path / "office"
+    linked.mkdir(0o1777)
+    (folder.path / "link").symlink_to("office")
     folder.is_new("link/office.db")
-    assert sorted(os.listdir(folder.at("office"))) == ["office.db", "office.db-wal"]
+    assert sorted(os.listdir(linked)) == ["office.db", "office.db-wal"]
 
 
 def test_new_waits(folder):
@@ -236,84 +131,37 @@ def test_new_waits(folder):
     started = subprocess.Popen([folder.program, "ledger", CONFIG, folder.file], stdout=subprocess.DEVNULL, stderr=subprocess.DEVNULL)
     try:
         time.sleep(1)
-        assert started.poll() is None and not folder.names()
+        assert started.poll() is None and not folder.contents()
     finally:
         os.close(lock)
     assert started.wait(LISTENS) == 0
     folder.is_new()
 
 
-def test_no_links(program, tmp_path, tmp_path_factory):
+def test_no_links(folder, tmp_path_factory):
     """On a file system without hard links the office is made with pages of 4,096 bytes, and nothing is left."""
-    folder, shim = Folder(program, tmp_path), made_shim(NO_LINKS, str(tmp_path_factory.mktemp("shim")))
+    shim = made_shim(NO_LINKS, str(tmp_path_factory.mktemp("shim")))
     assert [folder.ledger(LD_PRELOAD=shim) for _ in range(2)] == [(0, EMPTY, made_line(folder.file)), (0, EMPTY, "")]
     pages.check_size(folder.file, pages.FORMER)
-    assert folder.names() == ["office.db", "office.db-wal"]
+    assert [*folder.contents()] == ["office.db", "office.db-wal"]
 
 
 @pytest.mark.parametrize("name", ["office.db", "link.db"])
 @pytest.mark.parametrize("what", [b"", b"x"], ids=["empty", "one byte"])
 def test_empty(folder, what, name):
     """It becomes an office with pages of 4,096 bytes, and stays the same file, with its mode."""
-    folder.put("office.db", what, 0o640)
-    os.symlink("office.db", folder.at("link.db"))
-    found = os.stat(folder.file)
-    folder.ledger(name)
+    folder.file.write_bytes(what)
+    folder.file.chmod(0o640)
+    (folder.path / "link.db").symlink_to("office.db")
+    found = folder.file.stat()
+    assert folder.ledger(name)[:2] == (0, EMPTY)
     assert folder.ledger(name) == (0, EMPTY, "")
     pages.check_size(folder.file, pages.FORMER)
     assert said_of(folder.file)["integrity_check"] == "ok"
-    stays = os.stat(folder.file)
+    stays = folder.file.stat()
     assert (stays.st_ino, stays.st_mode) == (found.st_ino, found.st_mode)
-    assert folder.names() == ["link.db", "office.db", "office.db-wal"]
+    assert [*folder.contents()] == ["link.db", "office.db", "office.db-wal"]
 
-
-# ---- What the program leaves alone.
-
-def old_log(folder):
-    """Leaves a log with the import of a server that was killed, and no file to it."""
-    with server(folder.program, folder.file, 10) as (process, port):
-        timed_exchange(port, import_of(b"B1", [b"1000,add,600,Roads"]), LISTENS)
-        process.kill()
-    assert content(folder.file + "-wal")
-    os.remove(folder.file)
-
-
-def empty_file(folder, change):
-    folder.put("office.db")
-    change()
-
-
-ALONE = {
-    "a second name": lambda folder: empty_file(folder, lambda: os.link(folder.file, folder.at("second.db"))),
-    "a journal": lambda folder: empty_file(folder, lambda: folder.put("office.db-journal", b"\xd9\xd5\x05\xf9\x20\xa1\x63\xd7" + bytes(504))),
-    "a link that leads nowhere": lambda folder: os.symlink("absent.db", folder.file),
-    "a log whose file is gone": old_log,
-}
-
-
-@pytest.mark.parametrize("what", ALONE)
-def test_left_alone(folder, what):
-    """Such a file is refused, and stays unchanged."""
-    ALONE[what](folder)
-    before = {it: content(folder.at(it)) for it in folder.names()}
-    assert folder.ledger() == REFUSED
-    after = {it: content(folder.at(it)) for it in folder.names()}
-    # (An empty log may be new.)
-    assert after in (before, {**before, "office.db-wal": b""})
-
-
-def test_second_name_of_a_stopped_start(folder):
-    """The program removes the second name that a stopped start leaves. Another file of that name stays."""
-    ledger = imported(folder, 1, 400)
-    os.link(folder.file, folder.file + BESIDE)
-    assert folder.ledger() == (0, ledger, "")
-    assert not os.path.exists(folder.file + BESIDE)
-    folder.put("office.db" + BESIDE, b"another file")
-    assert folder.ledger() == (0, ledger, "")
-    assert content(folder.file + BESIDE) == b"another file"
-
-
-# ---- Files that exist.
 
 def imported(folder, number, lines):
     """Serves the file for an import and a query: the ledger then has so many lines."""
@@ -350,6 +198,17 @@ def test_planted_file_that_is_taken_for_a_new_one(folder):
         folder.is_new()
 
 
+def test_second_name_of_a_stopped_start(folder):
+    """The program removes the second name that a stopped start leaves. Another file of that name stays."""
+    ledger = imported(folder, 1, 400)
+    os.link(folder.file, folder.spare)
+    assert folder.ledger() == (0, ledger, "")
+    assert not folder.spare.exists()
+    folder.spare.write_bytes(b"another file")
+    assert folder.ledger() == (0, ledger, "")
+    assert content(folder.spare) == b"another file"
+
+
 @pytest.mark.parametrize("turn", range(8))
 def test_two_at_once(folder, turn):
     """Two programs start at once over a file that doesn't exist. One serves, and the other is refused."""
@@ -364,14 +223,17 @@ def test_two_at_once(folder, turn):
 
 
 def test_stops(program, tmp_path):
-    """After each stop the file is missing, or the one page, or a whole office, and the next start continues from there."""
+    """The program is stopped before its N-th call that changes a file or a folder. Each time the file is missing, or the one page, or a whole office, and the
+    next start continues from there."""
     shim, seen, at, runs = made_shim(STOPPING, str(tmp_path)), set(), 1, True
     while runs:
-        with tempfile.TemporaryDirectory(dir=tmp_path) as place:
-            folder = Folder(program, place)
-            runs = stopped(folder, shim, at)
-            seen.add(state_of(folder))
-            folder.is_new()
+        folder = Folder(program, tmp_path / str(at))
+        folder.path.mkdir()
+        ended = folder.ledger(LD_PRELOAD=shim, STOP_AT=str(at))
+        runs = ended[0] == -9
+        assert runs or ended in [(0, EMPTY, made_line(folder.file)), (0, EMPTY, "")]
+        seen.add(state_of(folder))
+        folder.is_new()
         # Once an office's tables are written a few of its calls are enough.
         at += 1 if at < 24 else 9
     assert seen == {"no file", "the page", "more"}
@@ -379,12 +241,13 @@ def test_stops(program, tmp_path):
 
 def state_of(folder):
     """The state of the path after a stop. Anything else is a fault."""
-    if not os.path.exists(folder.file):
+    found = content(folder.file)
+    if not folder.file.exists():
         return "no file"
-    if is_page_alone(folder):
-        assert content(folder.file) == PAGE, "the page isn't whole"
+    if len(found) == pages.NEW and not content(folder.log):
+        assert found == PAGE, "the page isn't whole"
         return "the page"
-    assert len(content(folder.file)) % pages.NEW == 0, "the file ends within a page"
+    assert len(found) % pages.NEW == 0, "the file ends within a page"
     said = said_of(folder.file)
     assert (said.get("integrity_check"), said.get("page_size")) == ("ok", pages.NEW)
     return "more"
@@ -393,26 +256,21 @@ def state_of(folder):
 # Programs that are wrong: what each does to the file $3 before the program (PAGE has the bytes of a new file), and the test that must find it.
 WRONG = {
     "pages of 4,096 bytes in a new file": ('[ -s "$3" ] || sqlite3 "$3" "PRAGMA page_size = 4096; VACUUM;"', test_new),
-    "a page beside a log of another file": ('[ ! -s "$3-wal" ] || [ -s "$3" ] || cp PAGE "$3"', lambda folder: test_left_alone(folder, [*ALONE][-1])),
     "another file in the place of an empty one": ('[ ! -e "$3" ] || [ -s "$3" ] || { cp PAGE "$3.new"; mv "$3.new" "$3"; }',
                                                   lambda folder: test_empty(folder, b"", "office.db")),
+    "one byte is refused": ('[ "$(cat "$3" 2> /dev/null)" != x ] || exit 1', lambda folder: test_empty(folder, b"x", "office.db")),
     "a page in an empty file": ('[ ! -e "$3" ] || [ -s "$3" ] || cp PAGE "$3"', lambda folder: test_empty(folder, b"", "office.db")),
     "other pages in a file that is there": (f'[ ! -s "$3" ] || sqlite3 "$3" "{SMALL}" > "$3.out"', lambda folder: test_keeps(folder, 512)),
     "something that is left": (': > "$3-procure-new"', test_new),
-    "half a page": ('[ -s "$3" ] || { head -c 512 PAGE > "$3"; kill -9 $$; }', lambda folder: test_stops(folder.program, Path(folder.path))),
+    "half a page": ('[ -s "$3" ] || { head -c 512 PAGE > "$3"; kill -9 $$; }', lambda folder: test_stops(folder.program, folder.path)),
 }
 
 
-def in_front(program, folder, script):
-    """A program that does this before ours."""
-    page = os.path.join(folder, "page")
-    with open(page, "wb") as file:
-        file.write(PAGE)
-    return wrong(folder, script.replace("PAGE", page) + '\nexec PROGRAM "$@"', program)
-
-
 @pytest.mark.parametrize("what", WRONG)
-def test_planted(program, tmp_path, tmp_path_factory, what):
+def test_planted(folder, tmp_path_factory, what):
     script, test = WRONG[what]
+    elsewhere = tmp_path_factory.mktemp("wrong")
+    (elsewhere / "page").write_bytes(PAGE)
+    folder.program = wrong(elsewhere, script.replace("PAGE", str(elsewhere / "page")) + '\nexec PROGRAM "$@"', folder.program)
     with pytest.raises((AssertionError, FileNotFoundError)):
-        test(Folder(in_front(program, str(tmp_path_factory.mktemp("wrong")), script), tmp_path))
+        test(folder)
