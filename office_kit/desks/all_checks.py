@@ -2,7 +2,6 @@
 alone. One firm then loses its key."""
 import time
 from collections.abc import Callable
-from pathlib import Path
 
 from office_kit.client import AHEAD, wait_until
 from office_kit.common import check
@@ -18,8 +17,8 @@ FIRMS = {"T1": ("Alpha & Söhne", "High Street 1"), "T2": ("Beta Ltd", "Low Stre
 SHEET = "Pos;Menge;EP;GP\r\nI1;3;140,00;420,00\r\nI2;10;12,00;120,00\r\nSumme;;;540,00\r\n".encode("cp1252")
 
 
-def make_key(scene: Scene, name: str, firm: str, address: str) -> Desk:
-    """A firm makes its key, saves it, drops it in again, and saves the file for the clerk."""
+def enrol(scene: Scene, clerk: clerk_desk.Desk, name: str, firm: str, address: str) -> Desk:
+    """A firm makes its key, saves it, drops it in again, and saves the file from which the clerk registers it."""
     desk = Desk(scene)
     desk.at("key", "Key")
     for field, text in (("tenderer", name), ("name", firm), ("address", address)):
@@ -27,16 +26,12 @@ def make_key(scene: Scene, name: str, firm: str, address: str) -> Desk:
     desk.press("Make a key")
     desk.saved(f"{name}.key")
     desk.press("Save the sheet as a file for the clerk")
-    desk.saved(f"registration-{name}.json")
+    file = desk.saved(f"registration-{name}.json")
     desk.page.choose("key-file", scene.path(f"{name}.key"))
     desk.says("its file was saved")
-    return desk
-
-
-def register(clerk: clerk_desk.Desk, scene: Scene, name: str) -> None:
-    """The clerk registers a firm from its file."""
-    clerk.register(name, Path(scene.path(f"registration-{name}.json")).read_text(encoding="utf-8"))
+    clerk.register(name, file.decode())
     clerk.confirm("Register the tenderer", f"{name} is registered.")
+    return desk
 
 
 def submit(desk: Desk) -> int:
@@ -129,10 +124,8 @@ def life(scene: Scene) -> None:
     and late. The opening, awards, contracts and payments follow, and the firms and the public see each of them."""
     clerk = clerk_desk.with_key(scene)
     budget_part(clerk)
-    desks = [make_key(scene, name, *told) for name, told in FIRMS.items()]
+    desks = [enrol(scene, clerk, name, *told) for name, told in FIRMS.items()]
     alpha, beta, gamma = desks
-    for name in FIRMS:
-        register(clerk, scene, name)
     deadline = int(time.time()) + SOON
     publish_part(clerk, "N1", "Road repair", deadline)
     # (The front keeps the list and the terms for a second, and counts whole seconds.)
@@ -171,8 +164,7 @@ def lost_key(scene: Scene) -> None:
     desk.says("This tab holds the key of T1")
     desk.press("Ask whether")
     desk.says("The name and the key don't belong together. Check both.")
-    other = make_key(scene, "T4", "Alpha & Söhne", "High Street 1")
-    register(clerk, scene, "T4")
+    other = enrol(scene, clerk, "T4", "Alpha & Söhne", "High Street 1")
     other.press("Ask whether")
     other.says("The office knows T4 by this key.")
     other.at("tenders", "My tenders")

@@ -103,7 +103,7 @@ class Page:
     """A page in a context of its own: nothing is kept from another one. For the paths of `answers` it answers in place of the server: a status and a body, or
     None for no answer."""
 
-    def __init__(self, browser: Browser, width: int, height: int = 800, dark: bool = False) -> None:
+    def __init__(self, browser: Browser, width: int, height: int = 800) -> None:
         self.browser = browser
         self.answers: Answers = {}
         self.session: str | None = None
@@ -112,14 +112,14 @@ class Page:
         self.session = self.ask("Target.attachToTarget", targetId=target, flatten=True)["sessionId"]
         for domain in DOMAINS:
             self.ask(f"{domain}.enable")
-        self.shape(width, height, dark)
+        self.shape(width, height)
 
     def ask(self, method: str, **parameters: Any) -> Any:
         return self.browser.ask(method, self.session, **parameters)
 
-    def shape(self, width: int, height: int = 800, dark: bool = False, zoom: float = 1) -> None:
+    def shape(self, width: int, height: int = 800, dark: bool = False) -> None:
         """A window of this size, light or dark; a narrow one is a phone's."""
-        self.ask("Emulation.setDeviceMetricsOverride", width=width, height=height, deviceScaleFactor=zoom, mobile=width < 600)
+        self.ask("Emulation.setDeviceMetricsOverride", width=width, height=height, deviceScaleFactor=1, mobile=width < 600)
         self.ask("Emulation.setEmulatedMedia", features=[{"name": "prefers-color-scheme", "value": "dark" if dark else "light"}])
 
     def events(self, *names: str) -> list[Event]:

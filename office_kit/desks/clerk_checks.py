@@ -46,8 +46,7 @@ def budget_part(desk: Desk) -> None:
     desk.drop(SHEET, "budget.csv", says=("The file was converted: 5 changes.", ACCEPTS_FILE))
     rows = desk.page.run("[...document.querySelectorAll('main table')].find((at) => at.caption?.textContent === 'Changes of the conversion').innerText")
     check(f"what was converted isn't shown: {rows}", all(word in rows for word in ("Zugang", "5.000,00", "5000", "Summe;;5.050,00;", "left out")))
-    desk.page.gives("Promise.all([import('/clerk/convert.js'), import('/common/digest.js')]).then(([{ converted }, { bytesOf }]) => "
-                    f"new TextDecoder().decode(converted(bytesOf({json.dumps(SHEET)}), new Map()).bytes))", BUDGET)
+    desk.page.gives(f"hands.converted({json.dumps(SHEET)})", BUDGET)
     desk.picture("budget-converted")
     desk.drop(SHEET.replace("5.000,00", "5.000,50"), "budget.csv", says="it has 1 fault.")
     check(f"the fault isn't named by its line: {desk.told()}", "\n2\t" in desk.told() or "2\tThe amount" in desk.told())
@@ -124,7 +123,7 @@ def publish_part(desk: Desk, name: str, title: str, deadline: float) -> None:
     desk.settle(f"notice/{name}")
 
 
-def tenders_part(desk: Desk, scene: Scene) -> None:
+def tenders_part(desk: Desk, scene: Scene, deadline: float) -> None:
     """Two firms tender, one of them for both lots, and the register grows. Whose the securities are is shown after the opening."""
     tenderers = firms(scene)
     tenderers.present("T1", "N1", "L1", tender((3, 150), (10, 12)), "G1", 50)
@@ -133,33 +132,23 @@ def tenders_part(desk: Desk, scene: Scene) -> None:
     desk.go("today")
     countdowns(scene)
     desk.go("notice/N1", says=("Tenders in time, by lot: L1: 2, L2: 1.", "2 securities", "G1", "shown after the opening"))
-    desk.hides("Beta")
-    desk.picture("receiving")
-
-
-def countdowns(scene: Scene) -> None:
-    """All countdowns to a deadline say the same: that of a task, and that of a clock. A second that has begun counts. (The page's time is stopped three
-    quarters of an hour before the deadline.)"""
-    desk = Desk(scene)
-    desk.says("Wait for tenders until")
-    desk.page.run("""Promise.all(["office", "money"].map((name) => import(`/common/${name}.js`))).then(([{ notices, officeNow }, { clock }]) =>
-      notices().then(([{ deadline }]) => {
-        const at = Date.parse(deadline) - 2_860_300 - (officeNow() - Date.now());
-        Date.now = () => at;
-        document.querySelector("main").append(clock(deadline));
-      }))""")
-    shown = "[...document.querySelectorAll('main [role=timer]')].map((at) => at.textContent)"
-    desk.page.wait(f"({shown}).length === 2 && ({shown}).every((text) => text.includes('47 minutes, 4'))")
-    desk.page.gives(shown, ["(in 47 minutes, 41 seconds)", "closes in 47 minutes, 41 seconds"])
-    desk.leave()
-
-
-def opening_part(desk: Desk, deadline: float) -> None:
+    desk.hides("Beta", picture="receiving")
     desk.is_off("Open the tenders …")
     wait_until(deadline + 1.1)
     desk.order("Open the tenders", "3 tenders of notice N1 are open.", says="2 tenders to examine")
     desk.go("minutes/N1", says=("3 tenders were opened.", "Alpha & Söhne", "unreadable", "In the presence of", "540 EUR"), picture="minutes")
     desk.go("notice/N1")
+
+
+def countdowns(scene: Scene) -> None:
+    """All countdowns to a deadline say the same: that of a task, and that of a clock. A second that has begun counts."""
+    desk = Desk(scene)
+    desk.says("Wait for tenders until")
+    desk.hand("stop")
+    shown = "[...document.querySelectorAll('main [role=timer]')].map((at) => at.textContent)"
+    desk.page.wait(f"({shown}).length === 2 && ({shown}).every((text) => text.includes('47 minutes, 4'))")
+    desk.page.gives(shown, ["(in 47 minutes, 41 seconds)", "closes in 47 minutes, 41 seconds"])
+    desk.close()
 
 
 def award_part(desk: Desk) -> None:
@@ -169,8 +158,7 @@ def award_part(desk: Desk) -> None:
     desk.order("Award the lot", "Lot L1 goes to Beta Ltd for 540 EUR (receipt 2).", "Lot L1", asks="Award lot L1 of notice N1 to Beta Ltd",
                says="No tender can win. The lot ends without a contract, and its reserved 300 EUR is free again.")
     desk.press("End the lot without a contract …", "Lot L2", says="End lot L2 of notice N1 without a contract")
-    desk.hides("securities")
-    desk.picture("nobody")
+    desk.hides("securities", picture="nobody")
     desk.confirm("End the lot without a contract", "Lot L2 has ended without a contract. 300 EUR is free again.")
     desk.says("Lot L1: sign the contract")
     desk.hides("The standstill")
@@ -178,12 +166,12 @@ def award_part(desk: Desk) -> None:
     desk.press("The winner doesn't sign", picture="awarded")
     desk.order("Pass over the winner", "The winner of award 1 was passed over.", asks="Pass over Beta Ltd: lot L1 of notice N1 (award 1)",
                says="It won, but the winner didn't sign.")
-    short_of_money(desk)
     signing_part(desk)
 
 
 def examination_part(desk: Desk) -> None:
-    """The clerk examines two tenders. A second tab has the same task, and is older then."""
+    """The clerk examines two tenders. A second tab has the same task, and is older then. It learns of the examinations from the office, and shows their
+    findings."""
     desk.says("2 tenders to examine", picture="evaluation")
     desk.is_off("Award the lot …", "Lot L1")
     other = with_key(desk.scene)
@@ -199,18 +187,13 @@ def examination_part(desk: Desk) -> None:
     desk.press("Record the results …", "Lot L1", says="The page sends 2 commands, one for each tender.", picture="examination-order")
     desk.confirm("Record the results", "2 tenders are examined.")
     desk.says("Lot L1 goes to Beta Ltd for 540 EUR.")
-    examined_elsewhere(other)
-
-
-def examined_elsewhere(other: Desk) -> None:
-    """A tab whose screen is older than the examinations learns of them from the office, and then shows their findings."""
     for name, receipt in (("Alpha & Söhne", 1), ("Beta Ltd", 2)):
         other.tick("Requirements met", f"Examination of {name}, receipt {receipt}")
     other.press("Record the results …", "Lot L1")
     other.send("Record the results", says="1 command was not sent.")
     other.says("Someone else examined this tender, or it was withdrawn late. That result stays.")
     other.press("Close", says="Lot L1 goes to Beta Ltd for 540 EUR.")
-    other.leave()
+    other.close()
 
 
 def letters_part(desk: Desk) -> None:
@@ -228,8 +211,9 @@ def letters_part(desk: Desk) -> None:
     desk.go("notice/N1")
 
 
-def short_of_money(desk: Desk) -> None:
-    """If the price exceeds the lot's reserved and the line's free money, the desk doesn't offer the award."""
+def signing_part(desk: Desk) -> None:
+    """If the price exceeds the lot's reserved and the line's free money, the desk doesn't offer the award. Otherwise the next winner signs. The performance
+    security must have the required amount. Letters don't ask for one that is held."""
     desk.page.answer_for({"/lines/1000": (200, b'{"free":29,"line":"1000","title":"Roads"}')})
     desk.go("today")
     desk.go("notice/N1", says="the price is 30 EUR above its reserved money, and budget line 1000 has only 29 EUR free")
@@ -237,10 +221,6 @@ def short_of_money(desk: Desk) -> None:
     desk.page.ask("Fetch.disable")
     desk.go("today")
     desk.go("notice/N1")
-
-
-def signing_part(desk: Desk) -> None:
-    """The next winner signs. The performance security must have the required amount. Letters don't ask for one that is held."""
     desk.order("Award the lot", "Lot L1 goes to Alpha & Söhne for 570 EUR (receipt 1).", "Lot L1")
     desk.fill({"Reference of the performance security": "P1", "Amount of the performance security": "60"})
     desk.press("Sign the contract …", says="The notice requires at least 70 EUR.")
@@ -271,7 +251,7 @@ def journal_part(desk: Desk) -> None:
     desk.go("journal", picture="journal")
     entries = desk.hand("entries")
     check(f"the journal has each command: {entries}", len(entries) == 16 and all(status == 200 and who == "Anna" for _, status, who, _ in entries))
-    text = desk.page.run("Promise.all([import('/clerk/session.js'), import('/clerk/journal.js')]).then(([{ journal }, { fileOf }]) => fileOf(journal()))")
+    text = desk.hand("file")
     check("the key is in the journal", '"abc"' not in text and "Office-Key" not in text)
     other = Desk(desk.scene, place="#notice/N1")
     other.says(("It isn't published whether the contract ended as agreed or by default.", "Final value", "Contract 2 ended: 500 EUR of 630 EUR was paid."))
@@ -305,8 +285,7 @@ def life(scene: Scene) -> None:
     notice_part(desk)
     deadline = int(time.time()) + SOON
     publish_part(desk, "N1", "Road repair", deadline)
-    tenders_part(desk, scene)
-    opening_part(desk, deadline)
+    tenders_part(desk, scene, deadline)
     award_part(desk)
     contract_part(desk)
     journal_part(desk)
@@ -343,8 +322,7 @@ def moved_and_cancelled(scene: Scene) -> None:
 def stops(scene: Scene) -> None:
     """If no answer comes, the desk asks about the command: it was done, it wasn't, or it can't be known. In the last case the command is sent again."""
     desk = drafting(scene, "N3", "Bridge")
-    body = desk.page.run("Promise.all([import('/clerk/session.js'), import('/clerk/notice.js')])"
-                         ".then(([{ draft }, { bodyBytes }]) => new TextDecoder().decode(bodyBytes(draft())))")
+    body = desk.hand("body")
     desk.press("Publish the notice …")
     desk.page.answer_for({"/notices/N3": None})
     desk.send("Publish the notice", says=NOT_DONE, picture="notdone")
@@ -357,7 +335,7 @@ def stops(scene: Scene) -> None:
     registers_unanswered(desk)
     found = [(status, found) for _, status, _, found in desk.hand("entries")]
     check(f"the journal says what was found: {found}", found == [(None, "not done"), (None, "done"), (504, "done"), (409, "done")])
-    desk.leave()
+    desk.close()
 
 
 def registers_unanswered(desk: Desk) -> None:
@@ -404,7 +382,7 @@ def each_refusal(scene: Scene) -> None:
             said = refused_as(desk, 100 + at, status, b'{"front":"no"}')
             check(f"{status} in {language} is told as {said!r}", re.fullmatch(r"[A-Z].*\.", said) and str(status) not in said)
         page_checks.is_quiet(desk.page)
-        desk.leave()
+        desk.close()
 
 
 def keyboard(scene: Scene) -> None:

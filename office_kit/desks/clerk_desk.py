@@ -48,10 +48,11 @@ class Desk:
         if picture:
             self.picture(picture)
 
-    def hides(self, *texts: str) -> None:
+    def hides(self, *texts: str, picture: str = "") -> None:
         """Checks that the desk says none of these."""
         told = self.told()
         check(f"one of {texts} is told: {told}", not any(text in told for text in texts))
+        self.says((), picture)
 
     def go(self, screen: str, says: Texts = (), picture: str = "") -> None:
         self.page.run(f"location.hash = {json.dumps('#' + screen)}")
@@ -136,7 +137,7 @@ class Desk:
         self.page.wait("!window.isOld && document.querySelector('main')?.getAttribute('aria-busy') === 'false' && document.querySelector('main h1')")
         self.page.run(HANDS)
 
-    def leave(self) -> None:
+    def close(self) -> None:
         """Leaves the desk, so that nothing of it asks any more."""
         self.page.ask("Fetch.disable")
         self.page.ask("Page.navigate", url="about:blank")

@@ -1,4 +1,5 @@
 """What tests/desks/test_clerk.py asks besides: that nothing is lost or forgotten on the desk's screens, and that they do in an office of 400 notices."""
+import contextlib
 import json
 import tempfile
 import time
@@ -59,10 +60,14 @@ def saved_draft(desk: Desk) -> str:
 
 
 def answers(scene: Scene) -> None:
-    """Before a notice is published, its window shows each answer and each warning, and leads back to each field. An odd hour and a low estimate are warned
-    of."""
+    """Before a notice is published, its window shows each answer and each warning, and leads back to each field. The fields of titles show all of 200 letters;
+    a line end that is pasted becomes a space. An odd hour and a low estimate are warned of."""
     desk = drafting(scene, "N7", "Answers")
-    titles(desk)
+    for label, part, after in (("Title", "Terms", "Answers"), ("Title of the lot", "", "South")):
+        field = f"hands.field('{label}', '{part}')"
+        desk.fill({label: f"{'Repair of roads '.upper() * 12}and more\n north"}, part)
+        desk.page.gives(f"{field}.value.endsWith('ROADS and more north') && {field}.value.length > 200 && {field}.scrollHeight <= {field}.clientHeight")
+        desk.fill({label: after}, part)
     desk.fill({"Deadline": "2027-03-28T02:30"}, says="Clocks go forward that day, and the time 02:30 doesn't exist. The deadline would be 03:30.")
     desk.fill({"Deadline": "2027-10-31T02:30"}, says="Clocks go back that day, and the time 02:30 comes twice.")
     desk.fill({"Deadline": local(desk, time.time() + 43_000)}, says="The deadline is in 11 hours, ")
@@ -87,16 +92,6 @@ def answers(scene: Scene) -> None:
 def review(desk: Desk) -> None:
     desk.press("Publish the notice …")
     desk.page.wait("document.querySelector('dialog[open] .answers')")
-
-
-def titles(desk: Desk) -> None:
-    """The fields of titles show all of 200 letters. A line end that is pasted becomes a space."""
-    for label, part, after in (("Title", "Terms", "Answers"), ("Title of the lot", "", "South")):
-        field = f"hands.field('{label}', '{part}')"
-        desk.fill({label: f"{'Repair of roads '.upper() * 12}and more\n north"}, part)
-        desk.page.gives(f"{field}.value.endsWith('ROADS and more north') && {field}.value.length > 200")
-        desk.page.gives(f"{field}.scrollHeight <= {field}.clientHeight")
-        desk.fill({label: after}, part)
 
 
 def idle(scene: Scene) -> None:
@@ -165,8 +160,7 @@ def signed(desk: Desk) -> None:
         award["date"] = "2026-01-05T10:00:00Z"
     redraw(desk, record, terms, "The contract is signed. So these letters don't say how to object.",
            "The standstill, the time to object before the signing, ended on 15 January 2026", "The contract was signed on ")
-    desk.hides("No contract will be signed before")
-    desk.picture("letters-signed")
+    desk.hides("No contract will be signed before", picture="letters-signed")
     del compiled["contracts"]
     redraw(desk, record, terms, "ended on 15 January 2026")
     desk.hides("The contract was signed")
@@ -185,9 +179,8 @@ def redraw(desk: Desk, record: object, terms: object, *texts: str) -> None:
 def phone(scene: Scene) -> None:
     """On a phone the menu is folded, and the head with the key's band leaves most of the window to the view."""
     for language in MOST_HEAD:
-        desk = with_key(scene, 375, f"?language={language}", language)
-        folds_its_menu(desk.page, language, "budget")
-        desk.leave()
+        with contextlib.closing(with_key(scene, 375, f"?language={language}", language)) as desk:
+            folds_its_menu(desk.page, language, "budget")
 
 
 def large(scene: Scene) -> None:
@@ -197,26 +190,21 @@ def large(scene: Scene) -> None:
         folder = Path(made.front.folder, "mirror", "data")
         folder.mkdir(parents=True)
         Path(folder, "budget.csv").write_text(table("budget", titles))
-        views(with_key(made))
-
-
-def views(desk: Desk) -> None:
-    def has_in_time(screen: str, name: str) -> None:
-        timed(desk.page, screen, f"hands.button('{name}')")
-    has_in_time("budget", "Show more (100 left)")
-    today(desk)
-    budget_lines(desk)
-    has_in_time("tenderers", "Show more (35 left)")
-    has_in_time("new", "Publish the notice …")
-    timed(desk.page, "notice/N005", "document.querySelector('main form')")
-    desk.go(f"notice/{clerk_large.name_of(clerk_large.OPENED + 2)}", says=("No tender came.", "The tenders are sealed until the clerk opens them."))
-    has_in_time("notice/N001", "Record the results …")
-    examination(desk)
-    timed(desk.page, "letter/N003/L1", "document.querySelector('.sheet')")
-    desk.says(("3 letters", "No tender can win the lot.", "It doesn't meet the requirements."))
-    timed(desk.page, "letter/N002/L2", "document.querySelector('.sheet')")
-    desk.says(("1 letter,", "Our reason: The ground is wet.", "We have returned your security G5"))
-    page_checks.is_quiet(desk.page)
+        desk = with_key(made)
+        timed(desk.page, "budget", "hands.button('Show more (100 left)')")
+        today(desk)
+        budget_lines(desk)
+        timed(desk.page, "tenderers", "hands.button('Show more (35 left)')")
+        timed(desk.page, "new", "hands.button('Publish the notice …')")
+        timed(desk.page, "notice/N005", "document.querySelector('main form')")
+        desk.go("notice/N022", says=("No tender came.", "The tenders are sealed until the clerk opens them."))
+        timed(desk.page, "notice/N001", "hands.button('Record the results …')")
+        examination(desk)
+        timed(desk.page, "letter/N003/L1", "document.querySelector('.sheet')")
+        desk.says(("3 letters", "No tender can win the lot.", "It doesn't meet the requirements."))
+        timed(desk.page, "letter/N002/L2", "document.querySelector('.sheet')")
+        desk.says(("1 letter,", "Our reason: The ground is wet.", "We have returned your security G5"))
+        page_checks.is_quiet(desk.page)
 
 
 def today(desk: Desk) -> None:

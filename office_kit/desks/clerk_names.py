@@ -3,7 +3,6 @@ import contextlib
 import json
 import os
 import re
-from collections.abc import Iterator
 from pathlib import Path
 
 from office_kit.client import Port, budget
@@ -61,15 +60,10 @@ def fill(port: int) -> None:
     life.contract_of(life.award_of("N4", "L1"))
 
 
-@contextlib.contextmanager
-def signed_in(scene: Scene, name: str) -> Iterator[Desk]:
+def signed_in(scene: Scene, name: str) -> contextlib.closing[Desk]:
     """The desk of a clerk who gave name and password to the browser."""
     assert scene.front.signing
-    desk = Desk(scene, sign=f"{name}:{scene.front.signing.passwords[name]}")
-    try:
-        yield desk
-    finally:
-        desk.leave()
+    return contextlib.closing(Desk(scene, sign=f"{name}:{scene.front.signing.passwords[name]}"))
 
 
 def has_role(name: str, role: str) -> bool:
@@ -77,7 +71,8 @@ def has_role(name: str, role: str) -> bool:
 
 
 def finds_own(desk: Desk, name: str) -> None:
-    """The bar names the clerk and the roles. Each screen has the buttons of these roles, and says what the others need."""
+    """The bar names the clerk and the roles. Each screen has the buttons of these roles, and says what the others need. Today counts and shows the tasks of
+    these roles, and says in one line what is left to others. So does the screen of a notice."""
     roles = ", ".join(role.capitalize() for role in ROLES[name].split())
     desk.page.gives("[...document.getElementById('who').children].map((at) => at.innerText)", [f"Signed in as {name}. Roles: {roles}.", "How to sign out"])
     for screen, buttons in SCREENS.items():
@@ -88,23 +83,18 @@ def finds_own(desk: Desk, name: str) -> None:
             says = f"Only clerks with the role “{role.capitalize()}” can do this." in desk.told()
             check(f"{name}: {screen} doesn't say that {role} is needed", has_role(name, role) or text in QUIET or says)
         check(f"{name}: the menu of {screen}", ("New notice" in texts) == has_role(name, "notices"))
-    today(desk, name)
-    check("the desk asks for a key", "key" not in desk.page.run("document.getElementById('who').innerText").lower())
-    page_checks.is_quiet(desk.page)
-
-
-def today(desk: Desk, name: str) -> None:
-    """Today counts and shows the tasks of the own roles, and says in one line what is left to others. So does the screen of a notice."""
-    groups, count, roles = TODAY[name]
+    groups, count, others = TODAY[name]
     desk.go("today")
     desk.page.gives("[...document.querySelectorAll('main h2')].map((at) => at.textContent)", groups)
     left = desk.page.run(LEFT)
     found = re.fullmatch(r"Left to others: (\d+) tasks \((.*)\)\.", left)
-    check(f"{name}: left to others are {left}", (int(found[1]), set(found[2].split(", "))) == (count, roles) if found else (left, count) == ("", 0))
+    check(f"{name}: left to others are {left}", (int(found[1]), set(found[2].split(", "))) == (count, others) if found else (left, count) == ("", 0))
     for notice, task, role in (("N2", "examine 1 tender", "evaluation"), ("N3", "sign the contract", "contracts")):
         desk.go(f"notice/{notice}")
         told = desk.page.run("document.querySelector('main .look').innerText")
         check(f"{name}: {notice} says {told}", (task in told, "Left to others: " in told) == (has_role(name, role), not has_role(name, role)))
+    check("the desk asks for a key", "key" not in desk.page.run("document.getElementById('who').innerText").lower())
+    page_checks.is_quiet(desk.page)
 
 
 def by_name(scene: Scene) -> None:
@@ -142,8 +132,7 @@ def does_own(scene: Scene) -> None:
     with signed_in(scene, "anna") as desk:
         desk.register("T9", json.dumps({"tenderer": "T9", "name": "Nine", "address": "9 Street", "key": "9" * 64}))
         desk.press("Request, as it is sent", says=("POST /tenderers/T9", "Office-Caller: clerk"))
-        desk.hides("Office-Key")
-        desk.picture("order-by-name")
+        desk.hides("Office-Key", picture="order-by-name")
         desk.confirm("Register the tenderer", "T9 is registered.")
         desk.go("journal", says="anna")
         desk.page.run("document.querySelector('#who a').click()")

@@ -37,6 +37,27 @@
     },
     // The entries of the journal: what was sent, the office's status, who sent it, and what queries found if no answer came.
     entries: async () => (await import("/clerk/session.js")).journal().entries.map(({ path, status, who, found }) => [path, status, who, found]),
+    // What is sent if the draft is published, the journal's file, and what the desk makes of a spreadsheet's budget file.
+    body: async () => {
+      const [{ draft }, { bodyBytes }] = await Promise.all([import("/clerk/session.js"), import("/clerk/notice.js")]);
+      return new TextDecoder().decode(bodyBytes(draft()));
+    },
+    file: async () => {
+      const [{ journal }, { fileOf }] = await Promise.all([import("/clerk/session.js"), import("/clerk/journal.js")]);
+      return fileOf(journal());
+    },
+    converted: async (text) => {
+      const [{ converted }, { bytesOf }] = await Promise.all([import("/clerk/convert.js"), import("/common/digest.js")]);
+      return new TextDecoder().decode(converted(bytesOf(text), new Map()).bytes);
+    },
+    // Stops the page's time three quarters of an hour before the deadline of the first notice, and shows a clock of it.
+    async stop() {
+      const [{ notices, officeNow }, { clock }] = await Promise.all([import("/common/office.js"), import("/common/money.js")]);
+      const [{ deadline }] = await notices();
+      const at = Date.parse(deadline) - 2_860_300 - (officeNow() - Date.now());
+      Date.now = () => at;
+      document.querySelector("main").append(clock(deadline));
+    },
     // A moment in the form of a field for date and time, in the browser's time zone.
     local: async (milliseconds) => (await import("/clerk/values.js")).localText(milliseconds),
     // The English texts of the desk that are shown.

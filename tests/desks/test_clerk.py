@@ -1,7 +1,7 @@
 """The clerk's desk (web/clerk/): nginx with deploy/nginx.conf in front of an office, and a browser without a window.
 
-`life` does a procurement from the budget to the last payment with the screens only, except for the tenders, which scripts submit. The checks that use its notice
-run after it. Each check says what it is about: office_kit/desks/clerk_checks.py, clerk_more.py (`large` makes an office of 400 notices) and clerk_names.py.
+`life` does a procurement from the budget to the last payment with the screens only, except for the tenders, which scripts submit. Those that use its notice run
+after it. Each check says what it is about: office_kit/desks/clerk_checks.py, clerk_more.py (`large` makes an office of 400 notices) and clerk_names.py.
 """
 import pytest
 
