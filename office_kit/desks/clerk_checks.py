@@ -101,7 +101,7 @@ def notice_part(desk: Desk) -> None:
     desk.go("new")
     desk.press("Publish the notice …", says="things are missing or wrong", picture="notice-empty")
     write_notice(desk, "N1", time.time() + 40 * DAY, "Road repair")
-    # It shows the free money beside the estimate, and what a sheet wrote, and warns of what is seldom meant.
+    # It shows the free money beside the estimate and how it read the sheet, and warns of terms that are seldom meant.
     desk.says((ACCEPTS_NOTICE, "Budget line 1000 has 5,000 free. This notice needs 1,900, so 3,100 is left.", "“1.600,00” as 1600",
                "Without a standstill the losing firms can't object"))
     desk.fill({"Validity of tenders, in days": "10", "Standstill, in days": "10", "Deadline": local(desk, time.time() + 3 * DAY - 60)},

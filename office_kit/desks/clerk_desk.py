@@ -13,13 +13,13 @@ from office_kit.desks.scene import Scene
 SHAPES = {"phone": 375, "desktop": 1280}
 WIDTHS = (320, 375, 1280, 1920)
 HANDS = Path(__file__).with_name("hands.js").read_text(encoding="utf-8")
-# What the desk says: a text, or several.
+# A text, or several.
 Texts = str | tuple[str, ...]
 
 
 class Desk:
-    """The desk in a page of its own. A clerk may sign in first, with a name and a password. After an action the desk must come to say what is given as `says`;
-    then the picture of this name is taken. A `part` is the heading of the part of the screen that has the field or the button."""
+    """The desk in a page of its own. A clerk may sign in first, with a name and a password. After an action the desk must say the texts that are given
+    as `says`; then it takes the picture of this name. A `part` is the heading of the part of the screen that has the field or the button."""
 
     def __init__(self, scene: Scene, width: int = 1280, place: str = "", language: str = "en", sign: str = "") -> None:
         self.scene, self.page = scene, Page(scene.browser, width)

@@ -1,4 +1,4 @@
-// What a test does by hand on the clerk's desk (clerk_desk.py). A field is found by its label, a button by its text, a part of the screen by its heading. Of
+// The acts of a test on the clerk's desk, as by hand (clerk_desk.py). A field is found by its label, a button by its text, a part of the screen by its heading. Of
 // several it takes the last visible one, which is in front.
 (() => {
   const seen = (at) => at.checkVisibility() && !at.closest("details:not([open]) > :not(summary)");
@@ -35,9 +35,9 @@
         happens(at, "input");
       }
     },
-    // The entries of the journal: what was sent, the office's status, who sent it, and what queries found if no answer came.
+    // The entries of the journal: the path of each command, the office's status, the clerk's name, and the result of queries if no answer came.
     entries: async () => (await import("/clerk/session.js")).journal().entries.map(({ path, status, who, found }) => [path, status, who, found]),
-    // What is sent if the draft is published, the journal's file, and what the desk makes of a spreadsheet's budget file.
+    // The body of the draft's publication, the journal's file, and the budget file that the desk makes of a spreadsheet's.
     body: async () => {
       const [{ draft }, { bodyBytes }] = await Promise.all([import("/clerk/session.js"), import("/clerk/notice.js")]);
       return new TextDecoder().decode(bodyBytes(draft()));

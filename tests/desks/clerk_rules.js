@@ -16,7 +16,7 @@ const de = (await import(`${web}/clerk/de.js`)).default;
 const linesOf = (ledger) => new Map(ledger.split("\n").slice(2).filter(Boolean).map((line) => line.split("\t")).map(([line, appropriation, free]) =>
   [line, { line, appropriation: Number(appropriation), free: Number(free) }]));
 
-// What the office would answer by the faults that are found: to a budget file, `{ rows }` if it imports it; to a notice, null; else `{ name, what }`.
+// The office's answer by the faults that are found: to a budget file, `{ rows }` if it imports it; to a notice, null; else `{ name, what }`.
 function answerOf(reading, lines) {
   if (reading.bytes > MOST.body) {
     return { name: "TooLong" };

@@ -10,7 +10,6 @@ import base64
 import collections
 import itertools
 import json
-import re
 import subprocess
 from pathlib import Path
 
@@ -19,9 +18,10 @@ from hypothesis import given, settings
 
 from office_kit.api.tenders import CHANCE, MARK, samples
 from office_kit.client import Blocks, Client, answer_of, budget, lot, notice, tender
-from office_kit.common import CONFIG, ROOT, parts_of
+from office_kit.common import CONFIG, parts_of
 from office_kit.desks import modules
 from office_kit.desks.modules import WEB
+from office_kit.desks.page_checks import refusals
 
 pytestmark = [pytest.mark.needs("node"), pytest.mark.budget(120)]
 NOW, DEADLINE, NOW_MS = "2026-01-05T09:00:00Z", "2026-02-01T12:00:00Z", 1_767_603_600_000
@@ -75,14 +75,10 @@ BYTES = [b",", b";", b'"', b"\n", b"\r", b"\r\n", b" ", b"\t", b"0", b"9", b"x",
 
 # ---- What is tried: made by chance, which hypothesis shrinks, and at the bounds.
 
-def row(chance):
-    return [chance.choice(LINES), chance.choice(("add", "add", "cut")), chance.choice(AMOUNTS[:4] * 9 + AMOUNTS),
-            chance.choice(("Roads", "Parks, and trees", "Stra\u00dfen", 'a "b"'))]
-
-
 def budget_file(chance):
     """A budget file: right, or with up to two rows changed, or bytes."""
-    rows = [["line", "kind", "amount", "title"], *[row(chance) for _ in range(chance.choice((1, 1, 2, 3, 8)))]]
+    columns = [LINES, ("add", "add", "cut"), AMOUNTS[:4] * 9 + AMOUNTS, ("Roads", "Parks, and trees", "Stra\u00dfen", 'a "b"')]
+    rows = [["line", "kind", "amount", "title"], *(list(map(chance.choice, columns)) for _ in range(chance.choice((1, 1, 2, 3, 8))))]
     for _ in range(chance.choice((0, 0, 0, 1, 1, 2))):
         at, field = chance.randrange(len(rows)), chance.randrange(4)
         rows[at] = [*rows[at][:field], chance.choice(ODD), *rows[at][field + 1:]] if chance.randrange(5) else rows[at][:-1]
@@ -190,11 +186,6 @@ def drafts_at_bounds():
     return [{**draft, "name": f"M{at}"} for at, draft in enumerate(drafts)]
 
 
-def made_drafts(count):
-    """So many made notices, each with a name of its own or that of the one before."""
-    return [{**draft, "name": f"N{number - is_again}"} for number, (draft, is_again) in enumerate(samples(CHANCE.map(made_draft), count), 1)]
-
-
 def read_budget(program, data):
     """The rows that the program reads in a file, or None if it refuses the file."""
     return json.loads(subprocess.run([program, "read-budget", "/dev/stdin"], input=data, capture_output=True).stdout).get("rows")
@@ -270,9 +261,7 @@ def awards_of(program, count):
 
 def plain(answer):
     """An answer, as the desk's modules give it."""
-    if "refusal" in answer:
-        return {name: answer[name] for name in ("name", "what") if name in answer}
-    return {"rows": answer["rows"]} if "rows" in answer else None
+    return {name: answer[name] for name in ("rows", "name", "what") if name in answer}
 
 
 class Given:
@@ -282,7 +271,9 @@ class Given:
     def __init__(self, program, count):
         files = [*at_bounds(), *samples(CHANCE.map(budget_file), count), budget("5000,add,9000,Roads", "6000,add,5000,Parks").encode()]
         later = [budget(f"{line},cut,{amount},Cut").encode() for line in (5000, 6000) for amount in (1, 4999, 9000, 10 ** 6)]
-        self.drafts = drafts_at_bounds() + made_drafts(count // 3)
+        # Each made notice has a name of its own or that of the one before.
+        made = enumerate(samples(CHANCE.map(made_draft), count // 3), 1)
+        self.drafts = [*drafts_at_bounds(), *({**draft, "name": f"N{number - is_again}"} for number, (draft, is_again) in made)]
         imports = [(Client.import_budget, f"B{at}", data) for at, data in enumerate(files + later)]
         publications = [(Client.publish, draft["name"], body) for draft, body in zip(self.drafts, bodies_of(self.drafts))]
         told = answers_of(program, imports[:len(files)] + publications + imports[len(files):])
@@ -291,7 +282,8 @@ class Given:
         self.rows = [read_budget(program, data) for data in files + later]
         awards, self.winners = awards_of(program, count // 5)
         asked = [{"data": base64.b64encode(data).decode(), "ledger": ledger} for data, (_, ledger, _) in zip(files + later, self.of_files)]
-        self.asked = {"files": asked, "notices": self.notices(), "awards": awards, "refusals": refusals()}
+        sentences = [f"refusal.{json.loads(body)['name']}" for _, body in refusals()]
+        self.asked = {"files": asked, "notices": self.notices(), "awards": awards, "refusals": sentences}
 
     def notices(self):
         notices, taken = [], set()
@@ -299,11 +291,6 @@ class Given:
             notices.append({"draft": draft, "ledger": ledger, "isUsed": draft["name"] in taken})
             taken |= set() if "refusal" in answer else {draft["name"]}
         return notices
-
-
-def refusals():
-    """The names of the sentences that the refusals of docs/API.md need."""
-    return [f"refusal.{name}" for name in re.findall(r"^\| \d+ \| `(\w+)` \| \d+ \|", Path(ROOT, "docs", "API.md").read_text(encoding="utf-8"), re.M)]
 
 
 # ---- The tests. Each but the last compares the answers of the modules with the program's.
