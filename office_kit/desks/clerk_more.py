@@ -3,6 +3,7 @@ import contextlib
 import json
 import tempfile
 import time
+from functools import partial
 from pathlib import Path
 
 from office_kit.client import Client, Port, budget
@@ -18,6 +19,8 @@ from office_kit.mirror.tables import table
 ASKS = "(() => { const leave = new Event('beforeunload', { cancelable: true }); dispatchEvent(leave); return leave.defaultPrevented; })()"
 TITLE = "hands.field('Title', 'Terms').value"
 REASON = "A sentence is no price list."
+# (A view of the desk isn't drawn a second time.)
+in_time = partial(timed, again="")
 
 
 def drafts(scene: Scene) -> None:
@@ -191,25 +194,25 @@ def large(scene: Scene) -> None:
         folder.mkdir(parents=True)
         Path(folder, "budget.csv").write_text(table("budget", titles))
         desk = with_key(made)
-        timed(desk.page, "budget", "hands.button('Show more (100 left)')")
+        in_time(desk.page, "budget", "hands.button('Show more (100 left)')")
         today(desk)
         budget_lines(desk)
-        timed(desk.page, "tenderers", "hands.button('Show more (35 left)')")
-        timed(desk.page, "new", "hands.button('Publish the notice …')")
-        timed(desk.page, "notice/N005", "document.querySelector('main form')")
+        in_time(desk.page, "tenderers", "hands.button('Show more (35 left)')")
+        in_time(desk.page, "new", "hands.button('Publish the notice …')")
+        in_time(desk.page, "notice/N005", "document.querySelector('main form')")
         desk.go("notice/N022", says=("No tender came.", "The tenders are sealed until the clerk opens them."))
-        timed(desk.page, "notice/N001", "hands.button('Record the results …')")
+        in_time(desk.page, "notice/N001", "hands.button('Record the results …')")
         examination(desk)
-        timed(desk.page, "letter/N003/L1", "document.querySelector('.sheet')")
+        in_time(desk.page, "letter/N003/L1", "document.querySelector('.sheet')")
         desk.says(("3 letters", "No tender can win the lot.", "It doesn't meet the requirements."))
-        timed(desk.page, "letter/N002/L2", "document.querySelector('.sheet')")
+        in_time(desk.page, "letter/N002/L2", "document.querySelector('.sheet')")
         desk.says(("1 letter,", "Our reason: The ground is wet.", "We have returned your security G5"))
         page_checks.is_quiet(desk.page)
 
 
 def today(desk: Desk) -> None:
     """The groups, their counts, and the search. The cells of a row start at one height."""
-    timed(desk.page, "today", "[...document.querySelectorAll('main h2')].at(-1)")
+    in_time(desk.page, "today", "[...document.querySelectorAll('main h2')].at(-1)")
     desk.page.gives("[...document.querySelectorAll('main h2')].map((at) => at.textContent)", ["Overdue: 180", "This week: 20", "Later: 5", "Waiting: 192"])
     desk.page.gives("document.querySelector('main input').getBoundingClientRect().top + scrollY < 400")
     desk.page.gives("hands.apart() < 8")

@@ -3,6 +3,7 @@ import contextlib
 import json
 import os
 import re
+import tomllib
 from pathlib import Path
 
 from office_kit.client import Port, budget
@@ -13,30 +14,10 @@ from office_kit.desks.scene import Scene, staged
 from office_kit.front.clerks import Signing, lines_of_log
 from office_kit.store.life import Life, offer, part
 
-ROLES = {"anna": "notices", "bert": "budget", "cora": "evaluation", "dora": "contracts", "emil": "all", "fred": "notices contracts"}
+ALL = tomllib.loads(Path(__file__).with_suffix(".toml").read_text(encoding="utf-8"))
+ROLES = ALL["roles"]
 # A name without a role.
 NOBODY = "gerd"
-# Each screen, with its buttons (or folded parts) and the role that each needs.
-SCREENS = {
-    "budget": {"Choose a file, or drop it here": "budget"},
-    "tenderers": {"Register a tenderer": "notices"},
-    "new": {"Publish the notice …": "notices"},
-    "notice/N1": {"Move the deadline": "notices", "Cancel the notice": "notices", "Open the tenders …": "evaluation"},
-    "notice/N2": {"Record the results …": "evaluation", "Award the lot …": "evaluation"},
-    "notice/N3": {"Sign the contract …": "contracts", "Pass over the winner …": "evaluation"},
-    "notice/N4": {"Record the payment …": "contracts", "Change the contract …": "contracts", "End the contract by default …": "contracts"},
-}
-# Buttons that are left out without a word.
-QUIET = ("Move the deadline", "Cancel the notice", "Pass over the winner …")
-# On Today: the groups of each clerk with their counts, the number of tasks that are left to others, and the roles that these need.
-TODAY = {"anna": (["This week: 1", "Waiting: 3"], 4, {"Evaluation", "Contracts"}), "bert": (["This week: 1", "Waiting: 3"], 4, {"Evaluation", "Contracts"}),
-         "cora": (["This week: 2", "Waiting: 2"], 2, {"Contracts"}), "dora": (["This week: 2", "Later: 1", "Waiting: 1"], 2, {"Evaluation"}),
-         "emil": (["This week: 3", "Later: 1"], 0, set()), "fred": (["This week: 2", "Later: 1", "Waiting: 1"], 2, {"Evaluation"})}
-# A name, a module that is made wrong for it, the text, and the changed text.
-PLANTS = [("bert", "load.js", "roles.some(may)", "true"), ("anna", "today.js", "now, isOwn)", "now)"),
-          ("bert", "session.js", "session.roles.includes(role)", "true"), ("bert", "desk.js", "!FOR_ROLE[name] || may(FOR_ROLE[name])", "true"),
-          ("cora", "contracts.js", 'forRole("contracts"', 'forRole("evaluation"'), ("anna", "deadline.js", 'forRole("evaluation"', 'forRole("notices"'),
-          ("dora", "award.js", 'forRole("contracts"', 'forRole("evaluation"'), ("fred", "tenderers.js", 'forRole("notices"', 'forRole("all"')]
 TEXTS = "[...document.querySelectorAll('main button, main summary, main label, nav a')].map((at) => at.textContent.trim())"
 LEFT = "[...document.querySelectorAll('main > p')].map((at) => at.textContent).filter((text) => text.startsWith('Left')).join()"
 
@@ -75,20 +56,20 @@ def finds_own(desk: Desk, name: str) -> None:
     these roles, and says in one line what is left to others. So does the screen of a notice."""
     roles = ", ".join(role.capitalize() for role in ROLES[name].split())
     desk.page.gives("[...document.getElementById('who').children].map((at) => at.innerText)", [f"Signed in as {name}. Roles: {roles}.", "How to sign out"])
-    for screen, buttons in SCREENS.items():
+    for screen, buttons in ALL["screens"].items():
         desk.go(screen)
         texts = desk.page.run(TEXTS)
         for text, role in buttons.items():
             check(f"{name}: {screen} has {text}: {text in texts}", (text in texts) == has_role(name, role))
             says = f"Only clerks with the role “{role.capitalize()}” can do this." in desk.told()
-            check(f"{name}: {screen} doesn't say that {role} is needed", has_role(name, role) or text in QUIET or says)
+            check(f"{name}: {screen} doesn't say that {role} is needed", has_role(name, role) or text in ALL["quiet"] or says)
         check(f"{name}: the menu of {screen}", ("New notice" in texts) == has_role(name, "notices"))
-    groups, count, others = TODAY[name]
+    groups, count, others = ALL["today"][name]
     desk.go("today")
     desk.page.gives("[...document.querySelectorAll('main h2')].map((at) => at.textContent)", groups)
     left = desk.page.run(LEFT)
     found = re.fullmatch(r"Left to others: (\d+) tasks \((.*)\)\.", left)
-    check(f"{name}: left to others are {left}", (int(found[1]), set(found[2].split(", "))) == (count, others) if found else (left, count) == ("", 0))
+    check(f"{name}: left to others are {left}", (int(found[1]), sorted(found[2].split(", "))) == (count, others) if found else (left, count) == ("", 0))
     for notice, task, role in (("N2", "examine 1 tender", "evaluation"), ("N3", "sign the contract", "contracts")):
         desk.go(f"notice/{notice}")
         told = desk.page.run("document.querySelector('main .look').innerText")
@@ -105,7 +86,7 @@ def by_name(scene: Scene) -> None:
             with signed_in(made, name) as desk:
                 finds_own(desk, name)
         does_own(made)
-        passed_over = [plant for plant in PLANTS if not is_found(made, *plant)]
+        passed_over = [plant for plant in ALL["plants"] if not is_found(made, *plant)]
         check(f"these are passed over: {passed_over}", not passed_over)
         with signed_in(made, NOBODY) as desk:
             desk.page.gives("document.getElementById('who').innerText.includes('your name has no role')")

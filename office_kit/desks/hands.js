@@ -4,7 +4,7 @@
   const seen = (at) => at.checkVisibility() && !at.closest("details:not([open]) > :not(summary)");
   const text = (at) => (at?.textContent ?? "").replace(/\s+/g, " ").trim();
   const dialog = () => document.querySelector("dialog[open]");
-  const all = (selector, part) => [...(part ? hands.part(part) : dialog() ?? document).querySelectorAll(selector)];
+  const all = (selector, part) => [...((part ? hands.part(part) : null) ?? dialog() ?? document).querySelectorAll(selector)];
   const nameOf = (at) => at.getAttribute("aria-label") ?? text(at.querySelector("h2, h3"));
   const happens = (at, ...names) => names.forEach((name) => at.dispatchEvent(new Event(name, { bubbles: true })));
   window.hands = {

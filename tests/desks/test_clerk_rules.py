@@ -11,6 +11,7 @@ import collections
 import itertools
 import json
 import subprocess
+import tomllib
 from pathlib import Path
 
 import pytest
@@ -29,36 +30,9 @@ MOST_BODY = 65_536
 LATER, PAST = 1_767_700_000_000, 1_767_600_000_000
 HEAD = b"line,kind,amount,title\n"
 # Asks the modules for their answers.
-ASKS = Path(__file__).with_name("clerk_rules.js").read_text(encoding="utf-8")
+ASKS = Path(__file__).with_name("clerk_rules.mjs").read_text(encoding="utf-8")
 # The rules that are changed: a module, the text in it, and the changed text.
-CHANGED = {
-    "semicolons are taken for commas": ("common/csv.js", 'separator = ","', 'separator = ";"'),
-    "an empty line is a record": ("common/csv.js", '} else if (state !== "before") {\n      ended();', "} else {\n      ended();"),
-    "a byte order mark stays": ("common/csv.js", "binary.startsWith(MARK) ? binary.slice(MARK.length) : binary", "binary"),
-    "an identifier may have 33 letters": ("common/csv.js", "{1,32}$/.test(field);", "{1,33}$/.test(field);"),
-    "an amount of 0 is taken": ("clerk/budget.js", 'numberOf(field) === 0 ? "amount.zero" : null', "null"),
-    "the bytes of a title are its letters": ("clerk/budget.js", "title: textOf(title) };", "title };"),
-    "ADD is taken": ("clerk/budget.js", 'kind !== "add" && kind !== "cut"', 'kind.toLowerCase() !== "add" && kind !== "cut"'),
-    "the title may have 201 bytes": ("common/csv.js", "\\x1f\\x7f]{1,200}$/", "\\x1f\\x7f]{1,201}$/"),
-    "a line that is made by the file can't be cut": ("clerk/budget.js", "  line.isThere = true;\n", ""),
-    "all that is there may be cut": ("clerk/budget.js", "line.free < amount", "line.appropriation < amount"),
-    "more than 10^15 may be on a line": ("clerk/budget.js", '? "past" : null;', '? null : null;'),
-    "501 rows are taken": ("clerk/values.js", "rows: 500", "rows: 501"),
-    "a cut adds": ("clerk/budget.js", 'kind === "add" ? held + amount', 'kind !== "-" ? held + amount'),
-    "a deadline of now is taken": ("clerk/notice.js", "draft.deadline <= now", "draft.deadline < now"),
-    "each lot may want all that is free": ("clerk/notice.js", "(wanted.get(line) ?? 0) + (wholeNumber", "(wholeNumber"),
-    "91 days of standstill are taken": ("clerk/values.js", "standstill: 90", "standstill: 91"),
-    "a lot may have no item": ("clerk/notice.js", 'lot.items.length === 0 ?', "false ?"),
-    "51 items are taken": ("clerk/values.js", "items: 50", "items: 51"),
-    "an identifier may stand there twice": ("clerk/notice.js", ".length > 1;", ".length > 2;"),
-    "65,537 bytes are taken": ("clerk/values.js", "body: 65_536", "body: 65_537"),
-    "the dearest wins": ("common/tenders.js", ": price(one) - price(other)", ": price(other) - price(one)"),
-    "the last of the same price wins": ("common/tenders.js", "? one.receipt - other.receipt", "? other.receipt - one.receipt"),
-    "points don't count": ("common/tenders.js", "(byPoints ? shown?.tenders.get(receipt)?.points ?? -1 : 0)", "0"),
-    "what isn't responsive may win": ("clerk/stage.js", 'found?.standing === "admissible"', "found !== null"),
-    "a journal's line may be taken out": ("clerk/journal.js", 'if (part.before !== before || part.number !== number) {', "if (false) {"),
-    "a text may lack in German": ("clerk/de.js", '"site": "Vergabestelle",', ""),
-}
+CHANGED = tomllib.loads(Path(__file__).with_name("clerk_rules.toml").read_text(encoding="utf-8"))
 # The changed values of a notice's field.
 VALUES = {
     "title": ["", "x" * 201, "\u00e4" * 101, "a\u0001"], "validity": ["0", "365", "366", "x", ""], "standstill": ["0", "90", "91", "-1"],
