@@ -1,5 +1,4 @@
-"""The checks of tests/desks/test_together.py: a procurement from the budget to the last payment, by the screens of the clerk, of three firms and of the public
-alone. One firm then loses its key."""
+"""The checks of tests/desks/test_together.py: a procurement by the screens of the clerk, of three firms and of the public alone. Then a firm loses its key."""
 import time
 from collections.abc import Callable
 

@@ -40,8 +40,7 @@ def firms(scene: Scene) -> Client[Answer]:
 
 
 def budget_part(desk: Desk) -> None:
-    """A spreadsheet's file is converted, and each change is shown. A right file shows its changes, and is taken in. The desk warns of the same file under
-    another name."""
+    """A spreadsheet's file is converted, and each change is shown. A right file is imported. The desk warns of the same file under another name."""
     desk.go("budget")
     desk.drop(SHEET, "budget.csv", says=("The file was converted: 5 changes.", ACCEPTS_FILE))
     rows = desk.page.run("[...document.querySelectorAll('main table')].find((at) => at.caption?.textContent === 'Changes of the conversion').innerText")
@@ -74,11 +73,6 @@ def tenderers_part(desk: Desk) -> None:
     desk.picture("tenderers")
 
 
-def local(desk: Desk, second: float) -> str:
-    """A second in the form of a field for date and time, in the browser's time zone."""
-    return str(desk.page.run(f"hands.local({int(second) * 1000})"))
-
-
 def write_notice(desk: Desk, name: str, deadline: float, title: str) -> None:
     """A notice from a pasted table, with its terms."""
     desk.go("new")
@@ -86,7 +80,7 @@ def write_notice(desk: Desk, name: str, deadline: float, title: str) -> None:
     desk.fill({"Table": TABLE})
     desk.press("Replace the lots with this table", says="2 lots were taken from the table, with 3 items.")
     desk.fill({"Title": title}, "Terms")
-    desk.fill({"Notice number": name, "Standstill, in days": "0", "Performance security": "70", "Deadline": local(desk, deadline)})
+    desk.fill({"Notice number": name, "Standstill, in days": "0", "Performance security": "70", "Deadline": deadline})
 
 
 def drafting(scene: Scene, name: str, title: str) -> Desk:
@@ -104,9 +98,9 @@ def notice_part(desk: Desk) -> None:
     # It shows the free money beside the estimate and how it read the sheet, and warns of terms that are seldom meant.
     desk.says((ACCEPTS_NOTICE, "Budget line 1000 has 5,000 free. This notice needs 1,900, so 3,100 is left.", "“1.600,00” as 1600",
                "Without a standstill the losing firms can't object"))
-    desk.fill({"Validity of tenders, in days": "10", "Standstill, in days": "10", "Deadline": local(desk, time.time() + 3 * DAY - 60)},
+    desk.fill({"Validity of tenders, in days": "10", "Standstill, in days": "10", "Deadline": time.time() + 3 * DAY - 60},
               says=("So you could never sign a contract", "The deadline is in 2 days, 23 hours."))
-    desk.fill({"Validity of tenders, in days": "90", "Standstill, in days": "0", "Deadline": local(desk, time.time() + 40 * DAY)})
+    desk.fill({"Validity of tenders, in days": "90", "Standstill, in days": "0", "Deadline": time.time() + 40 * DAY})
     desk.fill({"Performance security": "1,000"})
     desk.page.gives("hands.field('Performance security').value", "1000")
     desk.fill({"Performance security": "70"})
@@ -170,8 +164,7 @@ def award_part(desk: Desk) -> None:
 
 
 def examination_part(desk: Desk) -> None:
-    """The clerk examines two tenders. A second tab has the same task, and is older then. It learns of the examinations from the office, and shows their
-    findings."""
+    """The clerk examines two tenders. A second tab has the same task, and is older then. It learns of the examinations from the office."""
     desk.says("2 tenders to examine", picture="evaluation")
     desk.is_off("Award the lot …", "Lot L1")
     other = with_key(desk.scene)
@@ -300,9 +293,9 @@ def moved_and_cancelled(scene: Scene) -> None:
     desk = with_key(scene)
     publish_part(desk, "N2", "Crossing", time.time() + DAY)
     desk.press("Move the deadline")
-    desk.fill({"New deadline": local(desk, time.time() + 3600), "Reason": "Less time"})
+    desk.fill({"New deadline": time.time() + 3600, "Reason": "Less time"})
     desk.press("Move the deadline …", says="The new deadline must be later than the old one.")
-    desk.fill({"New deadline": local(desk, time.time() + 200_000)})
+    desk.fill({"New deadline": time.time() + 200_000})
     desk.order("Move the deadline", "The deadline of notice N2 is moved.", says="No tender has arrived yet.")
     firms(scene).present("T1", "N2", "L1", tender((3, 150), (10, 12)), "G7", 50)
     desk.go("letter/N2/L1", says="There are no letters to print")

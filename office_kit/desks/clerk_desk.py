@@ -34,7 +34,7 @@ class Desk:
         self.page.go(self.scene.front.address(f"clerk/{place}"))
         self.page.run(HANDS)
 
-    def hand(self, what: str, *words: str) -> Any:
+    def hand(self, what: str, *words: str | int) -> Any:
         """The value of a function of hands.js."""
         return self.page.run(f"hands.{what}({', '.join(map(json.dumps, words))})")
 
@@ -63,10 +63,10 @@ class Desk:
                        "&& document.title.length > 0 && document.querySelector('main h1, main .look')")
         self.says(says, picture)
 
-    def fill(self, values: Mapping[str, str], part: str = "", says: Texts = ()) -> None:
-        """Types into fields, by their labels."""
+    def fill(self, values: Mapping[str, str | float], part: str = "", says: Texts = ()) -> None:
+        """Types into fields, by their labels. A number is a second, for a field for date and time."""
         for label, value in values.items():
-            self.hand("set", label, value, part)
+            self.hand("set", label, value if isinstance(value, str) else int(value) * 1000, part)
         self.says(says)
 
     def tick(self, label: str, part: str = "", picture: str = "") -> None:

@@ -1,7 +1,5 @@
 """The office that the checks of a large office use: 400 notices, 125 budget lines, 60 firms. Of the notices 180 are past their deadline and not opened, 20 are
-opened, 7 close within a week, and 193 later. The opened ones are examined, awarded, signed, awarded to nobody or cancelled; N001 has a lot with 24 tenders.
-N390 has five lots. The items have words that no title has.
-"""
+opened, 7 close within a week, and 193 later. N001 has a lot with 24 tenders, and N390 has five lots. The items have words that no title has."""
 import time
 
 from office_kit.client import AHEAD, Answer, Client, budget, lot, notice, tender, text_of, wait_until

@@ -9,7 +9,7 @@ from pathlib import Path
 from office_kit.client import Client, Port, budget
 from office_kit.common import check
 from office_kit.desks import clerk_large, page_checks
-from office_kit.desks.clerk_checks import ACCEPTS_FILE, DAY, NOT_DONE, drafting, local, write_notice
+from office_kit.desks.clerk_checks import ACCEPTS_FILE, DAY, NOT_DONE, drafting, write_notice
 from office_kit.desks.clerk_desk import Desk, with_key
 from office_kit.desks.large_checks import MOST_HEAD, folds_its_menu, timed
 from office_kit.desks.scene import Scene, staged
@@ -24,14 +24,14 @@ in_time = partial(timed, again="")
 
 
 def drafts(scene: Scene) -> None:
-    """A draft stays after a reload, comes back after it was cleared, and is saved as a file and opened from it. The page asks before it is lost, but not before
-    a reload, which keeps it."""
+    """A draft stays after a reload, comes back after it was cleared, and is saved as a file and opened from it. The page asks before it is lost."""
     desk = with_key(scene)
     desk.page.gives(ASKS, False)
     desk.go("new")
     desk.page.gives(ASKS, False)
     write_notice(desk, "N7", time.time() + 40 * DAY, "Kept")
     desk.page.gives(ASKS)
+    # (A reload keeps it.)
     desk.page.run("void dispatchEvent(new KeyboardEvent('keydown', { key: 'F5' }))")
     desk.page.gives(ASKS, False)
     time.sleep(0.6)
@@ -73,7 +73,7 @@ def answers(scene: Scene) -> None:
         desk.fill({label: after}, part)
     desk.fill({"Deadline": "2027-03-28T02:30"}, says="Clocks go forward that day, and the time 02:30 doesn't exist. The deadline would be 03:30.")
     desk.fill({"Deadline": "2027-10-31T02:30"}, says="Clocks go back that day, and the time 02:30 comes twice.")
-    desk.fill({"Deadline": local(desk, time.time() + 43_000)}, says="The deadline is in 11 hours, ")
+    desk.fill({"Deadline": time.time() + 43_000}, says="The deadline is in 11 hours, ")
     desk.fill({"Quantity": "400"}, says="Item L2/I1: its lot's estimate is less than 20 a unit.")
     review(desk)
     desk.press("Request, as it is sent", says=(

@@ -14,8 +14,8 @@ from office_kit.desks.scene import Scene, staged
 from office_kit.front.clerks import Signing, lines_of_log
 from office_kit.store.life import Life, offer, part
 
-ALL = tomllib.loads(Path(__file__).with_suffix(".toml").read_text(encoding="utf-8"))
-ROLES = ALL["roles"]
+TABLES = tomllib.loads(Path(__file__).with_suffix(".toml").read_text(encoding="utf-8"))
+ROLES = TABLES["roles"]
 # A name without a role.
 NOBODY = "gerd"
 TEXTS = "[...document.querySelectorAll('main button, main summary, main label, nav a')].map((at) => at.textContent.trim())"
@@ -56,15 +56,15 @@ def finds_own(desk: Desk, name: str) -> None:
     these roles, and says in one line what is left to others. So does the screen of a notice."""
     roles = ", ".join(role.capitalize() for role in ROLES[name].split())
     desk.page.gives("[...document.getElementById('who').children].map((at) => at.innerText)", [f"Signed in as {name}. Roles: {roles}.", "How to sign out"])
-    for screen, buttons in ALL["screens"].items():
+    for screen, buttons in TABLES["screens"].items():
         desk.go(screen)
         texts = desk.page.run(TEXTS)
         for text, role in buttons.items():
             check(f"{name}: {screen} has {text}: {text in texts}", (text in texts) == has_role(name, role))
             says = f"Only clerks with the role “{role.capitalize()}” can do this." in desk.told()
-            check(f"{name}: {screen} doesn't say that {role} is needed", has_role(name, role) or text in ALL["quiet"] or says)
+            check(f"{name}: {screen} doesn't say that {role} is needed", has_role(name, role) or text in TABLES["quiet"] or says)
         check(f"{name}: the menu of {screen}", ("New notice" in texts) == has_role(name, "notices"))
-    groups, count, others = ALL["today"][name]
+    groups, count, others = TABLES["today"][name]
     desk.go("today")
     desk.page.gives("[...document.querySelectorAll('main h2')].map((at) => at.textContent)", groups)
     left = desk.page.run(LEFT)
@@ -79,14 +79,13 @@ def finds_own(desk: Desk, name: str) -> None:
 
 
 def by_name(scene: Scene) -> None:
-    """Clerks sign in by password. The window of a command shows a request without a key, and the front's log has the clerk's name. Someone without a role may
-    not give a key."""
+    """Clerks sign in by password, and find their own steps. Changed modules are found. Someone without a role may not give a key."""
     with staged(scene.program, scene.browser, scene.pictures, fill, signing=Signing("password", ROLES, [NOBODY])) as made:
         for name in ROLES:
             with signed_in(made, name) as desk:
                 finds_own(desk, name)
         does_own(made)
-        passed_over = [plant for plant in ALL["plants"] if not is_found(made, *plant)]
+        passed_over = [plant for plant in TABLES["plants"] if not is_found(made, *plant)]
         check(f"these are passed over: {passed_over}", not passed_over)
         with signed_in(made, NOBODY) as desk:
             desk.page.gives("document.getElementById('who').innerText.includes('your name has no role')")
@@ -109,7 +108,7 @@ def is_found(scene: Scene, name: str, module: str, old: str, new: str) -> bool:
 
 
 def does_own(scene: Scene) -> None:
-    """A clerk registers a firm, and another one pays under the contract of N4."""
+    """A clerk registers a firm, and another one pays under the contract of N4. The front's log has their names, and no request shows a key."""
     with signed_in(scene, "anna") as desk:
         desk.register("T9", json.dumps({"tenderer": "T9", "name": "Nine", "address": "9 Street", "key": "9" * 64}))
         desk.press("Request, as it is sent", says=("POST /tenderers/T9", "Office-Caller: clerk"))

@@ -14,9 +14,10 @@
     button: (name, part) => all("button, summary, nav a, main a", part).filter((at) => text(at) === name && seen(at)).at(-1),
     press: (name, part) => hands.button(name, part).click(),
     tick: (label, part) => hands.field(label, part).click(),
-    set(label, value, part) {
+    // A number is a moment: a field for date and time has it in the browser's time zone.
+    async set(label, value, part) {
       const at = hands.field(label, part);
-      at.value = value;
+      at.value = typeof value === "number" ? (await import("/clerk/values.js")).localText(value) : value;
       happens(at, "input", "change");
     },
     drop(content, name) {
@@ -58,8 +59,6 @@
       Date.now = () => at;
       document.querySelector("main").append(clock(deadline));
     },
-    // A moment in the form of a field for date and time, in the browser's time zone.
-    local: async (milliseconds) => (await import("/clerk/values.js")).localText(milliseconds),
     // The English texts of the desk that are shown.
     async english() {
       const [{ default: en }, { default: de }] = await Promise.all([import("/clerk/en.js"), import("/clerk/de.js")]);
