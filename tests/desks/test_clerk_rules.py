@@ -17,7 +17,7 @@ from pathlib import Path
 import pytest
 from hypothesis import given, settings
 
-from office_kit.api.tenders import CHANCE, MARK, samples
+from office_kit.api.tenders import CHANCE, MARK, changed_bytes, samples
 from office_kit.client import Blocks, Client, answer_of, budget, lot, notice, tender
 from office_kit.common import CONFIG, parts_of
 from office_kit.desks import modules
@@ -44,7 +44,6 @@ LINES = ["1000", "2000", "3000", "a.b-c_d", "x" * 32]
 AMOUNTS = ["1", "7", "500", "0100", "999999999999999", "1000000000000000"]
 ODD = ["0", "1000000000000001", "00000000000000001", "12.5", "1,000", "-1", " 1", "", "x", '"5"', '"', "add", "ADD", "Cut", "cut ", "y" * 33, "y z", "\u00e4",
        "t" * 200, "t" * 201, "\u00e4" * 100, "\u00e4" * 101, "a\tb", "\x7f"]
-BYTES = [b",", b";", b'"', b"\n", b"\r", b"\r\n", b" ", b"\t", b"0", b"9", b"x", b"\0", b"\xff", MARK, b"'", b",,,", b"\n\n", b'""']
 
 
 # ---- What is tried: made by chance, which hypothesis shrinks, and at the bounds.
@@ -57,10 +56,7 @@ def budget_file(chance):
         at, field = chance.randrange(len(rows)), chance.randrange(4)
         rows[at] = [*rows[at][:field], chance.choice(ODD), *rows[at][field + 1:]] if chance.randrange(5) else rows[at][:-1]
     data = written(chance, rows)
-    if chance.randrange(7) == 1:
-        at = chance.randrange(len(data) + 1)
-        data = data[:at] + chance.choice(BYTES) + data[at + chance.randrange(2):]
-    return data
+    return changed_bytes(chance, data) if chance.randrange(7) == 1 else data
 
 
 def written(chance, rows):
@@ -141,10 +137,10 @@ def with_size(size):
     """A draft of twenty lots of fifty items. The titles of its items are so long that the body has this many bytes."""
     item = {"id": "I", "title": "x" * 20, "quantity": "3"}
     draft = right_draft(lots=[right_lot(id=f"L{at}", items=numbered(item, "I", 50)) for at in range(20)])
-    missing = size - len(bodies_of([draft])[0])
-    for item in (item for one in draft["lots"] for item in one["items"]):
-        more = min(missing, 180)
-        item["title"], missing = item["title"] + "y" * more, missing - more
+    items = [item for one in draft["lots"] for item in one["items"]]
+    more, rest = divmod(size - len(bodies_of([draft])[0]), len(items))
+    for number, item in enumerate(items):
+        item["title"] += "y" * (more + (number < rest))
     return draft
 
 
