@@ -10,7 +10,7 @@ from collections.abc import Callable, Mapping
 from typing import Any
 
 from office_kit.client import AHEAD
-from office_kit.common import fail
+from office_kit.common import check, fail
 
 Event = dict[str, Any]
 # The answers that a page gets in place of the server's: a status and a body, or nothing.
@@ -18,7 +18,8 @@ Answers = Mapping[str, tuple[int, bytes] | None]
 
 # Seconds until an answer must come, or a condition be true; AHEAD adds to them, as to deadlines.
 PATIENCE = max(60, 15 * AHEAD)
-KEYS = {"Tab": (9, ""), "Enter": (13, "\r")}
+# Keys by their codes: each one's number for Windows, its name, and the text that it types.
+KEYS = {"Tab": (9, "Tab", ""), "Enter": (13, "Enter", "\r"), "Space": (32, " ", " ")}
 DOMAINS = ("Page", "Runtime", "Log", "Network", "Audits")
 # Without a sandbox, since root can't have one in a container. It shows only the pages of this repository.
 WORDS = ["--headless=new", "--no-sandbox", "--disable-gpu", "--disable-dev-shm-usage", "--hide-scrollbars", "--no-first-run", "--disable-extensions",
@@ -102,7 +103,7 @@ class Page:
     """A page in a context of its own: nothing is kept from another one. For the paths of `answers` it answers in place of the server: a status and a body, or
     None for no answer."""
 
-    def __init__(self, browser: Browser, width: int, height: int = 800, dark: bool = False) -> None:
+    def __init__(self, browser: Browser, width: int, height: int = 800) -> None:
         self.browser = browser
         self.answers: Answers = {}
         self.session: str | None = None
@@ -111,14 +112,14 @@ class Page:
         self.session = self.ask("Target.attachToTarget", targetId=target, flatten=True)["sessionId"]
         for domain in DOMAINS:
             self.ask(f"{domain}.enable")
-        self.shape(width, height, dark)
+        self.shape(width, height)
 
     def ask(self, method: str, **parameters: Any) -> Any:
         return self.browser.ask(method, self.session, **parameters)
 
-    def shape(self, width: int, height: int = 800, dark: bool = False, zoom: float = 1) -> None:
+    def shape(self, width: int, height: int = 800, dark: bool = False) -> None:
         """A window of this size, light or dark; a narrow one is a phone's."""
-        self.ask("Emulation.setDeviceMetricsOverride", width=width, height=height, deviceScaleFactor=zoom, mobile=width < 600)
+        self.ask("Emulation.setDeviceMetricsOverride", width=width, height=height, deviceScaleFactor=1, mobile=width < 600)
         self.ask("Emulation.setEmulatedMedia", features=[{"name": "prefers-color-scheme", "value": "dark" if dark else "light"}])
 
     def events(self, *names: str) -> list[Event]:
@@ -131,6 +132,11 @@ class Page:
         if "exceptionDetails" in answer:
             fail(f"the page: {script}: {answer['exceptionDetails']}")
         return answer["result"].get("value")
+
+    def gives(self, script: str, wanted: Any = True) -> None:
+        """Checks the value of an expression of the page."""
+        told = self.run(script)
+        check(f"the page: {script}: gives {told!r}, and not {wanted!r}", told == wanted)
 
     def wait(self, script: str) -> None:
         """Waits until an expression of the page holds, also while another page comes."""
@@ -196,11 +202,10 @@ class Page:
         field = self.ask("Runtime.evaluate", expression=f"document.getElementById({json.dumps(name)})")["result"]
         self.ask("DOM.setFileInputFiles", files=[path], objectId=field["objectId"])
 
-    def press(self, name: str) -> None:
-        code, text = KEYS[name]
-        for kind in ("keyDown", "keyUp"):
-            typed = {"text": text} if text and kind == "keyDown" else {}
-            self.ask("Input.dispatchKeyEvent", type=kind, key=name, code=name, windowsVirtualKeyCode=code, **typed)
+    def press(self, code: str) -> None:
+        number, name, text = KEYS[code]
+        self.ask("Input.dispatchKeyEvent", type="keyDown", key=name, code=code, windowsVirtualKeyCode=number, **({"text": text} if text else {}))
+        self.ask("Input.dispatchKeyEvent", type="keyUp", key=name, code=code, windowsVirtualKeyCode=number)
 
     def type(self, text: str) -> None:
         self.ask("Input.insertText", text=text)

@@ -10,23 +10,28 @@ from collections.abc import Callable
 from typing import Any
 
 from office_kit import client
-from office_kit.client import Answer, Client, tender, wait_until
+from office_kit.client import AHEAD, Answer, Client, budget, tender, wait_until
 from office_kit.common import check
 from office_kit.desks import page_checks
 from office_kit.desks.browser import Page
-from office_kit.desks.clerk_desk import Desk
+from office_kit.desks.clerk_desk import Desk, with_key
 from office_kit.desks.page_office import key_of
 from office_kit.desks.scene import Scene
 from office_kit.front.nginx import OUTSIDE
 
 # Seconds from the publication to the deadline: for all that comes between, by the screens.
-SOON = int(os.environ.get("AHEAD", "4")) + 26
+SOON = AHEAD + 26
+DAY = 86_400
 TABLE = "Lot\tTitle of the lot\tBudget line\tEstimate\tTender security\tItem\tTitle\tQuantity\nL1\tNorth\t1000\t1.600,00\t50\tI1\tPaving, square metres\t3\n" \
     "\t\t\t\t\tI2\tKerbs, 10 m\t10\nL2\tSouth\t1000\t300\t0\tI1\tSigns\t1\n"
-BUDGET = "line,kind,amount,title\n1000,add,5000,Roads\n2000,add,50,Parks\n"
+BUDGET = budget("1000,add,5000,Roads", "2000,add,50,Parks")
 # The same as a German spreadsheet writes it, with a sum.
 SHEET = "Haushaltsstelle;Art;Betrag;Bezeichnung\r\n1000;Zugang;5.000,00;Roads\r\n2000;add;50;Parks\r\nSumme;;5.050,00;\r\n"
-FIRMS = {"T1": ("Alpha & S\u00f6hne", "High Street 1"), "T2": ("Beta Ltd", "Low Street 2")}
+FIRMS = {"T1": ("Alpha & Söhne", "High Street 1"), "T2": ("Beta Ltd", "Low Street 2")}
+NUMBER = "Number of the invoice or change"
+ACCEPTS_FILE, ACCEPTS_NOTICE = "The office would accept this file.", "The office would accept this notice."
+NOT_DONE = "This isn't done: the office's data shows nothing of it."
+NO_MATCH = "The name and the key don't belong together"
 
 
 def firms(scene: Scene) -> Client[Answer]:
@@ -35,37 +40,24 @@ def firms(scene: Scene) -> Client[Answer]:
 
 
 def budget_part(desk: Desk) -> None:
-    """A spreadsheet's file is converted, and each change is shown. A right file shows its changes, and is taken in. The desk warns of the same file under
-    another name."""
+    """A spreadsheet's file is converted, and each change is shown. A right file is imported. The desk warns of the same file under another name."""
     desk.go("budget")
-    desk.drop(SHEET, "budget.csv")
-    desk.says("The file was converted: 5 changes.")
-    desk.says("The office would accept this file.")
+    desk.drop(SHEET, "budget.csv", says=("The file was converted: 5 changes.", ACCEPTS_FILE))
     rows = desk.page.run("[...document.querySelectorAll('main table')].find((at) => at.caption?.textContent === 'Changes of the conversion').innerText")
     check(f"what was converted isn't shown: {rows}", all(word in rows for word in ("Zugang", "5.000,00", "5000", "Summe;;5.050,00;", "left out")))
-    sent = desk.page.run("Promise.all([import('/clerk/convert.js'), import('/common/digest.js')]).then(([{ converted }, { bytesOf }]) => "
-                         f"new TextDecoder().decode(converted(bytesOf({json.dumps(SHEET)}), new Map()).bytes))")
-    check(f"the file is converted to {sent}", sent == BUDGET)
+    desk.page.gives(f"hands.converted({json.dumps(SHEET)})", BUDGET)
     desk.picture("budget-converted")
-    desk.drop(SHEET.replace("5.000,00", "5.000,50"), "budget.csv")
-    desk.says("it has 1 fault.")
+    desk.drop(SHEET.replace("5.000,00", "5.000,50"), "budget.csv", says="it has 1 fault.")
     check(f"the fault isn't named by its line: {desk.told()}", "\n2\t" in desk.told() or "2\tThe amount" in desk.told())
-    desk.drop("line,kind,amount,title\n1000,add,1.5,Roads\n2000,cut,5,Parks\n", "budget.csv")
-    desk.says("has cents or a fraction")
-    desk.picture("budget-wrong")
-    desk.drop(BUDGET, "B1.csv")
-    desk.says("The office would accept this file.")
-    desk.picture("budget-right")
+    desk.drop(budget("1000,add,1.5,Roads", "2000,cut,5,Parks"), "budget.csv", says="has cents or a fraction", picture="budget-wrong")
+    desk.drop(BUDGET, "B1.csv", says=ACCEPTS_FILE, picture="budget-right")
     desk.press("Import the file")
-    check("the request isn't folded", "POST /budget/B1" not in desk.told())
-    desk.press("Request, as it is sent")
-    desk.says("POST /budget/B1")
-    desk.picture("order")
+    desk.hides("POST /budget/B1")
+    desk.press("Request, as it is sent", says="POST /budget/B1", picture="order")
     told = desk.confirm("Import", "Budget file B1 is imported.")
     check(f"the receipt is shown: {told}", '"rows":2' in told)
     desk.page.wait("[...document.querySelectorAll('main section')].at(-1).innerText.includes('5,000')")
-    desk.drop(BUDGET.replace("Roads", "Roads and paths"), "B2.csv")
-    desk.says("Careful: the same amounts were already imported, under B1.")
+    desk.drop(BUDGET.replace("Roads", "Roads and paths"), "B2.csv", says="Careful: the same amounts were already imported, under B1.")
     desk.says("Careful: 2 budget lines would have twice their money: 1000, 2000.")
     desk.press("Import the file")
     desk.page.wait("document.querySelector('dialog[open] .wrong')?.innerText.includes('under B1')")
@@ -73,397 +65,286 @@ def budget_part(desk: Desk) -> None:
 
 
 def tenderers_part(desk: Desk) -> None:
-    desk.go("tenderers")
     for name, (firm, address) in FIRMS.items():
         digest = hashlib.sha256(key_of(name).encode()).hexdigest()
-        desk.drop(json.dumps({"tenderer": name, "name": firm, "address": address, "key": digest}), f"registration-{name}.json")
-        desk.says("The fields below are filled in from the file.")
-        desk.press("Register a tenderer")
+        desk.register(name, json.dumps({"tenderer": name, "name": firm, "address": address, "key": digest}))
         desk.confirm("Register the tenderer", f"{name} is registered.")
         desk.page.wait(f"document.querySelector('main table')?.innerText.includes({json.dumps(address)})")
     desk.picture("tenderers")
-
-
-def local(desk: Desk, second: float) -> str:
-    """A second in the form of a field for date and time, in the browser's time zone."""
-    return str(desk.page.run(f"import('/clerk/values.js').then(({{ localText }}) => localText({int(second) * 1000}))"))
 
 
 def write_notice(desk: Desk, name: str, deadline: float, title: str) -> None:
     """A notice from a pasted table, with its terms."""
     desk.go("new")
     desk.press("Paste lots from a sheet")
-    desk.field("Table", TABLE)
-    desk.press("Replace the lots with this table")
-    desk.says("2 lots were taken from the table, with 3 items.")
-    desk.field("Notice number", name)
-    desk.field("Title", title, place="Terms")
-    desk.field("Standstill, in days", "0")
-    desk.field("Performance security", "70")
-    desk.field("Deadline", local(desk, deadline))
+    desk.fill({"Table": TABLE})
+    desk.press("Replace the lots with this table", says="2 lots were taken from the table, with 3 items.")
+    desk.fill({"Title": title}, "Terms")
+    desk.fill({"Notice number": name, "Standstill, in days": "0", "Performance security": "70", "Deadline": deadline})
+
+
+def drafting(scene: Scene, name: str, title: str) -> Desk:
+    """A desk with the key, and with a draft whose deadline is far."""
+    desk = with_key(scene)
+    write_notice(desk, name, time.time() + 40 * DAY, title)
+    return desk
 
 
 def notice_part(desk: Desk) -> None:
     """The desk reports a draft that is short of money and has no title. It shows a right one as the public will see it."""
     desk.go("new")
-    desk.press("Publish the notice \u2026")
-    desk.says("things are missing or wrong")
-    desk.picture("notice-empty")
-    write_notice(desk, "N1", time.time() + 86_400 * 40, "Road repair")
-    desk.says("The office would accept this notice.")
-    check("the free money stands beside the estimate", "Budget line 1000 has 5,000 free. This notice needs 1,900, so 3,100 is left." in desk.told())
-    check("what a sheet wrote is told", "\u201c1.600,00\u201d as 1600" in desk.told())
-    check("what is seldom meant is told", "Without a standstill the losing firms can't object" in desk.told())
-    for field, value in (("Validity of tenders, in days", "10"), ("Standstill, in days", "10"), ("Deadline", local(desk, time.time() + 86_400 * 3 - 60))):
-        desk.field(field, value)
-    for text in ("So you could never sign a contract", "The deadline is in 2 days, 23 hours."):
-        desk.says(text)
-    for field, value in (("Validity of tenders, in days", "90"), ("Standstill, in days", "0"), ("Deadline", local(desk, time.time() + 86_400 * 40))):
-        desk.field(field, value)
-    desk.field("Performance security", "1,000")
-    check("groups of three aren't taken", desk.page.run("hands.field('Performance security').value") == "1000")
-    desk.field("Performance security", "70")
-    check("the size is told", re.search(r"The notice has \d+ of at most 65,536 bytes", desk.told()) is not None)
+    desk.press("Publish the notice …", says="things are missing or wrong", picture="notice-empty")
+    write_notice(desk, "N1", time.time() + 40 * DAY, "Road repair")
+    # It shows the free money beside the estimate and how it read the sheet, and warns of terms that are seldom meant.
+    desk.says((ACCEPTS_NOTICE, "Budget line 1000 has 5,000 free. This notice needs 1,900, so 3,100 is left.", "“1.600,00” as 1600",
+               "Without a standstill the losing firms can't object"))
+    desk.fill({"Validity of tenders, in days": "10", "Standstill, in days": "10", "Deadline": time.time() + 3 * DAY - 60},
+              says=("So you could never sign a contract", "The deadline is in 2 days, 23 hours."))
+    desk.fill({"Validity of tenders, in days": "90", "Standstill, in days": "0", "Deadline": time.time() + 40 * DAY})
+    desk.fill({"Performance security": "1,000"})
+    desk.page.gives("hands.field('Performance security').value", "1000")
+    desk.fill({"Performance security": "70"})
+    check("the size is told", re.search(r"The notice has \d+ of at most 65,536 bytes", desk.told()))
     desk.picture("notice-right")
     desk.press("Preview the public page")
-    desk.settle("preview")
-    desk.says("Lots, awards and contracts")
-    desk.picture("preview")
+    desk.settle("preview", says="Lots, awards and contracts", picture="preview")
 
 
 def publish_part(desk: Desk, name: str, title: str, deadline: float) -> None:
     write_notice(desk, name, deadline, title)
-    desk.says("The office would accept this notice.")
-    desk.press("Publish the notice \u2026")
-    desk.confirm("Publish the notice", f"Notice {name} is published.")
+    desk.says(ACCEPTS_NOTICE)
+    desk.order("Publish the notice", f"Notice {name} is published.")
     desk.settle(f"notice/{name}")
 
 
-def tenders_part(desk: Desk, scene: Scene) -> None:
-    """Two firms tender, one of them for both lots, and the register grows."""
+def tenders_part(desk: Desk, scene: Scene, deadline: float) -> None:
+    """Two firms tender, one of them for both lots, and the register grows. Whose the securities are is shown after the opening."""
     tenderers = firms(scene)
     tenderers.present("T1", "N1", "L1", tender((3, 150), (10, 12)), "G1", 50)
     tenderers.present("T2", "N1", "L1", tender((3, 140), (10, 12), wrong=20), "G2", 60)
     tenderers.present("T1", "N1", "L2", "290 for all of it")
     desk.go("today")
     countdowns(scene)
+    desk.go("notice/N1", says=("Tenders in time, by lot: L1: 2, L2: 1.", "2 securities", "G1", "shown after the opening"))
+    desk.hides("Beta", picture="receiving")
+    desk.is_off("Open the tenders …")
+    wait_until(deadline + 1.1)
+    desk.order("Open the tenders", "3 tenders of notice N1 are open.", says="2 tenders to examine")
+    desk.go("minutes/N1", says=("3 tenders were opened.", "Alpha & Söhne", "unreadable", "In the presence of", "540 EUR"), picture="minutes")
     desk.go("notice/N1")
-    desk.says("Tenders in time, by lot: L1: 2, L2: 1.")
-    desk.says("2 securities")
-    check(f"whose they are is told: {desk.told()}", "G1" in desk.told() and "shown after the opening" in desk.told() and "Beta" not in desk.told())
-    desk.picture("receiving")
 
 
 def countdowns(scene: Scene) -> None:
-    """All countdowns to a deadline say the same: that of a task, and that of a clock. A second that has begun counts. (The page's time is stopped three
-    quarters of an hour before the deadline.)"""
+    """All countdowns to a deadline say the same: that of a task, and that of a clock. A second that has begun counts."""
     desk = Desk(scene)
     desk.says("Wait for tenders until")
-    desk.page.run("""Promise.all(["office", "money"].map((name) => import(`/common/${name}.js`))).then(([{ notices, officeNow }, { clock }]) =>
-      notices().then(([{ deadline }]) => {
-        const at = Date.parse(deadline) - 2_860_300 - (officeNow() - Date.now());
-        Date.now = () => at;
-        document.querySelector("main").append(clock(deadline));
-      }))""")
+    desk.hand("stop")
     shown = "[...document.querySelectorAll('main [role=timer]')].map((at) => at.textContent)"
     desk.page.wait(f"({shown}).length === 2 && ({shown}).every((text) => text.includes('47 minutes, 4'))")
-    check(f"the countdowns are {desk.page.run(shown)}", desk.page.run(shown) == ["(in 47 minutes, 41 seconds)", "closes in 47 minutes, 41 seconds"])
-    desk.leave()
-
-
-def opening_part(desk: Desk, deadline: float) -> None:
-    check("before the deadline the button is off", desk.page.run("hands.button('Open the tenders \u2026').disabled"))
-    wait_until(deadline + 1.1)
-    desk.press("Open the tenders \u2026")
-    desk.confirm("Open the tenders", "3 tenders of notice N1 are open.")
-    desk.says("2 tenders to examine")
-    desk.go("minutes/N1")
-    desk.says("3 tenders were opened.")
-    check(f"the minutes are shown: {desk.told()}", all(word in desk.told() for word in ("Alpha & S\u00f6hne", "unreadable", "In the presence of", "540 EUR")))
-    desk.picture("minutes")
-    desk.go("notice/N1")
+    desk.page.gives(shown, ["(in 47 minutes, 41 seconds)", "closes in 47 minutes, 41 seconds"])
+    desk.close()
 
 
 def award_part(desk: Desk) -> None:
-    """Both tenders are examined; the best doesn't sign, and is passed over; the next one signs with the performance security."""
+    """Both tenders are examined; the best doesn't sign, and is passed over; the next one signs with the performance security. Nobody wins the other lot, for
+    which nobody gave a security. The notice has no standstill."""
     examination_part(desk)
-    desk.press("Award the lot \u2026", place="Lot L1")
-    desk.says("Award lot L1 of notice N1 to Beta Ltd")
-    desk.confirm("Award the lot", "Lot L1 goes to Beta Ltd for 540 EUR (receipt 2).")
-    desk.says("No tender can win. The lot ends without a contract, and its reserved 300 EUR is free again.")
-    desk.press("End the lot without a contract \u2026", place="Lot L2")
-    desk.says("End lot L2 of notice N1 without a contract")
-    check("securities that nobody gave are returned", "securities" not in desk.told())
-    desk.picture("nobody")
+    desk.order("Award the lot", "Lot L1 goes to Beta Ltd for 540 EUR (receipt 2).", "Lot L1", asks="Award lot L1 of notice N1 to Beta Ltd",
+               says="No tender can win. The lot ends without a contract, and its reserved 300 EUR is free again.")
+    desk.press("End the lot without a contract …", "Lot L2", says="End lot L2 of notice N1 without a contract")
+    desk.hides("securities", picture="nobody")
     desk.confirm("End the lot without a contract", "Lot L2 has ended without a contract. 300 EUR is free again.")
     desk.says("Lot L1: sign the contract")
-    check(f"a standstill is told that never was: {desk.told()}", "The standstill" not in desk.told())
+    desk.hides("The standstill")
     letters_part(desk)
-    desk.press("The winner doesn't sign")
-    desk.picture("awarded")
-    desk.press("Pass over the winner \u2026")
-    desk.says("Pass over Beta Ltd: lot L1 of notice N1 (award 1)")
-    desk.confirm("Pass over the winner", "The winner of award 1 was passed over.")
-    desk.says("It won, but the winner didn't sign.")
-    short_of_money(desk)
+    desk.press("The winner doesn't sign", picture="awarded")
+    desk.order("Pass over the winner", "The winner of award 1 was passed over.", asks="Pass over Beta Ltd: lot L1 of notice N1 (award 1)",
+               says="It won, but the winner didn't sign.")
     signing_part(desk)
 
 
 def examination_part(desk: Desk) -> None:
-    """The clerk examines two tenders. A second tab has the same task, and is older then."""
-    desk.says("2 tenders to examine")
-    desk.picture("evaluation")
-    check("before the examination the award is off", desk.page.run("hands.button('Award the lot \u2026', hands.part('Lot L1')).disabled"))
-    other = Desk(desk.scene)
-    other.give_key()
-    other.settle("today")
-    other.says("Lot L1: examine 2 tenders")
-    other.says("Tenders are valid until")
+    """The clerk examines two tenders. A second tab has the same task, and is older then. It learns of the examinations from the office."""
+    desk.says("2 tenders to examine", picture="evaluation")
+    desk.is_off("Award the lot …", "Lot L1")
+    other = with_key(desk.scene)
+    other.says(("Lot L1: examine 2 tenders", "Tenders are valid until"))
     other.press("Lot L1: examine 2 tenders")
     other.settle("notice/N1/L1")
-    check("a task of Today doesn't lead to its lot", other.page.run("document.activeElement.id") == "lot-L1")
+    other.page.gives("document.activeElement.id", "lot-L1")
     other.says("2 tenders to examine")
-    desk.tick("Requirements not met", place="Examination of Beta Ltd, receipt 2")
-    desk.press("All tenders here meet the requirements", place="Lot L1")
-    chosen = desk.page.run("[...document.querySelectorAll('.examination input:checked')].map((at) => at.value)")
-    check(f"the results are {sorted(chosen)}", sorted(chosen) == ["no", "yes"])
-    desk.tick("Requirements met", place="Examination of Beta Ltd, receipt 2")
-    desk.picture("examination")
-    desk.press("Record the results \u2026", place="Lot L1")
-    desk.says("The page sends 2 commands, one for each tender.")
-    desk.picture("examination-order")
+    desk.tick("Requirements not met", "Examination of Beta Ltd, receipt 2")
+    desk.press("All tenders here meet the requirements", "Lot L1")
+    desk.page.gives("[...document.querySelectorAll('.examination input:checked')].map((at) => at.value).sort()", ["no", "yes"])
+    desk.tick("Requirements met", "Examination of Beta Ltd, receipt 2", picture="examination")
+    desk.press("Record the results …", "Lot L1", says="The page sends 2 commands, one for each tender.", picture="examination-order")
     desk.confirm("Record the results", "2 tenders are examined.")
     desk.says("Lot L1 goes to Beta Ltd for 540 EUR.")
-    examined_elsewhere(other)
+    for name, receipt in (("Alpha & Söhne", 1), ("Beta Ltd", 2)):
+        other.tick("Requirements met", f"Examination of {name}, receipt {receipt}")
+    other.press("Record the results …", "Lot L1")
+    other.send("Record the results", says="1 command was not sent.")
+    other.says("Someone else examined this tender, or it was withdrawn late. That result stays.")
+    other.press("Close", says="Lot L1 goes to Beta Ltd for 540 EUR.")
+    other.close()
 
 
 def letters_part(desk: Desk) -> None:
     """Each lot that ended has letters, also one that nobody won. They have the winner's price, the losers' reasons, and the state of the securities."""
-    desk.press("Letters to the tenderers", place="Lot L2")
-    desk.settle("letter/N1/L2")
-    tells(desk, "No tender can win the lot. We ended it without an award on", "The office couldn't read it as a price list.", "Alpha & S\u00f6hne")
-    desk.picture("letters-nobody")
+    desk.press("Letters to the tenderers", "Lot L2")
+    desk.settle("letter/N1/L2", says=("No tender can win the lot. We ended it without an award on", "The office couldn't read it as a price list.",
+                                      "Alpha & Söhne"), picture="letters-nobody")
     desk.go("notice/N1")
-    desk.press("Letters to the tenderers", place="Lot L1")
-    desk.settle("letter/N1/L1")
-    tells(desk, "Your tender states 520 EUR. The opening corrected 1 figure in it.", "Please provide a performance security of at least 70 EUR")
-    tells(desk, "We accept your tender at 540 EUR.", "We hold your security G2, of 60 EUR, until the contract for the lot is signed. Then we return it.",
-          "We are sorry that we can't accept it. Its price wasn't the lowest.", "We hold your security G1, of 50 EUR, until",
-          "From: City Office, Anna", "Signature: City Office, Anna")
-    desk.picture("letters")
+    desk.press("Letters to the tenderers", "Lot L1")
+    desk.settle("letter/N1/L1", says=(
+        "Your tender states 520 EUR. The opening corrected 1 figure in it.", "Please provide a performance security of at least 70 EUR",
+        "We accept your tender at 540 EUR.", "We hold your security G2, of 60 EUR, until the contract for the lot is signed. Then we return it.",
+        "We are sorry that we can't accept it. Its price wasn't the lowest.", "We hold your security G1, of 50 EUR, until",
+        "From: City Office, Anna", "Signature: City Office, Anna"), picture="letters")
     desk.go("notice/N1")
 
 
 def signing_part(desk: Desk) -> None:
-    """The next winner signs. The performance security must have the required amount."""
-    desk.press("Award the lot \u2026", place="Lot L1")
-    desk.confirm("Award the lot", "Lot L1 goes to Alpha & S\u00f6hne for 570 EUR (receipt 1).")
-    desk.field("Reference of the performance security", "P1")
-    desk.field("Amount of the performance security", "60")
-    desk.press("Sign the contract \u2026")
-    desk.says("The notice requires at least 70 EUR.")
-    desk.field("Amount of the performance security", "70")
-    desk.press("Sign the contract \u2026")
-    desk.says("Sign the contract for lot L1 of notice N1 with Alpha & S\u00f6hne (award 2)")
-    desk.confirm("Sign the contract", "Contract 2 is signed.")
-    desk.go("letter/N1/L1")
-    tells(desk, "We have returned your security G1, of 50 EUR.", "It won, but the winner didn't sign.", "Your security G2, of 60 EUR, is forfeited.")
-    check("a security that is held is asked for", "Please provide" not in desk.told())
-    desk.go("notice/N1")
-
-
-def tells(desk: Desk, *texts: str) -> None:
-    """The screen says each of these."""
-    missing = [text for text in texts if text not in desk.told()]
-    check(f"{missing} is missing: {desk.told()}", not missing)
-
-
-def short_of_money(desk: Desk) -> None:
-    """If the price exceeds the lot's reserved and the line's free money, the desk doesn't offer the award."""
+    """If the price exceeds the lot's reserved and the line's free money, the desk doesn't offer the award. Otherwise the next winner signs. The performance
+    security must have the required amount. Letters don't ask for one that is held."""
     desk.page.answer_for({"/lines/1000": (200, b'{"free":29,"line":"1000","title":"Roads"}')})
     desk.go("today")
-    desk.go("notice/N1")
-    desk.says("the price is 30 EUR above its reserved money, and budget line 1000 has only 29 EUR free")
-    check("an award that the office would refuse can be asked for", desk.page.run("hands.button('Award the lot \u2026', hands.part('Lot L1')).disabled"))
+    desk.go("notice/N1", says="the price is 30 EUR above its reserved money, and budget line 1000 has only 29 EUR free")
+    desk.is_off("Award the lot …", "Lot L1")
     desk.page.ask("Fetch.disable")
     desk.go("today")
     desk.go("notice/N1")
-
-
-def examined_elsewhere(other: Desk) -> None:
-    """A tab whose screen is older than the examinations learns of them from the office, and then shows their findings."""
-    for name, receipt in (("Alpha & S\u00f6hne", 1), ("Beta Ltd", 2)):
-        other.tick("Requirements met", place=f"Examination of {name}, receipt {receipt}")
-    other.press("Record the results \u2026", place="Lot L1")
-    other.page.wait("document.querySelector('dialog[open] .steps button')")
-    other.page.run("hands.sure()")
-    other.press("Record the results")
-    other.says("1 command was not sent.")
-    other.says("Someone else examined this tender, or it was withdrawn late. That result stays.")
-    other.press("Close")
-    other.says("Lot L1 goes to Beta Ltd for 540 EUR.")
-    other.leave()
+    desk.order("Award the lot", "Lot L1 goes to Alpha & Söhne for 570 EUR (receipt 1).", "Lot L1")
+    desk.fill({"Reference of the performance security": "P1", "Amount of the performance security": "60"})
+    desk.press("Sign the contract …", says="The notice requires at least 70 EUR.")
+    desk.fill({"Amount of the performance security": "70"})
+    desk.order("Sign the contract", "Contract 2 is signed.", asks="Sign the contract for lot L1 of notice N1 with Alpha & Söhne (award 2)")
+    desk.go("letter/N1/L1", says=("We have returned your security G1, of 50 EUR.", "It won, but the winner didn't sign.",
+                                  "Your security G2, of 60 EUR, is forfeited."))
+    desk.hides("Please provide")
+    desk.go("notice/N1")
 
 
 def contract_part(desk: Desk) -> None:
     desk.says("Contract 2")
-    desk.press("Raise or cut the contract")
     form = "Raise or cut the contract"
-    for field, value in (("Number of the invoice or change", "A1"), ("Amount", "60"), ("Reason", "More kerbs")):
-        desk.field(field, value, place=form)
-    desk.press("Change the contract \u2026", place=form)
-    desk.says("Contract 2: lot L1, with Alpha & S\u00f6hne.")
-    desk.confirm("Change the contract", "Contract 2 was changed. Outstanding: 630 EUR.")
-    for number, amount, left in (("I-17", "400", "230"), ("I-18", "100", "130")):
-        desk.field("Number of the invoice or change", number, place="Payment")
-        desk.field("Amount", amount, place="Payment")
-        desk.press("Record the payment \u2026", place="Payment")
-        desk.confirm("Record the payment", f"Paid. Outstanding: {left} EUR.")
-    desk.field("Number of the invoice or change", "I-17", place="Payment")
-    desk.field("Amount", "400", place="Payment")
-    desk.says("Careful: 400 EUR was already paid under I-17.")
-    desk.press("Record the payment \u2026", place="Payment")
-    desk.says("This number is already used in this contract.")
-    desk.picture("contract")
+    desk.press(form)
+    desk.fill({NUMBER: "A1", "Amount": "60", "Reason": "More kerbs"}, form)
+    desk.order("Change the contract", "Contract 2 was changed. Outstanding: 630 EUR.", form, asks="Contract 2: lot L1, with Alpha & Söhne.")
+    desk.pay("I-17", 400, 230)
+    desk.pay("I-18", 100, 130)
+    desk.fill({NUMBER: "I-17", "Amount": "400"}, "Payment", says="Careful: 400 EUR was already paid under I-17.")
+    desk.press("Record the payment …", "Payment", says="This number is already used in this contract.", picture="contract")
     desk.press("End the contract")
-    desk.press("End the contract as agreed \u2026")
-    desk.confirm("End the contract", "Contract 2 has ended.")
-    desk.says("P1: Returned")
-    check(f"how it ended is told: {desk.told()}", "Ended as agreed" in desk.told())
+    desk.order("End the contract as agreed", "Contract 2 has ended.", send="End the contract", says=("P1: Returned", "Ended as agreed"))
 
 
 def journal_part(desk: Desk) -> None:
-    """The journal has an entry for each that was sent, and comes back from its file."""
-    desk.go("journal")
-    desk.picture("journal")
-    entries = desk.page.run("import('/clerk/session.js').then(({ journal }) => journal().entries.map(({ path, status, who }) => [path, status, who]))")
-    check(f"the journal has each command: {entries}", len(entries) == 16 and all(status == 200 and who == "Anna" for _, status, who in entries))
-    text = desk.page.run("Promise.all([import('/clerk/session.js'), import('/clerk/journal.js')]).then(([{ journal }, { fileOf }]) => fileOf(journal()))")
+    """The journal has an entry for each that was sent, without the key, and comes back from its file."""
+    desk.go("journal", picture="journal")
+    entries = desk.hand("entries")
+    check(f"the journal has each command: {entries}", len(entries) == 16 and all(status == 200 and who == "Anna" for _, status, who, _ in entries))
+    text = desk.hand("file")
     check("the key is in the journal", '"abc"' not in text and "Office-Key" not in text)
     other = Desk(desk.scene, place="#notice/N1")
-    tells(other, "It isn't published whether the contract ended as agreed or by default.", "Final value", "Contract 2 ended: 500 EUR of 630 EUR was paid.")
+    other.says(("It isn't published whether the contract ended as agreed or by default.", "Final value", "Contract 2 ended: 500 EUR of 630 EUR was paid."))
     other.go("journal")
-    other.drop(text.replace("More kerbs", "Less kerbs"), "journal.jsonl")
-    other.says("The content doesn't match its SHA-256")
-    other.drop(text, "journal.jsonl")
-    other.says("Entries, newest first")
+    other.drop(text.replace("More kerbs", "Less kerbs"), "journal.jsonl", says="The content doesn't match its SHA-256")
+    other.drop(text, "journal.jsonl", says="Entries, newest first")
     other.page.wait("document.querySelectorAll('.entries > li').length === 16")
+
+
+def use_key(desk: Desk, key: str) -> None:
+    desk.drop(f"Office-Caller: clerk\nOffice-Key: {key}\n", "clerk.key", says="The file clerk.key contains a key.")
+    desk.press("Use this key")
 
 
 def life(scene: Scene) -> None:
     """A procurement from the budget to the last payment, by the desk's screens; the tenders come by scripts."""
     desk = Desk(scene)
-    desk.go("today")
-    desk.picture("today-empty")
-    desk.give_key("wrong")
-    desk.says("The name and the key don't belong together. Check both.")
-    desk.picture("key")
-    desk.drop("no key\n", "letter.txt")
-    desk.says("This file contains no key")
-    check(f"what was said of another key stays: {desk.told()}", "The name and the key don't belong together" not in desk.told())
-    check("a field keeps a key", not desk.page.run("document.querySelector('input[type=password]')"))
+    desk.go("today", picture="today-empty")
+    desk.go("key")
+    desk.fill({"Your name": "Anna"})
+    use_key(desk, "wrong")
+    desk.says(f"{NO_MATCH}. Check both.", picture="key")
+    desk.drop("no key\n", "letter.txt", says="This file contains no key")
+    desk.hides(NO_MATCH)
+    desk.page.gives("document.querySelector('input[type=password]') === null")
     time.sleep(2.2)
-    desk.drop_key("abc")
+    use_key(desk, "abc")
     desk.settle("today")
     budget_part(desk)
     tenderers_part(desk)
     notice_part(desk)
     deadline = int(time.time()) + SOON
     publish_part(desk, "N1", "Road repair", deadline)
-    tenders_part(desk, scene)
-    opening_part(desk, deadline)
+    tenders_part(desk, scene, deadline)
     award_part(desk)
     contract_part(desk)
     journal_part(desk)
-    desk.go("today")
-    desk.picture("today")
+    desk.go("today", picture="today")
     ledger = scene.front.ask("GET", "/ledger").body.decode().split("\n")[2]
     check(f"the ledger has what was done: {ledger}", ledger == "1000\t5000\t4500\t0\t0\t500")
     page_checks.keeps_nothing(scene, desk.page)
 
 
 def moved_and_cancelled(scene: Scene) -> None:
-    """A deadline is moved. A cancellation needs the word that the clerk types."""
-    desk = Desk(scene)
-    desk.give_key()
-    desk.settle("today")
-    publish_part(desk, "N2", "Crossing", time.time() + 86_400)
+    """A deadline is moved. A cancellation needs the word that the clerk types. The letters then name no firm, since the tenders stayed sealed."""
+    desk = with_key(scene)
+    publish_part(desk, "N2", "Crossing", time.time() + DAY)
     desk.press("Move the deadline")
-    desk.field("New deadline", local(desk, time.time() + 3600))
-    desk.field("Reason", "Less time")
-    desk.press("Move the deadline \u2026")
-    desk.says("The new deadline must be later than the old one.")
-    desk.field("New deadline", local(desk, time.time() + 200_000))
-    desk.press("Move the deadline \u2026")
-    desk.confirm("Move the deadline", "The deadline of notice N2 is moved.")
-    desk.says("No tender has arrived yet.")
+    desk.fill({"New deadline": time.time() + 3600, "Reason": "Less time"})
+    desk.press("Move the deadline …", says="The new deadline must be later than the old one.")
+    desk.fill({"New deadline": time.time() + 200_000})
+    desk.order("Move the deadline", "The deadline of notice N2 is moved.", says="No tender has arrived yet.")
     firms(scene).present("T1", "N2", "L1", tender((3, 150), (10, 12)), "G7", 50)
-    desk.go("letter/N2/L1")
-    desk.says("There are no letters to print")
+    desk.go("letter/N2/L1", says="There are no letters to print")
     desk.go("notice/N2")
     desk.press("Cancel the notice")
-    desk.field("Reason", "No need.")
-    desk.press("Cancel the notice \u2026")
-    desk.says("To confirm, type: cancel")
-    check("without the word nothing is sent", desk.page.run("hands.button('Cancel the notice').disabled"))
+    desk.fill({"Reason": "No need."})
+    desk.press("Cancel the notice …", says="To confirm, type: cancel")
+    desk.is_off("Cancel the notice")
     desk.picture("cancel")
     desk.confirm("Cancel the notice", "All open lots of notice N2 are cancelled.")
     desk.says("There is nothing to do.")
-    desk.go("letter/N2/L1")
-    tells(desk, "To everybody who tendered for lot L1", "Thank you for your tender (receipt ", "Our reason: No need.", "No tender for the lot was opened.")
-    check(f"a firm whose tender stayed sealed is named: {desk.told()}", "Alpha" not in desk.told())
-    check(f"a reason that ends with a full stop gets another one: {desk.told()}", "No need.." not in desk.told())
+    desk.go("letter/N2/L1", says=("To everybody who tendered for lot L1", "Thank you for your tender (receipt ", "Our reason: No need.",
+                                  "No tender for the lot was opened."))
+    desk.hides("Alpha", "No need..")
 
 
 def stops(scene: Scene) -> None:
     """If no answer comes, the desk asks about the command: it was done, it wasn't, or it can't be known. In the last case the command is sent again."""
-    desk = Desk(scene)
-    desk.give_key()
-    desk.settle("today")
-    write_notice(desk, "N3", time.time() + 86_400, "Bridge")
-    body = desk.page.run("Promise.all([import('/clerk/session.js'), import('/clerk/notice.js')])"
-                         ".then(([{ draft }, { bodyBytes }]) => new TextDecoder().decode(bodyBytes(draft())))")
-    desk.press("Publish the notice \u2026")
+    desk = drafting(scene, "N3", "Bridge")
+    body = desk.hand("body")
+    desk.press("Publish the notice …")
     desk.page.answer_for({"/notices/N3": None})
-    desk.page.wait("document.querySelector('dialog[open] .steps button')")
-    desk.page.run("hands.sure()")
-    desk.press("Publish the notice")
-    desk.says("This isn't done: the office's data shows nothing of it.")
-    desk.picture("notdone")
+    desk.send("Publish the notice", says=NOT_DONE, picture="notdone")
     # Now it reaches the office, and the answer is lost.
     firms(scene).publish("N3", body)
-    desk.press("Send the same request again")
-    desk.says("This is done.")
-    desk.picture("done")
+    desk.press("Send the same request again", says="This is done.", picture="done")
     desk.page.answer_for({})
     desk.press("Close")
     desk.settle("notice/N3")
     registers_unanswered(desk)
-    found = desk.page.run("import('/clerk/session.js').then(({ journal }) => journal().entries.map(({ status, found }) => [status, found]))")
-    check(f"the journal says what was found: {found}", found == [[None, "not done"], [None, "done"], [504, "done"], [409, "done"]])
-    desk.leave()
+    found = [(status, found) for _, status, _, found in desk.hand("entries")]
+    check(f"the journal says what was found: {found}", found == [(None, "not done"), (None, "done"), (504, "done"), (409, "done")])
+    desk.close()
 
 
 def registers_unanswered(desk: Desk) -> None:
     """A registration gets no answer. Queries get none at first, then show another firm's name, and at last the firm."""
     desk.go("tenderers")
-    for label, value in (("Identifier", "T9"), ("Name", "Gamma"), ("Address", "Mill Lane 3"), ("SHA-256 of the key", "ab " * 32)):
-        desk.field(label, value)
+    desk.fill({"Identifier": "T9", "Name": "Gamma", "Address": "Mill Lane 3", "SHA-256 of the key": "ab " * 32})
     desk.press("Register a tenderer")
     lists = {name: (200, json.dumps({"next": None, "tenderers": [{"address": "Mill Lane 3", "name": name, "tenderer": "T9"}]}).encode())
              for name in ("Other", "Gamma")}
     no_answer, exists = (504, b'{"front":"no answer"}'), (409, b'{"name":"Exists","refusal":10}')
     desk.page.answer_for({"/tenderers/T9": no_answer, "/tenderers": no_answer})
-    desk.page.wait("document.querySelector('dialog[open] .steps button')")
-    desk.page.run("hands.sure()")
-    desk.press("Register the tenderer")
-    desk.says("The office's data doesn't show what happened.")
+    desk.send("Register the tenderer", says="The office's data doesn't show what happened.")
     desk.page.answer_for({"/tenderers/T9": no_answer, "/tenderers": lists["Other"]})
-    desk.press("Ask the office again")
-    desk.says("This isn't done: the office's data shows nothing of it.")
+    desk.press("Ask the office again", says=NOT_DONE)
     desk.page.answer_for({"/tenderers/T9": exists, "/tenderers": lists["Gamma"]})
-    desk.press("Send the same request again")
-    desk.says("This is done.")
+    desk.press("Send the same request again", says="This is done.")
 
 
 def refused_as(desk: Desk, at: int, status: int, body: bytes) -> str:
@@ -484,10 +365,9 @@ def refused_as(desk: Desk, at: int, status: int, body: bytes) -> str:
 def each_refusal(scene: Scene) -> None:
     """Each refusal of the office, and each answer of the front, is a sentence of its own on the desk, in English and in German."""
     for language in ("en", "de"):
-        desk = Desk(scene, place=f"?language={language}", language=language)
-        desk.give_key_by(language)
+        desk = with_key(scene, place=f"?language={language}", language=language)
         told = {body: refused_as(desk, at, status, body) for at, (status, body) in enumerate(page_checks.refusals())}
-        odd = [said for said in told.values() if not re.fullmatch(r"[A-Z\u00c4\u00d6\u00dc].*\.", said) or "status" in said.lower()]
+        odd = [said for said in told.values() if not re.fullmatch(r"[A-ZÄÖÜ].*\.", said) or "status" in said.lower()]
         check(f"in {language} these are no sentences: {odd}", not odd)
         sentences = [said for body, said in told.items() if b'"Unavailable"' not in body]
         check(f"in {language} two refusals have one sentence: {sorted(sentences)}", len(set(sentences)) == len(sentences))
@@ -495,7 +375,7 @@ def each_refusal(scene: Scene) -> None:
             said = refused_as(desk, 100 + at, status, b'{"front":"no"}')
             check(f"{status} in {language} is told as {said!r}", re.fullmatch(r"[A-Z].*\.", said) and str(status) not in said)
         page_checks.is_quiet(desk.page)
-        desk.leave()
+        desk.close()
 
 
 def keyboard(scene: Scene) -> None:
@@ -503,14 +383,12 @@ def keyboard(scene: Scene) -> None:
     desk = Desk(scene, place="#key")
     page = desk.page
     page.run("document.querySelector('main h1').focus()")
-    order = page_checks.tab(page, 3)
-    check(f"tabs lead to {order}", all(seen for _, seen in order))
+    page_checks.is_seen(page)
     page.run("hands.field('Your name').focus()")
     page.type("Anna")
     page.press("Tab")
-    check("the tab leads to the key file", page.run("document.activeElement.type") == "file")
-    desk.drop("abc", "clerk.key")
-    desk.says("The file clerk.key contains a key.")
+    page.gives("document.activeElement.type", "file")
+    desk.drop("abc", "clerk.key", says="The file clerk.key contains a key.")
     page.press("Tab")
     page.press("Enter")
     desk.settle("today")
@@ -521,8 +399,7 @@ def keyboard(scene: Scene) -> None:
         page.press("Tab")
     page.press("Enter")
     page.wait("document.activeElement.type === 'checkbox'")
-    page.ask("Input.dispatchKeyEvent", type="keyDown", key=" ", code="Space", windowsVirtualKeyCode=32, text=" ")
-    page.ask("Input.dispatchKeyEvent", type="keyUp", key=" ", code="Space", windowsVirtualKeyCode=32)
+    page.press("Space")
     ways: list[Any] = []
     while len(ways) < 6 and (not ways or ways[-1][0] != "Register the tenderer"):
         ways += page_checks.tab(page, 1)
@@ -534,20 +411,13 @@ def keyboard(scene: Scene) -> None:
     page_checks.is_quiet(page)
 
 
-# The English texts of the desk that are shown.
-ENGLISH = """Promise.all([import('/clerk/en.js'), import('/clerk/de.js')]).then(([{ default: en }, { default: de }]) => Object.keys(en).filter((name) =>
-  typeof en[name] === "string" && en[name] !== de[name] && en[name].length > 12 && !en[name].includes("{") && hands.told().includes(en[name])))"""
-
-
 def german(scene: Scene) -> None:
     """In German each screen is whole: no English word of the desk's texts is left, and no text is missing."""
     desk = Desk(scene, place="?language=de", language="de")
     for screen in ("today", "budget", "tenderers", "new", "journal", "key", "notice/N1", "minutes/N1", "letter/N1/L1"):
-        desk.go(screen)
-        desk.picture(f"german-{screen.replace('/', '-')}")
-        left = desk.page.run(ENGLISH)
-        check(f"{screen} has English texts: {left}", not left)
-    check("the page says its language", desk.page.run("document.documentElement.lang === 'de'"))
+        desk.go(screen, picture=f"german-{screen.replace('/', '-')}")
+        desk.page.gives("hands.english()", [])
+    desk.page.gives("document.documentElement.lang", "de")
     page_checks.is_quiet(desk.page)
 
 
@@ -577,9 +447,8 @@ def printed(scene: Scene) -> None:
     for screen in ("minutes/N1", "letter/N1/L1"):
         desk.go(screen)
         desk.page.ask("Emulation.setEmulatedMedia", media="print")
-        shown = desk.page.run("[...document.querySelectorAll('header, .who, button, nav, footer, .noprint')].filter((at) => at.checkVisibility())"
-                              ".map((at) => at.outerHTML.slice(0, 80))")
-        check(f"{screen}: on paper there is {shown}", not shown)
+        desk.page.gives("[...document.querySelectorAll('header, .who, button, nav, footer, .noprint')].filter((at) => at.checkVisibility())"
+                        ".map((at) => at.outerHTML.slice(0, 80))", [])
         paper = desk.page.ask("Page.printToPDF", paperWidth=8.27, paperHeight=11.69)["data"]
         with open(os.path.join(scene.pictures, f"{screen.replace('/', '-')}.pdf"), "wb") as file:
             file.write(base64.b64decode(paper))
@@ -593,12 +462,8 @@ PLANTS: list[tuple[str, Callable[[Scene, Desk], None]]] = [
     ("localStorage.setItem('x', 'y')", lambda scene, desk: page_checks.keeps_nothing(scene, desk.page)),
     ("document.cookie = 'x=y'", lambda scene, desk: page_checks.keeps_nothing(scene, desk.page)),
     ("console.log('x')", lambda _, desk: page_checks.is_quiet(desk.page)),
-    ("document.querySelector('main h1').textContent = 'What to do next'", lambda _, desk: speaks_german(desk)),
+    ("document.querySelector('main h1').textContent = 'What to do next'", lambda _, desk: desk.hides("What to do next")),
 ]
-
-
-def speaks_german(desk: Desk) -> None:
-    check("an English text is shown", "What to do next" not in desk.told())
 
 
 def plants(scene: Scene) -> None:

@@ -1,6 +1,9 @@
 """The clerk's desk in a page of a browser, used as by hand: fields are found by their labels, buttons by their texts."""
 import json
 import os
+from collections.abc import Mapping
+from pathlib import Path
+from typing import Any
 
 from office_kit.common import check
 from office_kit.desks import page_checks
@@ -9,129 +12,123 @@ from office_kit.desks.scene import Scene
 
 SHAPES = {"phone": 375, "desktop": 1280}
 WIDTHS = (320, 375, 1280, 1920)
-# Actions by hand: a field is found by its label, a button by its text. Of several it takes the last visible one, which is in front.
-HANDS = """(() => {
-  const seen = (at) => at.checkVisibility() && !at.closest("details:not([open]) > :not(summary)");
-  const dialog = () => document.querySelector("dialog[open]");
-  const all = (selector, place) => [...(place ?? dialog() ?? document).querySelectorAll(selector)];
-  const nameOf = (at) => at.getAttribute("aria-label") ?? text(at.querySelector("h2, h3"));
-  const text = (at) => (at?.textContent ?? "").replace(/\\s+/g, " ").trim();
-  window.hands = {
-    field(label, place) {
-      const labels = all("label", place).filter((at) => text(at) === label);
-      return labels.map((at) => document.getElementById(at.htmlFor)).filter((at) => at && seen(at)).at(-1);
-    },
-    set(label, value, place) {
-      const at = hands.field(label, place);
-      at.value = value;
-      at.dispatchEvent(new Event("input", { bubbles: true }));
-      at.dispatchEvent(new Event("change", { bubbles: true }));
-    },
-    button: (name, place) => all("button, summary, nav a, main a", place).filter((at) => text(at) === name && seen(at)).at(-1),
-    press: (name, place) => hands.button(name, place).click(),
-    tick: (label, place) => hands.field(label, place).click(),
-    part: (name) => all("article, section, form, [role=group]").filter((at) => nameOf(at) === name).at(-1),
-    drop(text, name, at = 0) {
-      const files = new DataTransfer();
-      files.items.add(new File([text], name));
-      const input = document.querySelectorAll("main input[type=file]")[at];
-      input.files = files.files;
-      input.dispatchEvent(new Event("change"));
-    },
-    told: () => (dialog() ?? document.querySelector("main")).innerText,
-    sure() {
-      const at = dialog().querySelector("input");
-      if (at?.type === "checkbox") at.click();
-      else if (at) {
-        at.value = dialog().innerText.match(/(?:type|schreiben): (.+)/)[1].trim();
-        at.dispatchEvent(new Event("input", { bubbles: true }));
-      }
-    },
-  };
-})()"""
+HANDS = Path(__file__).with_name("hands.js").read_text(encoding="utf-8")
+# A text, or several.
+Texts = str | tuple[str, ...]
 
 
 class Desk:
-    """The desk in a page of its own, used as by hand. A clerk may sign in first, with a name and a password."""
+    """The desk in a page of its own. A clerk may sign in first, with a name and a password. After an action the desk must say the texts that are given
+    as `says`; then it takes the picture of this name. A `part` is the heading of the part of the screen that has the field or the button."""
 
-    def __init__(self, scene: Scene, width: int = 1280, place: str = "", language: str = "en", zone: str = "Europe/Berlin", sign: str = "") -> None:
-        self.scene, self.page, self.language = scene, Page(scene.browser, width), language
-        self.page.ask("Emulation.setTimezoneOverride", timezoneId=zone)
+    def __init__(self, scene: Scene, width: int = 1280, place: str = "", language: str = "en", sign: str = "") -> None:
+        self.scene, self.page = scene, Page(scene.browser, width)
+        self.page.ask("Emulation.setTimezoneOverride", timezoneId=page_checks.ZONE)
         self.page.ask("Emulation.setUserAgentOverride", userAgent="a browser", acceptLanguage=language)
         if sign:
             # (as if typed: from now on the browser has them)
             self.page.go(scene.front.address("clerk/").replace("https://", f"https://{sign}@"))
-        self.page.go(scene.front.address(f"clerk/{place}"))
+        self.load(place)
+
+    def load(self, place: str = "") -> None:
+        self.page.go(self.scene.front.address(f"clerk/{place}"))
         self.page.run(HANDS)
 
-    def go(self, screen: str) -> None:
-        self.page.run(f"location.hash = {json.dumps('#' + screen)}")
-        self.settle(screen)
-
-    def settle(self, screen: str) -> None:
-        self.page.wait(f"location.hash === {json.dumps('#' + screen)} && document.querySelector('main').getAttribute('aria-busy') === 'false' "
-                       "&& document.title.length > 0 && document.querySelector('main h1, main .look')")
+    def hand(self, what: str, *words: str | int) -> Any:
+        """The value of a function of hands.js."""
+        return self.page.run(f"hands.{what}({', '.join(map(json.dumps, words))})")
 
     def told(self) -> str:
-        return str(self.page.run("hands.told()"))
+        return str(self.hand("told"))
 
-    def says(self, text: str) -> None:
-        """Waits until the desk says this."""
-        self.page.wait(f"hands.told().includes({json.dumps(text)})")
+    def says(self, texts: Texts, picture: str = "") -> None:
+        """Waits until the desk says these texts, and takes a picture."""
+        for text in [texts] if isinstance(texts, str) else texts:
+            self.page.wait(f"hands.told().includes({json.dumps(text)})")
+        if picture:
+            self.picture(picture)
 
-    def field(self, label: str, value: str, place: str = "") -> None:
-        self.hand("set", label, value, place=place)
+    def hides(self, *texts: str, picture: str = "") -> None:
+        """Checks that the desk says none of these."""
+        told = self.told()
+        check(f"one of {texts} is told: {told}", not any(text in told for text in texts))
+        self.says((), picture)
 
-    def tick(self, label: str, place: str = "") -> None:
-        self.hand("tick", label, place=place)
+    def go(self, screen: str, says: Texts = (), picture: str = "") -> None:
+        self.page.run(f"location.hash = {json.dumps('#' + screen)}")
+        self.settle(screen, says, picture)
 
-    def press(self, name: str, place: str = "") -> None:
-        where = f", hands.part({json.dumps(place)})" if place else ""
-        self.page.wait(f"hands.button({json.dumps(name)}{where}) && !hands.button({json.dumps(name)}{where}).disabled")
-        self.hand("press", name, place=place)
+    def settle(self, screen: str, says: Texts = (), picture: str = "") -> None:
+        self.page.wait(f"location.hash === {json.dumps('#' + screen)} && document.querySelector('main').getAttribute('aria-busy') === 'false' "
+                       "&& document.title.length > 0 && document.querySelector('main h1, main .look')")
+        self.says(says, picture)
 
-    def hand(self, what: str, *words: str, place: str = "") -> None:
-        where = f", hands.part({json.dumps(place)})" if place else ""
-        self.page.run(f"hands.{what}({', '.join(map(json.dumps, words))}{where})")
+    def fill(self, values: Mapping[str, str | float], part: str = "", says: Texts = ()) -> None:
+        """Types into fields, by their labels. A number is a second, for a field for date and time."""
+        for label, value in values.items():
+            self.hand("set", label, value if isinstance(value, str) else int(value) * 1000, part)
+        self.says(says)
 
-    def drop(self, text: str, name: str, at: int = 0) -> None:
-        self.page.run(f"hands.drop({json.dumps(text)}, {json.dumps(name)}, {at})")
+    def tick(self, label: str, part: str = "", picture: str = "") -> None:
+        self.hand("tick", label, part)
+        self.says((), picture)
 
-    def confirm(self, send: str, done: str, kind: str = "good") -> str:
-        """Ticks the confirmation, sends, and returns the words that the desk then shows, in a note of this kind."""
+    def drop(self, text: str, name: str, says: Texts = (), picture: str = "") -> None:
+        self.hand("drop", text, name)
+        self.says(says, picture)
+
+    def press(self, name: str, part: str = "", says: Texts = (), picture: str = "") -> None:
+        where = f"hands.button({json.dumps(name)}, {json.dumps(part)})"
+        self.page.wait(f"{where} && !{where}.disabled")
+        self.hand("press", name, part)
+        self.says(says, picture)
+
+    def is_off(self, name: str, part: str = "") -> None:
+        """Checks that a button is shown, and can't be pressed."""
+        self.page.gives(f"hands.button({json.dumps(name)}, {json.dumps(part)}).disabled")
+
+    def send(self, name: str, says: Texts = (), picture: str = "") -> None:
+        """Confirms the window of a command, and presses its button."""
         self.page.wait("document.querySelector('dialog[open] .steps button')")
-        self.page.run("hands.sure()")
-        self.press(send)
-        self.says(done)
+        self.hand("sure")
+        self.press(name, "", says, picture)
+
+    def confirm(self, name: str, done: str, kind: str = "good") -> str:
+        """Sends a command, and returns the words that the desk then shows, in a note of this kind."""
+        self.send(name, done)
         self.page.run("document.querySelectorAll('dialog[open] details').forEach((at) => { at.open = true; })")
         told = self.told()
-        shown = self.page.run("document.querySelector('dialog[open] [role=status] > *').className")
-        check(f"{done} is told as {shown}", shown == kind)
+        self.page.gives("document.querySelector('dialog[open] [role=status] > *').className", kind)
         self.press("Close")
         # The desk then draws the screen again.
         self.page.wait("!document.querySelector('dialog') && document.querySelector('main').getAttribute('aria-busy') === 'false'")
         return told
 
-    def give_key(self, key: str = "abc") -> None:
-        self.go("key")
-        self.field("Your name", "Anna")
-        self.drop_key(key)
+    def order(self, name: str, done: str, part: str = "", asks: Texts = (), send: str = "", says: Texts = ()) -> None:
+        """Does a command: presses its button, reads what the window asks, confirms it by the button of this or another name, and reads what was done."""
+        self.press(f"{name} …", part, asks)
+        self.confirm(send or name, done)
+        self.says(says)
 
-    def drop_key(self, key: str) -> None:
-        """Drops a key file, and uses its key."""
-        self.drop(f"Office-Caller: clerk\nOffice-Key: {key}\n", "clerk.key")
-        self.says("The file clerk.key contains a key.")
-        self.press("Use this key")
+    def register(self, name: str, text: str) -> None:
+        """Fills in a registration from a firm's file, up to the window of the command."""
+        self.go("tenderers")
+        self.drop(text, f"registration-{name}.json", "The fields below are filled in from the file.")
+        self.press("Register a tenderer")
 
-    def give_key_by(self, language: str) -> None:
-        """Gives the key, in a language other than English."""
+    def pay(self, number: str, amount: int, left: int, part: str = "Payment") -> None:
+        """Records a payment, after which so much is left."""
+        self.fill({"Number of the invoice or change": number, "Amount": str(amount)}, part)
+        self.order("Record the payment", f"Paid. Outstanding: {left} EUR.", part)
+
+    def give_key(self, then: str = "today") -> None:
+        """Gives the key, in any language, and waits for the screen that follows."""
         self.go("key")
         self.page.run("document.querySelector('main form input').value = 'Anna'")
-        self.drop("abc", "clerk.key")
+        self.drop("Office-Caller: clerk\nOffice-Key: abc\n", "clerk.key")
         self.page.wait("document.querySelector('main .good')")
         self.page.run("document.querySelector('main form button').click()")
-        self.settle("today")
-        check(f"the page speaks {language}", self.page.run("document.documentElement.lang") == language)
+        self.settle(then)
 
     def reload(self) -> None:
         """Loads the page again, as F5 does."""
@@ -140,7 +137,7 @@ class Desk:
         self.page.wait("!window.isOld && document.querySelector('main')?.getAttribute('aria-busy') === 'false' && document.querySelector('main h1')")
         self.page.run(HANDS)
 
-    def leave(self) -> None:
+    def close(self) -> None:
         """Leaves the desk, so that nothing of it asks any more."""
         self.page.ask("Fetch.disable")
         self.page.ask("Page.navigate", url="about:blank")
@@ -152,8 +149,16 @@ class Desk:
             self.page.shape(width)
             page_checks.is_within(name, width, self.page)
         for shape, width in SHAPES.items():
-            for dark in (False, True):
-                self.page.shape(width, dark=dark)
-                self.page.picture(os.path.join(self.scene.pictures, f"{name}-{shape}-{'dark' if dark else 'light'}.png"))
-                page_checks.has_contrast(f"{name}, {shape}, {'dark' if dark else 'light'}", self.page)
+            for shade in ("light", "dark"):
+                self.page.shape(width, dark=shade == "dark")
+                self.page.picture(os.path.join(self.scene.pictures, f"{name}-{shape}-{shade}.png"))
+                page_checks.has_contrast(f"{name}, {shape}, {shade}", self.page)
         self.page.shape(1280)
+
+
+def with_key(scene: Scene, width: int = 1280, place: str = "", language: str = "en") -> Desk:
+    """A desk with the clerk's key, at Today."""
+    desk = Desk(scene, width, place, language)
+    desk.give_key()
+    desk.page.gives("document.documentElement.lang", language)
+    return desk

@@ -1,7 +1,5 @@
 """The office that the checks of a large office use: 400 notices, 125 budget lines, 60 firms. Of the notices 180 are past their deadline and not opened, 20 are
-opened, 7 close within a week, and 193 later. The opened ones are examined, awarded, signed, awarded to nobody or cancelled; N001 has a lot with 24 tenders.
-N390 has five lots. The items have words that no title has.
-"""
+opened, 7 close within a week, and 193 later. N001 has a lot with 24 tenders, and N390 has five lots. The items have words that no title has."""
 import time
 
 from office_kit.client import AHEAD, Answer, Client, budget, lot, notice, tender, text_of, wait_until
@@ -42,27 +40,26 @@ def fill(office: Client[Answer]) -> None:
     for number in range(1, FIRMS + 1):
         office.register(f"F{number}", f"Firm {number} Ltd", f"{number} High Street")
     deadline = int(time.time()) + 5 * AHEAD
-    first = OPENED + 2
-    for number in range(1, first):
+    opened, overdue = range(1, OPENED + 2), range(OPENED + 2, OPENED + OVERDUE + 2)
+    for number in opened:
         publish(office, number, deadline + (DAY if number == 10 else 0))
     receipts = {}
-    for number in range(1, first):
+    for number in opened:
         for who in range(1, TENDERS + 1 if number == 1 else 4):
             receipts[number, who] = int(office.present(f"F{who}", name_of(number), "L1", tender((100, 30 + (7 * who) % 20)))["receipt"])
     office.present("F5", "N002", "L2", tender((100, 31)), "G5", 60)
-    for number in range(first, first + OVERDUE):
+    for number in overdue:
         publish(office, number, deadline)
-    for number in range(first + OVERDUE, first + OVERDUE + SOON + LATER - 1):
-        place = number - first - OVERDUE
-        publish(office, number, time.time() + DAY * (place * 0.9 + 0.4 if place < SOON else 8 + place * 0.3))
+    for place in range(SOON + LATER - 1):
+        publish(office, overdue.stop + place, time.time() + DAY * (place * 0.9 + 0.4 if place < SOON else 8 + place * 0.3))
     office.cancel("N010", "The library got them as a gift")
     wait_until(deadline + 1.1)
-    for number in range(1, first):
+    for number in opened:
         if number != 10:
             office.open(name_of(number))
-    for number in range(2, 10):
-        for who in range(1, 4):
-            office.examine(receipts[number, who], responsive=number != 3)
+    for (number, _), receipt in receipts.items():
+        if number in range(2, 10):
+            office.examine(receipt, responsive=number != 3)
     office.cancel("N002", "The ground is wet")
     for number in range(3, 10):
         award = office.award(name_of(number))["award"]

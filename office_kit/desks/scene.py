@@ -8,7 +8,7 @@ from dataclasses import dataclass
 
 from office_kit.common import connect
 from office_kit.desks.browser import Browser
-from office_kit.front.clerks import Change
+from office_kit.front.clerks import Change, Signing
 from office_kit.front.nginx import PATIENCE, Front
 from office_kit.store.served import server
 
@@ -26,10 +26,10 @@ class Scene:
 
 @contextlib.contextmanager
 def staged(program: str, browser: Browser, pictures: str, fill: Callable[[int], object] = lambda port: None,
-           more: Iterable[Change] = ()) -> Iterator[Scene]:
+           more: Iterable[Change] = (), signing: Signing | None = None) -> Iterator[Scene]:
     """A scene over a new office, which is filled at its port before the front begins."""
     with tempfile.TemporaryDirectory() as folder, server(program, os.path.join(folder, "office.db")) as (office, port):
         connect(port, PATIENCE).close()
         fill(port)
-        with Front(folder, port, more) as front:
+        with Front(folder, port, more, signing) as front:
             yield Scene(front, browser, office, pictures, program)

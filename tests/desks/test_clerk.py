@@ -1,9 +1,7 @@
 """The clerk's desk (web/clerk/): nginx with deploy/nginx.conf in front of an office, and a browser without a window.
 
-`life` does a procurement from the budget to the last payment with the screens only, except for the tenders, which scripts submit. Comments in
-clerk_checks.py and clerk_more.py in office_kit/desks/ say what the other checks are about. Those that use its notice run after it. `plants` changes a screen,
-and the checks must find each change. `by_name` has clerks sign in at the front (office_kit/desks/clerk_names.py). `large` makes an office of 400 notices, in
-half a minute.
+`life` does a procurement from the budget to the last payment with the screens only, except for the tenders, which scripts submit. Those that use its notice run
+after it. Each check says what it is about: office_kit/desks/clerk_checks.py, clerk_more.py (`large` makes an office of 400 notices) and clerk_names.py.
 """
 import pytest
 

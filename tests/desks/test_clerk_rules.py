@@ -8,152 +8,31 @@ a sentence. Then rules of the modules are changed, one at a time: these checks m
 """
 import base64
 import collections
+import itertools
 import json
-import re
 import subprocess
+import tomllib
 from pathlib import Path
 
 import pytest
 from hypothesis import given, settings
 
-from office_kit.api.tenders import CHANCE, MARK, samples
+from office_kit.api.tenders import CHANCE, MARK, changed_bytes, samples
 from office_kit.client import Blocks, Client, answer_of, budget, lot, notice, tender
-from office_kit.common import CONFIG, ROOT, parts_of
+from office_kit.common import CONFIG, parts_of
 from office_kit.desks import modules
 from office_kit.desks.modules import WEB
+from office_kit.desks.page_checks import refusals
 
 pytestmark = [pytest.mark.needs("node"), pytest.mark.budget(120)]
 NOW, DEADLINE, NOW_MS = "2026-01-05T09:00:00Z", "2026-02-01T12:00:00Z", 1_767_603_600_000
 MOST_BODY = 65_536
 LATER, PAST = 1_767_700_000_000, 1_767_600_000_000
 HEAD = b"line,kind,amount,title\n"
-# Asks the modules for their answers: it reads the questions from standard input, as JSON.
-ASKS = """
-import { readFileSync } from "node:fs";
-const web = process.argv[1];
-const { readBudget, changesOf } = await import(`${web}/clerk/budget.js`);
-const { bodyBytes, faultsOf } = await import(`${web}/clerk/notice.js`);
-const { MOST } = await import(`${web}/clerk/values.js`);
-const { addEntry, fileOf, newJournal, readFile } = await import(`${web}/clerk/journal.js`);
-const { outlookOf, stageOf } = await import(`${web}/clerk/stage.js`);
-const { evaluationOf } = await import(`${web}/common/findings.js`);
-const { tendersOf } = await import(`${web}/common/findings.js`);
-const { addTexts, hasText, chooseLanguage } = await import(`${web}/common/texts.js`);
-const en = (await import(`${web}/clerk/en.js`)).default;
-const de = (await import(`${web}/clerk/de.js`)).default;
-const linesOf = (ledger) => new Map(ledger.split("\\n").slice(2).filter(Boolean).map((line) => line.split("\\t")).map(([line, appropriation, free]) =>
-  [line, { line, appropriation: Number(appropriation), free: Number(free) }]));
-// What the office would answer by the faults that are found: to a budget file, `{ rows }` where it takes it in; to a notice, null; else `{ name, what }`.
-function answerOf(reading, lines) {
-  if (reading.bytes > MOST.body) {
-    return { name: "TooLong" };
-  }
-  if (reading.faults.length > 0) {
-    return { name: "BadBody", what: `row ${Math.min(...reading.faults.map(({ record }) => record))}` };
-  }
-  const { faults } = changesOf(reading.rows, lines);
-  const has = (code) => faults.some((fault) => fault.code === code);
-  if (has("unknown")) {
-    return { name: "NoSuch", what: "line" };
-  }
-  if (has("short")) {
-    return { name: "InsufficientFunds" };
-  }
-  return has("past") || reading.rows.length > MOST.rows ? { name: "LimitReached" } : { rows: reading.rows.length };
-}
-function refusalOf(draft, lines, now, isUsed) {
-  const faults = faultsOf(draft, lines, now);
-  if (faults.some(({ code }) => code === "size")) {
-    return { name: "TooLong" };
-  }
-  const of = (code) => faults.find((fault) => fault.code === code);
-  const wrong = faults.find(({ code }) => !["size", "line.unknown", "deadline.passed", "money", "lots.many", "items.many"].includes(code) && code !== "name");
-  if (wrong) {
-    return { name: "BadBody", what: WHAT[wrong.field] ?? "lots" };
-  }
-  if (of("line.unknown")) {
-    return { name: "NoSuch", what: "line" };
-  }
-  const name = isUsed ? "Exists" : of("deadline.passed") ? "DeadlinePassed" : of("money") ? "InsufficientFunds" : of("lots.many") || of("items.many")
-    ? "LimitReached" : null;
-  return name ? { name } : null;
-}
-const WHAT = { title: "title", deadline: "deadline", validity: "validity_days", standstill: "standstill_days", criteria: "criteria", weight: "price_weight",
-  performance: "performance" };
-const asked = JSON.parse(readFileSync(0, "utf8"));
-const bytes = (text) => new Uint8Array(Buffer.from(text, "base64"));
-const told = {};
-told.files = asked.files.map(({ data, ledger }) => {
-  const reading = readBudget(bytes(data)), lines = linesOf(ledger);
-  const after = changesOf(reading.rows, lines).changes.map(({ id, appropriation, free }) => [id, String(appropriation), String(free)]);
-  const rows = reading.rows.map(({ id, kind, amount, title }) => ({ amount, kind, line: id, title }));
-  return { answer: answerOf(reading, lines), after, read: reading.bytes > MOST.body || reading.faults.length > 0 ? null : rows };
-});
-told.bodies = asked.drafts.map((draft) => Buffer.from(bodyBytes(draft)).toString("base64"));
-told.notices = asked.notices.map(({ draft, ledger, isUsed }) => refusalOf(draft, linesOf(ledger), asked.now, isUsed));
-told.awards = asked.awards.map(({ record, terms, minutes, evaluation }) => {
-  const seen = { compiled: JSON.parse(record).records[0].compiledRelease, terms: JSON.parse(terms), tenders: tendersOf(minutes),
-    evaluation: evaluationOf(evaluation, true) };
-  const { code, tender } = outlookOf(stageOf(seen, asked.now).lots[0]);
-  return tender ? [tender.receipt, tender.corrected] : code;
-});
-told.journal = await (async () => {
-  const journal = newJournal("https://office.example");
-  for (const text of ["one", "t\\u00fc\\nwo", ""]) {
-    await addEntry(journal, { moment: "2026-01-05T09:00:00Z", who: "Anna", title: "x", method: "POST", path: "/budget/B1", body: new TextEncoder().encode(text),
-      answer: { status: 200, text: "{}" }, found: null });
-  }
-  const text = await fileOf(journal), lines = text.trimEnd().split("\\n");
-  const isFound = async (changed) => Boolean((await readFile(changed)).fault);
-  const digit = (line) => line.replace(/\\d(?=\\D*$)/, (it) => (Number(it) + 1) % 10);
-  const ways = lines.flatMap((line, at) => [[], [line, line], [digit(line)], [line.replace("Anna", "Anne")], [line.replace("one", "two")]].map((others) =>
-    lines.toSpliced(at, 1, ...others)).filter((way) => way.join() !== lines.join()));
-  const found = await Promise.all(ways.map((way) => isFound(`${way.join("\\n")}\\n`)));
-  const back = await readFile(text);
-  return { ways: ways.length, missed: found.filter((it) => !it).length, isSame: JSON.stringify(back.journal?.entries) === JSON.stringify(journal.entries) };
-})();
-await addTexts({ en: () => ({ default: en }), de: () => ({ default: de }) });
-const marks = (text) => [text].flat().map((one) => [...one.matchAll(/\\{(\\w+)\\}/g)].map((it) => it[1]).sort().join()).join("|");
-told.texts = [...Object.keys(en).filter((name) => !(name in de) || marks(de[name]) !== marks(en[name]) || Array.isArray(de[name]) !== Array.isArray(en[name])),
-  ...Object.keys(de).filter((name) => !(name in en))];
-for (const tag of ["en", "de"]) {
-  await chooseLanguage(tag);
-  told.texts.push(...asked.refusals.filter((name) => !hasText(name)));
-}
-told.count = Object.keys(en).length;
-console.log(JSON.stringify(told));
-"""
+# Asks the modules for their answers.
+ASKS = Path(__file__).with_name("clerk_rules.mjs").read_text(encoding="utf-8")
 # The rules that are changed: a module, the text in it, and the changed text.
-CHANGED = {
-    "semicolons are taken for commas": ("common/csv.js", 'separator = ","', 'separator = ";"'),
-    "an empty line is a record": ("common/csv.js", '} else if (state !== "before") {\n      ended();', "} else {\n      ended();"),
-    "a byte order mark stays": ("common/csv.js", "binary.startsWith(MARK) ? binary.slice(MARK.length) : binary", "binary"),
-    "an identifier may have 33 letters": ("common/csv.js", "{1,32}$/.test(field);", "{1,33}$/.test(field);"),
-    "an amount of 0 is taken": ("clerk/budget.js", 'numberOf(field) === 0 ? "amount.zero" : null', "null"),
-    "the bytes of a title are its letters": ("clerk/budget.js", "title: textOf(title) };", "title };"),
-    "ADD is taken": ("clerk/budget.js", 'kind !== "add" && kind !== "cut"', 'kind.toLowerCase() !== "add" && kind !== "cut"'),
-    "the title may have 201 bytes": ("common/csv.js", "\\x1f\\x7f]{1,200}$/", "\\x1f\\x7f]{1,201}$/"),
-    "a line that is made by the file can't be cut": ("clerk/budget.js", "  line.isThere = true;\n", ""),
-    "all that is there may be cut": ("clerk/budget.js", "line.free < amount", "line.appropriation < amount"),
-    "more than 10^15 may be on a line": ("clerk/budget.js", '? "past" : null;', '? null : null;'),
-    "501 rows are taken": ("clerk/values.js", "rows: 500", "rows: 501"),
-    "a cut adds": ("clerk/budget.js", 'kind === "add" ? held + amount', 'kind !== "-" ? held + amount'),
-    "a deadline of now is taken": ("clerk/notice.js", "draft.deadline <= now", "draft.deadline < now"),
-    "each lot may want all that is free": ("clerk/notice.js", "(wanted.get(line) ?? 0) + (wholeNumber", "(wholeNumber"),
-    "91 days of standstill are taken": ("clerk/values.js", "standstill: 90", "standstill: 91"),
-    "a lot may have no item": ("clerk/notice.js", 'lot.items.length === 0 ?', "false ?"),
-    "51 items are taken": ("clerk/values.js", "items: 50", "items: 51"),
-    "an identifier may stand there twice": ("clerk/notice.js", ".length > 1;", ".length > 2;"),
-    "65,537 bytes are taken": ("clerk/values.js", "body: 65_536", "body: 65_537"),
-    "the dearest wins": ("common/tenders.js", ": price(one) - price(other)", ": price(other) - price(one)"),
-    "the last of the same price wins": ("common/tenders.js", "? one.receipt - other.receipt", "? other.receipt - one.receipt"),
-    "points don't count": ("common/tenders.js", "(byPoints ? shown?.tenders.get(receipt)?.points ?? -1 : 0)", "0"),
-    "what isn't responsive may win": ("clerk/stage.js", 'found?.standing === "admissible"', "found !== null"),
-    "a journal's line may be taken out": ("clerk/journal.js", 'if (part.before !== before || part.number !== number) {', "if (false) {"),
-    "a text may lack in German": ("clerk/de.js", '"site": "Vergabestelle",', ""),
-}
-
-
+CHANGED = tomllib.loads(Path(__file__).with_name("clerk_rules.toml").read_text(encoding="utf-8"))
 # The changed values of a notice's field.
 VALUES = {
     "title": ["", "x" * 201, "\u00e4" * 101, "a\u0001"], "validity": ["0", "365", "366", "x", ""], "standstill": ["0", "90", "91", "-1"],
@@ -165,27 +44,19 @@ LINES = ["1000", "2000", "3000", "a.b-c_d", "x" * 32]
 AMOUNTS = ["1", "7", "500", "0100", "999999999999999", "1000000000000000"]
 ODD = ["0", "1000000000000001", "00000000000000001", "12.5", "1,000", "-1", " 1", "", "x", '"5"', '"', "add", "ADD", "Cut", "cut ", "y" * 33, "y z", "\u00e4",
        "t" * 200, "t" * 201, "\u00e4" * 100, "\u00e4" * 101, "a\tb", "\x7f"]
-BYTES = [b",", b";", b'"', b"\n", b"\r", b"\r\n", b" ", b"\t", b"0", b"9", b"x", b"\0", b"\xff", MARK, b"'", b",,,", b"\n\n", b'""']
 
 
 # ---- What is tried: made by chance, which hypothesis shrinks, and at the bounds.
 
-def row(chance):
-    return [chance.choice(LINES), chance.choice(("add", "add", "cut")), chance.choice(AMOUNTS[:4] * 9 + AMOUNTS),
-            chance.choice(("Roads", "Parks, and trees", "Stra\u00dfen", 'a "b"'))]
-
-
 def budget_file(chance):
     """A budget file: right, or with up to two rows changed, or bytes."""
-    rows = [["line", "kind", "amount", "title"], *[row(chance) for _ in range(chance.choice((1, 1, 2, 3, 8)))]]
+    columns = [LINES, ("add", "add", "cut"), AMOUNTS[:4] * 9 + AMOUNTS, ("Roads", "Parks, and trees", "Stra\u00dfen", 'a "b"')]
+    rows = [["line", "kind", "amount", "title"], *(list(map(chance.choice, columns)) for _ in range(chance.choice((1, 1, 2, 3, 8))))]
     for _ in range(chance.choice((0, 0, 0, 1, 1, 2))):
         at, field = chance.randrange(len(rows)), chance.randrange(4)
         rows[at] = [*rows[at][:field], chance.choice(ODD), *rows[at][field + 1:]] if chance.randrange(5) else rows[at][:-1]
     data = written(chance, rows)
-    if chance.randrange(7) == 1:
-        at = chance.randrange(len(data) + 1)
-        data = data[:at] + chance.choice(BYTES) + data[at + chance.randrange(2):]
-    return data
+    return changed_bytes(chance, data) if chance.randrange(7) == 1 else data
 
 
 def written(chance, rows):
@@ -209,17 +80,16 @@ def right_lot(**changes):
     return {"id": "L1", "title": "North", "line": "5000", "estimate": "1", "security": "0", "items": [item], **changes}
 
 
-def numbered(things, letter, count):
-    return [{**things[0], "id": f"{letter}{at}"} for at in range(count)]
+def numbered(thing, letter, count):
+    return [{**thing, "id": f"{letter}{at}"} for at in range(count)]
 
 
 def made_draft(chance):
     """A notice: right, or with some fields changed; and whether it has the name of the one before."""
     lots = []
-    for number in range(1, chance.choice((1, 2, 3)) + 1):
-        estimate = chance.choice(("1", "20", "400") * 9 + ("1000000000000",) * 3)
-        of_lot = right_lot(id=f"L{number}", line=chance.choice(("5000", "5000", "6000")), estimate=estimate)
-        lots.append({**of_lot, "items": [{**of_lot["items"][0], "id": f"I{at}"} for at in range(1, chance.choice((1, 2, 5)) + 1)]})
+    for number in range(chance.choice((1, 2, 3))):
+        one = right_lot(id=f"L{number}", line=chance.choice(("5000", "5000", "6000")), estimate=chance.choice(("1", "20", "400") * 9 + ("1000000000000",) * 3))
+        lots.append({**one, "items": numbered(one["items"][0], "I", chance.choice((1, 2, 5)))})
     draft = right_draft(criteria=chance.choice(("price", "points")), late=chance.choice(("refused", "forfeits")), lots=lots)
     is_again = chance.choice((False, False, False, True))
     for _ in range(chance.choice((0, 0, 1, 1, 2))):
@@ -230,13 +100,13 @@ def made_draft(chance):
 def change(chance, draft):
     if not draft["lots"] or not all(it["items"] for it in draft["lots"]):
         return
-    of_lot = chance.choice(draft["lots"])
-    item = chance.choice(of_lot["items"])
+    one = chance.choice(draft["lots"])
+    item = chance.choice(one["items"])
     at = {**dict.fromkeys(("title", "deadline", "validity", "standstill", "weight", "performance", "lots"), draft),
-          **dict.fromkeys(("line", "estimate", "security", "items"), of_lot), "id": chance.choice((of_lot, item)), "quantity": item}
+          **dict.fromkeys(("line", "estimate", "security", "items"), one), "id": chance.choice((one, item)), "quantity": item}
     name = chance.choice(list(at))
-    many = {"items": [numbered([item], "J", count) for count in (0, 50, 51)], "deadline": [None, PAST, NOW_MS, 4_102_444_800_000],
-            "lots": [numbered([{**of_lot, "estimate": "1"}], "K", count) for count in (0, 20, 21)]}
+    many = {"items": [numbered(item, "J", count) for count in (0, 50, 51)], "deadline": [None, PAST, NOW_MS, 4_102_444_800_000],
+            "lots": [numbered({**one, "estimate": "1"}, "K", count) for count in (0, 20, 21)]}
     at[name][name] = chance.choice((VALUES | many)[name])
 
 
@@ -265,12 +135,12 @@ def bodies_of(drafts):
 
 def with_size(size):
     """A draft of twenty lots of fifty items. The titles of its items are so long that the body has this many bytes."""
-    items = [{"id": f"I{at}", "title": "x" * 20, "quantity": "3"} for at in range(50)]
-    draft = right_draft(lots=[right_lot(id=f"L{at}", items=[dict(item) for item in items]) for at in range(20)])
-    missing = size - len(bodies_of([draft])[0])
-    for item in (item for one in draft["lots"] for item in one["items"]):
-        more = min(missing, 180)
-        item["title"], missing = item["title"] + "y" * more, missing - more
+    item = {"id": "I", "title": "x" * 20, "quantity": "3"}
+    draft = right_draft(lots=[right_lot(id=f"L{at}", items=numbered(item, "I", 50)) for at in range(20)])
+    items = [item for one in draft["lots"] for item in one["items"]]
+    more, rest = divmod(size - len(bodies_of([draft])[0]), len(items))
+    for number, item in enumerate(items):
+        item["title"] += "y" * (more + (number < rest))
     return draft
 
 
@@ -278,17 +148,12 @@ def drafts_at_bounds():
     """Notices at the bounds, and one beyond, each with a name of its own."""
     own = right_lot()
     (item,) = own["items"]
-    changes = [{"deadline": NOW_MS}, {"deadline": NOW_MS + 1000}, {"standstill": "90"}, {"standstill": "91"}, {"lots": []}, {"lots": [right_lot(items=[])]},
-               *[{"lots": numbered([own], "L", count)} for count in (20, 21)],
-               *[{"lots": [right_lot(items=numbered([item], "I", count))]} for count in (50, 51)], {"lots": [own, own]},
-               {"lots": [right_lot(items=[item, item])]}, {"lots": [right_lot(estimate="2000"), right_lot(id="L2", estimate="8000")]}]
-    drafts = [right_draft(**change) for change in changes] + [with_size(size) for size in (65_536, 65_537)]
+    lots = [[], [right_lot(items=[])], numbered(own, "L", 20), numbered(own, "L", 21), [right_lot(items=numbered(item, "I", 50))],
+            [right_lot(items=numbered(item, "I", 51))], [own, own], [right_lot(items=[item, item])],
+            [right_lot(estimate="2000"), right_lot(id="L2", estimate="8000")]]
+    changes = [{"deadline": NOW_MS}, {"deadline": NOW_MS + 1000}, {"standstill": "90"}, {"standstill": "91"}, *({"lots": some} for some in lots)]
+    drafts = [*(right_draft(**change) for change in changes), with_size(65_536), with_size(65_537)]
     return [{**draft, "name": f"M{at}"} for at, draft in enumerate(drafts)]
-
-
-def made_drafts(count):
-    """So many made notices, each with a name of its own or that of the one before."""
-    return [{**draft, "name": f"N{number - is_again}"} for number, (draft, is_again) in enumerate(samples(CHANCE.map(made_draft), count), 1)]
 
 
 def read_budget(program, data):
@@ -312,120 +177,90 @@ def firms(chance):
 
 # ---- The program's answers.
 
-class Office:
-    """One run of `procure desk`: it takes files in and publishes notices, one after another, and asks for the ledger before each."""
-
-    def __init__(self, program):
-        self.program, self.blocks, self.long = program, Blocks(NOW), {}
-        self.client = Client(self.blocks)
-
-    def send(self, method, name, body):
-        """A query of the ledger, then a command. A command that is too long gets a run of its own: the program doesn't read its body."""
-        number = len(self.blocks.sent) // 2 + len(self.long)
-        if len(body) > MOST_BODY:
-            ran = subprocess.run([self.program, "desk", CONFIG], input=method(name, body), capture_output=True)
-            self.long[number] = answer_of(parts_of(ran.stdout)[0]).value()
-            del self.blocks.sent[-1]
-        else:
-            command = method(name, body)
-            self.blocks.sent[-1:] = [Client(Blocks(NOW)).ledger(), command]
-
-    def answers(self):
-        """Each command's answer, with the ledger before it and after it."""
-        self.client.ledger()
-        answers = self.blocks.answers(self.program)
-        looks, done, told, at = [it.body.decode() for it in answers[0::2]], iter(answers[1::2]), [], 0
-        for number in range(len(looks) - 1 + len(self.long)):
-            if number in self.long:
-                told.append((self.long[number], looks[at], looks[at]))
-            else:
-                told.append((next(done).value(), looks[at], looks[at + 1]))
-                at += 1
-        return told
+def answers_of(program, commands):
+    """The program's answers to commands (a method of the client, a name and a body), each with the ledger before it and after it. They are one run of `procure
+    desk`, except for those that are too long: it doesn't read their bodies. So each of these has a run of its own, and no ledger."""
+    blocks = Blocks(NOW)
+    office = Client(blocks)
+    for method, name, body in commands:
+        if len(body) <= MOST_BODY:
+            office.ledger()
+            method(office, name, body)
+    office.ledger()
+    answers = blocks.answers(program)
+    ledgers = [it.body.decode() for it in answers[::2]]
+    told = zip((it.value() for it in answers[1::2]), ledgers, ledgers[1:])
+    return [next(told) if len(body) <= MOST_BODY else (answer_to(program, method(Client(Blocks(NOW)), name, body)), "", "")
+            for method, name, body in commands]
 
 
-class Awards:
-    """One run of `procure desk`: lots by price and by points, whose tenders are examined and which are awarded. It keeps the answers before the award, and the
-    winner of each."""
+def answer_to(program, block):
+    """The first answer of a run."""
+    ran = subprocess.run([program, "desk", CONFIG], input=block, capture_output=True)
+    return answer_of(parts_of(ran.stdout)[0]).value()
 
-    def __init__(self, program, count):
-        self.blocks, self.receipts = Blocks(NOW), 0
-        self.client = Client(self.blocks)
-        self.client.import_budget("B1", budget("1000,add,1000000000,All"))
-        for number in range(1, 6):
-            self.client.register(f"T{number}")
-        self.cases = [self.publish(number, *case) for number, case in enumerate([TELLING, *samples(CHANCE.map(firms), count)])]
-        self.blocks.moment = DEADLINE
-        places = [self.decide(number, case["found"]) for number, case in enumerate(self.cases)]
-        answers = self.blocks.answers(program)
-        texts = [[answers[at].body.decode() for at in range(place - 4, place)] for place in places]
-        self.asked = [{**dict(zip(("record", "terms", "minutes", "evaluation"), it)), **case} for it, case in zip(texts, self.cases)]
-        made = [answers[place].value() for place in places]
-        self.wanted = [[answer["tender"], answer["price"]] if answer["tender"] else "nobody" for answer in made]
 
-    def publish(self, number, weight, firms):
-        """A notice, and a tender of some of the firms; some prices are the same."""
-        terms = {"criteria": "price"} if weight is None else {"criteria": "points", "price_weight": weight}
-        self.client.publish(f"E{number}", notice(DEADLINE, lot(), **terms))
-        found = []
-        for who, unit, responsive, quality in firms:
-            self.client.present(f"T{who}", f"E{number}", "L1", tender((3, unit)))
-            self.receipts += 1
-            found.append([self.receipts, responsive, quality])
-        return {"weight": weight, "found": found}
-
-    def decide(self, number, found):
-        """The opening, the examinations, the evaluation then, and the award; returns the place of the award among the answers."""
-        self.client.open(name := f"E{number}")
-        for receipt, responsive, quality in found:
-            self.client.examine(receipt, responsive, **({} if quality is None else {"quality": quality}))
-        for look in (self.client.record, self.client.terms, self.client.minutes):
-            look(name)
-        self.client.evaluation(name, "clerk")
-        self.client.award(name)
-        return len(self.blocks.sent) - 1
+def awards_of(program, count):
+    """Lots by price and by points, whose tenders are examined and which are awarded, in one run of `procure desk`: the answers before each award, and the
+    winners. Some prices are the same."""
+    blocks, receipts, places = Blocks(NOW), itertools.count(1), []
+    office = Client(blocks)
+    office.import_budget("B1", budget("1000,add,1000000000,All"))
+    for number in range(1, 6):
+        office.register(f"T{number}")
+    cases = {f"E{number}": case for number, case in enumerate([TELLING, *samples(CHANCE.map(firms), count)])}
+    for name, (weight, found) in cases.items():
+        office.publish(name, notice(DEADLINE, lot(), **({"criteria": "points", "price_weight": weight} if weight else {})))
+        for who, unit, *_ in found:
+            office.present(f"T{who}", name, "L1", tender((3, unit)))
+    blocks.moment = DEADLINE
+    for name, (_, found) in cases.items():
+        office.open(name)
+        for (*_, responsive, quality), receipt in zip(found, receipts):
+            office.examine(receipt, responsive, **({} if quality is None else {"quality": quality}))
+        places.append(len(blocks.sent))
+        for query in (office.record, office.terms, office.minutes):
+            query(name)
+        office.evaluation(name, "clerk")
+        office.award(name)
+    answers = blocks.answers(program)
+    asked = [dict(zip(("record", "terms", "minutes", "evaluation"), (it.body.decode() for it in answers[at:at + 4]))) for at in places]
+    made = [answers[at + 4].value() for at in places]
+    return asked, [[award["tender"], award["price"]] if award["tender"] else "nobody" for award in made]
 
 
 def plain(answer):
     """An answer, as the desk's modules give it."""
-    if "refusal" in answer:
-        return {name: answer[name] for name in ("name", "what") if name in answer}
-    return {"rows": answer["rows"]} if "rows" in answer else None
+    return {name: answer[name] for name in ("rows", "name", "what") if name in answer}
 
 
 class Given:
-    """Everything that the modules are asked, and the program's answers. (With money that is reserved, the free amount of a line is less than its
-    appropriation: the last files cut such lines.)"""
+    """Everything that the modules are asked, and the program's answers. Whatever the files leave, the notices must have enough money. The last files cut lines
+    with money that is reserved: the free amount of such a line is less than its appropriation."""
 
     def __init__(self, program, count):
-        later = [f"line,kind,amount,title\n{line},cut,{amount},Cut\n".encode() for line in (5000, 6000) for amount in (1, 4999, 9000, 10 ** 6)]
-        first = at_bounds() + samples(CHANCE.map(budget_file), count)
-        self.drafts, self.awards = drafts_at_bounds() + made_drafts(count // 3), Awards(program, count // 5)
-        office = Office(program)
-        for at, data in enumerate(first):
-            office.send(office.client.import_budget, f"B{at}", data)
-        # Whatever the files left, the notices must have enough money.
-        office.send(office.client.import_budget, "last", budget("5000,add,9000,Roads", "6000,add,5000,Parks").encode())
-        for draft, body in zip(self.drafts, bodies_of(self.drafts)):
-            office.send(office.client.publish, draft["name"], body)
-        for at, data in enumerate(later, len(first)):
-            office.send(office.client.import_budget, f"B{at}", data)
-        told, end = office.answers(), len(first) + 1 + len(self.drafts)
-        self.of_files, self.of_notices = told[:len(first)] + told[end:], told[len(first) + 1:end]
-        self.rows, self.asked = [read_budget(program, data) for data in first + later], self.questions(first + later)
+        files = [*at_bounds(), *samples(CHANCE.map(budget_file), count), budget("5000,add,9000,Roads", "6000,add,5000,Parks").encode()]
+        later = [budget(f"{line},cut,{amount},Cut").encode() for line in (5000, 6000) for amount in (1, 4999, 9000, 10 ** 6)]
+        # Each made notice has a name of its own or that of the one before.
+        made = enumerate(samples(CHANCE.map(made_draft), count // 3), 1)
+        self.drafts = [*drafts_at_bounds(), *({**draft, "name": f"N{number - is_again}"} for number, (draft, is_again) in made)]
+        imports = [(Client.import_budget, f"B{at}", data) for at, data in enumerate(files + later)]
+        publications = [(Client.publish, draft["name"], body) for draft, body in zip(self.drafts, bodies_of(self.drafts))]
+        told = answers_of(program, imports[:len(files)] + publications + imports[len(files):])
+        self.of_notices = told[len(files):-len(later)]
+        self.of_files = told[:len(files)] + told[-len(later):]
+        self.rows = [read_budget(program, data) for data in files + later]
+        awards, self.winners = awards_of(program, count // 5)
+        asked = [{"data": base64.b64encode(data).decode(), "ledger": ledger} for data, (_, ledger, _) in zip(files + later, self.of_files)]
+        sentences = [f"refusal.{json.loads(body)['name']}" for _, body in refusals()]
+        self.asked = {"files": asked, "notices": self.notices(), "awards": awards, "refusals": sentences}
 
-    def questions(self, files):
+    def notices(self):
         notices, taken = [], set()
         for draft, (answer, ledger, _) in zip(self.drafts, self.of_notices):
             notices.append({"draft": draft, "ledger": ledger, "isUsed": draft["name"] in taken})
             taken |= set() if "refusal" in answer else {draft["name"]}
-        return {"files": [{"data": base64.b64encode(data).decode(), "ledger": ledger} for data, (_, ledger, _) in zip(files, self.of_files)],
-                "notices": notices, "awards": self.awards.asked, "refusals": refusals()}
-
-
-def refusals():
-    """The names of the sentences that the refusals of docs/API.md need."""
-    return [f"refusal.{name}" for name in re.findall(r"^\| \d+ \| `(\w+)` \| \d+ \|", Path(ROOT, "docs", "API.md").read_text(encoding="utf-8"), re.M)]
+        return notices
 
 
 # ---- The tests. Each but the last compares the answers of the modules with the program's.
@@ -453,7 +288,7 @@ def test_notices(given_all, told):
 
 
 def test_awards(given_all, told):
-    assert told["awards"] == given_all.awards.wanted
+    assert told["awards"] == given_all.winners
 
 
 def test_journal(told):
@@ -469,7 +304,7 @@ def test_each_outcome_comes(given_all):
     for answers in (given_all.of_files, given_all.of_notices):
         counts = collections.Counter(answer.get("name", "taken") for answer, _, _ in answers)
         assert counts["taken"] >= 10 and len(counts) >= 6, counts
-    assert {"nobody"} < {str(it) for it in given_all.awards.wanted}
+    assert {"nobody"} < {str(it) for it in given_all.winners}
 
 
 @settings(max_examples=60, deadline=None)

@@ -1,7 +1,6 @@
 """All screens together: nginx with deploy/nginx.conf in front of an office that is asked only by the desks, in a browser without a window.
 
-`life` does a procurement from the budget to the last payment: the clerk at one desk, three firms at others, the public at the portal. `lost_key`, which runs
-after it, is about a firm's key that can't be recovered; `slow` is about views that load slowly. office_kit/desks/all_checks.py describes all three.
+The checks are those of office_kit/desks/all_checks.py. `lost_key` runs after `life`.
 """
 import pytest
 
