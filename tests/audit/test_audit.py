@@ -4,6 +4,7 @@ The office has eight notices (office_kit/store/life.py). Each fault (planted_fau
 the answers or of the log. The rule named beside it must find it, on the row named beside it. Each rule of `tools/audit --rules` must find a fault. The file
 alone must not expose a forgery; each witness named beside it must, and no other.
 """
+import contextlib
 import copy
 import filecmp
 import glob
@@ -24,7 +25,7 @@ import pytest
 
 from office_kit.audit import answers as audit_answers
 from office_kit.common import CLERK, FIELDS, ROOT, free_port
-from office_kit.front.throttled import OF_OPENED, Front, served
+from office_kit.front.throttled import OF_OPENED, Front
 from office_kit.store.life import AuditedLife
 from office_kit.store.planted_faults import COPY, FAULTS_OF_ANSWERS, FAULTS_OF_FILES, FAULTS_OUTSIDE, FORGERIES, HELD, LOG, PUBLIC, filled, plant, without
 from office_kit.store.planted_lines import FAULTS_OF_LINES, Logged, at, text_of
@@ -49,8 +50,7 @@ class Made:
             front = Logged(serve(folder / "office.db").port)
             self.life = life = AuditedLife(front)
             life.before_the_deadline()
-            for part in glob.glob(f"{folder}/office.db*"):
-                shutil.copyfile(part, folder / os.path.basename(part).replace("office", "early"))
+            copied(folder / "office.db", folder / "early.db")
             self.save_answers("early", "releases", "record", "terms")
             life.after_the_deadline()
             self.save_answers("answers", "releases", "record", "terms", *OF_OPENED)
@@ -123,9 +123,8 @@ class Made:
 
     def found(self, *words):
         """The findings of an audit, each a rule and a row. It runs in this process, which is three times as fast."""
-        words = [str(self.folder / word) if (self.folder / word).exists() else str(word) for word in words]
-        with tempfile.TemporaryDirectory() as room:
-            found, _ = TOOL.Audit(TOOL.arguments(words), room).run()
+        with tempfile.TemporaryDirectory() as room, contextlib.chdir(self.folder):
+            found, _ = TOOL.Audit(TOOL.arguments([str(word) for word in words]), room).run()
         return {(rule, row) for rule, row, _ in found}
 
     def changed(self, path, script):
@@ -137,11 +136,16 @@ class Made:
         return Path(shutil.copytree(self.folder / name, to / name))
 
 
-def whole(source, path):
-    """A copy of a file with its log moved into it."""
+def copied(source, path):
+    """A copy of a file with its log."""
     for part in glob.glob(f"{source}*"):
         shutil.copyfile(part, str(path) + part[len(str(source)):])
-    return written(path, "PRAGMA journal_mode = DELETE")
+    return path
+
+
+def whole(source, path):
+    """A copy of a file with its log moved into it."""
+    return written(copied(source, path), "PRAGMA journal_mode = DELETE")
 
 
 def written(path, script):
@@ -153,7 +157,6 @@ def written(path, script):
 
 
 def digests(folder):
-    """The SHA-256 of each file of a folder."""
     return {path.name: hashlib.sha256(path.read_bytes()).hexdigest() for path in folder.iterdir() if path.is_file()}
 
 
@@ -170,8 +173,9 @@ def base(made, program, tmp_path_factory):
         yield f"http://127.0.0.1:{serve(made.folder / 'served.db').port}"
 
 
-def named(number, what):
-    return f"{number:03}-{what}"
+def each(names, faults):
+    """A test of each fault, by its number and its rule."""
+    return pytest.mark.parametrize(names, faults, ids=[f"{number:03}-{fault[0]}" for number, fault in enumerate(faults)])
 
 
 # ---- What is sound, and what can't be read.
@@ -221,26 +225,26 @@ def test_who_gave_each_command(made, tmp_path):
 
 # ---- Faults.
 
-@pytest.mark.parametrize("fault", FAULTS_OF_FILES, ids=[named(number, it[0]) for number, it in enumerate(FAULTS_OF_FILES)])
+@each("fault", FAULTS_OF_FILES)
 def test_fault_of_the_file(made, tmp_path, fault):
     rule, row, script = filled(fault, made.life)
     assert (rule, row) in made.found(made.changed(tmp_path / "fault.db", script))
 
 
-@pytest.mark.parametrize("rule, row, names, change", FAULTS_OF_ANSWERS, ids=[named(number, it[0]) for number, it in enumerate(FAULTS_OF_ANSWERS)])
+@each("rule, row, names, change", FAULTS_OF_ANSWERS)
 def test_fault_of_answers(made, tmp_path, rule, row, names, change):
     plant(str(answers := made.folder_of(tmp_path)), names, change)
     assert (rule, row) in made.found("whole.db", "--answers", answers)
 
 
-@pytest.mark.parametrize("fault", FAULTS_OUTSIDE, ids=[named(number, it[0]) for number, it in enumerate(FAULTS_OUTSIDE)])
+@each("fault", FAULTS_OUTSIDE)
 def test_fault_outside(made, tmp_path, fault):
     rule, row, (change, *given), *further = filled(fault, made.life)
     change(str(answers := made.folder_of(tmp_path)), *given)
     assert (rule, row) in made.found("--answers", answers, *further)
 
 
-@pytest.mark.parametrize("fault", FAULTS_OF_LINES, ids=[named(number, it[0]) for number, it in enumerate(FAULTS_OF_LINES)])
+@each("fault", FAULTS_OF_LINES)
 def test_fault_of_the_log(made, tmp_path, fault):
     rule, row, change, route, members = filled(fault, made.life)
     change(lines := copy.deepcopy(made.lines), route, **members)
@@ -341,7 +345,7 @@ def test_each_rule_finds_a_fault():
     (0, {"old": (70, 50)}, "--notice N1"),
 ], ids=["fails_four_times", "fails_six_times", "asks_for_tomorrow", "lets_600_through_a_second", "keeps_the_ledger"])
 def test_busy_front(made, status, how, words):
-    with served(front := Front(str(made.folder / "answers"), **how)):
+    with Front(str(made.folder / "answers"), **how) as front:
         got, said = made.audit("--base", front.address, *words.split())
     assert got == status, said
     if "copied" in how:
@@ -351,21 +355,21 @@ def test_busy_front(made, status, how, words):
 
 
 def test_list_in_pages(made, tmp_path):
-    with served(front := Front(str(paged := made.folder_of(tmp_path, "paged")))):
+    with Front(str(paged := made.folder_of(tmp_path, "paged"))) as front:
         assert made.audit("--base", front.address, "--complete")[0] == 0
         (paged / "notices-N6.json").unlink()
         assert made.audit("--base", front.address, "--complete")[0] == 2
-    with served(front := Front(str(made.folder / "held"))):
+    with Front(str(made.folder / "held")) as front:
         assert made.audit("--base", front.address)[0] == 2, "it has no list, and no notice is named"
 
 
 def test_notice_that_isn_t_answered(made):
-    with served(front := Front(str(made.folder / "answers"), lacking="N5")):
+    with Front(str(made.folder / "answers"), lacking="N5") as front:
         assert ("kept_notices_are_answered", "notices N5") in made.found("office.db", "--base", front.address)
 
 
 def test_the_front_sees_haste(made):
-    with served(front := Front(str(made.folder / "answers"), burst=1)):
+    with Front(str(made.folder / "answers"), burst=1) as front:
         assert [audit_answers.Answers(None, front.address).exchange("/ledger")[0] for _ in range(3)] == [200, 429, 429]
     assert front.hasty == 1
 
@@ -378,7 +382,7 @@ def test_retry_after(text, due):
 
 def saves_all(block, answers, place):
     """Whether the block saves everything, although the front lets only nine requests through a second."""
-    with served(front := Front(str(answers), burst=9)):
+    with Front(str(answers), burst=9) as front:
         run = subprocess.run(["bash", "-ec", block], cwd=place, env={**os.environ, "office": front.address}, capture_output=True, text=True)
     names, saved = os.listdir(answers), place / "answers"
     same = sorted(os.listdir(saved)) == sorted([*names, "ledger-before.txt"]) and filecmp.cmpfiles(saved, answers, names, False)[1:] == ([], [])
