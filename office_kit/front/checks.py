@@ -1,17 +1,16 @@
 """The questions of tests/desks/test_portal.py to the front alone: its own answers, the requests that it lets through, and the clients that it makes wait."""
 import contextlib
 import hashlib
-import http.client
 import json
-import os
 import re
 import time
 from concurrent.futures import ThreadPoolExecutor
+from pathlib import Path
 
-from office_kit.common import CLERK, HOST, ROOT, Caller, check, connect, read_all, request
+from office_kit.common import CLERK, ROOT, check, exchange, request
 from office_kit.desks.page_office import SECURITY, key_of
 from office_kit.desks.scene import Scene
-from office_kit.front.nginx import OUTSIDE, PATIENCE, Answer, exchange, fields_of
+from office_kit.front.nginx import OUTSIDE, PATIENCE, Answer, fields_of
 
 HEADERS = {"Strict-Transport-Security": "max-age=15768000", "X-Content-Type-Options": "nosniff", "Referrer-Policy": "no-referrer", "Set-Cookie": None,
            "Cross-Origin-Opener-Policy": "same-origin", "Server": "nginx"}
@@ -40,17 +39,16 @@ def is_own(answer: Answer, status: int) -> bool:
     return answer.status == status and answer.head["Content-Type"] == "application/json" and list(json.loads(answer.body)) == ["front"]
 
 
-def refusal(answer: Answer) -> object:
-    """The name of the office's refusal."""
-    return json.loads(answer.body).get("name")
+def placed(path: str) -> str:
+    """A path of a document with identifiers in the place of each name in braces."""
+    return re.sub(r"\{(\w+)\}", lambda name: PLACES[str(name[1])], path)
 
 
 def routes() -> list[tuple[str, str, str]]:
     """The rows of the table of docs/API.md: a method, a path, and the callers that may ask it."""
-    with open(os.path.join(ROOT, "docs", "API.md")) as file:
-        rows = re.findall(r"^\| \[`(GET|POST) (/[^`]*)`\]\([^)]*\) \| ([^|]*) \|", file.read(), re.M)
+    rows = re.findall(r"^\| \[`(GET|POST) (/[^`]*)`\]\([^)]*\) \| ([^|]*) \|", Path(ROOT, "docs", "API.md").read_text(encoding="utf-8"), re.M)
     check(f"docs/API.md has {len(rows)} routes, and not 32", len(rows) == 32)
-    return [(method, re.sub(r"\{(\w+)\}", lambda name: PLACES[str(name[1])], path), who) for method, path, who in rows]
+    return [(method, placed(path), who) for method, path, who in rows]
 
 
 def headers(scene: Scene) -> None:
@@ -98,18 +96,11 @@ def networks(scene: Scene) -> None:
         check(f"{method} {path} from {OUTSIDE}: {answer}", is_own(answer, 403) if who == "clerk" else b'"front"' not in answer.body)
         if who == "clerk":
             # (from another address each time: after a wrong key its address must wait)
-            answer = scene.front.ask(method, path, caller=(b"clerk", b"wrong"), source=f"127.0.1.{number}")
-            told = exchange_with_office(scene, method, path, (b"clerk", b"wrong"))
-            check(f"{method} {path} with a wrong key: {answer}, and from the office {told!r}", answer.status == 401 and answer.body == told)
-            check(f"{path} with a wrong key: {answer.head['WWW-Authenticate']}", answer.head["WWW-Authenticate"])
-
-
-def exchange_with_office(scene: Scene, method: str, path: str, caller: Caller) -> bytes:
-    """The body of the office's own answer."""
-    text = request(method.encode(), path.encode(), b"", caller)
-    with connect(scene.front.office, PATIENCE) as stream:
-        stream.sendall(text)
-        return read_all(stream).partition(b"\r\n\r\n")[2]
+            wrong = (b"clerk", b"wrong")
+            answer = scene.front.ask(method, path, caller=wrong, source=f"127.0.1.{number}")
+            told, _ = exchange(scene.front.office, request(method.encode(), path.encode(), b"", wrong), PATIENCE)
+            is_its = answer.status == 401 and told.endswith(b"\r\n\r\n" + answer.body)
+            check(f"{method} {path} with a wrong key: {answer}, and from the office {told!r}", is_its and answer.head["WWW-Authenticate"])
 
 
 def many_tenderers(scene: Scene) -> None:
@@ -139,7 +130,7 @@ def slow_clients(scene: Scene) -> None:
         # A path that wasn't asked before, so the office must answer it.
         answer = scene.front.ask("GET", "/lines/unknown")
         took = time.monotonic() - begun
-        check(f"beside slow clients a look is answered after {took:.1f} seconds: {answer}", refusal(answer) == "NoSuch" and took < 3)
+        check(f"beside slow clients a look is answered after {took:.1f} seconds: {answer}", json.loads(answer.body).get("name") == "NoSuch" and took < 3)
 
 
 def names_and_keys(scene: Scene) -> None:
@@ -155,17 +146,4 @@ def names_and_keys(scene: Scene) -> None:
         check(f"{name} has a key or a security", not any(secret in log for secret in (SECURITY, key_of("T1"), "Office-Key")))
 
 
-def without_tls(scene: Scene) -> None:
-    """Without TLS the front only redirects to the pages, and refuses a request with a key."""
-    with contextlib.closing(http.client.HTTPConnection(HOST, scene.front.plain_port, timeout=PATIENCE)) as connection:
-        answer = exchange(connection, "GET", "/")
-        check(f"GET / in the clear: {answer}", answer.status == 301 and answer.head["Location"] == f"https://{HOST}/")
-        for method, path, caller in (("GET", "/ledger", None), ("GET", "/ledger", CLERK), ("POST", "/notices/N1/open", CLERK), ("POST", "/", CLERK)):
-            answer = exchange(connection, method, path, caller=caller)
-            check(f"{method} {path} in the clear: {answer}", answer.status == 403)
-    with contextlib.closing(http.client.HTTPConnection(HOST, scene.front.port, timeout=PATIENCE)) as connection:
-        answer = exchange(connection, "GET", "/ledger")
-        check(f"in the clear at the port of TLS: {answer}", answer.status == 400)
-
-
-CHECKS = [headers, sizes, odd_paths, networks, slow_clients, many_tenderers, names_and_keys, without_tls]
+CHECKS = [headers, sizes, odd_paths, networks, slow_clients, many_tenderers, names_and_keys]

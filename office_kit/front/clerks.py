@@ -34,6 +34,11 @@ def of_deploy(name: str) -> str:
         return file.read()
 
 
+def basic(name: str, password: str) -> str:
+    """The field of the head of a name and a password."""
+    return "Basic " + base64.b64encode(f"{name}:{password}".encode()).decode()
+
+
 def bcrypt(password: str) -> str:
     """The line of a password file, by the library that nginx uses."""
     crypt = ctypes.CDLL("libcrypt.so.1").crypt
@@ -44,9 +49,10 @@ def bcrypt(password: str) -> str:
 
 
 class Signing:
-    """Clerks by name with their roles, one of two ways in which they sign in, and the office's key. More of the files may be changed, by their names."""
+    """Clerks by name with their roles, one of two ways in which they sign in, or none, and the office's key. More of the files may be changed, by their
+    names."""
 
-    def __init__(self, way: str, roles: Mapping[str, str], others: Iterable[str] = (), key: bytes = CLERK[1],
+    def __init__(self, way: str | None, roles: Mapping[str, str], others: Iterable[str] = (), key: bytes = CLERK[1],
                  faults: Mapping[str, Iterable[Change]] | None = None) -> None:
         self.way, self.roles, self.names, self.key, self.faults = way, roles, [*roles, *others], key.decode(), faults or {}
         self.passwords = {name: secrets.token_urlsafe(15) for name in self.names}
@@ -58,6 +64,8 @@ class Signing:
         self.write("clerks-key.conf", f'set $office_key "{self.key}";\n')
         names = "".join(f'    {name} "{roles}";\n' for name, roles in self.roles.items())
         self.copy("clerks.conf", [("    # cora all;\n", 1, names)])
+        if not self.way:
+            return
         places = [("/etc/procure/clerks-key.conf", 1, f"{folder}/clerks-key.conf"), ("/var/log/procure/clerks.log", 1, f"{folder}/clerks.log")]
         if self.way == "password":
             self.write("passwords", "".join(f"{name}:{bcrypt(password)}\n" for name, password in self.passwords.items()))
@@ -79,7 +87,7 @@ class Signing:
     def changes(self) -> list[Change]:
         """The changes of nginx.conf: the `#` before one line is taken out."""
         name = f"clerks-{self.way}.conf"
-        return [(f"    # include /etc/procure/{name};", 1, f"    include {self.folder}/{name};")]
+        return [(f"    # include /etc/procure/{name};", 1, f"    include {self.folder}/{name};")] if self.way else []
 
     def certify(self, name: str, by: str | None, subject: str = "") -> None:
         """Makes a key and a certificate, signed by another one's or by its own."""
@@ -95,9 +103,7 @@ class Signing:
 
     def fields(self, name: str) -> dict[str, str]:
         """The fields of the head by which a clerk signs in."""
-        if self.way != "password" or not name:
-            return {}
-        return {"Authorization": "Basic " + base64.b64encode(f"{name}:{self.passwords.get(name, 'wrong')}".encode()).decode()}
+        return {"Authorization": basic(name, self.passwords.get(name, "wrong"))} if self.way == "password" and name else {}
 
     def present_to(self, context: ssl.SSLContext, name: str) -> None:
         """Has connections of this context come with the clerk's certificate."""

@@ -64,8 +64,8 @@ class Front:
         for name, content in (("procure.conf", text), ("nginx.conf", MAIN.format(folder=folder) + ("user root;\n" if os.geteuid() == 0 else ""))):
             with open(os.path.join(folder, name), "w") as file:
                 file.write(content)
-        words = [need("nginx", "nginx"), "-p", folder, "-e", f"{folder}/errors.log", "-c", f"{folder}/nginx.conf"]
-        self.process = subprocess.Popen(words, stdin=subprocess.DEVNULL)
+        self.words = [need("nginx", "nginx"), "-p", folder, "-e", f"{folder}/errors.log", "-c", f"{folder}/nginx.conf"]
+        self.process = subprocess.Popen(self.words, stdin=subprocess.DEVNULL)
 
     def changes(self, office: int) -> list[Change]:
         """The changes of the file. (Not every machine has IPv6.)"""
@@ -89,6 +89,10 @@ class Front:
         # On a signal to end, nginx ends its workers; after a kill they would remain.
         self.process.terminate()
         self.process.wait()
+
+    def reload(self) -> None:
+        """nginx reads its files again."""
+        subprocess.run([*self.words, "-s", "reload"], check=True)
 
     def address(self, rest: str = "") -> str:
         return f"https://{HOST}:{self.port}/{rest}"
