@@ -1,10 +1,8 @@
 """The questions of tests/desks/test_portal.py to the front alone: its own answers, the requests that it lets through, and the clients that it makes wait."""
 import contextlib
-import hashlib
 import json
 import re
 import time
-from concurrent.futures import ThreadPoolExecutor
 from pathlib import Path
 
 from office_kit.common import CLERK, ROOT, check, exchange, request
@@ -103,20 +101,6 @@ def networks(scene: Scene) -> None:
             check(f"{method} {path} with a wrong key: {answer}, and from the office {told!r}", is_its and answer.head["WWW-Authenticate"])
 
 
-def many_tenderers(scene: Scene) -> None:
-    """Sixty tenderers of one address present tenders at once, each for two lots, and the office takes all."""
-    names = [f"M{number}" for number in range(60)]
-    for name in names:
-        body = json.dumps({"name": name, "address": "1 Park", "key": hashlib.sha256(key_of(name).encode()).hexdigest()}).encode()
-        check(f"{name} is registered", scene.front.ask("POST", f"/tenderers/{name}", body, CLERK).status == 200)
-
-    def present(name: str, lot: str) -> Answer:
-        return scene.front.ask("POST", f"/notices/N3/lots/{lot}/tenders", b"An offer", (name.encode(), key_of(name).encode()))
-    with ThreadPoolExecutor(60) as pool:
-        answers = list(pool.map(present, names * 2, ["L1"] * 60 + ["L2"] * 60))
-    check(f"all are taken: {[it for it in answers if it.status != 200][:3]}", all(it.status == 200 for it in answers))
-
-
 def slow_clients(scene: Scene) -> None:
     """If a client sends half a head or half a body, and then nothing, it waits alone."""
     half_body = b"POST /tenderers/T7 HTTP/1.1\r\nHost: office\r\nContent-Length: 1000\r\n\r\n" + b" " * 500
@@ -146,4 +130,4 @@ def names_and_keys(scene: Scene) -> None:
         check(f"{name} has a key or a security", not any(secret in log for secret in (SECURITY, key_of("T1"), "Office-Key")))
 
 
-CHECKS = [headers, sizes, odd_paths, networks, slow_clients, many_tenderers, names_and_keys]
+CHECKS = [headers, sizes, odd_paths, networks, slow_clients, names_and_keys]

@@ -1,14 +1,15 @@
 """A front for tests. It answers with the files of a folder. Sometimes it answers that it is asked too often, or that it can't answer."""
 import email.utils
-import os
 import re
 import threading
 import time
+from pathlib import Path
 
 from office_kit.front.office import Request, StandIn, Told
 
 # The answers that only an opened notice has.
 OF_OPENED = ("minutes", "evaluation")
+LISTS = {"/ledger": "ledger.txt", "/notices": "notices.json"}
 NOT_THERE = {404: b'{"name":"NoSuch","refusal":9,"what":"notice"}', 409: b'{"name":"NotOpened","refusal":22}'}
 
 
@@ -56,8 +57,8 @@ class Front(StandIn):
 
     def body(self, path: str) -> bytes | None:
         """The saved answer of a path, or None."""
-        if path in ("/ledger", "/notices"):
-            return self.read({"/ledger": "ledger.txt", "/notices": "notices.json"}[path])
+        if path in LISTS:
+            return self.read(LISTS[path])
         if path.startswith("/notices?after="):
             return self.read(f"notices-{path.partition('=')[2]}.json")
         found = re.fullmatch(r"/notices/([0-9A-Za-z_.-]+)/(releases|record|minutes|terms|evaluation)", path)
@@ -68,8 +69,5 @@ class Front(StandIn):
         return data.replace(self.copied.encode(), found[1].encode()) if copy and data else data
 
     def read(self, name: str) -> bytes | None:
-        path = os.path.join(self.folder, name)
-        if not os.path.exists(path):
-            return None
-        with open(path, "rb") as file:
-            return file.read()
+        path = Path(self.folder, name)
+        return path.read_bytes() if path.exists() else None

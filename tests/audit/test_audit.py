@@ -202,17 +202,14 @@ def each(names, faults):
     (2, "office.db --answers ."),
     (2, "--base http://127.0.0.1:{port} --notice N1"),
     (2, ""),
+    (0, "served.db --base {base}"),
+    (0, "served.db --base {base} --key clerk.key"),
+    (0, "--base {base} --complete"),
+    (0, "--base {base} --notice N1 --notice N4"),
 ])
-def test_ends(made, status, words):
-    got, said = made.audit(*words.format(opened=made.opened, port=free_port()).split())
+def test_ends(made, base, status, words):
+    got, said = made.audit(*words.format(opened=made.opened, port=free_port(), base=base).split())
     assert got == status, said
-
-
-@pytest.mark.parametrize("words", ["served.db --base {base}", "served.db --base {base} --key clerk.key", "--base {base} --complete",
-                                   "--base {base} --notice N1 --notice N4"])
-def test_served(made, base, words):
-    status, said = made.audit(*words.format(base=base).split())
-    assert status == 0, said
 
 
 def test_who_gave_each_command(made, tmp_path):

@@ -3,12 +3,11 @@
 The mirror makes tables, pages, feeds, a sitemap, a dictionary of columns, ledgers of days and a chain of digests. It finds releases that changed or are gone,
 and leaves its copy whole if it is killed or the office is in trouble. Some lines of the tool are made wrong, one at a time: the test beside each must fail.
 """
-import collections
 import contextlib
 import csv
 import gzip
 import hashlib
-import html.parser
+import html
 import json
 import os
 import re
@@ -16,9 +15,9 @@ import shutil
 import subprocess
 import sys
 import time
-import xml.etree.ElementTree
 import zipfile
 from pathlib import Path
+from xml.etree import ElementTree
 
 import pytest
 
@@ -146,7 +145,7 @@ class Copy:
 
     def places(self, name):
         """The addresses in a sitemap."""
-        return [it.text for it in xml.etree.ElementTree.fromstring(self.text(name)).iter(f"{MAP}loc")]
+        return [it.text for it in ElementTree.fromstring(self.text(name)).iter(f"{MAP}loc")]
 
     def rows(self, name):
         return list(csv.DictReader(self.text(f"{name}.csv").splitlines(True)))
@@ -222,49 +221,31 @@ def test_tables(copy):
     assert len(compiled) == 6 and sorted(compiled) == compiled
 
 
-class Page(html.parser.HTMLParser):
-    """A page of HTML, which must be well formed: each element that isn't empty by nature ends, in order. Its links, metas, ids and texts by element."""
-
-    EMPTY = {"meta", "link", "br"}
+class Page:
+    """A page of HTML. It is well formed if it can be read as XML, in which elements that are empty by nature end, and the text of a script is quoted."""
 
     def __init__(self, text):
-        super().__init__()
-        self.open, self.links, self.metas, self.texts, self.wrong = [], [], {}, collections.defaultdict(str), []
-        self.feed(text)
-        self.close()
-        self.wrong += self.open
+        ended = re.sub(r"<(meta|link|br)([^>]*)>", r"<\1\2/>", text)
+        self.tree = ElementTree.fromstring(re.sub(r"(<script[^>]*>)(.*?)(</script>)", r"\1<![CDATA[\2]]>\3", ended, flags=re.S))
+        self.links = [it.get(name) for it in self.tree.iter() for name in ("href", "src") if name in it.attrib]
+        self.metas = {it.get("name") or it.get("property"): it.get("content") for it in self.tree.iter("meta")}
 
-    def handle_starttag(self, tag, attributes):
-        told = dict(attributes)
-        self.links += [told[name] for name in ("href", "src") if name in told]
-        if tag == "meta" and ("name" in told or "property" in told):
-            self.metas[told.get("name") or told["property"]] = told["content"]
-        if len(told) < len(attributes):
-            self.wrong.append(f"an attribute twice in {tag}")
-        if tag not in self.EMPTY:
-            self.open.append(tag)
-
-    def handle_endtag(self, tag):
-        if not self.open or self.open.pop() != tag:
-            self.wrong.append(f"/{tag}")
-
-    def handle_data(self, data):
-        for tag in self.open:
-            self.texts[tag] += data
+    def text(self, tag):
+        """The text in all elements of a kind."""
+        return "".join(part for it in self.tree.iter(tag) for part in it.itertext())
 
 
 def is_page(copy, name):
     """Checks the page of a notice: its title, metas, structured data, items, releases and links."""
     tag, notice = name.removesuffix(".html").split("/")
     page, terms = Page(copy.text(name)), copy.value(f"terms/{notice}.json")
-    assert not page.wrong
-    assert page.texts["h1"] == terms["title"] and terms["title"] in page.texts["title"]
+    assert page.text("h1") == terms["title"] and terms["title"] in page.text("title")
     assert {"description", "og:title", "og:description", "og:url", "og:type", "og:site_name", "og:locale", "twitter:card"} <= set(page.metas)
     assert page.metas["og:url"] == f"{READERS}/data/{name}"
-    seeks = json.loads(page.texts["script"])["seeks"]
+    seeks = json.loads(page.text("script"))["seeks"]
     assert (seeks["name"], seeks["validThrough"]) == (terms["title"], terms["deadline"])
     items = [item["title"] for lot in terms["lots"] for item in lot["items"]]
-    assert [it["name"] for it in seeks["itemOffered"]] == items and all(it in page.texts["table"] for it in items)
+    assert [it["name"] for it in seeks["itemOffered"]] == items and all(it in page.text("table") for it in items)
     assert copy.text(name).count("<li><b>") == len(copy.value(f"records/{notice}.json")["records"][0]["releases"])
     assert [it for it in page.links if it.startswith("../") and not (copy.folder / tag / it).exists()] == [], "links to nothing"
     assert (f"../minutes/{notice}.txt" in page.links) == (copy.folder / "minutes" / f"{notice}.txt").exists()
@@ -273,20 +254,20 @@ def is_page(copy, name):
 def test_pages(copy):
     copy.run_later("--base", READERS)
     assert sorted(copy.places("sitemap.xml")) == sorted(f"{READERS}/data/{page}" for page in PAGES)
-    listed = xml.etree.ElementTree.fromstring(copy.text("sitemap.xml"))
+    listed = ElementTree.fromstring(copy.text("sitemap.xml"))
     assert all({it.get("hreflang") for it in one.iter(LINK)} == set(LANGUAGES) for one in listed), "each address has its languages"
     assert f"Sitemap: {READERS}/data/sitemap.xml\n" in copy.text("robots.txt")
     for name in PAGES:
         is_page(copy, name)
     index = Page(copy.text("index.html"))
     rows = re.findall(r'<tr><td><a href="en/(N[0-9])', copy.text("index.html"))
-    assert sorted(rows) == NAMES and rows[0] == "N3" and "Paving, square metres" in index.texts["tbody"]
-    assert not index.wrong and json.loads(index.texts["script"])["@type"] == "Dataset"
+    assert sorted(rows) == NAMES and rows[0] == "N3" and "Paving, square metres" in index.text("tbody")
+    assert json.loads(index.text("script"))["@type"] == "Dataset"
     assert [it for it in index.links if not it.startswith(("/", "http")) and not (copy.folder / it).exists()] == [], "links to nothing"
     assert "@media print" in copy.text("notices.css")
-    german = Page(copy.text("de/N1.html")).texts["ol"]
+    german = Page(copy.text("de/N1.html")).text("ol")
     assert "Vertrag 1: Erhöht um 12.000 EUR, auf 482.000 EUR. Grund: „Kerbs at the <b>bus stop</b>“" in german
-    assert "Abgelaufen" not in german and "Open for tenders" in Page(copy.text("en/N3.html")).texts["dl"], "a state by the time"
+    assert "Abgelaufen" not in german and "Open for tenders" in Page(copy.text("en/N3.html")).text("dl"), "a state by the time"
 
 
 def told_of(entry, part):
@@ -295,7 +276,7 @@ def told_of(entry, part):
 
 def entries(copy, name):
     """The entries of a feed that RFC 4287 accepts: the elements of each, once, and each identifier once in it."""
-    feed = xml.etree.ElementTree.fromstring(copy.text(name))
+    feed = ElementTree.fromstring(copy.text(name))
     found = feed.findall(f"{ATOM}entry")
     for one in (feed, *found):
         for part in ("id", "title", "updated"):
@@ -313,7 +294,7 @@ def test_waiting(copy):
     """A notice whose deadline has passed doesn't take tenders any more, on its page and in its feed."""
     copy.run(0)
     for name in ("N1", "N2"):
-        assert "Deadline passed, not opened yet" in Page(copy.text(f"en/{name}.html")).texts["dl"]
+        assert "Deadline passed, not opened yet" in Page(copy.text(f"en/{name}.html")).text("dl")
     said = [told_of(it, "summary") for it in entries(copy, "en/notices.atom")]
     passed = [it for it in said if it.startswith("Deadline passed, not opened yet.")]
     assert len(passed) == 4 and not any("takes tenders" in it for it in passed), said
@@ -622,5 +603,5 @@ def test_planted_fault(days, tmp_path, path, old, new, name):
     assert text.count(old) == 1
     wrong.write_text(text.replace(old, new), encoding="utf-8")
     with copying(days, str(tmp_path / "wrong" / "tools" / "mirror"), tmp_path / "room") as copy:
-        with pytest.raises((AssertionError, OSError, ValueError, LookupError, subprocess.TimeoutExpired)):
+        with pytest.raises((AssertionError, OSError, ValueError, LookupError, SyntaxError, subprocess.TimeoutExpired)):
             globals()[f"test_{name}"](copy)
