@@ -54,12 +54,10 @@ def certify(place: str, subject: str, by: str | None = None, *more: str) -> None
 
 
 class Signing:
-    """Clerks by name with their roles, one of two ways in which they sign in, or none, and the office's key. More of the files may be changed, by their
-    names."""
+    """Clerks by name with their roles, and one of two ways in which they sign in, or none. More of the files may be changed, by their names."""
 
-    def __init__(self, way: str | None, roles: Mapping[str, str], others: Iterable[str] = (), key: bytes = CLERK[1],
-                 faults: Mapping[str, Iterable[Change]] | None = None) -> None:
-        self.way, self.roles, self.names, self.key, self.faults = way, roles, [*roles, *others], key.decode(), faults or {}
+    def __init__(self, way: str | None, roles: Mapping[str, str], others: Iterable[str] = (), faults: Mapping[str, Iterable[Change]] | None = None) -> None:
+        self.way, self.roles, self.names, self.key, self.faults = way, roles, [*roles, *others], CLERK[1].decode(), faults or {}
         self.passwords = {name: secrets.token_urlsafe(15) for name in self.names}
         self.folder = ""
 

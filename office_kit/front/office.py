@@ -1,10 +1,10 @@
-"""Servers in place of an office, for tests: each answers in its own way. One takes requests as the office does, and keeps them for tests of the front."""
+"""Servers in place of an office, for tests: each answers in its own way. One keeps the requests that reach it, for tests of the front."""
 import http.server
 import json
 import threading
 import time
 from collections.abc import Mapping
-from typing import NamedTuple, Self
+from typing import NamedTuple
 
 from office_kit.common import HOST
 
@@ -23,53 +23,46 @@ class Request(NamedTuple):
     body: bytes
 
 
-class StandIn:
-    """A server at a port of its own, until the end of its `with`. Its answers are JSON, unless their fields say something else."""
+class Handler(http.server.BaseHTTPRequestHandler):
+    """A request, which the server answers."""
 
-    kind: type[http.server.HTTPServer] = http.server.ThreadingHTTPServer
+    server: "StandIn"
+
+    def do_GET(self) -> None:
+        body = self.rfile.read(int(self.headers.get("Content-Length", 0)))
+        status, told, fields = self.server.answer(Request(self.command, self.path, dict(self.headers.items()), body))
+        self.send_response(status)
+        for name, value in {"Content-Type": "application/json", "Content-Length": str(len(told)), **fields}.items():
+            self.send_header(name, value)
+        self.end_headers()
+        self.wfile.write(told)
+
+    do_HEAD = do_OPTIONS = do_POST = do_GET
+
+    def log_message(self, *_: object) -> None:
+        pass
+
+
+class StandIn(http.server.HTTPServer):
+    """A server at a port of its own, which takes requests one after another until the end of its `with`. Its answers are JSON, unless their fields say
+    something else."""
 
     def __init__(self) -> None:
-        answer = self.answer
-
-        class Handler(http.server.BaseHTTPRequestHandler):
-            def do_GET(self) -> None:
-                body = self.rfile.read(int(self.headers.get("Content-Length", 0)))
-                status, told, fields = answer(Request(self.command, self.path, dict(self.headers.items()), body))
-                self.send_response(status)
-                for name, value in {"Content-Type": "application/json", "Content-Length": str(len(told)), **fields}.items():
-                    self.send_header(name, value)
-                self.end_headers()
-                self.wfile.write(told)
-
-            do_HEAD = do_OPTIONS = do_POST = do_GET
-
-            def log_message(self, *_: object) -> None:
-                pass
-        self.server = self.kind((HOST, 0), Handler)
-        self.server.socket.listen(128)
-        self.port = self.server.server_port
-        self.address = f"http://{HOST}:{self.port}"
-        threading.Thread(target=self.server.serve_forever, args=(0.05,), daemon=True).start()
-
-    def __enter__(self) -> Self:
-        return self
-
-    def __exit__(self, *_: object) -> None:
-        self.end()
+        super().__init__((HOST, 0), Handler)
+        self.socket.listen(128)
+        self.port, self.address = self.server_port, f"http://{HOST}:{self.server_port}"
+        threading.Thread(target=self.serve_forever, args=(0.05,), daemon=True).start()
 
     def answer(self, request: Request) -> Told:
         raise NotImplementedError
 
-    def end(self) -> None:
-        self.server.shutdown()
-        self.server.server_close()
+    def server_close(self) -> None:
+        self.shutdown()
+        super().server_close()
 
 
 class Office(StandIn):
-    """It takes connections one after another, like the office, and keeps the requests. It answers a wrong key with 401, and all else with 200. While `held` is
-    cleared it answers nobody; before each answer it waits."""
-
-    kind = http.server.HTTPServer
+    """It keeps the requests. It answers a wrong key with 401, and all else with 200. While `held` is cleared it answers nobody; before each answer it waits."""
 
     def __init__(self) -> None:
         self.came: list[Request] = []
@@ -87,6 +80,6 @@ class Office(StandIn):
             return 200, LEDGER, {"Content-Type": "text/plain; charset=utf-8"}
         return 200, json.dumps({"text": "x" * 2000}).encode(), {}
 
-    def end(self) -> None:
+    def server_close(self) -> None:
         self.held.set()
-        super().end()
+        super().server_close()

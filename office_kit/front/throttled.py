@@ -1,7 +1,6 @@
 """A front for tests. It answers with the files of a folder. Sometimes it answers that it is asked too often, or that it can't answer."""
 import email.utils
 import re
-import threading
 import time
 from pathlib import Path
 
@@ -22,25 +21,24 @@ class Front(StandIn):
                  old: tuple[int, ...] = ()) -> None:
         self.old, self.ledgers = list(old), 0
         self.folder, self.copied, self.burst, self.wait, self.failing, self.lacking = folder, copied, burst, wait, failing, lacking
-        self.left, self.until, self.refused, self.hasty, self.lock = burst, 0.0, 0, 0, threading.Lock()
+        self.left, self.until, self.refused, self.hasty = burst, 0.0, 0, 0
         super().__init__()
 
     def turn(self) -> tuple[int, str] | None:
         """The status of a refusal and its `Retry-After`, or None."""
         now = time.monotonic()
-        with self.lock:
-            if self.failing > 0:
-                self.failing -= 1
-                return 503, "0"
-            if now < self.until:
-                self.hasty += 1
-                return 429, str(self.wait)
-            if self.left == 0:
-                # (A client that waits as long as `Retry-After` says comes after this moment.)
-                self.left, self.until, self.refused = self.burst, now + self.wait, self.refused + 1
-                return 429, str(self.wait)
-            self.left -= 1
-            return None
+        if self.failing > 0:
+            self.failing -= 1
+            return 503, "0"
+        if now < self.until:
+            self.hasty += 1
+            return 429, str(self.wait)
+        if self.left == 0:
+            # (A client that waits as long as `Retry-After` says comes after this moment.)
+            self.left, self.until, self.refused = self.burst, now + self.wait, self.refused + 1
+            return 429, str(self.wait)
+        self.left -= 1
+        return None
 
     def answer(self, request: Request) -> Told:
         if refused := self.turn():

@@ -36,6 +36,7 @@ AUDIT = os.path.join(ROOT, "tools", "audit")
 TOOL = importlib.util.module_from_spec(importlib.util.spec_from_loader("tool", importlib.machinery.SourceFileLoader("tool", AUDIT)))
 TOOL.__spec__.loader.exec_module(TOOL)
 NOTICES = [f"N{number}" for number in range(1, 9)]
+OPENED = [notice for notice in NOTICES if notice not in ("N3", "N5")]
 # The arguments by which an audit gets a witness.
 WITNESSES = {PUBLIC: ["--earlier", "answers"], HELD: ["--earlier", "held"], COPY: ["--earlier", "whole.db"], LOG: ["--front-log", "front.log"]}
 
@@ -63,15 +64,19 @@ class Made:
         self.put_in_pages()
         self.put_further()
 
+    def save(self, name, answers):
+        """Saves answers in a folder."""
+        (self.folder / name).mkdir()
+        for file, answer in answers.items():
+            (self.folder / name / file).write_bytes(answer.body)
+
     def save_answers(self, name, *kinds):
         """Saves the public answers."""
-        (folder := self.folder / name).mkdir()
-        (folder / "ledger.txt").write_bytes(self.life.ledger().body)
-        (folder / "notices.json").write_bytes(self.life.notices().body)
-        for notice in NOTICES:
-            for kind in kinds:
-                if kind not in OF_OPENED or notice not in ("N3", "N5"):
-                    (folder / f"{kind}-{notice}{audit_answers.OF_NOTICES[kind]}").write_bytes(getattr(self.life, kind)(notice).body)
+        answers = {"ledger.txt": self.life.ledger(), "notices.json": self.life.notices()}
+        for kind in kinds:
+            for notice in OPENED if kind in OF_OPENED else NOTICES:
+                answers[f"{kind}-{notice}{audit_answers.OF_NOTICES[kind]}"] = getattr(self.life, kind)(notice)
+        self.save(name, answers)
 
     def save_held(self):
         """Saves each receipt, register, security and contract, and the evaluation of a notice with an undecided lot, as the clerk is shown it."""
@@ -84,10 +89,7 @@ class Made:
         for contract in (life.contract, life.running, life.broken):
             held[f"performance-{contract}.json"] = life.performance_security("clerk", contract)
             held[f"contract-{contract}.json"] = life.contract_seen("clerk", contract)
-        held["evaluation-N6.txt"] = life.evaluation("N6", "clerk")
-        (self.folder / "held").mkdir()
-        for name, answer in held.items():
-            (self.folder / "held" / name).write_bytes(answer.body)
+        self.save("held", {**held, "evaluation-N6.txt": life.evaluation("N6", "clerk")})
 
     def put_in_pages(self, rows=3):
         """A copy of the answers in which the list of notices has so many on a page."""
@@ -222,10 +224,17 @@ def test_who_gave_each_command(made, tmp_path):
 
 # ---- Faults.
 
-@each("fault", FAULTS_OF_FILES)
+# Faults of the file that only a witness shows, which the last words name: a lost notice, and a tender withdrawn after the deadline.
+FAULTS_BESIDE = [
+    ("saved_notices_are_there", "notices N7", without("N7"), "--answers", "answers"),
+    ("tenders_stay_from_the_deadline_on", "envelopes {quoted}", "UPDATE envelopes SET state = 'withdrawn' WHERE receipt = {quoted}", "--earlier", "behind.db"),
+]
+
+
+@each("fault", FAULTS_OF_FILES + FAULTS_BESIDE)
 def test_fault_of_the_file(made, tmp_path, fault):
-    rule, row, script = filled(fault, made.life)
-    assert (rule, row) in made.found(made.changed(tmp_path / "fault.db", script))
+    rule, row, script, *words = filled(fault, made.life)
+    assert (rule, row) in made.found(made.changed(tmp_path / "fault.db", script), *words)
 
 
 @each("rule, row, names, change", FAULTS_OF_ANSWERS)
@@ -262,17 +271,6 @@ def test_fault_of_a_contract(made, tmp_path, contract, member, value):
     assert ("contracts_are_of_the_rows", f"contracts {number}") in made.found("whole.db", "--answers", held)
     if contract == "broken":
         assert ("contracts_are_as_shown", f"contracts {number}") in made.found("whole.db", "--earlier", held)
-
-
-def test_a_lost_notice(made, tmp_path):
-    found = made.found(made.changed(tmp_path / "lacking.db", without("N7")), "--answers", "answers")
-    assert ("saved_notices_are_there", "notices N7") in found
-
-
-def test_a_tender_withdrawn_after_the_deadline(made, tmp_path):
-    quoted = made.life.receipt["quoted"]
-    withdrawn = made.changed(tmp_path / "withdrawn.db", f"UPDATE envelopes SET state = 'withdrawn' WHERE receipt = {quoted}")
-    assert ("tenders_stay_from_the_deadline_on", f"envelopes {quoted}") in made.found(withdrawn, "--earlier", "behind.db")
 
 
 def test_an_earlier_record(made, tmp_path):
@@ -377,22 +375,19 @@ def test_retry_after(text, due):
     assert audit_answers.seconds_of(text, 2, lambda: 60) == due
 
 
-def saves_all(block, answers, place):
-    """Whether the block saves everything, although the front lets only nine requests through a second."""
-    with Front(str(answers), burst=9) as front:
-        run = subprocess.run(["bash", "-ec", block], cwd=place, env={**os.environ, "office": front.address}, capture_output=True, text=True)
-    names, saved = os.listdir(answers), place / "answers"
-    same = sorted(os.listdir(saved)) == sorted([*names, "ledger-before.txt"]) and filecmp.cmpfiles(saved, answers, names, False)[1:] == ([], [])
-    return run.returncode == 0 and same and front.refused > 0 and front.hasty == 0
-
-
 @pytest.mark.needs("curl")
 @pytest.mark.parametrize("waits", [True, False], ids=["waits", "hastens"])
 def test_saving_loop(made, tmp_path, waits):
-    """The block of docs/AUDITOR.md that saves an office's answers asks for page after page, and again if it is refused. One that doesn't wait is seen."""
+    """The block of docs/AUDITOR.md that saves an office's answers asks for page after page, and again if it is refused. One that doesn't wait is seen. (The
+    front lets only nine requests through a second.)"""
     blocks = re.findall(r"```sh run\n(.*?)```", Path(ROOT, "docs", "AUDITOR.md").read_text(encoding="utf-8"), re.DOTALL)
     (block,) = [block for block in blocks if "\nsave() {\n" in block]
-    assert saves_all(block if waits else re.sub(" --retry[a-z-]* [0-9]+", "", block), made.folder / "paged", tmp_path) == waits
+    words, answers = ["bash", "-ec", block if waits else re.sub(" --retry[a-z-]* [0-9]+", "", block)], made.folder / "paged"
+    with Front(str(answers), burst=9) as front:
+        run = subprocess.run(words, cwd=tmp_path, env={**os.environ, "office": front.address}, capture_output=True)
+    names, saved = os.listdir(answers), tmp_path / "answers"
+    same = sorted(os.listdir(saved)) == sorted([*names, "ledger-before.txt"]) and filecmp.cmpfiles(saved, answers, names, False)[1:] == ([], [])
+    assert (run.returncode == 0 and same and front.refused > 0 and front.hasty == 0) == waits
 
 
 # ---- The tool where a release puts it.

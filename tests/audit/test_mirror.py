@@ -350,13 +350,6 @@ LICENCE = '{"licence": {"name": "CC-BY-4.0", "title": "Creative Commons <BY> 4.0
 FORMS = {"integer": r"-?[0-9]*", "datetime": r"([0-9]{4}-[0-9]{2}-[0-9]{2}T[0-9:]{8}Z)?", "string": r"(?s).*"}
 
 
-def lists_files(copy):
-    """The index parts the tables, which are for people, from the files for programs."""
-    people, programs = copy.text("index.html").split("<h2>Tables</h2>")[1].split("<h2>Files for programs</h2>")
-    listed = [re.findall(r'<tr><td><a href="([^"]+)"', part) for part in (people, programs)]
-    assert listed == [[f"{it}.csv" for it in TABLES], ["releases.jsonl", "compiled.jsonl", "datapackage.json", "ledger.txt", "chain.txt"]]
-
-
 def is_described(copy, name, schema):
     """The cells of a table have the forms of their columns, its keys come once, and the rows that it refers to exist."""
     rows, kinds = copy.rows(name), {it["name"]: it["type"] for it in schema["fields"]}
@@ -380,7 +373,10 @@ def test_dictionary(copy):
         for it in fields:
             assert it["description"].endswith(".")
             assert f"<code>{it['name']}</code></dt><dd>{html.escape(it['description'])}</dd>" in copy.text("index.html"), "people read it"
-    lists_files(copy)
+    # The index parts the tables, which are for people, from the files for programs.
+    people, programs = copy.text("index.html").split("<h2>Tables</h2>")[1].split("<h2>Files for programs</h2>")
+    listed = [re.findall(r'<tr><td><a href="([^"]+)"', part) for part in (people, programs)]
+    assert listed == [[f"{it}.csv" for it in TABLES], [*LINES, "datapackage.json", "ledger.txt", "chain.txt"]]
     city = copy.room / "city.json"
     city.write_text(LICENCE)
     copy.run_later("--city", city)

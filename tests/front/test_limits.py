@@ -56,11 +56,6 @@ def paths_at(office):
     return [it.path for it in office.came]
 
 
-def keys_at(office):
-    """For each request that reached the office, whether it had a key."""
-    return ["Office-Key" in it.head for it in office.came]
-
-
 def queued(office):
     """How many connections wait in the queue of the office's socket, or are served."""
     with open("/proc/net/tcp") as table:
@@ -189,7 +184,7 @@ def as_the_clerk(front, office):
             office.came.clear()
             for who, source in asked:
                 assert front.ask("GET", path, caller=who, source=source).status == 200, (path, who, source)
-            assert keys_at(office) == keys, path
+            assert ["Office-Key" in it.head for it in office.came] == keys, path
 
 
 def heads(front, office):
@@ -224,7 +219,7 @@ def no_office(front, office):
     """The front's own answers at locations with keys are JSON."""
     answer = front.ask("POST", "/budget/B1", b"x", caller("clerk"), OUTSIDE)
     assert answer.status == 403 and b"clerks' networks" in answer.body
-    office.end()
+    office.server_close()
     for path in (TENDERS, "/budget/B1", "/health"):
         answer = front.ask("POST", path, b"x", caller("T1"))
         assert answer.status == 502 and b"the office didn't answer" in answer.body, path
@@ -306,9 +301,8 @@ def two_at_a_time(front, office):
     office.held.set()
     assert ended(dear)
     office.pause = 0.02
-    with ThreadPoolExecutor(16) as pool:
-        statuses = pool.map(lambda number: front.ask("GET", f"/lines/{number}", source=f"127.0.3.{number}").status, range(1, 17))
-    assert list(statuses) == [200] * 16
+    asked = [Asking(front, "GET", f"/lines/{number}", source=f"127.0.3.{number}") for number in range(1, 17)]
+    assert ended(asked) and count(asked, 200) == 16
 
 
 def one_ledger(front, office):
