@@ -28,11 +28,7 @@ events {{ worker_connections 4096; }}
 http {{
     include /etc/nginx/mime.types;
     access_log off;
-    client_body_temp_path {folder}/body;
-    proxy_temp_path {folder}/proxy;
-    fastcgi_temp_path {folder}/fastcgi;
-    uwsgi_temp_path {folder}/uwsgi;
-    scgi_temp_path {folder}/scgi;
+    {places}
     include {folder}/procure.conf;
 }}
 """
@@ -60,7 +56,8 @@ class Front:
             signing.put(folder)
         ways = signing.changes() if signing else []
         Path(folder, "procure.conf").write_text(adapted("nginx.conf", more, ways, self.changes(office)), encoding="utf-8")
-        Path(folder, "nginx.conf").write_text(MAIN.format(folder=folder) + ("user root;\n" if os.geteuid() == 0 else ""))
+        places = " ".join(f"{kind}_temp_path {folder}/{kind};" for kind in ("client_body", "proxy", "fastcgi", "uwsgi", "scgi"))
+        Path(folder, "nginx.conf").write_text(MAIN.format(folder=folder, places=places) + ("user root;\n" if os.geteuid() == 0 else ""))
         self.words = [need("nginx", "nginx"), "-p", folder, "-e", f"{folder}/errors.log", "-c", f"{folder}/nginx.conf"]
         self.process = subprocess.Popen(self.words, stdin=subprocess.DEVNULL)
 

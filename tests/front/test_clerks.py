@@ -25,7 +25,6 @@ from office_kit.front.nginx import OUTSIDE, Front, exchange
 from office_kit.front.office import Office
 from office_kit.store.life import AuditedLife
 from office_kit.store.planted_lines import NAMES as NAMED
-from office_kit.store.served import Serving
 
 pytestmark = [pytest.mark.needs("nginx", "openssl", "curl"), pytest.mark.nginx, pytest.mark.budget(120)]
 MAIN, NAMES = "nginx.conf", "clerks.conf"
@@ -304,16 +303,14 @@ class ByName(client.Front):
 
 
 @pytest.mark.parametrize("way", WAYS)
-def test_audit(program, tmp_path, way):
+def test_audit(office, tmp_path, way):
     """Of 55 accepted and two refused commands each has a line, and `tools/audit --front-log` finds nothing in the office."""
-    with Serving(program, str(tmp_path)) as serve:
-        office = serve()
-        with Front(str(tmp_path), office.port, (), Signing(way, {name: roles for name, roles, _ in NAMED})) as front:
-            life = AuditedLife(ByName(front))
-            life.before_the_deadline()
-            life.after_the_deadline()
-            assert front.ask("POST", "/notices/N6/cancel", b"{}", name="dora", **AS_CLERK).status == 403
-            assert front.ask(*COMMAND, client.budget("1,add,1,x").encode(), name="bert", **AS_CLERK).status == 409
-            assert len(lines_of_log(log_of(front), 57)) == 57
-        run = subprocess.run([os.path.join(ROOT, "tools", "audit"), office.path, "--front-log", log_of(front)], capture_output=True, text=True)
+    with Front(str(tmp_path), office.port, (), Signing(way, {name: roles for name, roles, _ in NAMED})) as front:
+        life = AuditedLife(ByName(front))
+        life.before_the_deadline()
+        life.after_the_deadline()
+        assert front.ask("POST", "/notices/N6/cancel", b"{}", name="dora", **AS_CLERK).status == 403
+        assert front.ask(*COMMAND, client.budget("1,add,1,x").encode(), name="bert", **AS_CLERK).status == 409
+        assert len(lines_of_log(log_of(front), 57)) == 57
+    run = subprocess.run([os.path.join(ROOT, "tools", "audit"), office.path, "--front-log", log_of(front)], capture_output=True, text=True)
     assert run.returncode == 0, run.stdout + run.stderr

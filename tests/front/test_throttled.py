@@ -16,7 +16,6 @@ from office_kit.client import Client, Port, lot, notice, tender, text_of
 from office_kit.common import HOST, free_port
 from office_kit.docs import documents
 from office_kit.front.office import StandIn
-from office_kit.store.served import Serving
 
 pytestmark = pytest.mark.needs("curl")
 FOREVER = 3600
@@ -80,11 +79,9 @@ class Trial:
         return self.digest in told and f'"receipt":{MINE}' in told
 
 
-@pytest.fixture(scope="module")
-def trial(program, tmp_path_factory):
-    folder = tmp_path_factory.mktemp("throttled")
-    with Serving(program, str(folder)) as serve:
-        yield Trial(serve(), folder)
+@pytest.fixture
+def trial(office, tmp_path):
+    return Trial(office, tmp_path)
 
 
 @pytest.mark.parametrize("least, first, how", [
