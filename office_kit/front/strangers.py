@@ -117,8 +117,8 @@ class Strangers:
                 self.counts["slow closed"] += 1
 
     def tasks_of(self, number: int, source: str) -> list[Coroutine[None, None, None]]:
-        """25 readers, who have as many connections as each may have requests in the front; 5 monitors; 5 who don't wait for answers; 5 who submit tenders under
-        names that they invent; and 10 slow clients."""
+        """25 are readers, each with as many connections as it may have requests in the front. 5 are monitors. 5 don't wait for answers. 5 submit tenders under
+        names that they invent. 10 are slow."""
         if number <= 25:
             return [self.asks("reader", source, queries(self.lines), 2 * PAUSE) for _ in range(10)]
         if number <= 30:
