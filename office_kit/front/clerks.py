@@ -61,8 +61,8 @@ class Signing:
         self.passwords = {name: secrets.token_urlsafe(15) for name in self.names}
         self.folder = ""
 
-    def put(self, folder: str) -> None:
-        """Writes the files into the folder of a front."""
+    def put(self, folder: str) -> list[Change]:
+        """Writes the files into the folder of a front. The changes of nginx.conf: the `#` before one line is taken out."""
         self.folder = folder
         self.write("clerks-key.conf", f'set $office_key "{self.key}";\n')
         names = "".join(f'    {name} "{roles}";\n' for name, roles in self.roles.items())
@@ -75,8 +75,11 @@ class Signing:
             self.certify("clerks", None)
             for name in self.names:
                 self.certify(name, "clerks")
-        if self.way:
-            self.copy(f"clerks-{self.way}.conf", places)
+        if not self.way:
+            return []
+        included = f"clerks-{self.way}.conf"
+        self.copy(included, places)
+        return [(f"    # include /etc/procure/{included};", 1, f"    include {folder}/{included};")]
 
     def write(self, name: str, text: str) -> None:
         Path(self.folder, name).write_text(text, encoding="utf-8")
@@ -84,11 +87,6 @@ class Signing:
     def copy(self, name: str, changes: Iterable[Change]) -> None:
         """A file of deploy/, changed."""
         self.write(name, adapted(name, self.faults.get(name, ()), changes))
-
-    def changes(self) -> list[Change]:
-        """The changes of nginx.conf: the `#` before one line is taken out."""
-        name = f"clerks-{self.way}.conf"
-        return [(f"    # include /etc/procure/{name};", 1, f"    include {self.folder}/{name};")] if self.way else []
 
     def certify(self, name: str, by: str | None, subject: str = "") -> None:
         """Makes a certificate of a name, signed by another name's or by its own key."""

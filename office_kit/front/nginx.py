@@ -52,9 +52,7 @@ class Front:
         self.certificate = f"{folder}/certificate.pem"
         certify(f"{folder}/certificate", "/CN=office", None, "-addext", f"subjectAltName=IP:{HOST}")
         self.context = ssl.create_default_context(cafile=self.certificate)
-        if signing:
-            signing.put(folder)
-        ways = signing.changes() if signing else []
+        ways = signing.put(folder) if signing else []
         Path(folder, "procure.conf").write_text(adapted("nginx.conf", more, ways, self.changes(office)), encoding="utf-8")
         places = " ".join(f"{kind}_temp_path {folder}/{kind};" for kind in ("client_body", "proxy", "fastcgi", "uwsgi", "scgi"))
         Path(folder, "nginx.conf").write_text(MAIN.format(folder=folder, places=places) + ("user root;\n" if os.geteuid() == 0 else ""))

@@ -3,15 +3,15 @@ strangers ask all that they may (office_kit/front/strangers.py), from four secon
 contracts.
 
 The offices' files (office_kit/store/large_office.py) are made once, and kept under build/large/; each run has a copy. The front keeps no answer yet when the
-strangers begin. So the office must read the whole ledger for the first of them. Half of the tenderers share two addresses, and all connect when they send. As
-root, the test gives the processor first to the office and the front, then to tenderers, then to strangers, as if each had a machine of its own.
+strangers begin. So the office must read the whole ledger for the first of them. All tenderers connect when they send. As root, the test gives the processor
+first to the office and the front, then to tenderers, then to strangers, as if each had a machine of its own.
 
 A tender is in time until the second of its deadline ends, and it may wait for one ledger. So that must take clearly less than a second (OPERATING.md says
 what to do in a larger office). Where 100,000 rows take longer, on a slower machine, the office has fewer.
 
 Each tender must be `sealed`, with status 200, within two seconds, or more on a slower machine. With the front as it was earlier, some tender to the office of
 many lines must be late or wait longer, else the test has shown nothing. (The other office remembers its few sums.) There /health is the ledger, queries have no
-ways of their own, answers are kept for a second. The test prints the waits of tenders, and how many answers of each status the strangers got.
+ways of their own, answers are kept for a second.
 """
 import collections
 import contextlib
