@@ -3,6 +3,7 @@ import contextlib
 import json
 import re
 import time
+import tomllib
 from pathlib import Path
 
 from office_kit.common import CLERK, ROOT, check, exchange, request
@@ -10,24 +11,8 @@ from office_kit.desks.page_office import SECURITY, key_of
 from office_kit.desks.scene import Scene
 from office_kit.front.nginx import OUTSIDE, PATIENCE, Answer, fields_of
 
-HEADERS = {"Strict-Transport-Security": "max-age=15768000", "X-Content-Type-Options": "nosniff", "Referrer-Policy": "no-referrer", "Set-Cookie": None,
-           "Cross-Origin-Opener-Policy": "same-origin", "Server": "nginx"}
-POLICY = ["default-src 'none'", "script-src 'self'", "style-src 'self'", "connect-src 'self'", "img-src 'self'", "base-uri 'none'", "form-action 'none'",
-          "frame-ancestors 'none'", "require-trusted-types-for 'script'", "trusted-types 'none'"]
-# The paths asked for, with the type of each, and whether it may be kept.
-KINDS = {"/": ("text/html", "no-cache"), "/page.css": ("text/css", "no-cache"), "/page.js": ("application/javascript", "no-cache"),
-         "/icon.svg": ("image/svg+xml", "no-cache"), "/ledger": ("text/plain; charset=utf-8", "no-store"),
-         "/notices/N9/record": ("application/json", "no-store"), "/notices": ("application/json", "no-store"),
-         "/notices/N9/terms": ("application/json", "no-store"), "/notices/N9/evaluation": ("application/json", "no-store"),
-         "/tender/": ("text/html", "no-cache"), "/tender/main.js": ("application/javascript", "no-cache"),
-         "/common/style.css": ("text/css", "no-cache"), "/clerk/": ("text/html", "no-cache"), "/clerk/desk.js": ("application/javascript", "no-cache"),
-         "/openapi.yaml": ("application/yaml", "no-cache"), "/nothing": ("application/json", "no-store")}
-FOR_ALL_SITES = ("/ledger", "/notices/N9/record", "/notices", "/notices/N9/terms", "/notices/N9/evaluation", "/openapi.yaml")
-# Ways to write a path that the office doesn't know, and that a location of the front might take for another.
-ODD_PATHS = ["/%6cedger", "//ledger", "/notices/N1%2frecord", "/notices/%4e1/record", "/notices/../ledger", "/notices/N1/../../ledger", "/./ledger",
-             "/notices/%2e%2e/ledger", "/lines/x/%2e%2e/%2e%2e/notices/N1/register", "/lines//1100", "/notices/N1/record/.", "/notices/N1//open"]
-NOWHERE = ["/ledger/", "/Ledger", "/index.html", "/nginx.conf", "/web", "/notices/", "/tenderers/", "/notices/N1/record/x", "/favicon.ico", "/.git/config",
-           "/page.css.map", "/common/", "/tender/index.html", "/tender/style.css", "/clerk/index.html", "/clerk/none.js"]
+# What the front must answer.
+DUE = tomllib.loads(Path(__file__).with_suffix(".toml").read_text(encoding="utf-8"))
 PLACES = {"notice": "N1", "lot": "L1", "line": "1100", "batch": "B1", "tenderer": "T1", "receipt": "1", "award": "1", "contract": "1", "security": "1"}
 MOST = 65_536
 
@@ -51,12 +36,11 @@ def routes() -> list[tuple[str, str, str]]:
 
 def headers(scene: Scene) -> None:
     """Each answer has the front's headers, no version and no cookie, and its own type. It says whether it may be kept."""
-    for path, (media, keeping) in KINDS.items():
+    for path, (media, keeping, policy) in DUE["kinds"].items():
         head = scene.front.ask("GET", path).head
-        policy = "cross-origin" if path in FOR_ALL_SITES else "same-origin"
-        for name, value in [*HEADERS.items(), ("Content-Type", media), ("Cache-Control", keeping), ("Cross-Origin-Resource-Policy", policy)]:
-            check(f"{path} has {name}: {head[name]}, and not {value}", head[name] == value)
-        check(f"{path} has Content-Security-Policy: {head['Content-Security-Policy']}", (head["Content-Security-Policy"] or "").split("; ") == POLICY)
+        due = {**DUE["headers"], "Set-Cookie": None, "Content-Type": media, "Cache-Control": keeping, "Cross-Origin-Resource-Policy": policy}
+        told = {name: head[name] for name in due}
+        check(f"{path} has {told}, and not {due}", told == due)
 
 
 def sizes(scene: Scene) -> None:
@@ -82,7 +66,7 @@ def sizes(scene: Scene) -> None:
 
 def odd_paths(scene: Scene) -> None:
     """A path that is written in another way than the office's gets only the front's own answer, and so does a path that is no route."""
-    for path in ODD_PATHS + NOWHERE:
+    for path in DUE["paths"]["odd"] + DUE["paths"]["nowhere"]:
         answer = scene.front.ask("GET", path, caller=CLERK)
         check(f"GET {path}: {answer}", is_own(answer, 404))
 

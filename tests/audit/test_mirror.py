@@ -128,7 +128,7 @@ class Copy:
         return ran.stdout + ran.stderr
 
     def run_later(self, *more):
-        """The first run is after the deadline."""
+        """Runs it after the deadline."""
         self.office.day = 1
         return self.run(0, *more)
 
