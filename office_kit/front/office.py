@@ -31,16 +31,12 @@ class Handler(http.server.BaseHTTPRequestHandler):
     def do_GET(self) -> None:
         body = self.rfile.read(int(self.headers.get("Content-Length", 0)))
         status, told, fields = self.server.answer(Request(self.command, self.path, dict(self.headers.items()), body))
-        self.send_response(status)
-        for name, value in {"Content-Type": "application/json", "Content-Length": str(len(told)), **fields}.items():
-            self.send_header(name, value)
-        self.end_headers()
-        self.wfile.write(told)
+        known = {"Date": self.date_time_string(), "Content-Type": "application/json", "Content-Length": str(len(told)), "Connection": "close"}
+        head = "".join(f"{name}: {value}\r\n" for name, value in {**known, **fields}.items())
+        # (In one go, as the office does.)
+        self.wfile.write(f"HTTP/1.1 {status} {self.responses[status][0]}\r\n{head}\r\n".encode() + told)
 
     do_HEAD = do_OPTIONS = do_POST = do_GET
-
-    def log_message(self, *_: object) -> None:
-        pass
 
 
 class StandIn(http.server.HTTPServer):

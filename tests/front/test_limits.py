@@ -212,7 +212,9 @@ def the_health(front, office):
     assert [(it.method, it.path) for it in office.came] == [("GET", "/notices?after=" + "z" * 32)] * 4
     assert not any(name in it.head for it in office.came for name in ("Office-Caller", "Office-Key"))
     with contextlib.closing(front.connection()) as connection:
-        assert 429 in [exchange(connection, "GET", "/health").status for _ in range(200)]
+        statuses = [exchange(connection, "GET", "/health").status for _ in range(200)]
+    # (Some find the place of the way still taken.)
+    assert statuses.count(429) > 50
 
 
 def no_office(front, office):
