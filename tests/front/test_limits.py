@@ -213,7 +213,7 @@ def the_health(front, office):
     assert not any(name in it.head for it in office.came for name in ("Office-Caller", "Office-Key"))
     with contextlib.closing(front.connection()) as connection:
         statuses = [exchange(connection, "GET", "/health").status for _ in range(200)]
-    # (Some find the place of the way still taken.)
+    # (Without the limit a few find the place of the way still taken.)
     assert statuses.count(429) > 50
 
 
