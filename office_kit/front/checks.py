@@ -11,7 +11,7 @@ from office_kit.desks.page_office import SECURITY, key_of
 from office_kit.desks.scene import Scene
 from office_kit.front.nginx import OUTSIDE, PATIENCE, Answer, fields_of
 
-# What the front must answer.
+# The answers that the front must give.
 DUE = tomllib.loads(Path(__file__).with_suffix(".toml").read_text(encoding="utf-8"))
 PLACES = {"notice": "N1", "lot": "L1", "line": "1100", "batch": "B1", "tenderer": "T1", "receipt": "1", "award": "1", "contract": "1", "security": "1"}
 MOST = 65_536
