@@ -9,6 +9,7 @@ import ssl
 import subprocess
 import time
 from collections.abc import Iterable, Mapping
+from pathlib import Path
 from typing import Any
 
 from office_kit.common import CLERK, ROOT, fail, need
@@ -20,18 +21,19 @@ WAYS = ("password", "certificate")
 COST = 5
 
 
-def adapted(name: str, text: str, changes: Iterable[Change]) -> str:
-    """The text of a file of deploy/ with each old part replaced by a new one; it must occur as often as is given."""
-    for old, count, new in changes:
+def adapted(name: str, *changes: Iterable[Change]) -> str:
+    """The text of a file of deploy/ with each old part replaced by a new one, in turn; it must occur as often as is given."""
+    text = Path(ROOT, "deploy", name).read_text(encoding="utf-8")
+    for old, count, new in (change for part in changes for change in part):
         if text.count(old) != count:
             fail(f"deploy/{name}: {old!r} stands there {text.count(old)} times, and not {count}")
         text = text.replace(old, new)
     return text
 
 
-def of_deploy(name: str) -> str:
-    with open(os.path.join(ROOT, "deploy", name), encoding="utf-8") as file:
-        return file.read()
+def basic(name: str, password: str) -> str:
+    """The field of the head of a name and a password."""
+    return "Basic " + base64.b64encode(f"{name}:{password}".encode()).decode()
 
 
 def bcrypt(password: str) -> str:
@@ -43,17 +45,24 @@ def bcrypt(password: str) -> str:
     return made.decode() if made and made.startswith(b"$2y$") else fail("libcrypt makes no bcrypt")
 
 
-class Signing:
-    """Clerks by name with their roles, one of two ways in which they sign in, and the office's key. More of the files may be changed, by their names."""
+def certify(place: str, subject: str, by: str | None = None, *more: str) -> None:
+    """Makes a key and a certificate at a place, signed by those of another place or by its own key."""
+    words = [need("openssl", "openssl"), "req", "-x509", "-newkey", "ec", "-pkeyopt", "ec_paramgen_curve:prime256v1", "-nodes", "-days", "2", "-subj", subject,
+             "-keyout", f"{place}.key", "-out", f"{place}.pem", *more]
+    signed = ["-CA", f"{by}.pem", "-CAkey", f"{by}.key", "-extensions", "v3_req"] if by else []
+    subprocess.run([*words, *signed], check=True, capture_output=True)
 
-    def __init__(self, way: str, roles: Mapping[str, str], others: Iterable[str] = (), key: bytes = CLERK[1],
-                 faults: Mapping[str, Iterable[Change]] | None = None) -> None:
-        self.way, self.roles, self.names, self.key, self.faults = way, roles, [*roles, *others], key.decode(), faults or {}
+
+class Signing:
+    """Clerks by name with their roles, and one of two ways in which they sign in, or none. More of the files may be changed, by their names."""
+
+    def __init__(self, way: str | None, roles: Mapping[str, str], others: Iterable[str] = (), faults: Mapping[str, Iterable[Change]] | None = None) -> None:
+        self.way, self.roles, self.names, self.key, self.faults = way, roles, [*roles, *others], CLERK[1].decode(), faults or {}
         self.passwords = {name: secrets.token_urlsafe(15) for name in self.names}
         self.folder = ""
 
-    def put(self, folder: str) -> None:
-        """Writes the files into the folder of a front."""
+    def put(self, folder: str) -> list[Change]:
+        """Writes the files into the folder of a front. The changes of nginx.conf: the `#` before one line is taken out."""
         self.folder = folder
         self.write("clerks-key.conf", f'set $office_key "{self.key}";\n')
         names = "".join(f'    {name} "{roles}";\n' for name, roles in self.roles.items())
@@ -61,43 +70,31 @@ class Signing:
         places = [("/etc/procure/clerks-key.conf", 1, f"{folder}/clerks-key.conf"), ("/var/log/procure/clerks.log", 1, f"{folder}/clerks.log")]
         if self.way == "password":
             self.write("passwords", "".join(f"{name}:{bcrypt(password)}\n" for name, password in self.passwords.items()))
-        else:
+        if self.way == "certificate":
             places += [("/etc/procure/tls/clerks.pem", 1, f"{folder}/clerks.pem")]
             self.certify("clerks", None)
             for name in self.names:
                 self.certify(name, "clerks")
-        self.copy(f"clerks-{self.way}.conf", places)
+        if not self.way:
+            return []
+        included = f"clerks-{self.way}.conf"
+        self.copy(included, places)
+        return [(f"    # include /etc/procure/{included};", 1, f"    include {folder}/{included};")]
 
     def write(self, name: str, text: str) -> None:
-        with open(os.path.join(self.folder, name), "w", encoding="utf-8") as file:
-            file.write(text)
+        Path(self.folder, name).write_text(text, encoding="utf-8")
 
     def copy(self, name: str, changes: Iterable[Change]) -> None:
         """A file of deploy/, changed."""
-        self.write(name, adapted(name, adapted(name, of_deploy(name), self.faults.get(name, ())), changes))
-
-    def changes(self) -> list[Change]:
-        """The changes of nginx.conf: the `#` before one line is taken out."""
-        name = f"clerks-{self.way}.conf"
-        return [(f"    # include /etc/procure/{name};", 1, f"    include {self.folder}/{name};")]
+        self.write(name, adapted(name, self.faults.get(name, ()), changes))
 
     def certify(self, name: str, by: str | None, subject: str = "") -> None:
-        """Makes a key and a certificate, signed by another one's or by its own."""
-        place, openssl = f"{self.folder}/{name}", need("openssl", "openssl")
-        words = [openssl, "req", "-newkey", "ec", "-pkeyopt", "ec_paramgen_curve:prime256v1", "-nodes", "-subj", subject or f"/CN={name}",
-                 "-keyout", f"{place}.key"]
-        if by is None:
-            subprocess.run([*words, "-x509", "-days", "2", "-out", f"{place}.pem"], check=True, capture_output=True)
-            return
-        subprocess.run([*words, "-out", f"{place}.csr"], check=True, capture_output=True)
-        authority = ["-CA", f"{self.folder}/{by}.pem", "-CAkey", f"{self.folder}/{by}.key", "-CAcreateserial"]
-        subprocess.run([openssl, "x509", "-req", "-in", f"{place}.csr", *authority, "-days", "2", "-out", f"{place}.pem"], check=True, capture_output=True)
+        """Makes a certificate of a name, signed by another name's or by its own key."""
+        certify(f"{self.folder}/{name}", subject or f"/CN={name}", by and f"{self.folder}/{by}")
 
     def fields(self, name: str) -> dict[str, str]:
         """The fields of the head by which a clerk signs in."""
-        if self.way != "password" or not name:
-            return {}
-        return {"Authorization": "Basic " + base64.b64encode(f"{name}:{self.passwords.get(name, 'wrong')}".encode()).decode()}
+        return {"Authorization": basic(name, self.passwords.get(name, "wrong"))} if self.way == "password" and name else {}
 
     def present_to(self, context: ssl.SSLContext, name: str) -> None:
         """Has connections of this context come with the clerk's certificate."""

@@ -6,10 +6,11 @@ import os
 import ssl
 import subprocess
 from collections.abc import Iterable, Mapping
+from pathlib import Path
 from typing import NamedTuple
 
 from office_kit.common import FIELDS, HOST, ROOT, Caller, connect, free_port, need
-from office_kit.front.clerks import Change, Signing, adapted, of_deploy
+from office_kit.front.clerks import Change, Signing, adapted, certify
 
 # An address of this machine from which, by the adapted file, no clerk asks.
 OUTSIDE = "127.0.0.2"
@@ -27,11 +28,7 @@ events {{ worker_connections 4096; }}
 http {{
     include /etc/nginx/mime.types;
     access_log off;
-    client_body_temp_path {folder}/body;
-    proxy_temp_path {folder}/proxy;
-    fastcgi_temp_path {folder}/fastcgi;
-    uwsgi_temp_path {folder}/uwsgi;
-    scgi_temp_path {folder}/scgi;
+    {places}
     include {folder}/procure.conf;
 }}
 """
@@ -52,20 +49,15 @@ class Front:
     def __init__(self, folder: str, office: int, more: Iterable[Change] = (), signing: Signing | None = None) -> None:
         self.folder, self.office, self.port, self.plain_port, self.ways = folder, office, free_port(), free_port(), free_port()
         self.signing, self.clerks = signing, os.path.join(folder if signing else os.path.join(ROOT, "deploy"), "clerks.conf")
-        self.key, self.certificate = os.path.join(folder, "key.pem"), os.path.join(folder, "certificate.pem")
-        subprocess.run([need("openssl", "openssl"), "req", "-x509", "-newkey", "ec", "-pkeyopt", "ec_paramgen_curve:prime256v1", "-nodes", "-days", "2",
-                        "-subj", "/CN=office", "-addext", f"subjectAltName=IP:{HOST}", "-keyout", self.key, "-out", self.certificate],
-                       check=True, capture_output=True)
+        self.certificate = f"{folder}/certificate.pem"
+        certify(f"{folder}/certificate", "/CN=office", None, "-addext", f"subjectAltName=IP:{HOST}")
         self.context = ssl.create_default_context(cafile=self.certificate)
-        if signing:
-            signing.put(folder)
-        ways = signing.changes() if signing else []
-        text = adapted("nginx.conf", adapted("nginx.conf", of_deploy("nginx.conf"), more), [*ways, *self.changes(office)])
-        for name, content in (("procure.conf", text), ("nginx.conf", MAIN.format(folder=folder) + ("user root;\n" if os.geteuid() == 0 else ""))):
-            with open(os.path.join(folder, name), "w") as file:
-                file.write(content)
-        words = [need("nginx", "nginx"), "-p", folder, "-e", f"{folder}/errors.log", "-c", f"{folder}/nginx.conf"]
-        self.process = subprocess.Popen(words, stdin=subprocess.DEVNULL)
+        ways = signing.put(folder) if signing else []
+        Path(folder, "procure.conf").write_text(adapted("nginx.conf", more, ways, self.changes(office)), encoding="utf-8")
+        places = " ".join(f"{kind}_temp_path {folder}/{kind};" for kind in ("client_body", "proxy", "fastcgi", "uwsgi", "scgi"))
+        Path(folder, "nginx.conf").write_text(MAIN.format(folder=folder, places=places) + ("user root;\n" if os.geteuid() == 0 else ""))
+        self.words = [need("nginx", "nginx"), "-p", folder, "-e", f"{folder}/errors.log", "-c", f"{folder}/nginx.conf"]
+        self.process = subprocess.Popen(self.words, stdin=subprocess.DEVNULL)
 
     def changes(self, office: int) -> list[Change]:
         """The changes of the file. (Not every machine has IPv6.)"""
@@ -77,7 +69,7 @@ class Front:
                 ("/usr/share/procure/web;", 1, f"{ROOT}/web;"), ("/usr/share/procure;", 1, f"{ROOT}/docs;"),
                 ("include /etc/procure/clerks.conf;", 1, f"include {self.clerks};"), ("/etc/nginx/procure/clerks.passwords;", 4, f"{self.folder}/passwords;"),
                 ("/etc/nginx/procure;", 1, f"{self.folder}/city;"), ("/var/lib/procure-mirror;", 3, f"{self.folder}/mirror;"),
-                ("/etc/procure/tls/certificate.pem;", 1, f"{self.certificate};"), ("/etc/procure/tls/key.pem;", 1, f"{self.key};"),
+                ("/etc/procure/tls/certificate.pem;", 1, f"{self.certificate};"), ("/etc/procure/tls/key.pem;", 1, f"{self.folder}/certificate.key;"),
                 ("/var/cache/nginx/procure ", 1, f"{self.folder}/answers "), ("/var/cache/nginx/procure-wrong ", 1, f"{self.folder}/wrong "),
                 ("/var/log/nginx/procure.log ", 2, f"{self.folder}/access.log "), ("/var/log/nginx/procure-counts.log ", 2, f"{self.folder}/counts.log ")]
 
@@ -89,6 +81,10 @@ class Front:
         # On a signal to end, nginx ends its workers; after a kill they would remain.
         self.process.terminate()
         self.process.wait()
+
+    def reload(self) -> None:
+        """nginx reads its files again."""
+        subprocess.run([*self.words, "-s", "reload"], check=True)
 
     def address(self, rest: str = "") -> str:
         return f"https://{HOST}:{self.port}/{rest}"
@@ -111,8 +107,7 @@ class Front:
             return exchange(connection, method, target, body, caller, signed | {field.replace("_", "-"): value for field, value in fields.items()})
 
     def logged(self, name: str) -> str:
-        with open(os.path.join(self.folder, name), encoding="utf-8", errors="replace") as file:
-            return file.read()
+        return Path(self.folder, name).read_text(encoding="utf-8", errors="replace")
 
 
 def exchange(connection: http.client.HTTPConnection, method: str, target: str, body: bytes = b"", caller: Caller | None = None,

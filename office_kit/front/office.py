@@ -1,20 +1,21 @@
-"""A server in place of the office, for tests of the front: it keeps the requests that reach it."""
-import contextlib
+"""Servers in place of an office, for tests: each answers in its own way. One keeps the requests that reach it, for tests of the front."""
+import http.server
 import json
-import socket
 import threading
 import time
+from collections.abc import Mapping
 from typing import NamedTuple
 
 from office_kit.common import HOST
-from office_kit.front.nginx import PATIENCE
 
 LEDGER = b"LEDGER\n" + b"1000\t1000\t1000\t0\t0\t0\n" * 100
 WRONG = b'{"name":"BadKey","refusal":6}'
+# An answer: its status, its body, and further fields of its head.
+Told = tuple[int, bytes, Mapping[str, str]]
 
 
 class Request(NamedTuple):
-    """A request that reached the office."""
+    """A request that came."""
 
     method: str
     path: str
@@ -22,43 +23,59 @@ class Request(NamedTuple):
     body: bytes
 
 
-class Office:
-    """A server that takes connections one after another, like the office, and keeps the requests. It answers a wrong key with 401, and all else with 200. While
-    `held` is cleared it answers nobody; before each answer it waits."""
+class Handler(http.server.BaseHTTPRequestHandler):
+    """A request, which the server answers."""
+
+    server: "StandIn"
+
+    def do_GET(self) -> None:
+        body = self.rfile.read(int(self.headers.get("Content-Length", 0)))
+        status, told, fields = self.server.answer(Request(self.command, self.path, dict(self.headers.items()), body))
+        known = {"Date": self.date_time_string(), "Content-Type": "application/json", "Content-Length": str(len(told)), "Connection": "close"}
+        head = "".join(f"{name}: {value}\r\n" for name, value in {**known, **fields}.items())
+        # (In one go, as the office does.)
+        self.wfile.write(f"HTTP/1.1 {status} {self.responses[status][0]}\r\n{head}\r\n".encode() + told)
+
+    do_HEAD = do_OPTIONS = do_POST = do_GET
+
+
+class StandIn(http.server.HTTPServer):
+    """A server at a port of its own, which takes requests one after another until the end of its `with`. Its answers are JSON, unless their fields say
+    something else."""
+
+    def __init__(self) -> None:
+        super().__init__((HOST, 0), Handler)
+        self.socket.listen(128)
+        self.port, self.address = self.server_port, f"http://{HOST}:{self.server_port}"
+        threading.Thread(target=self.serve_forever, args=(0.05,), daemon=True).start()
+
+    def answer(self, request: Request) -> Told:
+        raise NotImplementedError
+
+    def server_close(self) -> None:
+        self.shutdown()
+        super().server_close()
+
+
+class Office(StandIn):
+    """It keeps the requests. It answers a wrong key with 401, and all else with 200. While `held` is cleared it answers nobody; before each answer it waits."""
 
     def __init__(self) -> None:
         self.came: list[Request] = []
-        self.listener = socket.create_server((HOST, 0), backlog=128)
         self.held, self.pause = threading.Event(), 0.0
         self.held.set()
-        self.port = self.listener.getsockname()[1]
-        threading.Thread(target=self.serve, daemon=True).start()
+        super().__init__()
 
-    def serve(self) -> None:
-        with contextlib.suppress(OSError):
-            while True:
-                with self.listener.accept()[0] as stream:
-                    self.held.wait()
-                    time.sleep(self.pause)
-                    stream.settimeout(PATIENCE)
-                    with contextlib.suppress(ConnectionError):
-                        self.answer(stream)
+    def answer(self, request: Request) -> Told:
+        self.held.wait()
+        time.sleep(self.pause)
+        self.came.append(request)
+        if request.head.get("Office-Key", "").startswith("wrong"):
+            return 401, WRONG, {"WWW-Authenticate": 'Office realm="office"'}
+        if request.path == "/ledger":
+            return 200, LEDGER, {"Content-Type": "text/plain; charset=utf-8"}
+        return 200, json.dumps({"text": "x" * 2000}).encode(), {}
 
-    def answer(self, stream: socket.socket) -> None:
-        """Reads a request to its end, and answers it."""
-        text = stream.makefile("rb")
-        line, *fields = list(iter(lambda: text.readline().strip().decode("latin-1"), "")) or [""]
-        if not line:
-            return
-        head = dict(field.split(": ", 1) for field in fields if ": " in field)
-        body = text.read(int(head.get("Content-Length", 0)))
-        method, path, _ = line.split(" ")
-        self.came.append(Request(method, path, head, body))
-        status, more, told = (("401 Unauthorized", 'WWW-Authenticate: Office realm="office"\r\n', WRONG) if head.get("Office-Key", "").startswith("wrong")
-                              else ("200 OK", "", LEDGER if path == "/ledger" else json.dumps({"text": "x" * 2000}).encode()))
-        kind = "text/plain; charset=utf-8" if path == "/ledger" else "application/json"
-        stream.sendall(f"HTTP/1.1 {status}\r\nContent-Type: {kind}\r\nContent-Length: {len(told)}\r\n{more}Connection: close\r\n\r\n".encode() + told)
-
-    def end(self) -> None:
-        self.listener.shutdown(socket.SHUT_RDWR)
-        self.listener.close()
+    def server_close(self) -> None:
+        self.held.set()
+        super().server_close()

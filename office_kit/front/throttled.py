@@ -1,18 +1,18 @@
 """A front for tests. It answers with the files of a folder. Sometimes it answers that it is asked too often, or that it can't answer."""
-import contextlib
-import http.server
-import os
+import email.utils
 import re
-import threading
 import time
-from collections.abc import Iterator
+from pathlib import Path
+
+from office_kit.front.office import Request, StandIn, Told
 
 # The answers that only an opened notice has.
 OF_OPENED = ("minutes", "evaluation")
+LISTS = {"/ledger": "ledger.txt", "/notices": "notices.json"}
 NOT_THERE = {404: b'{"name":"NoSuch","refusal":9,"what":"notice"}', 409: b'{"name":"NotOpened","refusal":22}'}
 
 
-class Front:
+class Front(StandIn):
     """Answers with the files of a folder. Notices K0, K1 and so on have the files of the notice `copied`; the notice `lacking` has none. After `burst` requests
     it answers 429, and after `wait` seconds it takes as many again. The first `failing` requests get 503. `old` says how many seconds old the next ledgers are;
     later ones are of now."""
@@ -21,29 +21,42 @@ class Front:
                  old: tuple[int, ...] = ()) -> None:
         self.old, self.ledgers = list(old), 0
         self.folder, self.copied, self.burst, self.wait, self.failing, self.lacking = folder, copied, burst, wait, failing, lacking
-        self.left, self.until, self.refused, self.hasty, self.address, self.lock = burst, 0.0, 0, 0, "", threading.Lock()
+        self.left, self.until, self.refused, self.hasty = burst, 0.0, 0, 0
+        super().__init__()
 
     def turn(self) -> tuple[int, str] | None:
         """The status of a refusal and its `Retry-After`, or None."""
         now = time.monotonic()
-        with self.lock:
-            if self.failing > 0:
-                self.failing -= 1
-                return 503, "0"
-            if now < self.until:
-                self.hasty += 1
-                return 429, str(self.wait)
-            if self.left == 0:
-                # (A client that waits as long as `Retry-After` says comes after this moment.)
-                self.left, self.until, self.refused = self.burst, now + self.wait, self.refused + 1
-                return 429, str(self.wait)
-            self.left -= 1
-            return None
+        if self.failing > 0:
+            self.failing -= 1
+            return 503, "0"
+        if now < self.until:
+            self.hasty += 1
+            return 429, str(self.wait)
+        if self.left == 0:
+            # (A client that waits as long as `Retry-After` says comes after this moment.)
+            self.left, self.until, self.refused = self.burst, now + self.wait, self.refused + 1
+            return 429, str(self.wait)
+        self.left -= 1
+        return None
+
+    def answer(self, request: Request) -> Told:
+        if refused := self.turn():
+            return refused[0], b'{"front":"wait a while"}', {"Retry-After": refused[1]}
+        body = self.body(request.path)
+        if body is None:
+            status = 409 if request.path.endswith(OF_OPENED) else 404
+            return status, NOT_THERE[status], {}
+        if request.path != "/ledger":
+            return 200, body, {}
+        self.ledgers += 1
+        age = self.old.pop(0) if self.old else 0
+        return 200, body, {"Last-Modified": email.utils.formatdate(int(time.time()) - age, usegmt=True)}
 
     def body(self, path: str) -> bytes | None:
         """The saved answer of a path, or None."""
-        if path in ("/ledger", "/notices"):
-            return self.read({"/ledger": "ledger.txt", "/notices": "notices.json"}[path])
+        if path in LISTS:
+            return self.read(LISTS[path])
         if path.startswith("/notices?after="):
             return self.read(f"notices-{path.partition('=')[2]}.json")
         found = re.fullmatch(r"/notices/([0-9A-Za-z_.-]+)/(releases|record|minutes|terms|evaluation)", path)
@@ -54,47 +67,5 @@ class Front:
         return data.replace(self.copied.encode(), found[1].encode()) if copy and data else data
 
     def read(self, name: str) -> bytes | None:
-        path = os.path.join(self.folder, name)
-        if not os.path.exists(path):
-            return None
-        with open(path, "rb") as file:
-            return file.read()
-
-
-def handler_of(front: Front) -> type[http.server.BaseHTTPRequestHandler]:
-    """The class whose objects answer a request each."""
-    class Handler(http.server.BaseHTTPRequestHandler):
-        def do_GET(self) -> None:
-            refused = front.turn()
-            body = b'{"front":"wait a while"}' if refused else front.body(self.path)
-            status = refused[0] if refused else 200 if body is not None else 409 if self.path.endswith(OF_OPENED) else 404
-            self.send_response(status)
-            if refused:
-                self.send_header("Retry-After", refused[1])
-            if self.path == "/ledger" and status == 200:
-                front.ledgers += 1
-                self.send_header("Last-Modified", self.date_time_string(int(time.time()) - (front.old.pop(0) if front.old else 0)))
-            data = NOT_THERE[status] if body is None else body
-            self.send_header("Content-Length", str(len(data)))
-            self.end_headers()
-            self.wfile.write(data)
-
-        def log_message(self, *_: object) -> None:
-            pass
-    return Handler
-
-
-@contextlib.contextmanager
-def served(front: Front) -> Iterator[Front]:
-    """Serves a front at a port of its own, and gives it with its address."""
-    server = http.server.ThreadingHTTPServer(("127.0.0.1", 0), handler_of(front))
-    server.daemon_threads = True
-    front.address = f"http://127.0.0.1:{server.server_address[1]}"
-    thread = threading.Thread(target=server.serve_forever, kwargs={"poll_interval": 0.05})
-    thread.start()
-    try:
-        yield front
-    finally:
-        server.shutdown()
-        server.server_close()
-        thread.join()
+        path = Path(self.folder, name)
+        return path.read_bytes() if path.exists() else None

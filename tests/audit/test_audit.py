@@ -4,6 +4,7 @@ The office has eight notices (office_kit/store/life.py). Each fault (planted_fau
 the answers or of the log. The rule named beside it must find it, on the row named beside it. Each rule of `tools/audit --rules` must find a fault. The file
 alone must not expose a forgery; each witness named beside it must, and no other.
 """
+import contextlib
 import copy
 import filecmp
 import glob
@@ -24,7 +25,7 @@ import pytest
 
 from office_kit.audit import answers as audit_answers
 from office_kit.common import CLERK, FIELDS, ROOT, free_port
-from office_kit.front.throttled import OF_OPENED, Front, served
+from office_kit.front.throttled import OF_OPENED, Front
 from office_kit.store.life import AuditedLife
 from office_kit.store.planted_faults import COPY, FAULTS_OF_ANSWERS, FAULTS_OF_FILES, FAULTS_OUTSIDE, FORGERIES, HELD, LOG, PUBLIC, filled, plant, without
 from office_kit.store.planted_lines import FAULTS_OF_LINES, Logged, at, text_of
@@ -35,6 +36,7 @@ AUDIT = os.path.join(ROOT, "tools", "audit")
 TOOL = importlib.util.module_from_spec(importlib.util.spec_from_loader("tool", importlib.machinery.SourceFileLoader("tool", AUDIT)))
 TOOL.__spec__.loader.exec_module(TOOL)
 NOTICES = [f"N{number}" for number in range(1, 9)]
+OPENED = [notice for notice in NOTICES if notice not in ("N3", "N5")]
 # The arguments by which an audit gets a witness.
 WITNESSES = {PUBLIC: ["--earlier", "answers"], HELD: ["--earlier", "held"], COPY: ["--earlier", "whole.db"], LOG: ["--front-log", "front.log"]}
 
@@ -49,8 +51,7 @@ class Made:
             front = Logged(serve(folder / "office.db").port)
             self.life = life = AuditedLife(front)
             life.before_the_deadline()
-            for part in glob.glob(f"{folder}/office.db*"):
-                shutil.copyfile(part, folder / os.path.basename(part).replace("office", "early"))
+            copied(folder / "office.db", folder / "early.db")
             self.save_answers("early", "releases", "record", "terms")
             life.after_the_deadline()
             self.save_answers("answers", "releases", "record", "terms", *OF_OPENED)
@@ -63,15 +64,19 @@ class Made:
         self.put_in_pages()
         self.put_further()
 
+    def save(self, name, answers):
+        """Saves answers in a folder."""
+        (self.folder / name).mkdir()
+        for file, answer in answers.items():
+            (self.folder / name / file).write_bytes(answer.body)
+
     def save_answers(self, name, *kinds):
         """Saves the public answers."""
-        (folder := self.folder / name).mkdir()
-        (folder / "ledger.txt").write_bytes(self.life.ledger().body)
-        (folder / "notices.json").write_bytes(self.life.notices().body)
-        for notice in NOTICES:
-            for kind in kinds:
-                if kind not in OF_OPENED or notice not in ("N3", "N5"):
-                    (folder / f"{kind}-{notice}{audit_answers.OF_NOTICES[kind]}").write_bytes(getattr(self.life, kind)(notice).body)
+        answers = {"ledger.txt": self.life.ledger(), "notices.json": self.life.notices()}
+        for kind in kinds:
+            for notice in OPENED if kind in OF_OPENED else NOTICES:
+                answers[f"{kind}-{notice}{audit_answers.OF_NOTICES[kind]}"] = getattr(self.life, kind)(notice)
+        self.save(name, answers)
 
     def save_held(self):
         """Saves each receipt, register, security and contract, and the evaluation of a notice with an undecided lot, as the clerk is shown it."""
@@ -84,10 +89,7 @@ class Made:
         for contract in (life.contract, life.running, life.broken):
             held[f"performance-{contract}.json"] = life.performance_security("clerk", contract)
             held[f"contract-{contract}.json"] = life.contract_seen("clerk", contract)
-        held["evaluation-N6.txt"] = life.evaluation("N6", "clerk")
-        (self.folder / "held").mkdir()
-        for name, answer in held.items():
-            (self.folder / "held" / name).write_bytes(answer.body)
+        self.save("held", {**held, "evaluation-N6.txt": life.evaluation("N6", "clerk")})
 
     def put_in_pages(self, rows=3):
         """A copy of the answers in which the list of notices has so many on a page."""
@@ -123,9 +125,8 @@ class Made:
 
     def found(self, *words):
         """The findings of an audit, each a rule and a row. It runs in this process, which is three times as fast."""
-        words = [str(self.folder / word) if (self.folder / word).exists() else str(word) for word in words]
-        with tempfile.TemporaryDirectory() as room:
-            found, _ = TOOL.Audit(TOOL.arguments(words), room).run()
+        with tempfile.TemporaryDirectory() as room, contextlib.chdir(self.folder):
+            found, _ = TOOL.Audit(TOOL.arguments([str(word) for word in words]), room).run()
         return {(rule, row) for rule, row, _ in found}
 
     def changed(self, path, script):
@@ -137,11 +138,16 @@ class Made:
         return Path(shutil.copytree(self.folder / name, to / name))
 
 
-def whole(source, path):
-    """A copy of a file with its log moved into it."""
+def copied(source, path):
+    """A copy of a file with its log."""
     for part in glob.glob(f"{source}*"):
         shutil.copyfile(part, str(path) + part[len(str(source)):])
-    return written(path, "PRAGMA journal_mode = DELETE")
+    return path
+
+
+def whole(source, path):
+    """A copy of a file with its log moved into it."""
+    return written(copied(source, path), "PRAGMA journal_mode = DELETE")
 
 
 def written(path, script):
@@ -153,7 +159,6 @@ def written(path, script):
 
 
 def digests(folder):
-    """The SHA-256 of each file of a folder."""
     return {path.name: hashlib.sha256(path.read_bytes()).hexdigest() for path in folder.iterdir() if path.is_file()}
 
 
@@ -170,8 +175,9 @@ def base(made, program, tmp_path_factory):
         yield f"http://127.0.0.1:{serve(made.folder / 'served.db').port}"
 
 
-def named(number, what):
-    return f"{number:03}-{what}"
+def each(names, faults):
+    """A test of each fault, by its number and its rule."""
+    return pytest.mark.parametrize(names, faults, ids=[f"{number:03}-{fault[0]}" for number, fault in enumerate(faults)])
 
 
 # ---- What is sound, and what can't be read.
@@ -198,17 +204,14 @@ def named(number, what):
     (2, "office.db --answers ."),
     (2, "--base http://127.0.0.1:{port} --notice N1"),
     (2, ""),
+    (0, "served.db --base {base}"),
+    (0, "served.db --base {base} --key clerk.key"),
+    (0, "--base {base} --complete"),
+    (0, "--base {base} --notice N1 --notice N4"),
 ])
-def test_ends(made, status, words):
-    got, said = made.audit(*words.format(opened=made.opened, port=free_port()).split())
+def test_ends(made, base, status, words):
+    got, said = made.audit(*words.format(opened=made.opened, port=free_port(), base=base).split())
     assert got == status, said
-
-
-@pytest.mark.parametrize("words", ["served.db --base {base}", "served.db --base {base} --key clerk.key", "--base {base} --complete",
-                                   "--base {base} --notice N1 --notice N4"])
-def test_served(made, base, words):
-    status, said = made.audit(*words.format(base=base).split())
-    assert status == 0, said
 
 
 def test_who_gave_each_command(made, tmp_path):
@@ -221,26 +224,33 @@ def test_who_gave_each_command(made, tmp_path):
 
 # ---- Faults.
 
-@pytest.mark.parametrize("fault", FAULTS_OF_FILES, ids=[named(number, it[0]) for number, it in enumerate(FAULTS_OF_FILES)])
+# Faults of the file that only a witness shows, which the last words name: a lost notice, and a tender withdrawn after the deadline.
+FAULTS_BESIDE = [
+    ("saved_notices_are_there", "notices N7", without("N7"), "--answers", "answers"),
+    ("tenders_stay_from_the_deadline_on", "envelopes {quoted}", "UPDATE envelopes SET state = 'withdrawn' WHERE receipt = {quoted}", "--earlier", "behind.db"),
+]
+
+
+@each("fault", FAULTS_OF_FILES + FAULTS_BESIDE)
 def test_fault_of_the_file(made, tmp_path, fault):
-    rule, row, script = filled(fault, made.life)
-    assert (rule, row) in made.found(made.changed(tmp_path / "fault.db", script))
+    rule, row, script, *words = filled(fault, made.life)
+    assert (rule, row) in made.found(made.changed(tmp_path / "fault.db", script), *words)
 
 
-@pytest.mark.parametrize("rule, row, names, change", FAULTS_OF_ANSWERS, ids=[named(number, it[0]) for number, it in enumerate(FAULTS_OF_ANSWERS)])
+@each("rule, row, names, change", FAULTS_OF_ANSWERS)
 def test_fault_of_answers(made, tmp_path, rule, row, names, change):
     plant(str(answers := made.folder_of(tmp_path)), names, change)
     assert (rule, row) in made.found("whole.db", "--answers", answers)
 
 
-@pytest.mark.parametrize("fault", FAULTS_OUTSIDE, ids=[named(number, it[0]) for number, it in enumerate(FAULTS_OUTSIDE)])
+@each("fault", FAULTS_OUTSIDE)
 def test_fault_outside(made, tmp_path, fault):
     rule, row, (change, *given), *further = filled(fault, made.life)
     change(str(answers := made.folder_of(tmp_path)), *given)
     assert (rule, row) in made.found("--answers", answers, *further)
 
 
-@pytest.mark.parametrize("fault", FAULTS_OF_LINES, ids=[named(number, it[0]) for number, it in enumerate(FAULTS_OF_LINES)])
+@each("fault", FAULTS_OF_LINES)
 def test_fault_of_the_log(made, tmp_path, fault):
     rule, row, change, route, members = filled(fault, made.life)
     change(lines := copy.deepcopy(made.lines), route, **members)
@@ -261,17 +271,6 @@ def test_fault_of_a_contract(made, tmp_path, contract, member, value):
     assert ("contracts_are_of_the_rows", f"contracts {number}") in made.found("whole.db", "--answers", held)
     if contract == "broken":
         assert ("contracts_are_as_shown", f"contracts {number}") in made.found("whole.db", "--earlier", held)
-
-
-def test_a_lost_notice(made, tmp_path):
-    found = made.found(made.changed(tmp_path / "lacking.db", without("N7")), "--answers", "answers")
-    assert ("saved_notices_are_there", "notices N7") in found
-
-
-def test_a_tender_withdrawn_after_the_deadline(made, tmp_path):
-    quoted = made.life.receipt["quoted"]
-    withdrawn = made.changed(tmp_path / "withdrawn.db", f"UPDATE envelopes SET state = 'withdrawn' WHERE receipt = {quoted}")
-    assert ("tenders_stay_from_the_deadline_on", f"envelopes {quoted}") in made.found(withdrawn, "--earlier", "behind.db")
 
 
 def test_an_earlier_record(made, tmp_path):
@@ -341,7 +340,7 @@ def test_each_rule_finds_a_fault():
     (0, {"old": (70, 50)}, "--notice N1"),
 ], ids=["fails_four_times", "fails_six_times", "asks_for_tomorrow", "lets_600_through_a_second", "keeps_the_ledger"])
 def test_busy_front(made, status, how, words):
-    with served(front := Front(str(made.folder / "answers"), **how)):
+    with Front(str(made.folder / "answers"), **how) as front:
         got, said = made.audit("--base", front.address, *words.split())
     assert got == status, said
     if "copied" in how:
@@ -351,21 +350,21 @@ def test_busy_front(made, status, how, words):
 
 
 def test_list_in_pages(made, tmp_path):
-    with served(front := Front(str(paged := made.folder_of(tmp_path, "paged")))):
+    with Front(str(paged := made.folder_of(tmp_path, "paged"))) as front:
         assert made.audit("--base", front.address, "--complete")[0] == 0
         (paged / "notices-N6.json").unlink()
         assert made.audit("--base", front.address, "--complete")[0] == 2
-    with served(front := Front(str(made.folder / "held"))):
+    with Front(str(made.folder / "held")) as front:
         assert made.audit("--base", front.address)[0] == 2, "it has no list, and no notice is named"
 
 
 def test_notice_that_isn_t_answered(made):
-    with served(front := Front(str(made.folder / "answers"), lacking="N5")):
+    with Front(str(made.folder / "answers"), lacking="N5") as front:
         assert ("kept_notices_are_answered", "notices N5") in made.found("office.db", "--base", front.address)
 
 
 def test_the_front_sees_haste(made):
-    with served(front := Front(str(made.folder / "answers"), burst=1)):
+    with Front(str(made.folder / "answers"), burst=1) as front:
         assert [audit_answers.Answers(None, front.address).exchange("/ledger")[0] for _ in range(3)] == [200, 429, 429]
     assert front.hasty == 1
 
@@ -376,22 +375,19 @@ def test_retry_after(text, due):
     assert audit_answers.seconds_of(text, 2, lambda: 60) == due
 
 
-def saves_all(block, answers, place):
-    """Whether the block saves everything, although the front lets only nine requests through a second."""
-    with served(front := Front(str(answers), burst=9)):
-        run = subprocess.run(["bash", "-ec", block], cwd=place, env={**os.environ, "office": front.address}, capture_output=True, text=True)
-    names, saved = os.listdir(answers), place / "answers"
-    same = sorted(os.listdir(saved)) == sorted([*names, "ledger-before.txt"]) and filecmp.cmpfiles(saved, answers, names, False)[1:] == ([], [])
-    return run.returncode == 0 and same and front.refused > 0 and front.hasty == 0
-
-
 @pytest.mark.needs("curl")
 @pytest.mark.parametrize("waits", [True, False], ids=["waits", "hastens"])
 def test_saving_loop(made, tmp_path, waits):
-    """The block of docs/AUDITOR.md that saves an office's answers asks for page after page, and again if it is refused. One that doesn't wait is seen."""
+    """The block of docs/AUDITOR.md that saves an office's answers asks for page after page, and again if it is refused. One that doesn't wait is seen. (The
+    front lets only nine requests through a second.)"""
     blocks = re.findall(r"```sh run\n(.*?)```", Path(ROOT, "docs", "AUDITOR.md").read_text(encoding="utf-8"), re.DOTALL)
     (block,) = [block for block in blocks if "\nsave() {\n" in block]
-    assert saves_all(block if waits else re.sub(" --retry[a-z-]* [0-9]+", "", block), made.folder / "paged", tmp_path) == waits
+    words, answers = ["bash", "-ec", block if waits else re.sub(" --retry[a-z-]* [0-9]+", "", block)], made.folder / "paged"
+    with Front(str(answers), burst=9) as front:
+        run = subprocess.run(words, cwd=tmp_path, env={**os.environ, "office": front.address}, capture_output=True)
+    names, saved = os.listdir(answers), tmp_path / "answers"
+    same = sorted(os.listdir(saved)) == sorted([*names, "ledger-before.txt"]) and filecmp.cmpfiles(saved, answers, names, False)[1:] == ([], [])
+    assert (run.returncode == 0 and same and front.refused > 0 and front.hasty == 0) == waits
 
 
 # ---- The tool where a release puts it.

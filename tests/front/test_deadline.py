@@ -3,15 +3,15 @@ strangers ask all that they may (office_kit/front/strangers.py), from four secon
 contracts.
 
 The offices' files (office_kit/store/large_office.py) are made once, and kept under build/large/; each run has a copy. The front keeps no answer yet when the
-strangers begin. So the office must read the whole ledger for the first of them. Half of the tenderers share two addresses, and all connect when they send. As
-root, the test gives the processor first to the office and the front, then to tenderers, then to strangers, as if each had a machine of its own.
+strangers begin. So the office must read the whole ledger for the first of them. All tenderers connect when they send. As root, the test gives the processor
+first to the office and the front, then to tenderers, then to strangers, as if each had a machine of its own.
 
 A tender is in time until the second of its deadline ends, and it may wait for one ledger. So that must take clearly less than a second (OPERATING.md says
 what to do in a larger office). Where 100,000 rows take longer, on a slower machine, the office has fewer.
 
 Each tender must be `sealed`, with status 200, within two seconds, or more on a slower machine. With the front as it was earlier, some tender to the office of
 many lines must be late or wait longer, else the test has shown nothing. (The other office remembers its few sums.) There /health is the ledger, queries have no
-ways of their own, answers are kept for a second. The test prints the waits of tenders, and how many answers of each status the strangers got.
+ways of their own, answers are kept for a second.
 """
 import collections
 import contextlib
@@ -19,6 +19,7 @@ import json
 import os
 import random
 import shutil
+import statistics
 import subprocess
 import sys
 import tempfile
@@ -27,21 +28,19 @@ from concurrent.futures import ThreadPoolExecutor
 
 import pytest
 
-from office_kit.client import Client, Port, lot, notice, text_of
-from office_kit.common import ROOT, check, connect, exchange, free_port, look, running, serve_words
+from office_kit.client import AHEAD, Client, Port, lot, notice, text_of, wait_until
+from office_kit.common import ROOT, connect, exchange, free_port, look, running, serve_words
 from office_kit.front.nginx import Front
 from office_kit.store import large_office
 
 pytestmark = [pytest.mark.needs("nginx", "openssl"), pytest.mark.nginx, pytest.mark.time, pytest.mark.budget(240), pytest.mark.xdist_group("machine")]
-# How many times slower this machine is than a usual one: `make check` says it by AHEAD, the seconds to the deadlines for which tests wait.
-SLOW = max(1.0, int(os.environ.get("AHEAD", "4")) / 4)
+# How many times slower this machine is than a usual one.
+SLOW = max(1.0, AHEAD / 4)
 MANY, TENDERERS, LAST, LONGEST, PATIENCE = 100_000, 60, 0.3, 2.0 * SLOW, 120 * SLOW
-# The seconds before the deadline at which the strangers begin.
-BEGIN = 4
+# The strangers begin so many seconds after the start of a run and before the deadline, and end after it.
+START, BEGIN, AFTER = 8 * SLOW, 4, 2
 # The most seconds that the office may take for its ledger.
 LEDGER = 0.5
-# Seconds from the start of a run to the strangers' begin, and from the deadline to their end.
-AHEAD, AFTER = 8 * SLOW, 2
 # Priorities on the processor: a higher number comes first.
 STRANGERS, TENDERERS_TURN, SERVERS = 1, 2, 3
 # The fewest answers that the strangers must get: with fewer, they tried nothing.
@@ -67,76 +66,39 @@ def comes_before(others):
         os.sched_setscheduler(0, os.SCHED_FIFO, os.sched_param(others))
 
 
-def is_raised():
-    return os.sched_getscheduler(0) == os.SCHED_FIFO
-
-
-class Outcome:
-    """The states of sixty tenders, or their statuses if they failed, and the seconds that each waited; and the strangers' counts of answers."""
-
-    def __init__(self, answers, strangers):
-        self.states = collections.Counter(state for _, state, _ in answers)
-        self.waits = sorted(wait for _, _, wait in answers)
-        self.strangers = strangers
-
-    def is_good(self):
-        return self.states == {"sealed": TENDERERS} and self.waits[-1] < LONGEST
-
-    def __str__(self):
-        states = ", ".join(f"{count} {state}" for state, count in sorted(self.states.items()))
-        return f"{states}; waits: median {self.waits[len(self.waits) // 2]:.3f} s, longest {self.waits[-1]:.3f} s"
-
-    def told(self):
-        """The strangers' counts, by kind and status."""
-        return ", ".join(f"{count} {what}" for what, count in sorted(self.strangers.items()))
-
-
-def source_of(number):
-    """The address of a tenderer: one half have addresses of their own, the others share two."""
-    return f"127.0.7.{number + 1}" if number % 2 else f"127.0.8.{number % 4 + 1}"
-
-
 def submit(front, number, at):
-    """Submits a tender at a moment: the status, the state, and the seconds to the whole answer."""
-    time.sleep(max(0.0, at - time.time()))
+    """Submits a tender at a moment: its state, or why there is none, and the seconds to the whole answer. One half of the tenderers have addresses of their
+    own, the others share two."""
+    source = f"127.0.7.{number + 1}" if number % 2 else f"127.0.8.{number % 4 + 1}"
+    wait_until(at)
     begun = time.monotonic()
     try:
-        answer = front.ask("POST", "/notices/D/lots/L1/tenders", b"x" * 2000, (f"T{number}".encode(), b"hello"), source_of(number))
+        answer = front.ask("POST", "/notices/D/lots/L1/tenders", b"x" * 2000, (f"T{number}".encode(), b"hello"), source)
+        state = json.loads(answer.body)["state"] if answer.status == 200 else str(answer.status)
     except OSError as why:
-        return 0, type(why).__name__, time.monotonic() - begun
-    state = json.loads(answer.body)["state"] if answer.status == 200 else str(answer.status)
-    return answer.status, state, time.monotonic() - begun
+        state = type(why).__name__
+    return state, time.monotonic() - begun
 
 
-def prepared(port, deadline):
-    """The tenderers are registered, and a notice with this deadline is published."""
-    client = Client(Port(port))
-    for number in range(1, TENDERERS + 1):
-        client.register(f"T{number}")
-    client.publish("D", notice(text_of(deadline), lot("L1", "100000", 600)))
-
-
-def last_seconds(front, deadline, lines, changes):
-    """The strangers, and sixty tenders in the last 0.3 seconds."""
-    turn = ["chrt", "-f", str(STRANGERS)] if is_raised() else []
+def last_seconds(front, deadline, lines):
+    """The strangers, and sixty tenders in the last 0.3 seconds: the tenders' states and waits, and the strangers' counts."""
+    turn = ["chrt", "-f", str(STRANGERS)] if os.sched_getscheduler(0) == os.SCHED_FIFO else []
     script = os.path.join(ROOT, "office_kit", "front", "strangers.py")
     words = [*turn, sys.executable, script, *map(str, (front.port, deadline - BEGIN, deadline + AFTER, lines))]
     moments = random.Random(2)
+    comes_before(TENDERERS_TURN)
     with running(words, stdout=subprocess.PIPE) as strangers, ThreadPoolExecutor(TENDERERS) as pool:
         tenders = [pool.submit(submit, front, number, deadline - moments.uniform(0.01, LAST)) for number in range(1, TENDERERS + 1)]
-        answers = [it.result() for it in tenders]
+        states, waits = zip(*(it.result() for it in tenders))
         told = strangers.communicate()[0]
-    check("the strangers ended otherwise", strangers.returncode == 0)
-    came = Outcome(answers, json.loads(told))
-    check(f"the strangers asked for too little: {came.told()}", changes or sum(came.strangers.values()) >= LEAST)
-    return came
+    assert strangers.returncode == 0
+    return collections.Counter(states), waits, json.loads(told)
 
 
 @contextlib.contextmanager
 def served(program, kind, many):
     """An office of so many rows: a folder of its own, its port, and the seconds that its ledger takes."""
-    if is_raised():
-        comes_before(SERVERS)
+    comes_before(SERVERS)
     with tempfile.TemporaryDirectory(prefix="office-deadline-") as folder:
         file = shutil.copy(large_office.file_of(kind, many), os.path.join(folder, "office.db"))
         with running(serve_words(program, file, port := free_port(), 1_000_000)):
@@ -144,39 +106,35 @@ def served(program, kind, many):
             yield folder, port, exchange(port, look(b"/ledger"))[1]
 
 
-def rows_of(program, kind):
-    """How many rows an office may have, at most MANY, if its ledger takes LEDGER seconds."""
-    with served(program, kind, MANY) as (_, _, ledger):
-        return MANY if ledger <= LEDGER else max(1_000, int(MANY * LEDGER / ledger) // 1_000 * 1_000)
-
-
 def run(program, kind, changes=()):
-    """One deadline."""
-    many = rows_of(program, kind)
+    """One deadline: whether all tenders are in time, and whether the strangers asked enough. If its ledger takes too long, the office has fewer rows."""
+    with served(program, kind, MANY) as (_, _, ledger):
+        many = MANY if ledger <= LEDGER else max(1_000, int(MANY * LEDGER / ledger) // 1_000 * 1_000)
     with served(program, kind, many) as (folder, port, ledger):
-        deadline = int(time.time() + AHEAD + BEGIN)
-        prepared(port, deadline)
+        deadline, client = int(time.time() + START + BEGIN), Client(Port(port))
+        for number in range(1, TENDERERS + 1):
+            client.register(f"T{number}")
+        client.publish("D", notice(text_of(deadline), lot("L1", "100000", 600)))
         with Front(folder, port, changes) as front:
-            check("the deadline came before all was prepared", time.time() < deadline - BEGIN - 3)
-            if is_raised():
-                comes_before(TENDERERS_TURN)
-            came = last_seconds(front, deadline, many if kind == "lines" else large_office.IMPORT, changes)
-    print(f"{kind}: {came}; its ledger alone, of {many:,} rows, takes {ledger:.3f} s; strangers: {came.told()}")
-    return came
+            assert time.time() < deadline - BEGIN - 3, "the deadline came before all was prepared"
+            states, waits, counts = last_seconds(front, deadline, many if kind == "lines" else large_office.IMPORT)
+    print(f"{kind}: {dict(states)}; waits: median {statistics.median(waits):.3f} s, longest {max(waits):.3f} s; its ledger alone, of {many:,} rows, takes "
+          f"{ledger:.3f} s; strangers: {counts}")
+    return states == {"sealed": TENDERERS} and max(waits) < LONGEST, sum(counts.values()) >= LEAST
 
 
 @pytest.fixture(autouse=True)
 def usual_turn():
     """The test may have a priority of its own, which ends with it."""
-    comes_before(SERVERS)
     yield
     os.sched_setscheduler(0, os.SCHED_OTHER, os.sched_param(0))
 
 
 @pytest.mark.parametrize("kind", large_office.KINDS)
 def test_none_is_late(program, kind):
-    assert run(program, kind).is_good()
+    assert run(program, kind) == (True, True)
 
 
 def test_the_earlier_front_is_found(program):
-    assert not run(program, "lines", EARLIER).is_good()
+    is_good, _ = run(program, "lines", EARLIER)
+    assert not is_good
