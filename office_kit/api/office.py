@@ -30,6 +30,11 @@ def masked(value: Any) -> str:
     return MOMENT.sub("MOMENT", plain(value))
 
 
+def award_of(tree: Any) -> Any:
+    """The operation in a document in which tests plant faults."""
+    return tree["paths"]["/notices/{notice}/lots/{lot}/award"]["post"]
+
+
 class Operation:
     """The operation of a path and a method."""
 

@@ -22,7 +22,7 @@ import yaml
 from hypothesis import HealthCheck, given, settings, strategies
 
 from office_kit.api import walk
-from office_kit.api.office import JSON, METHODS, Asker, Document, plain
+from office_kit.api.office import JSON, METHODS, Asker, Document, award_of, plain
 from office_kit.client import PATIENCE
 from office_kit.common import ROOT, connect
 from office_kit.store.served import server
@@ -240,10 +240,6 @@ def found(asker):
 @pytest.mark.parametrize("check", CHECKS, ids=lambda check: check.__name__)
 def test_office(found, check):
     assert found[check] == []
-
-
-def award_of(tree):
-    return tree["paths"]["/notices/{notice}/lots/{lot}/award"]["post"]
 
 
 # Documents that say something else, and the check that finds it.
