@@ -6,6 +6,7 @@ import random
 import subprocess
 import types
 from collections.abc import Callable
+from pathlib import Path
 from typing import Any, NamedTuple
 
 from hypothesis import HealthCheck, Phase, given, settings, strategies
@@ -198,11 +199,10 @@ def lot_of(kind: int) -> dict[str, Any]:
 
 def tool(change: tuple[str, str] = ("", "")) -> types.ModuleType:
     """tools/check_tender as a module, with a text in it changed."""
-    with open(TOOL, encoding="utf-8") as file:
-        source = file.read()
+    source = Path(TOOL).read_text(encoding="utf-8")
     assert not change[0] or source.count(change[0]) == 1
     module = types.ModuleType("check_tender")
-    exec(compile(source.replace(*change) if change[0] else source, TOOL, "exec"), module.__dict__)
+    exec(compile(source.replace(*change), TOOL, "exec"), module.__dict__)
     return module
 
 
@@ -210,18 +210,14 @@ class Reader:
     """`procure read-tender`, for lots of the kinds."""
 
     def __init__(self, program: str, folder: str) -> None:
-        self.program, self.folder = program, folder
-        for kind in range(len(KINDS)):
-            with open(self.place_of(kind), "w") as file:
-                json.dump(lot_of(kind), file)
-
-    def place_of(self, kind: int) -> str:
-        return os.path.join(self.folder, f"items-{kind}.json")
+        self.program, self.places = program, [Path(folder, f"items-{kind}.json") for kind in range(len(KINDS))]
+        for kind, place in enumerate(self.places):
+            place.write_text(json.dumps(lot_of(kind)))
 
     @functools.lru_cache(maxsize=None)
     def read(self, kind: int, data: bytes) -> tuple[str, str | None]:
         """The reading of a file in the words of the minutes, and the digest, if there is one."""
-        done = subprocess.run([self.program, "read-tender", self.place_of(kind), "/dev/stdin"], input=data, capture_output=True)
+        done = subprocess.run([self.program, "read-tender", self.places[kind], "/dev/stdin"], input=data, capture_output=True)
         told = json.loads(done.stdout)
         word = str(told.get("reading", "not taken"))
         assert (done.returncode, done.stderr) == ((0, b"") if word == "priced" else (1, b"procure: input\n"))
