@@ -9,6 +9,7 @@ import jsonschema
 import yaml
 from jsonschema.exceptions import best_match
 
+from office_kit.api.openapi_rules import target_of
 from office_kit.client import data_of
 from office_kit.common import ROOT, exchange
 from office_kit.gate.transcripts import PHRASES
@@ -25,9 +26,9 @@ def plain(value: Any) -> str:
     return value if isinstance(value, str) else json.dumps(value, sort_keys=True, separators=(",", ":"), ensure_ascii=False)
 
 
-def masked(value: Any) -> str:
-    """A text without its moments."""
-    return MOMENT.sub("MOMENT", plain(value))
+def shape(template: str) -> str:
+    """A path without the names of its parameters."""
+    return re.sub(r"\{\w+\}", "{}", template)
 
 
 def award_of(tree: Any) -> Any:
@@ -52,8 +53,7 @@ class Operation:
 
     def target(self, place: Iterable[object], query: str = "") -> str:
         """The target of a request for these things."""
-        parts = iter(place)
-        return re.sub(r"\{\w+\}", lambda _: str(next(parts)), self.template) + query
+        return shape(self.template).format(*place) + query
 
     def answer(self, name: str) -> Any:
         """The body of an answer of status 200."""
@@ -72,10 +72,7 @@ class Document:
     def resolved(self, node: Any) -> Any:
         """A node, or the node that it refers to."""
         while "$ref" in node:
-            words = node["$ref"].split("/")[1:]
-            node = self.tree
-            for word in words:
-                node = node[word]
+            node = target_of(self.tree, node["$ref"])
         return node
 
     def flaw(self, schema: Any, value: Any) -> str | None:
@@ -192,6 +189,6 @@ class Asker:
         answer = self.put(operation, who, place, data_of(body), query)
         self.check(answer.told() == want, f"{operation.method} {operation.target(place, query)} by {who}: {answer.told()}, and not {want}")
         if like and answer.told() == want:
-            is_same = masked(answer.value()) == masked(operation.answer(like))
-            self.check(is_same, f"{name}: the example {like} isn't what is answered: {masked(answer.value())[:400]}")
+            said, right = (MOMENT.sub("MOMENT", plain(value)) for value in (answer.value(), operation.answer(like)))
+            self.check(said == right, f"{name}: the example {like} isn't what is answered: {said[:400]}")
         return answer.value()

@@ -22,7 +22,7 @@ import yaml
 from hypothesis import HealthCheck, given, settings, strategies
 
 from office_kit.api import walk
-from office_kit.api.office import JSON, METHODS, Asker, Document, award_of, plain
+from office_kit.api.office import JSON, METHODS, Asker, Document, award_of, plain, shape
 from office_kit.client import PATIENCE
 from office_kit.common import ROOT, connect
 from office_kit.store.served import server
@@ -40,10 +40,6 @@ OTHERS = [MISSING_MEMBER, None, True, 5, 1.5, -1, "", "5", "a b", "\u00e4", "a\t
 
 
 # ---- The checks of an office, in the order of the states that they need.
-
-def shape(template):
-    return re.sub(r"\{\w+\}", "{}", template)
-
 
 def rows_of_table():
     """The routes of the program: each method and path, without the names of parameters."""
@@ -83,7 +79,6 @@ def methods(asker):
         right = [operation.method for operation in asker.operations if operation.template == path]
         for method in {*METHODS, right[0].lower()}.difference(right):
             answer = asker.send(method, re.sub(r"\{\w+\}", "1", path))
-            asker.seen.add((path, answer.told(), None))
             asker.judge(f"{method} {path}", response, answer)
             told = answer.told(), answer.fields.get("Allow")
             asker.check(told == ("WrongMethod", ", ".join(right)), f"{method} {path}: {told[0]}, Allow: {told[1]}")
