@@ -12,7 +12,6 @@ from typing import Any
 Table = Mapping[str, Sequence[str]]
 
 TABLES = tomllib.loads(Path(__file__).with_name("ocds.toml").read_text(encoding="utf-8"))
-LOTS_EXTENSION = "/ocds_lots_extension/"
 RELEASE: Table = TABLES["release"]
 RELEASE_WITH_LOTS: Table = {**RELEASE, **{place: [*RELEASE.get(place, []), *members] for place, members in TABLES["lots"].items()}}
 # The forms of texts. A moment is an RFC 3339 date-time, as 2026-02-01T09:00:00Z.
@@ -94,7 +93,7 @@ def check(path: str, value: Any, table: Table) -> None:
 
 def release_of(package: Any) -> Table:
     """The table of a release in this package, by the extensions that it names."""
-    return RELEASE_WITH_LOTS if any(LOTS_EXTENSION in address for address in package.get("extensions", [])) else RELEASE
+    return RELEASE_WITH_LOTS if any("/ocds_lots_extension/" in address for address in package.get("extensions", [])) else RELEASE
 
 
 def check_releases(package: Any, place: str) -> None:

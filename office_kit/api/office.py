@@ -157,9 +157,8 @@ class Asker:
         self.check(flaw is None, f"{method} {target}: {flaw}")
         return answer
 
-    def judge(self, where: str, response: dict[str, Any] | None, answer: Answer) -> None:
+    def judge(self, where: str, response: dict[str, Any], answer: Answer) -> None:
         """Notes an answer that isn't as the document says for its status."""
-        response = response or {}
         content = response.get("content", {}).get(answer.media)
         if content is None:
             return self.check(False, f"{where}: {answer.status} with {answer.media} isn't in the document: {answer.body[:100]!r}")
@@ -173,7 +172,7 @@ class Asker:
             fields: Sequence[str] | None = None) -> Answer:
         """The answer to a request of an operation, which is judged and remembered."""
         answer = self.send(operation.method, operation.target(place, query), who, body, fields)
-        self.judge(operation.name, operation.responses.get(answer.status), answer)
+        self.judge(operation.name, operation.responses.get(answer.status, {}), answer)
         name, what = (answer.told() + " ").split(" ")[:2]
         self.seen.add((operation.name, name, what or None))
         return answer

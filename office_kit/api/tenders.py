@@ -1,7 +1,6 @@
 """Tenders' files for tests: the forms of docs/TENDERER-API.md, files at the bounds, and files that hypothesis makes and shrinks; and the program's reading."""
 import functools
 import json
-import os
 import random
 import subprocess
 import tomllib
@@ -14,7 +13,7 @@ from hypothesis import HealthCheck, Phase, given, settings, strategies
 
 from office_kit.common import ROOT
 
-TOOL = os.path.join(ROOT, "tools", "check_tender")
+TOOL = f"{ROOT}/tools/check_tender"
 # The lots' items, of several kinds: those of docs/TENDERER-API.md, one alone, names that are words of the file's form, many, few and dear.
 KINDS = [
     [("I1", 3), ("I2", 10)],

@@ -26,11 +26,6 @@ LONG = {
 }
 
 
-def members_of(value: dict[str, Any]) -> str:
-    """The members of an object, for objects with others in place of some of them: of a member that comes twice, the last one counts."""
-    return json.dumps(value)[1:-1]
-
-
 def rows_of(section: str, names: dict[str, str]) -> Iterator[list[str]]:
     """The columns of each row of a section."""
     text = Path(__file__).with_suffix(".txt").read_text(encoding="utf-8").partition(f"\n== {section}\n")[2].partition("\n\n")[0]
@@ -55,9 +50,11 @@ def play(asker: Asker, section: str, **names: str) -> None:
     """Sends the requests of a section, and compares the answers."""
     for who, operation, place, told, *rest in rows_of(section, {**LONG, **names}):
         path, mark, query = place.partition("?")
-        want, _, state = told.partition(" ") if told.startswith("200") else (told, "", "")
-        body, like = body_of(asker, operation, rest[0]) if rest else b"", told[1:] if told.startswith("=") else None
-        answer = asker.ask(operation, who, *path.replace("-", "").split(), want="200" if like else want, body=body, query=mark + query, like=like)
+        body = body_of(asker, operation, rest[0]) if rest else b""
+        like = told[1:] if told.startswith("=") else None
+        state = told[4:] if told.startswith("200 ") else None
+        want = "200" if like or state else told
+        answer = asker.ask(operation, who, *path.replace("-", "").split(), want=want, body=body, query=mark + query, like=like)
         asker.check(not state or answer["state"] == state, f"{operation} {place} by {who}: the state is {answer}, and not {state}")
 
 
@@ -69,8 +66,8 @@ def walk(asker: Asker) -> None:
     now = int(time.time())
     deadline = text_of(now + SECONDS)
     terms = {name: member for name, member in notice(deadline).items() if name != "lots"}
-    play(asker, "before the deadline", near=text_of(now + SECONDS // 2), deadline=deadline, past=text_of(now - 1), notice=members_of(terms),
-         paving=members_of(PAVING))
+    moments = {"near": text_of(now + SECONDS // 2), "deadline": deadline, "past": text_of(now - 1)}
+    play(asker, "before the deadline", notice=json.dumps(terms)[1:-1], paving=json.dumps(PAVING)[1:-1], **moments)
     early = [one["security"] for one in asker.ask("securities", "clerk", "N1")["securities"] if one["tenderer"]]
     asker.check(not early, f"while tenders are received the securities {early} name their tenderers")
     asker.check(time.time() < now + SECONDS, f"this machine took more than {SECONDS} seconds up to the deadline of the notices")

@@ -1,8 +1,7 @@
 """docs/openapi.yaml is valid OpenAPI 3.1, and docs/API.md says the same. tests/api/test_answers.py compares it with the program.
 
-Its version is that of the newest entry of CHANGELOG.md. Each of its examples meets its schema and occurs in a transcript that the gate plays
-(crates/tests_of_runs/data). The page docs/API.md has the document's routes, with their callers and the members of answers, and its refusals. Each example there
-occurs in a transcript. Faults that are planted in copies of the document are found.
+Its version is that of the newest entry of CHANGELOG.md. Each of its examples meets its schema. They and the examples of docs/API.md occur in transcripts that
+the gate plays (crates/tests_of_runs/data). Faults that are planted in copies of the document are found.
 """
 import copy
 import json
