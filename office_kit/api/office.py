@@ -44,6 +44,8 @@ class Operation:
         self.name, self.template, self.method, self.node, self.callers = node["operationId"], template, method.upper(), node, node["x-callers"]
         parameters = [document.resolved(part) for part in (*item.get("parameters", []), *node.get("parameters", []))]
         self.places = [part["schema"] for part in parameters if part["in"] == "path"]
+        # Parts of the path that fit their schemas and name nothing.
+        self.nowhere: list[object] = ["nowhere" if document.flaw(schema, "nowhere") is None else 9999999999 for schema in self.places]
         self.queries = [part for part in parameters if part["in"] == "query"]
         self.responses: dict[str, dict[str, Any]] = {status: document.resolved(part) for status, part in node["responses"].items()}
         asked = node.get("requestBody", {"content": {}})

@@ -16,12 +16,11 @@ from office_kit.client import AHEAD, HEAD, lot, notice, text_of, wait_until
 SECONDS = AHEAD + 2
 HEADS = {"import": HEAD, "present": "item,quantity,unit,total\n"}
 PAVING = lot("L1", "2000", 600, 50)
-ITEM = {"title": "Paving", "quantity": 1}
-# What is too long to be written in the rows: parts of bodies at their bounds and above.
+# Texts that are too long for the rows: parts of bodies at their bounds and above.
 LONG = {
     "most_rows": " / ".join(["1000,add,1,Roads"] * 500),
     "most_bytes": "a" * 32768,
-    "many_items": json.dumps([{"id": f"I{number}", **ITEM} for number in range(51)]),
+    "many_items": json.dumps([{"id": f"I{number}", "title": "Paving", "quantity": 1} for number in range(51)]),
     "many_lots": json.dumps([{**PAVING, "id": f"L{number}", "estimate": 1} for number in range(21)]),
 }
 

@@ -84,16 +84,6 @@ def methods(asker):
             asker.check(told == ("WrongMethod", ", ".join(right)), f"{method} {path}: {told[0]}, Allow: {told[1]}")
 
 
-def is_named(document, schema):
-    """Whether a parameter is a name, and no number."""
-    return document.flaw(schema, "nowhere") is None
-
-
-def nowhere(asker, operation):
-    """Parameters of a path that name nothing."""
-    return ["nowhere" if is_named(asker.document, schema) else 9999999999 for schema in operation.places]
-
-
 def a_caller(operation):
     return next(who for who in ("public", "clerk", "T1") if may(operation, who))
 
@@ -107,8 +97,8 @@ def parameters(asker):
     texts = ("", "a", "a" * 32, "a" * 33, "A.z_-9", "a%20b", "a+b", "0", "01", "1", "9999999999", "10000000000", "-1", "%C3%A4")
     for operation in asker.operations:
         for (number, schema), text in itertools.product(enumerate(operation.places), texts):
-            value = int(text) if text.isdigit() and str(int(text)) == text and not is_named(asker.document, schema) else text
-            place = nowhere(asker, operation)
+            value = int(text) if text.isdigit() and str(int(text)) == text and operation.nowhere[number] != "nowhere" else text
+            place = [*operation.nowhere]
             place[number] = text
             told = asker.put(operation, a_caller(operation), place).told()
             asker.check((asker.document.flaw(schema, value) is None) == (told != "NoRoute"), f"{operation.target(place)}: {told}, unlike the schema")
@@ -129,7 +119,7 @@ def pages(asker):
 def rights(asker):
     """Each request here changes nothing, even if the caller may ask: it has no body, so an operation with a body refuses it, and its path names nothing."""
     for operation, who in itertools.product(asker.operations, ("public", "clerk", "T1")):
-        told = asker.put(operation, who, nowhere(asker, operation)).told()
+        told = asker.put(operation, who, operation.nowhere).told()
         asker.check(may(operation, who) == (told != "Forbidden"), f"{operation.name} by {who}: {told}, though x-callers is {operation.callers}")
 
 
@@ -141,7 +131,7 @@ def forms(asker):
             ("Coding", [*named, "Transfer-Encoding: chunked"]), ("BadKey", ["Office-Caller: clerk", "Office-Key: abd"]), ("BadKey", ["Office-Caller: clerk"]),
             ("BadKey", ["Office-Key: abc"]), ("BadKey", ["Office-Caller: nobody", "Office-Key: abc"]), ("BadKey", ["Office-Caller: clerk", *named])]
     for operation, (want, fields) in itertools.product(asker.operations, rows):
-        told = asker.put(operation, "public", nowhere(asker, operation), b"line" if want == "BadHead" else b"", fields=fields).told()
+        told = asker.put(operation, "public", operation.nowhere, b"line" if want == "BadHead" else b"", fields=fields).told()
         asker.check(told == want, f"{operation.name} with {fields[-1][:40]}: {told}, and not {want}")
 
 
@@ -188,7 +178,7 @@ def check_body(asker, operation, place, value, first):
 def bodies(asker):
     """The office has no lines and no tenderers. A right body names something that doesn't exist, or registers the clerk's name."""
     for operation in [operation for operation in asker.operations if operation.media == JSON]:
-        place = ["clerk"] if operation.name == "register" else nowhere(asker, operation)
+        place = ["clerk"] if operation.name == "register" else operation.nowhere
         # (If a body isn't required, no bytes mean no body.)
         none = [b""] if operation.needs_body else []
         for text in (*none, b" ", b"[]", b"{", b'"a"', b"null", b"\xff", b'{"a":1e999}', b'{"a":' + b"[" * 128 + b"]" * 128 + b"}"):
@@ -285,7 +275,7 @@ def by_schema(schema):
 @strategies.composite
 def asked(draw, operation):
     """A caller, a place, a body and a query. The body is an example or a value of its schema, one that is changed or cut, or bytes of any kind."""
-    place = [draw(strategies.sampled_from(NAMES if is_named(DOCUMENT, schema) else NUMBERS)) for schema in operation.places]
+    place = [draw(strategies.sampled_from(NAMES if nothing == "nowhere" else NUMBERS)) for nothing in operation.nowhere]
     body = draw(strategies.binary(max_size=40) | strategies.just(b"a" * 65_536))
     if operation.body and draw(strategies.integers(0, 9)):
         value = draw(strategies.sampled_from([it["value"] for it in operation.body["examples"].values()]) | by_schema(operation.body["schema"]))
