@@ -53,7 +53,7 @@ def fail(what: object) -> NoReturn:
 
 
 def run_script(main: Callable[[], int | None]) -> NoReturn:
-    """Runs a script. An interrupt, or a signal to end, ends it with 128 and its number, after everything that it opened is closed and removed."""
+    """Runs a script to its end. If a signal interrupts or ends it, it removes its temporary files, and its status is 128 and the number of the signal."""
     signal.signal(signal.SIGTERM, lambda number, _: sys.exit(128 + number))
     try:
         sys.exit(main())
