@@ -11,7 +11,7 @@ from string import Template
 from typing import Any
 
 from office_kit.api.office import Asker
-from office_kit.client import AHEAD, HEAD, lot, notice, text_of, wait_until
+from office_kit.client import AHEAD, HEAD, Client, Port, lot, notice, text_of, wait_until
 
 SECONDS = AHEAD + 2
 HEADS = {"import": HEAD, "present": "item,quantity,unit,total\n"}
@@ -67,7 +67,7 @@ def walk(asker: Asker) -> None:
     terms = {name: member for name, member in notice(deadline).items() if name != "lots"}
     moments = {"near": text_of(now + SECONDS // 2), "deadline": deadline, "past": text_of(now - 1)}
     play(asker, "before the deadline", notice=json.dumps(terms)[1:-1], paving=json.dumps(PAVING)[1:-1], **moments)
-    early = [one["security"] for one in asker.ask("securities", "clerk", "N1")["securities"] if one["tenderer"]]
+    early = [one["security"] for one in Client(Port(asker.port)).securities("N1")["securities"] if one["tenderer"]]
     asker.check(not early, f"while tenders are received the securities {early} name their tenderers")
     asker.check(time.time() < now + SECONDS, f"this machine took more than {SECONDS} seconds up to the deadline of the notices")
     wait_until(now + SECONDS + 1)
