@@ -10,12 +10,13 @@ import itertools
 import os
 import re
 import shutil
+import signal
 import socket
 import subprocess
 import sys
 import threading
 import time
-from collections.abc import Iterable, Iterator, Sequence
+from collections.abc import Callable, Iterable, Iterator, Sequence
 from typing import Any, NoReturn
 
 # A name and a key. An empty one isn't sent.
@@ -30,6 +31,8 @@ CLERK = (b"clerk", b"abc")
 OK = b"HTTP/1.1 200 OK\r\n"
 FIELDS = (b"Office-Caller", b"Office-Key")
 LENGTH = re.compile(rb"\r\nContent-Length: (\d+)\r\n")
+# The kinds of scripts, each by the ending of its files or by their first line.
+SCRIPTS = {"python": (".py", re.compile(rb"#!.*\bpython3?\b")), "shell": (".sh", re.compile(rb"#!.*\b(ba)?sh\b"))}
 # Names that come in no order: this prime divides no count of tens.
 STRIDE = 7919
 # The thread that holds this chooses the next port.
@@ -49,10 +52,26 @@ def fail(what: object) -> NoReturn:
     sys.exit(f"{os.path.basename(sys.argv[0])}: {what}")
 
 
+def run_script(main: Callable[[], int | None]) -> NoReturn:
+    """Runs a script to its end. If a signal interrupts or ends it, it removes its temporary files, and its status is 128 and the number of the signal."""
+    signal.signal(signal.SIGTERM, lambda number, _: sys.exit(128 + number))
+    try:
+        sys.exit(main())
+    except KeyboardInterrupt:
+        sys.exit(130)
+
+
 def check(said: str, holds: object) -> None:
     """Checks that something holds; otherwise raises the message."""
     if not holds:
         raise AssertionError(said)
+
+
+def kind_of(path: str | os.PathLike[str]) -> str | None:
+    """Which kind of script a file is, or None."""
+    with open(path, "rb") as file:
+        first = file.readline(200)
+    return next((kind for kind, (end, mark) in SCRIPTS.items() if str(path).endswith(end) or mark.match(first)), None)
 
 
 def place_of(tool: str) -> str | None:

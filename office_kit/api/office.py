@@ -1,22 +1,24 @@
 """Serves an office and compares its answers with docs/openapi.yaml. Used by tests/api/."""
 import json
-import os
 import re
 from collections.abc import Iterable, Iterator, Sequence
+from pathlib import Path
 from typing import Any
 
 import jsonschema
 import yaml
 from jsonschema.exceptions import best_match
 
-from office_kit.client import Client, data_of
-from office_kit.common import ROOT, Caller, exchange, fail
+from office_kit.api.openapi_rules import target_of
+from office_kit.client import data_of
+from office_kit.common import ROOT, exchange
 from office_kit.gate.transcripts import PHRASES
 
-DOCUMENT = os.path.join(ROOT, "docs", "openapi.yaml")
+DOCUMENT = Path(ROOT, "docs", "openapi.yaml")
 JSON = "application/json"
 METHODS = ("GET", "POST", "PUT", "DELETE", "HEAD", "PATCH", "OPTIONS")
 MOMENT = re.compile(r"\d{4}-\d\d-\d\dT\d\d:\d\d:\d\dZ")
+KEYS = {"clerk": "abc", "T1": "hello", "T2": "hello", "T3": "hello"}
 
 
 def plain(value: Any) -> str:
@@ -24,9 +26,14 @@ def plain(value: Any) -> str:
     return value if isinstance(value, str) else json.dumps(value, sort_keys=True, separators=(",", ":"), ensure_ascii=False)
 
 
-def masked(value: Any) -> str:
-    """A text without its moments."""
-    return MOMENT.sub("MOMENT", plain(value))
+def shape(template: str) -> str:
+    """A path without the names of its parameters."""
+    return re.sub(r"\{\w+\}", "{}", template)
+
+
+def award_of(tree: Any) -> Any:
+    """The operation in a document in which tests plant faults."""
+    return tree["paths"]["/notices/{notice}/lots/{lot}/award"]["post"]
 
 
 class Operation:
@@ -34,15 +41,13 @@ class Operation:
 
     def __init__(self, document: "Document", template: str, method: str, item: dict[str, Any]) -> None:
         node = item[method]
-        if lacking := {"operationId", "x-callers", "responses"} - set(node):
-            fail(f"{method} {template} has no {', '.join(sorted(lacking))}")
-        self.name, self.template, self.method, self.node = node["operationId"], template, method.upper(), node
-        self.callers = node["x-callers"]
-        parameters = [document.resolved(part) for part in item.get("parameters", [])]
+        self.name, self.template, self.method, self.node, self.callers = node["operationId"], template, method.upper(), node, node["x-callers"]
+        parameters = [document.resolved(part) for part in (*item.get("parameters", []), *node.get("parameters", []))]
         self.places = [part["schema"] for part in parameters if part["in"] == "path"]
-        self.queries = [part for part in map(document.resolved, node.get("parameters", [])) if part["in"] == "query"]
+        # Parts of the path that fit their schemas and name nothing.
+        self.nowhere: list[object] = ["nowhere" if document.flaw(schema, "nowhere") is None else 9999999999 for schema in self.places]
+        self.queries = [part for part in parameters if part["in"] == "query"]
         self.responses: dict[str, dict[str, Any]] = {status: document.resolved(part) for status, part in node["responses"].items()}
-        self.form = re.compile(re.sub(r"\\\{\w+\\\}", "([^/]+)", re.escape(template)))
         asked = node.get("requestBody", {"content": {}})
         self.media: str = next(iter(asked["content"]), "")
         self.body: dict[str, Any] = asked["content"].get(self.media, {})
@@ -50,12 +55,7 @@ class Operation:
 
     def target(self, place: Iterable[object], query: str = "") -> str:
         """The target of a request for these things."""
-        parts = iter(place)
-        return re.sub(r"\{\w+\}", lambda _: str(next(parts)), self.template) + query
-
-    def example(self, name: str) -> Any:
-        """The body of a request."""
-        return self.body["examples"][name]["value"]
+        return shape(self.template).format(*place) + query
 
     def answer(self, name: str) -> Any:
         """The body of an answer of status 200."""
@@ -65,29 +65,16 @@ class Operation:
 class Document:
     """docs/openapi.yaml, or another file of its kind."""
 
-    def __init__(self, path: str = DOCUMENT) -> None:
-        try:
-            with open(path, encoding="utf-8") as file:
-                self.tree = yaml.load(file, getattr(yaml, "CSafeLoader", yaml.SafeLoader))
-        except (OSError, yaml.YAMLError) as error:
-            fail(f"{path}: {error}")
+    def __init__(self, path: Path = DOCUMENT) -> None:
+        self.tree = yaml.load(path.read_text(encoding="utf-8"), getattr(yaml, "CSafeLoader", yaml.SafeLoader))
         self.validators: dict[int, Any] = {}
-        self.operations: dict[str, Operation] = {}
-        for template, item in self.tree["paths"].items():
-            for method in item:
-                if method.upper() in METHODS:
-                    operation = Operation(self, template, method, item)
-                    self.operations[operation.name] = operation
+        found = (Operation(self, template, method, item) for template, item in self.tree["paths"].items() for method in item if method.upper() in METHODS)
+        self.operations = {operation.name: operation for operation in found}
 
     def resolved(self, node: Any) -> Any:
         """A node, or the node that it refers to."""
         while "$ref" in node:
-            words = node["$ref"].split("/")[1:]
-            node = self.tree
-            for word in words:
-                if word not in node:
-                    fail(f"the document has no {'/'.join(words)}")
-                node = node[word]
+            node = target_of(self.tree, node["$ref"])
         return node
 
     def flaw(self, schema: Any, value: Any) -> str | None:
@@ -97,13 +84,6 @@ class Document:
             self.validators[id(schema)] = jsonschema.Draft202012Validator(whole)
         error = best_match(self.validators[id(schema)].iter_errors(value))
         return None if error is None else f"{error.json_path}: {error.message[:200]}"
-
-    def operation_at(self, method: str, path: str) -> tuple[Operation, Sequence[str]]:
-        """The operation at a path, and the names in the path."""
-        for operation in self.operations.values():
-            if operation.method == method and (found := operation.form.fullmatch(path)):
-                return operation, found.groups()
-        fail(f"the document has no operation {method} {path}")
 
     def refusals(self) -> Iterator[tuple[str, str, str, str | None]]:
         """Each operation's name with the status and the name of each refusal that it lists, and the first word of each `what`."""
@@ -126,8 +106,7 @@ class Answer:
     def __init__(self, data: bytes) -> None:
         head, end, self.body = data.partition(b"\r\n\r\n")
         self.lines = head.decode("latin-1").split("\r\n")
-        if not end or not self.lines[0].startswith("HTTP/1.1 "):
-            raise ValueError(f"no response: {data[:100]!r}")
+        assert end and self.lines[0].startswith("HTTP/1.1 "), f"no response: {data[:100]!r}"
         self.status = self.lines[0].split(" ")[1]
         self.fields = dict(line.split(": ", 1) for line in self.lines[1:])
         self.media = self.fields.get("Content-Type", "")
@@ -154,85 +133,63 @@ class Answer:
         return None
 
 
-class Judged:
-    """Carries requests by way of the document: each is one of its operations, and must be accepted, and answered as an example where one is named."""
-
-    def __init__(self, asker: "Asker", like: str | None) -> None:
-        self.asker, self.like = asker, like
-
-    def send(self, method: str, target: str, body: bytes, caller: Caller | None) -> Any:
-        path, mark, query = target.partition("?")
-        operation, place = self.asker.document.operation_at(method, path)
-        return self.asker.ask(operation.name, caller[0].decode() if caller else "public", *place, body=body, query=mark + query, like=self.like)
-
-
 class Asker:
     """Asks an office, and notes what isn't as the document says."""
 
-    KEYS = {"clerk": "abc", "T1": "hello", "T2": "hello", "T3": "hello"}
-
     def __init__(self, document: Document, port: int) -> None:
-        self.document, self.port, self.count = document, port, 0
+        self.document, self.port = document, port
+        self.operations = document.operations.values()
         self.flaws: list[str] = []
         self.seen: set[tuple[str, str, str | None]] = set()
 
-    def office(self, like: str | None = None) -> Client[Any]:
-        """A client whose requests are judged by the document; each is answered as the example that is named."""
-        return Client(Judged(self, like), lambda who: self.KEYS[who])
-
-    def note(self, text: str) -> None:
-        self.flaws.append(text)
-
-    def operation(self, name: str) -> Operation:
-        if name not in self.document.operations:
-            fail(f"the document has no operation {name}")
-        return self.document.operations[name]
+    def check(self, holds: object, flaw: str) -> None:
+        """Notes a flaw, unless something holds."""
+        if not holds:
+            self.flaws.append(flaw)
 
     def send(self, method: str, target: str, who: str = "public", body: bytes = b"", fields: Sequence[str] | None = None) -> Answer:
         """The answer to a request. Faults of its form are noted. Given fields replace those of this caller's requests."""
         if fields is None:
-            named = [] if who == "public" else [f"Office-Caller: {who}", f"Office-Key: {self.KEYS[who]}"]
+            named = [] if who == "public" else [f"Office-Caller: {who}", f"Office-Key: {KEYS[who]}"]
             fields = [*named, f"Content-Length: {len(body)}"]
-        self.count += 1
         # The server reads no more of a longer head. Bytes that it doesn't read reset the connection, perhaps before the answer comes.
         head = "\r\n".join([f"{method} {target} HTTP/1.1", *fields, "", ""]).encode()[:8192]
         answer = Answer(exchange(self.port, head + body, ends=True)[0])
-        if flaw := answer.flaw():
-            self.note(f"{method} {target}: {flaw}")
+        flaw = answer.flaw()
+        self.check(flaw is None, f"{method} {target}: {flaw}")
         return answer
 
-    def judge(self, where: str, response: dict[str, Any] | None, answer: Answer) -> None:
+    def judge(self, where: str, response: dict[str, Any], answer: Answer) -> None:
         """Notes an answer that isn't as the document says for its status."""
-        response = response or {}
         content = response.get("content", {}).get(answer.media)
         if content is None:
-            return self.note(f"{where}: {answer.status} with {answer.media} isn't in the document: {answer.body[:100]!r}")
+            return self.check(False, f"{where}: {answer.status} with {answer.media} isn't in the document: {answer.body[:100]!r}")
         for name, header in response.get("headers", {}).items():
-            if flaw := self.document.flaw(header["schema"], answer.fields.get(name)):
-                self.note(f"{where}: {answer.status}: {name}: {flaw}")
-        if flaw := self.document.flaw(content["schema"], answer.value()):
-            self.note(f"{where}: {answer.status} {answer.body[:120]!r}: {flaw}")
+            flaw = self.document.flaw(header["schema"], answer.fields.get(name))
+            self.check(flaw is None, f"{where}: {answer.status}: {name}: {flaw}")
+        flaw = self.document.flaw(content["schema"], answer.value())
+        self.check(flaw is None, f"{where}: {answer.status} {answer.body[:120]!r}: {flaw}")
 
     def put(self, operation: Operation, who: str, place: Iterable[object], body: bytes = b"", query: str = "",
             fields: Sequence[str] | None = None) -> Answer:
         """The answer to a request of an operation, which is judged and remembered."""
         answer = self.send(operation.method, operation.target(place, query), who, body, fields)
-        self.judge(operation.name, operation.responses.get(answer.status), answer)
+        self.judge(operation.name, operation.responses.get(answer.status, {}), answer)
         name, what = (answer.told() + " ").split(" ")[:2]
         self.seen.add((operation.name, name, what or None))
         return answer
 
     def sent(self, name: str, example: str, /, **members: Any) -> Any:
         """The example of an operation's body with these members in place of its own; a text is left as it is."""
-        value = self.operation(name).example(example)
+        value = self.document.operations[name].body["examples"][example]["value"]
         return {**value, **members} if isinstance(value, dict) else value
 
     def ask(self, name: str, who: str, *place: object, want: str = "200", body: Any = b"", query: str = "", like: str | None = None) -> Any:
         """The answer. `want` is the expected one; with `like`, it must equal this example except for moments."""
-        operation = self.operation(name)
+        operation = self.document.operations[name]
         answer = self.put(operation, who, place, data_of(body), query)
-        if answer.told() != want:
-            self.note(f"{operation.method} {operation.target(place, query)} by {who}: {answer.told()}, and not {want}")
-        elif like and masked(answer.value()) != masked(operation.answer(like)):
-            self.note(f"{name}: the example {like} isn't what is answered: {masked(answer.value())[:400]}")
+        self.check(answer.told() == want, f"{operation.method} {operation.target(place, query)} by {who}: {answer.told()}, and not {want}")
+        if like and answer.told() == want:
+            said, right = (MOMENT.sub("MOMENT", plain(value)) for value in (answer.value(), operation.answer(like)))
+            self.check(said == right, f"{name}: the example {like} isn't what is answered: {said[:400]}")
         return answer.value()

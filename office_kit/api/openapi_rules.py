@@ -1,72 +1,18 @@
-"""The rules of OpenAPI 3.1 that this repository's document needs: a schema of the objects of its section 4.8, and rules that no schema can state.
+"""The rules of OpenAPI 3.1 that this repository's document needs: the schema openapi-3.1.yaml, and rules that no schema can state.
 
-META has the fields of each object that may be in docs/openapi.yaml, with the required ones: another field, or a missing one, is a fault. (Fields of callbacks,
-links, encodings and webhooks are left out: a document with them is refused here, although OpenAPI has them.) Schemas are JSON Schema 2020-12, as OpenAPI 3.1
-uses them by its dialect.
+The document's own schemas are JSON Schema 2020-12, as OpenAPI 3.1 uses them by its dialect.
 """
 import re
 from collections.abc import Iterator
+from pathlib import Path
 from typing import Any
 
 import jsonschema
+import yaml
 from jsonschema.exceptions import best_match
 
+META = yaml.safe_load(Path(__file__).with_name("openapi-3.1.yaml").read_text(encoding="utf-8"))
 METHODS = ("get", "put", "post", "delete", "options", "head", "patch", "trace")
-TEXT, FLAG, ANYTHING = {"type": "string"}, {"type": "boolean"}, True
-SCHEMA = {"type": ["object", "boolean"]}
-
-
-def thing(needed: str = "", /, **fields: Any) -> dict[str, Any]:
-    """An object with these fields, or others that begin with x-."""
-    return {"type": "object", "properties": fields, "required": needed.split(), "patternProperties": {"^x-": True}, "additionalProperties": False}
-
-
-def table(part: Any, names: str = r"^[a-zA-Z0-9._-]+$") -> dict[str, Any]:
-    """An object whose names have a form, and whose values are of one kind."""
-    return {"type": "object", "patternProperties": {names: part}, "additionalProperties": False}
-
-
-def of(kind: str) -> dict[str, str]:
-    return {"$ref": f"#/$defs/{kind}"}
-
-
-def or_reference(kind: str) -> dict[str, Any]:
-    """An object, or a reference in its place."""
-    return {"if": {"type": "object", "required": ["$ref"]}, "then": of("reference"), "else": of(kind)}
-
-
-def listed(part: Any, **more: Any) -> dict[str, Any]:
-    return {"type": "array", "items": part, **more}
-
-
-PARAMETER = {"required": FLAG, "description": TEXT, "deprecated": FLAG, "schema": SCHEMA, "example": ANYTHING, "examples": table(or_reference("example"), ".")}
-KINDS = {
-    "info": thing("title version", title=TEXT, version=TEXT, summary=TEXT, description=TEXT, termsOfService=TEXT,
-                  contact=thing(name=TEXT, url=TEXT, email=TEXT), license=thing("name", name=TEXT, identifier=TEXT, url=TEXT)),
-    "server": thing("url", url=TEXT, description=TEXT),
-    "tag": thing("name", name=TEXT, description=TEXT),
-    "reference": thing("$ref", **{"$ref": TEXT, "summary": TEXT, "description": TEXT}),
-    "path": thing(summary=TEXT, description=TEXT, parameters=listed(or_reference("parameter")), **dict.fromkeys(METHODS, of("operation"))),
-    "operation": thing("responses", tags=listed(TEXT), summary=TEXT, description=TEXT, operationId=TEXT, deprecated=FLAG,
-                       parameters=listed(or_reference("parameter")), requestBody=or_reference("body"), security=listed(table(listed(TEXT))),
-                       responses={"minProperties": 1, **table(or_reference("response"), r"^(default|[1-5](\d\d|XX))$")}),
-    "parameter": {**thing("name in schema", name=TEXT, **{"in": {"enum": ["path", "query", "header", "cookie"]}}, style=TEXT, explode=FLAG, **PARAMETER),
-                  "if": {"properties": {"in": {"const": "path"}}}, "then": {"properties": {"required": {"const": True}}, "required": ["required"]}},
-    "header": thing("schema", **PARAMETER),
-    "body": thing("content", content=table(of("media"), "^[^/]+/[^/]+$"), required=FLAG, description=TEXT),
-    "media": thing(schema=SCHEMA, example=ANYTHING, examples=table(or_reference("example"), ".")),
-    "example": thing(summary=TEXT, description=TEXT, value=ANYTHING, externalValue=TEXT),
-    "response": thing("description", description=TEXT, headers=table(or_reference("header"), "."), content=table(of("media"), "^[^/]+/[^/]+$")),
-    "securityScheme": {"oneOf": [thing("type name in", type={"const": "apiKey"}, name=TEXT, description=TEXT,
-                                       **{"in": {"enum": ["query", "header", "cookie"]}}),
-                                 thing("type scheme", type={"const": "http"}, scheme=TEXT, bearerFormat=TEXT, description=TEXT)]},
-    "components": thing(schemas=table(SCHEMA), responses=table(or_reference("response")), parameters=table(or_reference("parameter")),
-                        examples=table(or_reference("example")), requestBodies=table(or_reference("body")), headers=table(or_reference("header")),
-                        securitySchemes=table(or_reference("securityScheme"))),
-}
-META = {**thing("openapi info paths", openapi={"type": "string", "pattern": r"^3\.1\.\d+$"}, info=of("info"), servers=listed(of("server")),
-                paths={**table(of("path"), "^/"), "patternProperties": {"^/": of("path"), "^x-": True}}, components=of("components"),
-                tags=listed(of("tag")), security=listed(table(listed(TEXT)))), "$defs": KINDS}
 
 
 def nodes_of(tree: Any, way: tuple[str, ...] = ()) -> Iterator[tuple[tuple[str, ...], dict[str, Any]]]:
@@ -88,40 +34,38 @@ def target_of(tree: Any, reference: str) -> Any:
     return tree
 
 
-def operations_of(tree: Any) -> Iterator[tuple[str, str, dict[str, Any], list[Any]]]:
-    """Each path with a method, the operation and its parameters, those of the path among them."""
-    for path, item in tree["paths"].items():
-        for method in METHODS:
-            if method in item:
-                named = [*item.get("parameters", []), *item[method].get("parameters", [])]
-                yield path, method, item[method], [target_of(tree, it["$ref"]) if "$ref" in it else it for it in named]
-
-
 def flaws_of_schemas(tree: Any) -> Iterator[str]:
     """Schemas that aren't JSON Schema 2020-12."""
     for way, node in nodes_of(tree):
-        is_schema = way[-1:] == ("schema",) or way[:2] == ("components", "schemas") and len(way) == 3
-        if is_schema:
+        if way[-1:] == ("schema",) or way[:2] == ("components", "schemas") and len(way) == 3:
             try:
                 jsonschema.Draft202012Validator.check_schema(node)
             except jsonschema.SchemaError as error:
                 yield f"{'/'.join(way)}: no schema: {error.message[:200]}"
 
 
+def flaws_of_operation(tree: Any, where: str, path: str, operation: dict[str, Any], named: list[Any]) -> Iterator[str]:
+    """Parameters of the path that aren't in it, those in it that nothing declares, and unknown names, in an operation with these parameters."""
+    parameters = [target_of(tree, it["$ref"]) if "$ref" in it else it for it in named]
+    declared = sorted(it["name"] for it in parameters if it and it["in"] == "path")
+    if declared != sorted(re.findall(r"\{([^}]+)\}", path)):
+        yield f"{where}: its parameters are declared as {declared}"
+    for unknown in {name for one in operation.get("security", []) for name in one}.difference(tree.get("components", {}).get("securitySchemes", {})):
+        yield f"{where}: no security scheme {unknown}"
+    for unknown in set(operation.get("tags", [])) - {tag["name"] for tag in tree.get("tags", [])}:
+        yield f"{where}: no tag {unknown}"
+
+
 def flaws_of_operations(tree: Any) -> Iterator[str]:
-    """Names that come twice, parameters of paths that aren't in the path, and those in the path that nothing declares."""
-    names = [operation.get("operationId") for _, _, operation, _ in operations_of(tree)]
-    for name in sorted({name for name in names if name and names.count(name) > 1}):
-        yield f"operationId {name}: {names.count(name)} times"
-    schemes, tags = tree.get("components", {}).get("securitySchemes", {}), {tag["name"] for tag in tree.get("tags", [])}
-    for path, method, operation, parameters in operations_of(tree):
-        declared = sorted(it["name"] for it in parameters if it and it["in"] == "path")
-        if declared != sorted(re.findall(r"\{([^}]+)\}", path)):
-            yield f"{method} {path}: its parameters are declared as {declared}"
-        for unknown in {name for one in operation.get("security", []) for name in one} - set(schemes):
-            yield f"{method} {path}: no security scheme {unknown}"
-        for unknown in set(operation.get("tags", [])) - tags:
-            yield f"{method} {path}: no tag {unknown}"
+    """The flaws of each operation, and names that come twice."""
+    names: list[str] = []
+    for path, item in tree["paths"].items():
+        for method in sorted(item.keys() & METHODS):
+            name = item[method].get("operationId")
+            if name in names:
+                yield f"operationId {name} comes twice"
+            names += [name] if name else []
+            yield from flaws_of_operation(tree, f"{method} {path}", path, item[method], [*item.get("parameters", []), *item[method].get("parameters", [])])
 
 
 def flaws_of(tree: Any) -> list[str]:

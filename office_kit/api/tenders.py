@@ -1,18 +1,19 @@
 """Tenders' files for tests: the forms of docs/TENDERER-API.md, files at the bounds, and files that hypothesis makes and shrinks; and the program's reading."""
 import functools
 import json
-import os
 import random
 import subprocess
+import tomllib
 import types
 from collections.abc import Callable
+from pathlib import Path
 from typing import Any, NamedTuple
 
 from hypothesis import HealthCheck, Phase, given, settings, strategies
 
 from office_kit.common import ROOT
 
-TOOL = os.path.join(ROOT, "tools", "check_tender")
+TOOL = f"{ROOT}/tools/check_tender"
 # The lots' items, of several kinds: those of docs/TENDERER-API.md, one alone, names that are words of the file's form, many, few and dear.
 KINDS = [
     [("I1", 3), ("I2", 10)],
@@ -34,68 +35,28 @@ class Case(NamedTuple):
     data: bytes
 
 
-HEAD, FIRST, SECOND, SUM = "item,quantity,unit,total", "I1,3,150,450", "I2,10,12,120", "TOTAL,,,570"
-RIGHT = [HEAD, FIRST, SECOND, SUM]
+# The parts of a right file, and files by their forms.
+TEXTS = tomllib.loads(Path(__file__).with_name("forms.toml").read_text(encoding="utf-8"))
+RIGHT: list[str] = [TEXTS[name] for name in ("head", "first", "second", "sum")]
+HEAD, SUM = RIGHT[0], RIGHT[-1]
 
 
 def lines(*parts: str, end: str = "\n", last: str = "\n") -> bytes:
     return (end.join(parts) + last).encode()
 
 
-def with_first(line: str) -> bytes:
-    """The right file, with another first row."""
-    return lines(HEAD, line, SECOND, SUM)
-
-
-def parted(sign: bytes) -> bytes:
-    """The right file, with something else than commas between the fields."""
-    return lines(*RIGHT).replace(b",", sign)
+def file_of(form: str | list[str]) -> bytes:
+    """A file of forms.toml."""
+    return form.encode() if isinstance(form, str) else lines(*(TEXTS.get(line, line) for line in form))
 
 
 # The forms of the document's table, each by the words of its first column.
-FORMS = {
-    "as above": [lines(*RIGHT)],
-    "line ends of Windows (CR LF) or of old Macs (CR)": [lines(*RIGHT, end="\r\n", last="\r\n"), lines(*RIGHT, end="\r", last="\r")],
-    "a byte order mark at the start, as in Excel's `CSV UTF-8`": [b"\xef\xbb\xbf" + lines(*RIGHT)],
-    "all fields in quotation marks": [lines(*(",".join(f'"{field}"' for field in line.split(",")) for line in RIGHT))],
-    "empty lines, or no line end after the last line": [lines(HEAD, "", FIRST, SECOND, SUM, "", ""), lines(*RIGHT, last="")],
-    "leading zeros": [lines(HEAD, "I1,03,0150,450", SECOND, SUM)],
-    "a wrong product": [with_first("I1,3,150,460")],
-    "a wrong sum": [lines(HEAD, FIRST, SECOND, "TOTAL,,,580")],
-    "semicolons, tabs or vertical bars between the fields": [parted(b";"), parted(b"\t"), parted(b"|")],
-    "cents": [with_first(line) for line in ("I1,3,150.50,451.50", "I1,3,150.00,450.00", 'I1,3,"150,00","450,00"', "I1,3,150,00,450,00")],
-    "a quantity of `3.0`": [with_first("I1,3.0,150,450")],
-    "digits in groups": [with_first(f"I1,3,{unit},{total}") for unit, total in (
-        ('"1,500"', '"4,500"'), ("1,500", "4,500"), ("1.500", "4.500"), ("1 500", "4 500"), ("1'500", "4'500"), ("1\u00a0500", "4\u00a0500"))],
-    "an exponent, as spreadsheets write large numbers": [with_first("I1,3,1.5E+02,4.5E+02"), with_first('I1,3,"1,5E+02","4,5E+02"')],
-    "a currency": [with_first(f"I1,3,{unit},{total}") for unit, total in (("150 EUR", "450 EUR"), ("€150", "€450"), ("150.-", "450.-"))],
-    "a space beside a number": [with_first("I1, 3, 150, 450"), with_first("I1,3 ,150 ,450")],
-    "a total left empty, or a formula": [with_first("I1,3,150,"), with_first("I1,3,150,=B2*C2"), with_first("I1,3,150,#REF!")],
-    "capitals in the header": [lines(line, FIRST, SECOND, SUM) for line in ("Item,Quantity,Unit,Total", "ITEM,QUANTITY,UNIT,TOTAL")],
-    "a header in other words, or none": [lines("Position,Menge,Preis,Summe", FIRST, SECOND, SUM), lines(FIRST, SECOND, SUM)],
-    "a line above the header": [lines("sep=,", *RIGHT), lines("Tender of Alpha,,,", *RIGHT)],
-    "an empty column": [lines(*(line + "," for line in RIGHT))],
-    "a column of titles": [lines("item,title,quantity,unit,total", "I1,Paving,3,150,450", "I2,Kerbs,10,12,120", "TOTAL,,,,570")],
-    "lines of only commas or spaces": [lines(*RIGHT, ",,,"), lines(HEAD, FIRST, ",,,", SECOND, SUM), lines(*RIGHT, " ")],
-    "a line after the sum": [lines(*RIGHT, "without VAT"), lines(*RIGHT, "VAT,,,108")],
-    "no `TOTAL`": [lines(HEAD, FIRST, SECOND), lines(HEAD, FIRST, SECOND, ",,,570")],
-    "`Total`, or a quantity in its line": [lines(HEAD, FIRST, SECOND, "Total,,,570"), lines(HEAD, FIRST, SECOND, "TOTAL,13,,570")],
+FORMS = {name: list(map(file_of, files)) for name, files in TEXTS["forms"].items()} | {
     "UTF-16, as in Excel's `Unicode text`": [lines("\ufeff" + HEAD, *RIGHT[1:]).decode().encode("utf-16-le"), lines(*RIGHT).decode().encode("utf-16-be")],
     "a PDF, a workbook, a page": [
         b"%PDF-1.7\n%\xe2\xe3\xcf\xd3\n1 0 obj\n", b"PK\x03\x04\x14\x00\x06\x00" + bytes(range(256)), b"<html><table><tr><td>I1</td></tr></table></html>"],
-    "the lot before the item": [with_first("L1/I1,3,150,450")],
-    "an item in other letters, or with a space": [with_first("i1,3,150,450"), with_first("I1 ,3,150,450")],
-    "another order": [lines(HEAD, SECOND, FIRST, SUM)],
-    "a missing item, an extra item, or an item twice": [
-        lines(HEAD, FIRST, "TOTAL,,,450"), lines(HEAD, FIRST, SECOND, "I3,1,5,5", "TOTAL,,,575"), lines(HEAD, FIRST, FIRST, SECOND, SUM)],
-    "several lots in one file": [lines(HEAD, FIRST, SECOND, "I1,1,290,290", "TOTAL,,,860")],
-    "another quantity": [with_first("I1,4,150,600")],
-    "a unit price above 10^9": [with_first("I1,3,1000000001,3000000003")],
-    "an empty file": [b""],
     "more than 32,768 bytes": [lines(*RIGHT, last="\n" * 32768)],
 }
-
-
 MARK = b"\xef\xbb\xbf"
 FIGURES = ["0", "1", "00", "007", "999999999", "1000000000", "1000000001", "1000000000000", "1000000000001", "1000000000000000", "1000000000000001",
            "0000000000000001", "00000000000000001", "9999999999999999", "12.5", "3.0", "1,000", "-1", "+1", " 1", "1 ", "1e3", "", "x", "\u0661", '"5"', '""',
@@ -198,11 +159,10 @@ def lot_of(kind: int) -> dict[str, Any]:
 
 def tool(change: tuple[str, str] = ("", "")) -> types.ModuleType:
     """tools/check_tender as a module, with a text in it changed."""
-    with open(TOOL, encoding="utf-8") as file:
-        source = file.read()
+    source = Path(TOOL).read_text(encoding="utf-8")
     assert not change[0] or source.count(change[0]) == 1
     module = types.ModuleType("check_tender")
-    exec(compile(source.replace(*change) if change[0] else source, TOOL, "exec"), module.__dict__)
+    exec(compile(source.replace(*change), TOOL, "exec"), module.__dict__)
     return module
 
 
@@ -210,18 +170,14 @@ class Reader:
     """`procure read-tender`, for lots of the kinds."""
 
     def __init__(self, program: str, folder: str) -> None:
-        self.program, self.folder = program, folder
-        for kind in range(len(KINDS)):
-            with open(self.place_of(kind), "w") as file:
-                json.dump(lot_of(kind), file)
-
-    def place_of(self, kind: int) -> str:
-        return os.path.join(self.folder, f"items-{kind}.json")
+        self.program, self.places = program, [Path(folder, f"items-{kind}.json") for kind in range(len(KINDS))]
+        for kind, place in enumerate(self.places):
+            place.write_text(json.dumps(lot_of(kind)))
 
     @functools.lru_cache(maxsize=None)
     def read(self, kind: int, data: bytes) -> tuple[str, str | None]:
         """The reading of a file in the words of the minutes, and the digest, if there is one."""
-        done = subprocess.run([self.program, "read-tender", self.place_of(kind), "/dev/stdin"], input=data, capture_output=True)
+        done = subprocess.run([self.program, "read-tender", self.places[kind], "/dev/stdin"], input=data, capture_output=True)
         told = json.loads(done.stdout)
         word = str(told.get("reading", "not taken"))
         assert (done.returncode, done.stderr) == ((0, b"") if word == "priced" else (1, b"procure: input\n"))

@@ -1,11 +1,8 @@
 """The program answers as docs/openapi.yaml says: everything in it is sent to an office that is served, and much that is wrong, and each answer is compared.
 
-- The operations are the routes of crates/office_commands/src/table.rt. The program has no other route at a path made of the same words. Another method is
-  answered with the right one. A parameter of a path, or the start of a page, is accepted exactly if its schema accepts it.
-- Exactly the callers that an operation names may ask it.
-- A JSON body is accepted exactly if its schema accepts it: each member is left out, set to its bounds and beyond, and replaced by other values.
-- The examples of requests are answered with the examples of answers, except for moments. Deadlines are set a few seconds ahead and waited for
-  (office_kit/api/walk.py).
+- Its operations are the routes of crates/office_commands/src/table.rt, and no other path made of the same words is a route.
+- A parameter, the start of a page, and each member of a JSON body is accepted exactly if its schema accepts it.
+- The examples of requests are answered with the examples of answers, except for moments, in a walk through all commands (office_kit/api/walk.py).
 - Each answer has the head, status, media type and body that the document says. Each refusal that an operation lists occurs, except those in CANT, which would
   take days or all memory.
 - Requests that hypothesis makes of each operation, by each caller, are answered as the document says. Documents that say something else are found.
@@ -25,7 +22,7 @@ import yaml
 from hypothesis import HealthCheck, given, settings, strategies
 
 from office_kit.api import walk
-from office_kit.api.office import JSON, METHODS, Asker, Document, plain
+from office_kit.api.office import JSON, METHODS, Asker, Document, award_of, plain, shape
 from office_kit.client import PATIENCE
 from office_kit.common import ROOT, connect
 from office_kit.store.served import server
@@ -35,19 +32,14 @@ DOCUMENT = Document()
 # Refusals that a run of a few seconds can't cause: without memory, after days of validity, at 9,999 releases or 10^9 receipts.
 CANT = {*((name, "Expired") for name in ("award", "fail", "sign", "withdraw")),
         *((name, "LimitReached") for name in ("cancel", "open", "present", "modify", "award", "fail", "sign", "end"))}
-
-# Values that replace each member of a body, besides those that its bounds suggest.
-OTHERS = [None, True, 5, 1.5, -1, "", "5", "a b", "\u00e4", "a\tb", "\u007f", "0" * 64, "A" * 64, "g" * 64, "0" * 63, [], {}, "2026-03-01",
-          "2026-03-01T12:00:00",
-          "1969-12-31T23:59:59Z", "1970-01-01T00:00:00Z", "2099-12-31T23:59:59Z", "2100-01-01T00:00:00Z", "2026-03-01T24:00:00Z", "2026-03-01t12:00:00z"]
 MISSING_MEMBER = object()
+# Values that replace each member of a body, besides those that its bounds suggest.
+OTHERS = [MISSING_MEMBER, None, True, 5, 1.5, -1, "", "5", "a b", "\u00e4", "a\tb", "\u007f", "0" * 64, "A" * 64, "g" * 64, "0" * 63, [], {}, "2026-03-01",
+          "2026-03-01T12:00:00", "1969-12-31T23:59:59Z", "1970-01-01T00:00:00Z", "2099-12-31T23:59:59Z", "2100-01-01T00:00:00Z", "2026-03-01T24:00:00Z",
+          "2026-03-01t12:00:00z"]
 
 
 # ---- The checks of an office, in the order of the states that they need.
-
-def shape(template):
-    return re.sub(r"\{\w+\}", "{}", template)
-
 
 def rows_of_table():
     """The routes of the program: each method and path, without the names of parameters."""
@@ -70,81 +62,65 @@ def paths_of_words(shapes):
 
 def routes(asker):
     """The operations are the program's routes, by its table and by trying paths."""
-    listed, rows = {(it.method, shape(it.template)) for it in asker.document.operations.values()}, rows_of_table()
-    for method, path in sorted(rows ^ listed):
-        asker.note(f"{method} {path} is a route of the program or an operation of the document, and not both")
+    listed, rows = {(it.method, shape(it.template)) for it in asker.operations}, rows_of_table()
+    for method, path in sorted(rows | listed):
+        asker.check((method, path) in rows & listed, f"{method} {path} is a route of the program or an operation of the document, and not both")
     shapes = {path for _, path in listed}
     matching = re.compile("|".join(re.escape(path).replace(r"\{\}", "[^/]+") for path in shapes))
     for path in sorted(set(paths_of_words(shapes | {path for _, path in rows}))):
         has_route = asker.send("GET", path).told() != "NoRoute"
-        if has_route != bool(matching.fullmatch(path)):
-            asker.note(f"{path}: the program has {'a' if has_route else 'no'} route there, unlike the document")
+        asker.check(has_route == bool(matching.fullmatch(path)), f"{path}: the program has {'a' if has_route else 'no'} route there, unlike the document")
 
 
 def methods(asker):
     """Another method is answered with the right one."""
     response = asker.document.tree["components"]["responses"]["WrongMethod"]
-    for path in {operation.template for operation in asker.document.operations.values()}:
-        right = [operation.method for operation in asker.document.operations.values() if operation.template == path]
+    for path in {operation.template for operation in asker.operations}:
+        right = [operation.method for operation in asker.operations if operation.template == path]
         for method in {*METHODS, right[0].lower()}.difference(right):
             answer = asker.send(method, re.sub(r"\{\w+\}", "1", path))
-            asker.seen.add((path, answer.told(), None))
             asker.judge(f"{method} {path}", response, answer)
-            if answer.told() != "WrongMethod" or answer.fields.get("Allow") != ", ".join(right):
-                asker.note(f"{method} {path}: {answer.told()}, Allow: {answer.fields.get('Allow')}")
-
-
-def is_named(document, schema):
-    """Whether a parameter is a name, and no number."""
-    return document.flaw(schema, "nowhere") is None
-
-
-def nowhere(asker, operation):
-    """Parameters of a path that name nothing."""
-    return ["nowhere" if is_named(asker.document, schema) else 9999999999 for schema in operation.places]
+            told = answer.told(), answer.fields.get("Allow")
+            asker.check(told == ("WrongMethod", ", ".join(right)), f"{method} {path}: {told[0]}, Allow: {told[1]}")
 
 
 def a_caller(operation):
-    return "public" if "public" in operation.callers else "clerk" if "clerk" in operation.callers else "T1"
-
-
-def parameters(asker):
-    """A parameter of a path is accepted if its schema accepts it; else there is no route."""
-    for operation in asker.document.operations.values():
-        for number, schema in enumerate(operation.places):
-            for text in ("", "a", "a" * 32, "a" * 33, "A.z_-9", "a%20b", "a+b", "0", "01", "1", "9999999999", "10000000000", "-1", "%C3%A4"):
-                value = int(text) if text.isdigit() and str(int(text)) == text and not is_named(asker.document, schema) else text
-                place = nowhere(asker, operation)
-                place[number] = text
-                answer = asker.put(operation, a_caller(operation), place)
-                if (asker.document.flaw(schema, value) is None) == (answer.told() == "NoRoute"):
-                    asker.note(f"{operation.target(place)}: {answer.told()}, unlike the schema")
-
-
-def pages(asker):
-    """The start of a page is accepted exactly if its schema accepts it, and once."""
-    for operation in [operation for operation in asker.document.operations.values() if operation.method == "GET"]:
-        for name, schema in [(part["name"], part["schema"]) for part in operation.queries]:
-            rows = [(f"?{name}", f"BadBody {name}"), (f"?{name}=a&{name}=a", f"BadBody {name}"), (f"?{name.upper()}=!", "200")]
-            for text in ("", "a", "a" * 32, "a" * 33, "A.z_-9", "a%20b", "a+b", "%61", "0", "!", "%C3%A4", "%ff"):
-                is_right = asker.document.flaw(schema, urllib.parse.unquote_plus(text)) is None
-                rows.append((f"?x=1&{name}={text}", "200" if is_right else f"BadBody {name}"))
-            for query, want in rows:
-                if (told := asker.put(operation, a_caller(operation), [], query=query).told()) != want:
-                    asker.note(f"{operation.name}{query}: {told}, and not {want}")
-
-
-def rights(asker):
-    """Each request here changes nothing, even if the caller may ask: it has no body, so an operation with a body refuses it, and its path names nothing."""
-    for operation in asker.document.operations.values():
-        for who in ("public", "clerk", "T1"):
-            told = asker.put(operation, who, nowhere(asker, operation)).told()
-            if may(operation, who) == (told == "Forbidden"):
-                asker.note(f"{operation.name} by {who}: {told}, though x-callers is {operation.callers}")
+    return next(who for who in ("public", "clerk", "T1") if may(operation, who))
 
 
 def may(operation, who):
     return ("tenderer" if who.startswith("T") else who) in operation.callers
+
+
+def parameters(asker):
+    """A parameter of a path is accepted if its schema accepts it; else there is no route."""
+    texts = ("", "a", "a" * 32, "a" * 33, "A.z_-9", "a%20b", "a+b", "0", "01", "1", "9999999999", "10000000000", "-1", "%C3%A4")
+    for operation in asker.operations:
+        for (number, schema), text in itertools.product(enumerate(operation.places), texts):
+            value = int(text) if text.isdigit() and str(int(text)) == text and operation.nowhere[number] != "nowhere" else text
+            place = [*operation.nowhere]
+            place[number] = text
+            told = asker.put(operation, a_caller(operation), place).told()
+            asker.check((asker.document.flaw(schema, value) is None) == (told != "NoRoute"), f"{operation.target(place)}: {told}, unlike the schema")
+
+
+def pages(asker):
+    """The start of a page is accepted exactly if its schema accepts it, and once."""
+    texts = ("", "a", "a" * 32, "a" * 33, "A.z_-9", "a%20b", "a+b", "%61", "0", "!", "%C3%A4", "%ff")
+    for operation, part in [(operation, part) for operation in asker.operations if operation.method == "GET" for part in operation.queries]:
+        name = part["name"]
+        wanted = {f"?{name}": False, f"?{name}=a&{name}=a": False, f"?{name.upper()}=!": True}
+        wanted.update({f"?x=1&{name}={text}": asker.document.flaw(part["schema"], urllib.parse.unquote_plus(text)) is None for text in texts})
+        for query, is_right in wanted.items():
+            want, told = "200" if is_right else f"BadBody {name}", asker.put(operation, a_caller(operation), [], query=query).told()
+            asker.check(told == want, f"{operation.name}{query}: {told}, and not {want}")
+
+
+def rights(asker):
+    """Each request here changes nothing, even if the caller may ask: it has no body, so an operation with a body refuses it, and its path names nothing."""
+    for operation, who in itertools.product(asker.operations, ("public", "clerk", "T1")):
+        told = asker.put(operation, who, operation.nowhere).told()
+        asker.check(may(operation, who) == (told != "Forbidden"), f"{operation.name} by {who}: {told}, though x-callers is {operation.callers}")
 
 
 def forms(asker):
@@ -154,10 +130,9 @@ def forms(asker):
             ("TooLong", [*named, "Content-Length: 65537"]), ("TooLong", [*named, *["A: b"] * 63]), ("TooLong", ["A: " + "b" * 8192]),
             ("Coding", [*named, "Transfer-Encoding: chunked"]), ("BadKey", ["Office-Caller: clerk", "Office-Key: abd"]), ("BadKey", ["Office-Caller: clerk"]),
             ("BadKey", ["Office-Key: abc"]), ("BadKey", ["Office-Caller: nobody", "Office-Key: abc"]), ("BadKey", ["Office-Caller: clerk", *named])]
-    for operation, (want, fields) in itertools.product(asker.document.operations.values(), rows):
-        told = asker.put(operation, "public", nowhere(asker, operation), b"line" if want == "BadHead" else b"", fields=fields).told()
-        if told != want:
-            asker.note(f"{operation.name} with {fields[-1][:40]}: {told}, and not {want}")
+    for operation, (want, fields) in itertools.product(asker.operations, rows):
+        told = asker.put(operation, "public", operation.nowhere, b"line" if want == "BadHead" else b"", fields=fields).told()
+        asker.check(told == want, f"{operation.name} with {fields[-1][:40]}: {told}, and not {want}")
 
 
 def members(document, schema, value, way=()):
@@ -176,13 +151,12 @@ def candidates(schema):
     """The values that replace a member with this schema."""
     bounds = [schema[bound] + step for bound, step in (("minimum", -1), ("minimum", 0), ("maximum", 0), ("maximum", 1)) if bound in schema]
     lengths = ["a" * (schema[bound] + step) for bound, step in (("minLength", 0), ("maxLength", 0), ("maxLength", 1)) if bound in schema]
-    return [MISSING_MEMBER, *OTHERS, *bounds, *lengths, *schema.get("enum", [])]
+    return [*OTHERS, *bounds, *lengths, *schema.get("enum", [])]
 
 
 def with_member(value, way, other):
     """The value with another member at the end of a path, or without it."""
-    changed = copy.deepcopy(value)
-    parent = changed
+    changed = parent = copy.deepcopy(value)
     for step in way[:-1]:
         parent = parent[step]
     parent.pop(way[-1], None)
@@ -193,23 +167,23 @@ def with_member(value, way, other):
 
 def check_body(asker, operation, place, value, first):
     """Notes each body that the program accepts and the schema doesn't, or the reverse, or names another member than `first`, which is changed."""
-    flaw = asker.document.flaw(operation.body["schema"], value)
-    told = asker.put(operation, "clerk", place, plain(value).encode()).told()
-    if (flaw is None) == told.startswith("BadBody"):
-        asker.note(f"{operation.name}: {told}, though by the schema {flaw or 'it is right'}: {plain(value)[:200]}")
-    elif flaw and told != f"BadBody {first}" and (first, told) != ("criteria", "BadBody price_weight"):
-        asker.note(f"{operation.name}: {told}, and not {first}: {plain(value)[:200]}")
+    flaw, text = asker.document.flaw(operation.body["schema"], value), plain(value)
+    told = asker.put(operation, "clerk", place, text.encode()).told()
+    asker.check((flaw is None) != told.startswith("BadBody"), f"{operation.name}: {told}, though by the schema {flaw or 'it is right'}: {text[:200]}")
+    if flaw and told.startswith("BadBody"):
+        named = f"BadBody {first}", "BadBody price_weight" if first == "criteria" else None
+        asker.check(told in named, f"{operation.name}: {told}, and not {first}: {text[:200]}")
 
 
 def bodies(asker):
     """The office has no lines and no tenderers. A right body names something that doesn't exist, or registers the clerk's name."""
-    for operation in [operation for operation in asker.document.operations.values() if operation.media == JSON]:
-        place = ["clerk"] if operation.name == "register" else nowhere(asker, operation)
+    for operation in [operation for operation in asker.operations if operation.media == JSON]:
+        place = ["clerk"] if operation.name == "register" else operation.nowhere
         # (If a body isn't required, no bytes mean no body.)
         none = [b""] if operation.needs_body else []
         for text in (*none, b" ", b"[]", b"{", b'"a"', b"null", b"\xff", b'{"a":1e999}', b'{"a":' + b"[" * 128 + b"]" * 128 + b"}"):
-            if (told := asker.put(operation, "clerk", place, text).told()) != "BadBody body":
-                asker.note(f"{operation.name} with {text[:20]!r}: {told}")
+            told = asker.put(operation, "clerk", place, text).told()
+            asker.check(told == "BadBody body", f"{operation.name} with {text[:20]!r}: {told}")
         schema = operation.body["schema"]
         for value in [example["value"] for example in operation.body["examples"].values()]:
             check_body(asker, operation, place, {**value, "another": 1}, None)
@@ -220,9 +194,9 @@ def bodies(asker):
 
 def refusals(asker):
     """Each refusal that an operation lists came from it."""
-    listed = {(name, refusal, what) for name, _, refusal, what in asker.document.refusals() if refusal != "Unavailable" and (name, refusal) not in CANT}
-    for name, refusal, what in sorted(listed - asker.seen, key=str):
-        asker.note(f"{name} lists {refusal}{f' {what}' if what else ''}, which didn't come from it")
+    for name, _, refusal, what in asker.document.refusals():
+        came = refusal == "Unavailable" or (name, refusal) in CANT or (name, refusal, what) in asker.seen
+        asker.check(came, f"{name} lists {refusal}{f' {what}' if what else ''}, which didn't come from it")
 
 
 CHECKS = (routes, bodies, walk.begin, methods, parameters, pages, rights, forms, walk.walk, refusals)
@@ -251,10 +225,6 @@ def found(asker):
 @pytest.mark.parametrize("check", CHECKS, ids=lambda check: check.__name__)
 def test_office(found, check):
     assert found[check] == []
-
-
-def award_of(tree):
-    return tree["paths"]["/notices/{notice}/lots/{lot}/award"]["post"]
 
 
 # Documents that say something else, and the check that finds it.
@@ -305,7 +275,7 @@ def by_schema(schema):
 @strategies.composite
 def asked(draw, operation):
     """A caller, a place, a body and a query. The body is an example or a value of its schema, one that is changed or cut, or bytes of any kind."""
-    place = [draw(strategies.sampled_from(NAMES if is_named(DOCUMENT, schema) else NUMBERS)) for schema in operation.places]
+    place = [draw(strategies.sampled_from(NAMES if nothing == "nowhere" else NUMBERS)) for nothing in operation.nowhere]
     body = draw(strategies.binary(max_size=40) | strategies.just(b"a" * 65_536))
     if operation.body and draw(strategies.integers(0, 9)):
         value = draw(strategies.sampled_from([it["value"] for it in operation.body["examples"].values()]) | by_schema(operation.body["schema"]))
@@ -316,16 +286,12 @@ def asked(draw, operation):
     return draw(strategies.sampled_from(["public", "clerk", "T1", "T2", "T3"])), place, body, draw(strategies.sampled_from(QUERIES))
 
 
-@pytest.mark.parametrize("name", DOCUMENT.operations)
-def test_made_requests(asker, found, name):
+@pytest.mark.parametrize("operation", DOCUMENT.operations.values(), ids=DOCUMENT.operations)
+@settings(max_examples=20, deadline=None, suppress_health_check=HealthCheck.all())
+@given(data=strategies.data())
+def test_made_requests(asker, found, operation, data):
     """Each is answered as its operation says, and by `Forbidden` exactly if the operation doesn't name the caller."""
-    operation = DOCUMENT.operations[name]
-
-    @settings(max_examples=20, deadline=None, suppress_health_check=HealthCheck.all())
-    @given(asked(operation))
-    def ask(request):
-        who, place, body, query = request
-        asker.flaws.clear()
-        told = asker.put(operation, who, place, body, query).told()
-        assert told not in ("NoRoute", "Unavailable") and may(operation, who) == (told != "Forbidden") and asker.flaws == []
-    ask()
+    who, place, body, query = data.draw(asked(operation))
+    asker.flaws.clear()
+    told = asker.put(operation, who, place, body, query).told()
+    assert told not in ("NoRoute", "Unavailable") and may(operation, who) == (told != "Forbidden") and asker.flaws == []

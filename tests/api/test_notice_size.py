@@ -11,6 +11,10 @@ from office_kit.common import CONFIG, ROOT, parts_of
 
 MOST_BYTES, MOST_TITLE = 65536, 200
 BEFORE, DEADLINE = "2026-01-05T09:00:00Z", "2026-03-01T12:00:00Z"
+# The rows of the document's table: lots, items, bytes of each title.
+TEXT = Path(ROOT, "docs", "CLERK-API.md").read_text(encoding="utf-8")
+(TABLE,) = re.findall(r"^\| Lots \| Items of each \|.*\n\|[-| ]+\|\n((?:\|.*\n)+)", TEXT, re.M)
+ROWS = [tuple(map(int, re.findall(r"\d+", line))) for line in TABLE.splitlines()]
 
 
 def body_of(lots, items, title):
@@ -25,28 +29,12 @@ def fits(lots, items, title):
     return title <= MOST_TITLE and len(body_of(lots, items, title)) <= MOST_BYTES
 
 
-def is_right(row):
-    """Whether a row has the most bytes that fit."""
-    lots, items, title = row
-    return fits(lots, items, title) and not fits(lots, items, title + 1)
-
-
-def table():
-    """The rows of the document's table: lots, items, bytes of each title."""
-    text = Path(ROOT, "docs", "CLERK-API.md").read_text(encoding="utf-8")
-    (rows,) = re.findall(r"^\| Lots \| Items of each \|.*\n\|[-| ]+\|\n((?:\|.*\n)+)", text, re.M)
-    return [tuple(map(int, re.findall(r"\d+", line))) for line in rows.splitlines()]
-
-
-ROWS = table()
-FULL = body_of(*ROWS[0]).ljust(MOST_BYTES)
-
-
 @pytest.mark.parametrize("change", [-1, 0, 1])
-@pytest.mark.parametrize("row", ROWS)
-def test_row(row, change):
+@pytest.mark.parametrize("lots, items, title", ROWS)
+def test_row(lots, items, title, change):
     """It has the most bytes that fit. A row with a figure changed by one is found."""
-    assert is_right((*row[:2], row[2] + change)) == (change == 0)
+    told = title + change
+    assert (fits(lots, items, told) and not fits(lots, items, told + 1)) == (change == 0)
 
 
 def published(program, body):
@@ -60,6 +48,9 @@ def published(program, body):
     answer = answer_of(told[1])
     assert len(told) == (3 if answer.status == 200 else 2)
     return answer, [it["items"] for it in answer_of(told[2])["lots"]] if answer.status == 200 else []
+
+
+FULL = body_of(*ROWS[0]).ljust(MOST_BYTES)
 
 
 @pytest.mark.parametrize("body", [FULL, body_of(1, 1, MOST_TITLE)], ids=["full", "small"])

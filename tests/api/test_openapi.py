@@ -1,8 +1,7 @@
 """docs/openapi.yaml is valid OpenAPI 3.1, and docs/API.md says the same. tests/api/test_answers.py compares it with the program.
 
-Its version is that of the newest entry of CHANGELOG.md. Each of its examples meets its schema and occurs in a transcript that the gate plays
-(crates/tests_of_runs/data). The page docs/API.md has the document's routes, with their callers and the members of answers, and its refusals. Each example there
-occurs in a transcript. Faults that are planted in copies of the document are found.
+Its version is that of the newest entry of CHANGELOG.md. Each of its examples meets its schema. They and the examples of docs/API.md occur in transcripts that
+the gate plays (crates/tests_of_runs/data). Faults that are planted in copies of the document are found.
 """
 import copy
 import json
@@ -15,7 +14,7 @@ pytest.importorskip("jsonschema", reason="missing: jsonschema. Get it: apt-get i
 pytest.importorskip("yaml", reason="missing: yaml. Get it: apt-get install python3-yaml")
 
 from office_kit.api import openapi_rules
-from office_kit.api.office import Document, plain
+from office_kit.api.office import Document, award_of, plain
 from office_kit.common import ROOT
 from office_kit.docs.releases import newest_entry
 from office_kit.gate.transcripts import answer_of, text_of, topics
@@ -24,13 +23,6 @@ DOCUMENT = Document()
 PAGE = Path(ROOT, "docs", "API.md").read_text(encoding="utf-8")
 # The refusals that a request can meet, whatever it asks: sections of routes don't list them.
 OF_ANY = {"BadHead", "TooLong", "Coding", "NoRoute", "BadKey", "Forbidden", "Unavailable"}
-
-
-def award_of(tree):
-    """The operation that the faults are planted in."""
-    return tree["paths"]["/notices/{notice}/lots/{lot}/award"]["post"]
-
-
 # Changes that make a copy of the document invalid OpenAPI 3.1.
 PLANTS = {
     "its version is another": lambda tree: tree.update(openapi="3.0.3"),
@@ -65,34 +57,31 @@ def test_version():
     assert DOCUMENT.tree["info"]["version"] == newest_entry()
 
 
+def as_written(text):
+    """A text unchanged, or JSON as the office writes it."""
+    try:
+        return plain(json.loads(text))
+    except ValueError:
+        return text
+
+
 @pytest.fixture(scope="module")
 def known():
     """The body of each request and of each answer in the transcripts."""
-    found = set()
-    for block in [block for topic in topics() for blocks in topic.pieces.values() for block in blocks]:
-        lines = block.split("\n= ", 1)[0].split("\n")[1:]
-        answer = answer_of(block)
-        for text in ["".join(map(text_of, lines)), *([answer[2]] if answer else [])]:
-            try:
-                found.add(plain(json.loads(text)))
-            except ValueError:
-                found.add(text)
-    return found
+    blocks = [block for topic in topics() for blocks in topic.pieces.values() for block in blocks]
+    requests = ["".join(map(text_of, block.split("\n= ", 1)[0].split("\n")[1:])) for block in blocks]
+    return set(map(as_written, [*requests, *(answer[2] for answer in map(answer_of, blocks) if answer)]))
 
 
-def examples_in(name, node):
-    """Each example below a node: its schema and its value."""
-    if isinstance(node, dict):
+def examples():
+    """Each example, with its schema."""
+    tops = {**{name: operation.node for name, operation in DOCUMENT.operations.items()}, **DOCUMENT.tree["components"]["responses"]}
+    for name, node in [(name, node) for name, top in tops.items() for _, node in openapi_rules.nodes_of(top)]:
         if "examples" in node and "schema" in node:
             yield from (pytest.param(node["schema"], example["value"], id=f"{name}-{key}") for key, example in node["examples"].items())
-        for part in node.values():
-            yield from examples_in(name, part)
 
 
-NODES = {**{name: operation.node for name, operation in DOCUMENT.operations.items()}, **DOCUMENT.tree["components"]["responses"]}
-
-
-@pytest.mark.parametrize("schema, value", [example for name, node in NODES.items() for example in examples_in(name, node)])
+@pytest.mark.parametrize("schema, value", examples())
 def test_example(known, schema, value):
     """It meets its schema, and is from a transcript."""
     assert DOCUMENT.flaw(schema, value) is None
@@ -133,5 +122,4 @@ def test_table_of_refusals():
 @pytest.mark.parametrize("block", re.findall(r"^```text\n(.*?)^```$", PAGE, re.M | re.S))
 def test_example_of_page(known, block):
     """Its body is from a transcript."""
-    body = block.partition("\n\n")[2] if block.startswith("HTTP/") else block
-    assert {plain(json.loads(body)) if body.startswith("{") else body} <= known
+    assert as_written(block.partition("\n\n")[2] if block.startswith("HTTP/") else block) in known
