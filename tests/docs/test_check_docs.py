@@ -6,7 +6,7 @@ import sys
 
 import pytest
 
-from office_kit.common import ROOT
+from office_kit.common import ROOT, stand_in
 
 OTHER = "# Another\n\n## Deep down\n"
 RIGHT = """# A document
@@ -61,50 +61,41 @@ PLANTS = [
 ]
 
 
-class Laid:
-    """The script and its modules, a document beside it, and a program in place of the proved one, in a folder."""
-
-    def __init__(self, folder):
-        self.folder, self.bin = folder, folder / "bin"
-        for name in ("tools", "docs", "bin", "web/clerk"):
-            (folder / name).mkdir(parents=True)
-        for name in ("check_docs", "office_kit.py"):
-            shutil.copy(os.path.join(ROOT, "tools", name), folder / "tools")
-        shutil.copytree(os.path.join(ROOT, "office_kit"), folder / "office_kit", ignore=shutil.ignore_patterns("__pycache__"))
-        for name, text in (("docs/OTHER.md", OTHER), ("docs/CLERK.md", PAGE), ("web/clerk/en.js", TEXTS), ("bin/stand-in", "#!/bin/sh\necho the stand-in\n")):
-            (folder / name).write_text(text, encoding="utf-8")
-        (self.bin / "stand-in").chmod(0o755)
-        # (All tools that the document uses, and no other.)
-        (self.bin / "bash").symlink_to(shutil.which("bash"))
-
-    def run(self, text):
-        """The status of the script over a document, and its output."""
-        (self.folder / "DOCUMENT.md").write_text(text, encoding="utf-8")
-        words, places = [sys.executable, self.folder / "tools" / "check_docs"], {"PATH": str(self.bin), "PROCURE": str(self.bin / "stand-in")}
-        done = subprocess.run(words, stdout=subprocess.PIPE, stderr=subprocess.STDOUT, text=True, env={**os.environ, **places})
-        return done.returncode, done.stdout
-
-
 @pytest.fixture
-def laid(tmp_path):
-    return Laid(tmp_path)
+def check(tmp_path):
+    """Runs the script over a document and a page about a screen: its status, and its output. A program takes the place of the proved one, and there is no tool
+    but bash."""
+    for name in ("tools", "docs", "bin", "web/clerk"):
+        (tmp_path / name).mkdir(parents=True)
+    for name in ("check_docs", "office_kit.py"):
+        shutil.copy(os.path.join(ROOT, "tools", name), tmp_path / "tools")
+    shutil.copytree(os.path.join(ROOT, "office_kit"), tmp_path / "office_kit", ignore=shutil.ignore_patterns("__pycache__"))
+    (tmp_path / "bin" / "bash").symlink_to(shutil.which("bash"))
+    places = {"PATH": f"{tmp_path}/bin", "PROCURE": stand_in(f"{tmp_path}/bin/stand-in", "echo the stand-in")}
+
+    def run(document, page=PAGE):
+        for name, text in (("DOCUMENT.md", document), ("docs/OTHER.md", OTHER), ("docs/CLERK.md", page), ("web/clerk/en.js", TEXTS)):
+            (tmp_path / name).write_text(text, encoding="utf-8")
+        done = subprocess.run([sys.executable, tmp_path / "tools" / "check_docs"], stdout=subprocess.PIPE, stderr=subprocess.STDOUT, text=True,
+                              env={**os.environ, **places})
+        return done.returncode, done.stdout
+    return run
 
 
-def test_right_document(laid):
-    status, told = laid.run(RIGHT)
+def test_right_document(check):
+    status, told = check(RIGHT)
     assert status == 0 and "2 blocks ran in 1 documents, 2 outputs as shown; 4 links of 3 documents; wrong: 0" in told
 
 
 @pytest.mark.parametrize("old, new, status, said", PLANTS, ids=range(len(PLANTS)))
-def test_planted(laid, old, new, status, said):
+def test_planted(check, old, new, status, said):
     assert old in RIGHT
-    had, told = laid.run(RIGHT.replace(old, new, 1))
+    had, told = check(RIGHT.replace(old, new, 1))
     assert had == status and said in told
 
 
 @pytest.mark.parametrize("old, new, said", LABELS, ids=range(len(LABELS)))
-def test_planted_label(laid, old, new, said):
+def test_planted_label(check, old, new, said):
     assert old in PAGE
-    (laid.folder / "docs" / "CLERK.md").write_text(PAGE.replace(old, new, 1), encoding="utf-8")
-    had, told = laid.run(RIGHT)
+    had, told = check(RIGHT, PAGE.replace(old, new, 1))
     assert had == 1 and said in told
