@@ -12,7 +12,7 @@ from pathlib import Path
 
 import pytest
 
-from office_kit.common import ROOT
+from office_kit.common import ROOT, stand_in
 from office_kit.docs import documents
 from office_kit.docs.releases import logic_of, newest_entry
 
@@ -72,14 +72,6 @@ def copy(tmp_path):
     return tmp_path
 
 
-def stand_in(folder, text):
-    """A shell script as a program."""
-    path = folder / "procure"
-    path.write_text(f"#!/bin/sh\n{text}\n")
-    path.chmod(0o755)
-    return str(path)
-
-
 # ---- The version.
 
 def wrong_versions(program):
@@ -97,7 +89,7 @@ def test_version(program):
 @pytest.mark.parametrize("planted", [f"echo procure {newest_entry()}; exit 2", f"echo procure {newest_entry()} >&2", "echo procure 9.9.9 >&2; exit 2"],
                          ids=["on_standard_output", "status_0", "another_version"])
 def test_wrong_version(tmp_path, planted):
-    program = stand_in(tmp_path, planted)
+    program = stand_in(f"{tmp_path}/procure", planted)
     assert len(wrong_versions(program)) == 2
     made = Made(program, tmp_path)
     assert made.ran.returncode == 1 and not made.to.exists()
@@ -105,7 +97,7 @@ def test_wrong_version(tmp_path, planted):
 
 @pytest.mark.parametrize("program, said", [("/absent/procure", "there is no proved program"), (None, "isn't proved")], ids=["none", "unproved"])
 def test_refused(tmp_path, program, said):
-    given = program or stand_in(tmp_path, "echo procure 0.0.0 >&2; exit 2")
+    given = program or stand_in(f"{tmp_path}/procure", "echo procure 0.0.0 >&2; exit 2")
     told = run(f"{ROOT}/tools/release", "--to", tmp_path / "made", env={**os.environ, "PROCURE": given})
     assert told.returncode == 1 and said in told.stderr and not (tmp_path / "made").exists()
 
@@ -177,7 +169,8 @@ def wrong_units(made):
     for unit in sorted((made.tree / "lib/systemd/system").glob("*.*")):
         text = unit.read_text() if unit.is_file() else ""
         absent = [path for path in re.findall(r"(?m)^Exec\w+=[-+!@:]*(/\S*procure\S*)", text) if not os.access(f"{made.tree}{path}", os.X_OK)]
-        yield from (unit.name for _ in range(bool(absent) + ("/usr/local" in text)))
+        if absent or "/usr/local" in text:
+            yield unit.name
     for script in ("postinst", "prerm", "postrm"):
         if run("sh", "-n", made.told / script).returncode or STARTS.search((made.told / script).read_text()):
             yield script
