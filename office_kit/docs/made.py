@@ -2,7 +2,7 @@
 import re
 import sys
 import textwrap
-from collections.abc import Callable, Sequence
+from collections.abc import Callable
 
 from office_kit.common import options_of
 from office_kit.docs.definitions import ROOT, Fault, text_of
@@ -12,9 +12,9 @@ WIDTH = 100
 Make = Callable[[], tuple[list[str], str]]
 
 
-def wrapped(text: str, first: str = "", rest: str = "") -> list[str]:
-    """The lines of a text, at most WIDTH characters each."""
-    return textwrap.wrap(text, WIDTH, initial_indent=first, subsequent_indent=rest, break_long_words=False, break_on_hyphens=False)
+def wrapped(text: str, first: str = "", rest: str = "", width: int = WIDTH) -> list[str]:
+    """The lines of a text, at most so many characters each."""
+    return textwrap.wrap(text, width, initial_indent=first, subsequent_indent=rest, break_long_words=False, break_on_hyphens=False)
 
 
 def opening(text: str) -> list[str]:
@@ -28,10 +28,11 @@ def text_made(make: Make) -> str:
     return "\n".join(make()[0]) + "\n"
 
 
-def difference(name: str, had: Sequence[str], wanted: Sequence[str]) -> str:
+def difference(name: str, had: str, wanted: str) -> str:
     """The first difference between a document and its script: the line, its text, and the text that is made."""
-    at = next((i for i, (a, b) in enumerate(zip(had, wanted)) if a != b), min(len(had), len(wanted)))
-    there, made = (lines[at] if at < len(lines) else "(nothing)" for lines in (had, wanted))
+    texts = had.split("\n"), wanted.split("\n")
+    at = next((i for i, (a, b) in enumerate(zip(*texts)) if a != b), min(map(len, texts)))
+    there, made = (lines[at] if at < len(lines) else "(nothing)" for lines in texts)
     return f"{name}:{at + 1}: not what is made of the sources; `make docs` makes it again\n  there: {there}\n  made:  {made}"
 
 
@@ -39,11 +40,9 @@ def work(name: str, make: Make, check: bool) -> int:
     """Writes or compares a document; the exit status."""
     lines, said = make()
     wanted, path = "\n".join(lines) + "\n", ROOT / name
-    if check and not path.is_file():
-        print(f"{name}: doesn't exist; `make docs` makes it")
-        return 1
-    if check and text_of(path) != wanted:
-        print(difference(name, text_of(path).split("\n"), wanted.split("\n")))
+    had = text_of(path) if check and path.is_file() else ""
+    if check and had != wanted:
+        print(difference(name, had, wanted))
         return 1
     if not check:
         path.parent.mkdir(parents=True, exist_ok=True)

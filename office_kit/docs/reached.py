@@ -2,6 +2,7 @@
 
 Used by tools/reading and tools/check_names. A variable that has the name of such a definition counts as it.
 """
+from collections import defaultdict
 from collections.abc import Iterable, Mapping, Sequence
 from pathlib import Path
 
@@ -24,13 +25,13 @@ BESIDES: dict[str, list[str]] = {
 
 
 class Reached:
-    """The definitions reached so far, and those to follow."""
+    """The definitions reached so far, the types of the program and the words of libraries that they use, and the definitions to follow."""
 
     def __init__(self) -> None:
         self.crates = crates_of_the_program()
         self.definitions: dict[tuple[str, str, str], Definition] = {}
-        self.types: dict[str, set[str]] = {}
-        self.libraries: dict[str, dict[str, set[str]]] = {}
+        self.types: defaultdict[str, set[str]] = defaultdict(set)
+        self.libraries: defaultdict[str, defaultdict[str, set[str]]] = defaultdict(lambda: defaultdict(set))
         self.waiting: list[tuple[Source, Definition]] = []
         self.seen: set[Path] = set()
 
@@ -47,10 +48,9 @@ class Reached:
         """Adds a definition, a type or a word of a library by its place."""
         crate, _, module = place.partition(".specs.")
         if crate not in self.crates:
-            self.libraries.setdefault(crate, {}).setdefault(module, set()).add(name)
+            self.libraries[crate][module].add(name)
         elif module.startswith("declared."):
-            kind = module[len("declared."):].removesuffix(".TheVariants")
-            self.types.setdefault(crate, set()).add(kind)
+            self.types[crate].add(module.removeprefix("declared.").removesuffix(".TheVariants"))
         else:
             self.add(*definition_at(crate, module, name))
 
@@ -58,9 +58,8 @@ class Reached:
         """Checks that each definition of the program's crates that a file imports exists."""
         for place, name in imports.values():
             crate, _, module = place.partition(".specs.")
-            if name and crate in self.crates and not module.startswith("declared."):
-                if not definition_at(crate, module, name)[1]:
-                    raise Fault(f"{where}: there is no definition {name} in {place}")
+            if name and crate in self.crates and not module.startswith("declared.") and not definition_at(crate, module, name)[1]:
+                raise Fault(f"{where}: there is no definition {name} in {place}")
 
     def add(self, source: Source | None, definition: Definition | None) -> None:
         """Adds a definition, once; with the first one of a file what the file imports is looked for."""
@@ -74,12 +73,6 @@ class Reached:
             self.definitions[key] = definition
             self.waiting.append((source, definition))
 
-    def follow(self) -> None:
-        """Follows definitions until nothing new is reached."""
-        while self.waiting:
-            source, definition = self.waiting.pop(0)
-            self.add_all(definition.words() - {definition.name}, source.imports, source)
-
     def files(self) -> dict[tuple[str, str], list[Definition]]:
         """The files that were reached, with the definitions of each that were."""
         found: dict[tuple[str, str], list[Definition]] = {}
@@ -89,7 +82,7 @@ class Reached:
 
 
 def begin(made: Reached, start: Mapping[str, Sequence[str]]) -> None:
-    """Follows the names that the clauses of these calls use."""
+    """Follows the names that the clauses of these calls use, until nothing new is reached."""
     for name, wanted in start.items():
         path = ROOT / "crates" / name
         calls = [call for call in calls_of(path) if call.name in wanted]
@@ -99,4 +92,6 @@ def begin(made: Reached, start: Mapping[str, Sequence[str]]) -> None:
         made.need(imports, f"crates/{name}")
         for call in calls:
             made.add_all(set(WORD.findall(" ".join(clause.text for clause in call.clauses))), imports)
-    made.follow()
+    while made.waiting:
+        source, definition = made.waiting.pop(0)
+        made.add_all(definition.words() - {definition.name}, source.imports, source)
