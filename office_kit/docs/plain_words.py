@@ -24,12 +24,14 @@ WORDS = {
 FOUND = {name: re.compile(rf"(?<![\w-])(?:{pattern})(?![\w-])", re.IGNORECASE) for name, pattern in WORDS.items()}
 # `who` and `what` that no noun goes before: at the beginning of a sentence that is no question and no heading, or after a word that isn't a noun.
 NO_NOUN = "of|to|for|by|from|with|in|on|at|than|as|and|or|but|that|is|are|if|where|when"
-BARE = re.compile(rf"^(?:Who|What) (?!if\b)(?=[^?]*[.;:]\W*$)|\b(?:{NO_NOUN}) (?:who|what)\b(?! (?:if|to|it is|they are)\b)")
+FOUND["bare"] = re.compile(rf"^(?:Who|What) (?!if\b)(?=[^?]*[.;:]\W*$)|\b(?:{NO_NOUN}) (?:who|what)\b(?! (?:if|to|it is|they are)\b)")
 SENTENCE = re.compile(r"(?<=[.?!])[)'\"*_]*\s+(?=[A-Z0-9`'\"(*\[_])")
 SPAN = re.compile(r"(`+).+?\1", re.DOTALL)
 LINK = re.compile(r"!?\[([^\]]*)\](?:\([^)]*\)|\[[^\]]*\])")
-ITEM = re.compile(r"\s*(?:[-*+]|\d+\.)\s+")
+ITEM = re.compile(r"^\s*(?:[-*+]|\d+\.)\s+")
 TEXT = re.compile(r'"((?:[^"\\]|\\.)*)"')
+# How a comment begins in files of each ending; in others with #.
+MARKS = {".antt": "--", ".rt": "//", ".js": "//"}
 
 
 class Paragraph(NamedTuple):
@@ -87,61 +89,50 @@ def of_comments(text: str, mark: str) -> Iterator[Paragraph]:
 def of_blocks(text: str) -> Iterator[Paragraph]:
     """Comments between /* and */."""
     for found in re.finditer(r"/\*(.*?)\*/", text, re.DOTALL):
-        first = text.count("\n", 0, found.start()) + 1
-        yield from joined([(first + at, re.sub(r"^\s*\*? ?", "", line)) for at, line in enumerate(found[1].split("\n"))])
+        lines = [re.sub(r"^\s*\*? ?", "", line) for line in found[1].split("\n")]
+        yield from joined(list(enumerate(lines, text.count("\n", 0, found.start()) + 1)))
 
 
-def of_python(text: str) -> Iterator[Paragraph]:
-    """The comments and the docstrings of a script."""
-    yield from of_comments(text, "#")
+def of_docstrings(text: str) -> Iterator[Paragraph]:
+    """The docstrings of a script."""
     for node in ast.walk(ast.parse(text)):
-        if isinstance(node, (ast.Module, ast.ClassDef, ast.FunctionDef)) and ast.get_docstring(node) is not None:
-            doc = ast.get_docstring(node) or ""
+        if isinstance(node, (ast.Module, ast.ClassDef, ast.FunctionDef)) and (doc := ast.get_docstring(node)) is not None:
             yield from joined(list(enumerate(doc.split("\n"), node.body[0].lineno)))
 
 
 def of_texts(text: str) -> Iterator[Paragraph]:
-    """The texts of a module that has the words of a screen, and its comments."""
-    yield from of_comments(text, "//")
+    """The texts of a module that has the words of a screen."""
     for number, line in enumerate(text.split("\n"), 1):
         yield from (Paragraph(number, found) for found in TEXT.findall(line) if " " in found)
 
 
-def paragraphs_of(path: Path) -> list[Paragraph]:
+def paragraphs_of(path: Path) -> Iterator[Paragraph]:
     """The prose of a file."""
     text = path.read_text(encoding="utf-8")
     if path.suffix == ".md":
-        return list(of_document(text))
-    if path.suffix == ".antt":
-        return list(of_comments(text, "--"))
-    if path.suffix == ".rt":
-        return list(of_comments(text, "//"))
+        yield from of_document(text)
+        return
+    yield from of_comments(text, MARKS.get(path.suffix, "#"))
     if path.suffix == ".js":
-        return list(of_texts(text) if path.name.startswith("en") else [*of_comments(text, "//"), *of_blocks(text)])
-    is_python = path.suffix == ".py" or re.match(r"#!.*\bpython3?\b", text)
-    return list(of_python(text) if is_python else of_comments(text, "#"))
+        yield from of_texts(text) if path.name.startswith("en") else of_blocks(text)
+    if path.suffix == ".py" or re.match(r"#!.*\bpython3?\b", text):
+        yield from of_docstrings(text)
 
 
 # ---- What reads badly.
 
 def sentences_of(text: str) -> list[str]:
     """The sentences of a paragraph, a code span as one word."""
-    return SENTENCE.split(LINK.sub(r"\1", SPAN.sub("`x`", ITEM.sub("", text, count=1) if ITEM.match(text) else text)))
-
-
-def is_long(sentence: str) -> bool:
-    """Whether a sentence has too many words."""
-    return sum(bool(re.search(r"\w", word)) for word in sentence.split()) > LONGEST
+    return SENTENCE.split(LINK.sub(r"\1", SPAN.sub("`x`", ITEM.sub("", text, count=1))))
 
 
 def findings_in(paragraph: Paragraph) -> Iterator[Finding]:
     """The findings in a paragraph."""
     for sentence in sentences_of(paragraph.text):
-        if is_long(sentence):
+        if sum(bool(re.search(r"\w", word)) for word in sentence.split()) > LONGEST:
             yield Finding(paragraph.line, "long", sentence)
         for name, pattern in FOUND.items():
             yield from (Finding(paragraph.line, name, sentence) for _ in pattern.findall(sentence))
-        yield from (Finding(paragraph.line, "bare", sentence) for _ in BARE.findall(sentence))
 
 
 def findings_of(path: Path) -> list[Finding]:
