@@ -18,6 +18,7 @@ import time
 import urllib.parse
 from collections.abc import Callable, Mapping
 from dataclasses import dataclass
+from functools import partialmethod
 from typing import Any, Generic, Protocol, TypeVar
 
 from office_kit import common
@@ -225,6 +226,10 @@ class Client(Generic[Told]):
     def query(self, who: str | None, target: str) -> Told:
         return self.transport.send("GET", target, b"", self.caller_of(who) if who else None)
 
+    def ask(self, target: str, who: str | None, *names: object) -> Told:
+        """A query with these names in its path, or numbers."""
+        return self.query(who, target.format(*names))
+
     def clerk(self, target: str, body: Body = "") -> Told:
         return self.command("clerk", target, body)
 
@@ -283,53 +288,28 @@ class Client(Generic[Told]):
 
     # The queries: of anybody, of the clerk, and of a named caller.
 
-    def line(self, line: str) -> Told:
-        return self.query(None, f"/lines/{line}")
-
-    def ledger(self) -> Told:
-        return self.query(None, "/ledger")
-
-    def releases(self, name: str) -> Told:
-        return self.query(None, f"/notices/{name}/releases")
-
-    def record(self, name: str) -> Told:
-        return self.query(None, f"/notices/{name}/record")
-
-    def minutes(self, name: str) -> Told:
-        return self.query(None, f"/notices/{name}/minutes")
-
-    def tender_register(self, name: str) -> Told:
-        return self.query("clerk", f"/notices/{name}/register")
-
-    def tender(self, who: str, receipt: int) -> Told:
-        return self.query(who, f"/tenders/{receipt}")
-
-    def security(self, who: str, security: int) -> Told:
-        return self.query(who, f"/securities/{security}")
-
-    def performance_security(self, who: str, contract: int) -> Told:
-        return self.query(who, f"/contracts/{contract}/security")
-
-    def notices(self, after: str | None = None) -> Told:
-        return self.query(None, f"/notices{behind(after)}")
-
-    def terms(self, name: str) -> Told:
-        return self.query(None, f"/notices/{name}/terms")
-
-    def own_tenders(self, who: str, name: str) -> Told:
-        return self.query(who, f"/notices/{name}/tenders")
+    line = partialmethod(ask, "/lines/{}", None)
+    ledger = partialmethod(ask, "/ledger", None)
+    releases = partialmethod(ask, "/notices/{}/releases", None)
+    record = partialmethod(ask, "/notices/{}/record", None)
+    minutes = partialmethod(ask, "/notices/{}/minutes", None)
+    terms = partialmethod(ask, "/notices/{}/terms", None)
+    tender_register = partialmethod(ask, "/notices/{}/register", "clerk")
+    securities = partialmethod(ask, "/notices/{}/securities", "clerk")
+    tender = partialmethod(ask, "/tenders/{}")
+    security = partialmethod(ask, "/securities/{}")
+    performance_security = partialmethod(ask, "/contracts/{}/security")
+    own_tenders = partialmethod(ask, "/notices/{}/tenders")
+    contract_seen = partialmethod(ask, "/contracts/{}")
 
     def evaluation(self, name: str, who: str | None = None) -> Told:
         return self.query(who, f"/notices/{name}/evaluation")
 
-    def securities(self, name: str) -> Told:
-        return self.query("clerk", f"/notices/{name}/securities")
+    def notices(self, after: str | None = None) -> Told:
+        return self.query(None, f"/notices{behind(after)}")
 
     def tenderers(self, after: str | None = None) -> Told:
         return self.query("clerk", f"/tenderers{behind(after)}")
-
-    def contract_seen(self, who: str, contract: int) -> Told:
-        return self.query(who, f"/contracts/{contract}")
 
 
 # The names of the methods that are commands and queries: as many as docs/API.md has routes.
