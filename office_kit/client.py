@@ -8,6 +8,7 @@
 Over a connection a method returns the office's `Answer`, whose members are read as `answer["receipt"]`. An answer with another status than 200 ends the script,
 unless the transport was made with `strict=False`. `lot`, `notice`, `tender` and `text_of` make the parts of requests.
 """
+import contextlib
 import hashlib
 import http.client
 import json
@@ -169,15 +170,15 @@ class Port(Asking):
 class Front(Asking):
     """An office with a front, at an address without a path; a context for TLS if its certificate is self-signed."""
 
-    def __init__(self, base: str, context: ssl.SSLContext | None = None, source: str | None = None, strict: bool = True) -> None:
+    def __init__(self, base: str, context: ssl.SSLContext | None = None, strict: bool = True) -> None:
         super().__init__(strict)
-        self.base, self.context, self.source = urllib.parse.urlsplit(base), context, (source, 0) if source else None
+        self.base, self.context = urllib.parse.urlsplit(base), context
 
     def connection(self) -> http.client.HTTPConnection:
         host, port = self.base.hostname or HOST, self.base.port
         if self.base.scheme == "https":
-            return http.client.HTTPSConnection(host, port, timeout=PATIENCE, context=self.context, source_address=self.source)
-        return http.client.HTTPConnection(host, port, timeout=PATIENCE, source_address=self.source)
+            return http.client.HTTPSConnection(host, port, timeout=PATIENCE, context=self.context)
+        return http.client.HTTPConnection(host, port, timeout=PATIENCE)
 
     def exchange(self, method: str, target: str, body: bytes, caller: Caller | None) -> Answer:
         """The answer; after a 429 the next one, when the time of its Retry-After is over, or a second."""
@@ -190,14 +191,12 @@ class Front(Asking):
 
     def ask(self, method: str, target: str, body: bytes, caller: Caller | None) -> Answer:
         """One answer."""
-        connection, begun = self.connection(), time.perf_counter()
-        try:
+        begun = time.perf_counter()
+        with contextlib.closing(self.connection()) as connection:
             who = {name.decode(): value.decode() for name, value in zip(common.FIELDS, caller or ())}
             connection.request(method, target, body or None, who)
             response = connection.getresponse()
             return Answer(response.status, dict(response.headers), response.read(), time.perf_counter() - begun)
-        finally:
-            connection.close()
 
 
 def behind(after: str | None) -> str:

@@ -13,6 +13,7 @@ import shutil
 import socket
 import subprocess
 import sys
+import tempfile
 import threading
 import time
 from collections.abc import Iterable, Iterator, Sequence
@@ -138,11 +139,9 @@ def own_ports() -> tuple[Iterator[int], socket.socket]:
     (To clients the kernel gives those above 32767.)"""
     name = socket.socket(socket.AF_UNIX)
     for first in range(20000, 32000, 100):
-        try:
+        with contextlib.suppress(OSError):
             name.bind(f"\0procure-ports-{first}")
             return itertools.cycle(range(first, first + 100)), name
-        except OSError:
-            pass
     fail("too many scripts run already")
 
 
@@ -150,13 +149,8 @@ def free_port() -> int:
     """A port at which nothing listens."""
     with TURN:
         for port in itertools.islice(own_ports()[0], 100):
-            with socket.socket() as listener:
-                listener.setsockopt(socket.SOL_SOCKET, socket.SO_REUSEADDR, 1)
-                try:
-                    listener.bind((HOST, port))
-                    return port
-                except OSError:
-                    pass
+            with contextlib.suppress(OSError), socket.create_server((HOST, port)):
+                return port
     fail("no port is free")
 
 
@@ -174,10 +168,7 @@ def connect(port: int, patience: float = 0) -> socket.socket:
 
 def read_all(stream: socket.socket) -> bytes:
     """Everything until the server closes the connection."""
-    parts = []
-    while part := stream.recv(1 << 16):
-        parts.append(part)
-    return b"".join(parts)
+    return b"".join(iter(functools.partial(stream.recv, 1 << 16), b""))
 
 
 def exchange(port: int, text: bytes, patience: float = 0, ends: bool = False) -> tuple[bytes, float]:
@@ -193,13 +184,10 @@ def exchange(port: int, text: bytes, patience: float = 0, ends: bool = False) ->
 def what_came(port: int, text: bytes) -> bytes:
     """The response to these bytes, or the part that came before the connection broke; empty without a connection."""
     parts = []
-    try:
-        with socket.create_connection((HOST, port)) as stream:
-            stream.sendall(text)
-            while part := stream.recv(1 << 16):
-                parts.append(part)
-    except OSError:
-        pass
+    with contextlib.suppress(OSError), socket.create_connection((HOST, port)) as stream:
+        stream.sendall(text)
+        while part := stream.recv(1 << 16):
+            parts.append(part)
     return b"".join(parts)
 
 
@@ -274,24 +262,18 @@ def processor(process: "subprocess.Popen[bytes]") -> float:
 
 def run_blocks(command: Sequence[str], path: str) -> tuple[float, int, bytes, list[tuple[int, float]]]:
     """Runs a command over an input: seconds, peak memory in KiB, the output, and how many bytes of it existed at which moments."""
-    marks: list[tuple[int, float]] = []
-    chunks: list[bytes] = []
-    faults: list[bytes] = []
-    total = memory = 0
-    with open(path, "rb") as source:
+    marks, output, memory = list[tuple[int, float]](), bytearray(), 0
+    with open(path, "rb") as source, tempfile.TemporaryFile() as faults:
         start = time.perf_counter()
-        with running(command, stdin=source, stdout=subprocess.PIPE, stderr=subprocess.PIPE) as process:
-            assert process.stdout and process.stderr
-            reader = threading.Thread(target=lambda said: faults.append(said.read()), args=(process.stderr,))
-            reader.start()
+        with running(command, stdin=source, stdout=subprocess.PIPE, stderr=faults) as process:
+            assert process.stdout
             while chunk := os.read(process.stdout.fileno(), 1 << 16):
-                total += len(chunk)
-                marks.append((total, time.perf_counter() - start))
-                chunks.append(chunk)
+                output += chunk
+                marks.append((len(output), time.perf_counter() - start))
                 memory = peak(process, memory)
-            reader.join()
             process.wait()
             seconds = time.perf_counter() - start
-    if process.returncode:
-        fail(f"{command[0]} ended with {process.returncode}: {faults[0].decode(errors='replace')}")
-    return seconds, memory, b"".join(chunks), marks
+        faults.seek(0)
+        if process.returncode:
+            fail(f"{command[0]} ended with {process.returncode}: {faults.read().decode(errors='replace')}")
+    return seconds, memory, bytes(output), marks

@@ -162,13 +162,17 @@ class Watch:
         self.was_ended = True
         pytest.fail("it was ended: it used more seconds of processor than its budget", pytrace=False)
 
-    def begin(self, item):
+    @pytest.hookimpl(hookwrapper=True, tryfirst=True)
+    def pytest_runtest_protocol(self, item):
         what, budget = budget_of(item)
         self.begun, self.was_ended = processor.used_by(os.getpid()), False
         self.until = self.begun + budget - self.used[what]
+        yield
 
-    def end(self, item):
-        """The seconds that a test used. Too many for the budget are a failure."""
+    @pytest.hookimpl(hookwrapper=True, tryfirst=True)
+    def pytest_runtest_teardown(self, item):
+        """Notes the seconds that a test used. Too many for the budget are a failure."""
+        yield
         what, budget = budget_of(item)
         self.until, used = math.inf, processor.used_by(os.getpid()) - self.begun
         self.used[what] += used
@@ -176,33 +180,21 @@ class Watch:
         if self.used[what] > budget and not self.was_ended:
             pytest.fail(f"{what} used {self.used[what]:.0f} seconds of processor, and may use {budget:.0f}", pytrace=False)
 
-
-def runs_tests(config):
-    """Whether this process runs tests itself: a worker of xdist, or pytest alone."""
-    return hasattr(config, "workerinput") or config.getoption("dist", "no") == "no"
+    @pytest.hookimpl(trylast=True)
+    def pytest_sessionfinish(self):
+        """Ends everything that tests left running."""
+        processor.end_below(os.getpid())
 
 
 def pytest_configure(config):
-    config.watch = Watch() if runs_tests(config) else None
-
-
-@pytest.hookimpl(hookwrapper=True, tryfirst=True)
-def pytest_runtest_protocol(item):
-    item.config.watch.begin(item)
-    yield
-
-
-@pytest.hookimpl(hookwrapper=True, tryfirst=True)
-def pytest_runtest_teardown(item):
-    yield
-    item.config.watch.end(item)
+    """The processes that run tests watch: a worker of xdist, or pytest alone."""
+    if hasattr(config, "workerinput") or config.getoption("dist", "no") == "no":
+        config.pluginmanager.register(Watch())
 
 
 @pytest.hookimpl(trylast=True)
 def pytest_sessionfinish(session, exitstatus):
-    """Ends everything that tests left running. In the long form the status is 3 if none failed and one wasn't run."""
-    if session.config.watch:
-        processor.end_below(os.getpid())
+    """In the long form the status is 3 if no test failed and one wasn't run."""
     reporter = session.config.pluginmanager.get_plugin("terminalreporter")
     if session.config.getoption("long") and reporter and exitstatus == 0 and reporter.stats.get("skipped"):
         session.exitstatus = 3
