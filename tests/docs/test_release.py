@@ -141,17 +141,9 @@ def wrong_manual(text):
     return run("mandoc", "-Tlint", input=text).stdout
 
 
-def pages_in(tree):
-    """The manual pages, by the names of their commands."""
-    return {path.name[:-len(".1.gz")]: gzip.decompress(path.read_bytes()).decode() for path in tree.glob("usr/share/man/*/*")}
-
-
-def commands_of(tree):
-    return files_in(tree / "usr/bin") | files_in(tree / "usr/sbin")
-
-
 def test_manual(made, program):
-    page, pages = (made.top / "procure.1").read_text(), pages_in(made.tree)
+    page = (made.top / "procure.1").read_text()
+    pages = {path.name[:-len(".1.gz")]: gzip.decompress(path.read_bytes()).decode() for path in made.tree.glob("usr/share/man/*/*")}
     # (both say what names the file and the cause of a fault)
     assert "procure-check" in page and "procure-check" in run(program, "--help").stderr
     assert wrong_manual(page) == ""
@@ -159,7 +151,7 @@ def test_manual(made, program):
     assert "unknown macro" in wrong_manual(page.replace(".Sh FILES", ".Sx FILES\n.Zz a", 1))
     for name, text in pages.items():
         assert wrong_manual(text) == "" and f".Nm {name}\n" in text and len(text) > 1000
-    assert commands_of(made.tree) == pages.keys()
+    assert files_in(made.tree / "usr/bin") | files_in(made.tree / "usr/sbin") == pages.keys()
 
 
 # ---- The package.
