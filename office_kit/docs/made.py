@@ -36,32 +36,27 @@ def difference(name: str, had: str, wanted: str) -> str:
     return f"{name}:{at + 1}: not what is made of the sources; `make docs` makes it again\n  there: {there}\n  made:  {made}"
 
 
-def work(name: str, make: Make, check: bool) -> int:
-    """Writes or compares a document; the exit status."""
-    lines, said = make()
-    wanted, path = "\n".join(lines) + "\n", ROOT / name
-    had = text_of(path) if check and path.is_file() else ""
-    if check and had != wanted:
-        print(difference(name, had, wanted))
-        return 1
-    if not check:
-        path.parent.mkdir(parents=True, exist_ok=True)
-        path.write_text(wanted, encoding="utf-8")
-    print(f"{said}: {name} is {'current' if check else 'written'}")
-    return 0
-
-
 def main(name: str, make: Make, manual: str | None, may_check: bool = True) -> int:
-    """Reads the words of the command line, none or --check; the exit status."""
+    """Writes or compares a document, by the words of the command line: none, or --check. The exit status."""
     options = options_of(manual)
     if may_check:
         options.add_argument("--check", action="store_true", help="write nothing, and say whether the document is current")
-    choice = options.parse_args()
+    choice, path = options.parse_args(), ROOT / name
+    is_check = may_check and choice.check
     try:
-        return work(name, make, may_check and choice.check)
+        lines, said = make()
+        wanted = "\n".join(lines) + "\n"
+        if not is_check:
+            path.parent.mkdir(parents=True, exist_ok=True)
+            path.write_text(wanted, encoding="utf-8")
+        elif (had := text_of(path) if path.is_file() else "") != wanted:
+            print(difference(name, had, wanted))
+            return 1
     except (Fault, OSError) as fault:
         print(f"{sys.argv[0]}: {fault}", file=sys.stderr)
         return 2
+    print(f"{said}: {name} is {'current' if is_check else 'written'}")
+    return 0
 
 
 def write_below(folder: str, name: str, make: Make, manual: str | None) -> int:
