@@ -28,6 +28,8 @@ BEFORE = {
     ("Cancel", "Lot"): ["is_open"], ("Cancel", "Award"): ["is_active"], ("Fail", "Award"): ["is_active"], ("Sign", "Award"): ["is_active"]}
 # The states before that no rule tests: a new row has none, and the lot of an award that is active is awarded.
 UNTESTED = {("Publish", "Notice"): "", ("Publish", "Lot"): "", ("Award", "Award"): "", ("Fail", "Lot"): "Awarded", ("Sign", "Lot"): "Awarded"}
+# What the puts of a rule say of a contract, and its states before and after. If it runs before, the rule must refuse contracts that have ended.
+CONTRACTS = {"ended = None": ("", "Running"), "ended = Some": ("Running", "Ended"), "puts.Entry": ("Running", "Running")}
 
 
 def command_name(name: str) -> str:
@@ -69,16 +71,15 @@ def states_in(words: Iterable[str], source: Source) -> set[tuple[str, str]]:
 
 
 def used(words: Iterable[str], source: Source) -> Iterator[tuple[Source, Definition]]:
-    """The definitions of the project that words of a file name. The tests of states are left out: they write nothing."""
+    """The definitions that words of a file name. The tests of states are left out: they write nothing."""
     for word in sorted(words):
         if own := source.defines(word):
             yield source, own
     for place, name in places_in(sorted(words), source.imports):
         crate, _, module = place.partition(".specs.")
-        if crate in (*CORES, "office_base", "office_machine") and not module.startswith("declared.") and module != "States":
-            there, definition = definition_at(crate, module, name)
-            if there and definition:
-                yield there, definition
+        there, definition = definition_at(crate, module, name)
+        if there and definition and module != "States":
+            yield there, definition
 
 
 def reached(words: Iterable[str], source: Source) -> list[tuple[Source, Definition]]:
@@ -154,17 +155,6 @@ def states_before(command: str, kind: str, words: set[str]) -> set[str]:
     return set.intersection(*(tests_of_states()[test] for test in tests))
 
 
-def contract_arrows(name: str, put: str, tests: str) -> Iterator[Arrow]:
-    """The arrows of a contract by a command, by the texts of its puts and of its tests."""
-    is_running = "has_ended" in tests
-    if "ended = None" in put:
-        yield "contract", "", "Running", name
-    elif "ended = Some" in put and is_running:
-        yield "contract", "Running", "Ended", name
-    elif "puts.Entry" in put and is_running:
-        yield "contract", "Running", "Running", name
-
-
 def arrows_of(source: Source) -> Iterator[Arrow]:
     """The arrows by the rule of one command."""
     command = source.module.removeprefix("Rules.")
@@ -174,7 +164,11 @@ def arrows_of(source: Source) -> Iterator[Arrow]:
     for kind, state in states_of([f"{name}_puts"], source):
         if kind in KINDS:
             yield from ((KINDS[kind], before, state, name) for before in states_before(command, kind, words) if before != state)
-    yield from contract_arrows(name, *("\n".join(line for _, definition in some for line in definition.lines) for some in (put, tests)))
+    put_text, test_text = ("\n".join(line for _, definition in some for line in definition.lines) for some in (put, tests))
+    for said, (before, after) in CONTRACTS.items():
+        if said in put_text and (not before or "has_ended" in test_text):
+            yield "contract", before, after, name
+            break
 
 
 def ruled() -> Iterator[Arrow]:
@@ -190,11 +184,5 @@ def faults_of_states() -> list[str]:
     """The arrows that the drawing has and the specification hasn't, and the other way."""
     fates = source_of("office_machine", "Fates")
     wanted, had = {*begun(fates), *decided(fates), *ruled()}, drawn()
-    faults = [f"the specification has no arrow {said(arrow)}" for arrow in sorted(had - wanted)]
-    faults += [f"there is no arrow {said(arrow)}" for arrow in sorted(wanted - had)]
-    return [f"{DRAWING}: {fault}" for fault in faults]
-
-
-def said(arrow: Arrow) -> str:
-    kind, before, after, command = arrow
-    return f"{kind}: {before or '(new)'} -> {after} by {command}"
+    faults = [("the specification has no arrow", arrow) for arrow in sorted(had - wanted)] + [("there is no arrow", arrow) for arrow in sorted(wanted - had)]
+    return [f"{DRAWING}: {fault} {kind}: {before or '(new)'} -> {after} by {command}" for fault, (kind, before, after, command) in faults]

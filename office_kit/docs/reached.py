@@ -36,23 +36,19 @@ class Reached:
         self.seen: set[Path] = set()
 
     def add_all(self, words: Iterable[str], imports: Mapping[str, Imported], source: Source | None = None) -> None:
-        """Adds the meanings of words in a file with these imports. In a file of definitions, its own come first."""
+        """Adds the meanings of words in a file with these imports: definitions, types and words of libraries. In a file of definitions, its own come first."""
         for word in sorted(words):
             own = source.defines(word.split(".")[0]) if source else None
             if own:
                 self.add(source, own)
         for place, name in places_in(sorted(words), imports):
-            self.add_place(place, name)
-
-    def add_place(self, place: str, name: str) -> None:
-        """Adds a definition, a type or a word of a library by its place."""
-        crate, _, module = place.partition(".specs.")
-        if crate not in self.crates:
-            self.libraries[crate][module].add(name)
-        elif module.startswith("declared."):
-            self.types[crate].add(module.removeprefix("declared.").removesuffix(".TheVariants"))
-        else:
-            self.add(*definition_at(crate, module, name))
+            crate, _, module = place.partition(".specs.")
+            if crate not in self.crates:
+                self.libraries[crate][module].add(name)
+            elif module.startswith("declared."):
+                self.types[crate].add(module.removeprefix("declared.").removesuffix(".TheVariants"))
+            else:
+                self.add(*definition_at(crate, module, name))
 
     def need(self, imports: Mapping[str, Imported], where: Path | str) -> None:
         """Checks that each definition of the program's crates that a file imports exists."""
