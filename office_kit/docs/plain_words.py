@@ -5,7 +5,7 @@ is its --help.) Code spans, code blocks and links' targets are no prose. These a
 """
 import ast
 import re
-from collections.abc import Iterator, Sequence
+from collections.abc import Iterable, Iterator
 from pathlib import Path
 from typing import NamedTuple
 
@@ -32,13 +32,8 @@ ITEM = re.compile(r"^\s*(?:[-*+]|\d+\.)\s+")
 TEXT = re.compile(r'"((?:[^"\\]|\\.)*)"')
 # How a comment begins in files of each ending; in others with #.
 MARKS = {".antt": "--", ".rt": "//", ".js": "//"}
-
-
-class Paragraph(NamedTuple):
-    """A text without a break, and the line where it begins."""
-
-    line: int
-    text: str
+# A line with its number, or a paragraph with that of its first line.
+Numbered = tuple[int, str]
 
 
 class Finding(NamedTuple):
@@ -49,28 +44,28 @@ class Finding(NamedTuple):
     words: str
 
 
-def joined(lines: Sequence[tuple[int, str]]) -> Iterator[Paragraph]:
+def joined(lines: Iterable[Numbered]) -> Iterator[Numbered]:
     """Paragraphs of numbered lines: an empty line ends one, and an item of a list or an indented line begins one."""
-    begun: list[tuple[int, str]] = []
+    begun: list[Numbered] = []
     for number, line in [*lines, (0, "")]:
         starts = not line.strip() or ITEM.match(line) or line.startswith("    ") and not (begun and ITEM.match(begun[0][1]))
         if begun and (starts or number != begun[-1][0] + 1):
-            yield Paragraph(begun[0][0], " ".join(it.strip() for _, it in begun))
+            yield begun[0][0], " ".join(it.strip() for _, it in begun)
             begun = []
         begun += [(number, line)] if line.strip() else []
 
 
 # ---- What of a file is prose.
 
-def of_document(text: str) -> Iterator[Paragraph]:
+def of_document(text: str) -> Iterator[Numbered]:
     """The prose of a document: its paragraphs, items, headings and cells of tables."""
-    kept: list[tuple[int, str]] = []
+    kept: list[Numbered] = []
     fence, empty = False, True
     for number, line in enumerate(text.split("\n"), 1):
         if re.match(r"\s*(```|~~~)", line):
             fence = not fence
         elif line.startswith("|") and not fence:
-            yield from (Paragraph(number, cell.strip()) for cell in SPAN.sub("`x`", line).split("|") if cell.strip(" -:"))
+            yield from ((number, cell.strip()) for cell in SPAN.sub("`x`", line).split("|") if cell.strip(" -:"))
         elif not fence and not re.match(r"\[[^\]]+\]: ", line) and not (empty and line.startswith("    ") and not (kept and ITEM.match(kept[-1][1]))):
             kept.append((number, line.lstrip("#> ") if line.startswith(("#", ">")) else line))
             if line.startswith("#"):
@@ -79,34 +74,34 @@ def of_document(text: str) -> Iterator[Paragraph]:
     yield from joined(kept)
 
 
-def of_comments(text: str, mark: str) -> Iterator[Paragraph]:
+def of_comments(text: str, mark: str) -> Iterator[Numbered]:
     """The comments on lines of their own, by the mark with which they begin."""
     found = [(number, line.strip()) for number, line in enumerate(text.split("\n"), 1) if line.strip().startswith(mark)]
     lines = [(number, re.sub(rf"^{re.escape(mark)}[/!]* ?", "", line)) for number, line in found if not line.startswith("#!")]
-    yield from joined([(number, line) for number, line in lines if not line.startswith("----")])
+    yield from joined((number, line) for number, line in lines if not line.startswith("----"))
 
 
-def of_blocks(text: str) -> Iterator[Paragraph]:
+def of_blocks(text: str) -> Iterator[Numbered]:
     """Comments between /* and */."""
     for found in re.finditer(r"/\*(.*?)\*/", text, re.DOTALL):
         lines = [re.sub(r"^\s*\*? ?", "", line) for line in found[1].split("\n")]
-        yield from joined(list(enumerate(lines, text.count("\n", 0, found.start()) + 1)))
+        yield from joined(enumerate(lines, text.count("\n", 0, found.start()) + 1))
 
 
-def of_docstrings(text: str) -> Iterator[Paragraph]:
+def of_docstrings(text: str) -> Iterator[Numbered]:
     """The docstrings of a script."""
     for node in ast.walk(ast.parse(text)):
         if isinstance(node, (ast.Module, ast.ClassDef, ast.FunctionDef)) and (doc := ast.get_docstring(node)) is not None:
-            yield from joined(list(enumerate(doc.split("\n"), node.body[0].lineno)))
+            yield from joined(enumerate(doc.split("\n"), node.body[0].lineno))
 
 
-def of_texts(text: str) -> Iterator[Paragraph]:
+def of_texts(text: str) -> Iterator[Numbered]:
     """The texts of a module that has the words of a screen."""
     for number, line in enumerate(text.split("\n"), 1):
-        yield from (Paragraph(number, found) for found in TEXT.findall(line) if " " in found)
+        yield from ((number, found) for found in TEXT.findall(line) if " " in found)
 
 
-def paragraphs_of(path: Path) -> Iterator[Paragraph]:
+def paragraphs_of(path: Path) -> Iterator[Numbered]:
     """The prose of a file."""
     text = path.read_text(encoding="utf-8")
     if path.suffix == ".md":
@@ -121,20 +116,13 @@ def paragraphs_of(path: Path) -> Iterator[Paragraph]:
 
 # ---- What reads badly.
 
-def sentences_of(text: str) -> list[str]:
-    """The sentences of a paragraph, a code span as one word."""
-    return SENTENCE.split(LINK.sub(r"\1", SPAN.sub("`x`", ITEM.sub("", text, count=1))))
-
-
-def findings_in(paragraph: Paragraph) -> Iterator[Finding]:
-    """The findings in a paragraph."""
-    for sentence in sentences_of(paragraph.text):
-        if sum(bool(re.search(r"\w", word)) for word in sentence.split()) > LONGEST:
-            yield Finding(paragraph.line, "long", sentence)
-        for name, pattern in FOUND.items():
-            yield from (Finding(paragraph.line, name, sentence) for _ in pattern.findall(sentence))
-
-
 def findings_of(path: Path) -> list[Finding]:
-    """The findings in a file, in the order of its lines."""
-    return sorted((finding for paragraph in paragraphs_of(path) for finding in findings_in(paragraph)), key=lambda it: it.line)
+    """The findings in a file, in the order of its lines. A code span is one word."""
+    found = []
+    for line, text in paragraphs_of(path):
+        for sentence in SENTENCE.split(LINK.sub(r"\1", SPAN.sub("`x`", ITEM.sub("", text, count=1)))):
+            if len([word for word in sentence.split() if re.search(r"\w", word)]) > LONGEST:
+                found.append(Finding(line, "long", sentence))
+            for name, pattern in FOUND.items():
+                found += [Finding(line, name, sentence) for _ in pattern.findall(sentence)]
+    return sorted(found, key=lambda it: it.line)
