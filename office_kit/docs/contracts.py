@@ -129,18 +129,14 @@ def is_reached(crate: str, path: Path) -> bool:
     return True
 
 
-@cache
-def handed_on(crate: str) -> set[tuple[str, str]]:
-    """(module, name) of each function and type of a private module that the crate's top makes public by `pub use`."""
-    top = ROOT / "crates" / crate / "src" / "lib.rt"
-    found = HANDED_ON.findall(text_of(top)) if top.is_file() else []
-    return {(module, name) for module, names, one in found for name in re.findall(r"\w+", names or one)}
-
-
 def public_calls_of(crate: str, path: Path) -> list[Call]:
-    """The functions of a source that another crate can call."""
-    public = [call for call in calls_of(path) if call.is_public]
-    return public if is_reached(crate, path) else [call for call in public if (path.stem, call.owner or call.name) in handed_on(crate)]
+    """The functions of a source that another crate can call: of a private module those that the crate's top makes public by `pub use`, by name or by type."""
+    top, public = ROOT / "crates" / crate / "src" / "lib.rt", [call for call in calls_of(path) if call.is_public]
+    if is_reached(crate, path):
+        return public
+    found = HANDED_ON.findall(text_of(top)) if top.is_file() else []
+    handed_on = {name for module, names, one in found if module == path.stem for name in re.findall(r"\w+", names or one)}
+    return [call for call in public if (call.owner or call.name) in handed_on]
 
 
 def heading_of(path: Path) -> str:

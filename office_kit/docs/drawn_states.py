@@ -171,18 +171,10 @@ def arrows_of(source: Source) -> Iterator[Arrow]:
             break
 
 
-def ruled() -> Iterator[Arrow]:
-    """The arrows by the rules of all commands."""
-    rules = [source for crate in CORES for source in sources_of(crate) if source.module.startswith("Rules.")]
-    if not rules:
-        raise Fault(f"crates/{CORES[0]}/specs/Rules: no rule is there")
-    for source in rules:
-        yield from arrows_of(source)
-
-
 def faults_of_states() -> list[str]:
     """The arrows that the drawing has and the specification hasn't, and the other way."""
     fates = source_of("office_machine", "Fates")
-    wanted, had = {*begun(fates), *decided(fates), *ruled()}, drawn()
+    rules = [source for crate in CORES for source in sources_of(crate) if source.module.startswith("Rules.")]
+    wanted, had = {*begun(fates), *decided(fates)}.union(*map(arrows_of, rules)), drawn()
     faults = [("the specification has no arrow", arrow) for arrow in sorted(had - wanted)] + [("there is no arrow", arrow) for arrow in sorted(wanted - had)]
     return [f"{DRAWING}: {fault} {kind}: {before or '(new)'} -> {after} by {command}" for fault, (kind, before, after, command) in faults]

@@ -1,7 +1,4 @@
 """The list of public calls, each with the clauses of its contract as the source has them. Read by tools/calls and office_kit/docs/releases.py."""
-from collections.abc import Iterable
-from pathlib import Path
-
 from office_kit.docs.contracts import Call, heading_of, public_calls_of, sources_of
 from office_kit.docs.definitions import ROOT, Fault, crates_of_the_program
 from office_kit.docs.made import WIDTH, opening, wrapped
@@ -26,13 +23,6 @@ def lines_of_call(call: Call) -> list[str]:
     return [*head, "", "  ```rt", *(line for text in texts for line in wrapped(text, "  ", "      ", WIDTH - 2)), "  ```"]
 
 
-def lines_of_source(path: Path, folder: Path, calls: Iterable[Call]) -> list[str]:
-    """The lines of a source with public calls."""
-    heading = heading_of(path)
-    lines = [*wrapped(f"**{path.relative_to(folder)}**" + (f": {heading}" if heading else "")), ""]
-    return lines + [line for call in calls for line in lines_of_call(call)] + [""]
-
-
 def calls() -> tuple[list[str], str]:
     """The lines of the document, and the summary to print. A crate comes after those that it uses."""
     lines, found, with_calls = opening(HEAD), list[Call](), 0
@@ -42,7 +32,9 @@ def calls() -> tuple[list[str], str]:
             lines += [f"## `{crate}`", ""]
             with_calls += 1
         for path, own in public.items():
-            lines += lines_of_source(path, ROOT / "crates" / crate / "src", own)
+            heading = heading_of(path)
+            lines += [*wrapped(f"**{path.relative_to(ROOT / 'crates' / crate / 'src')}**" + (f": {heading}" if heading else "")), ""]
+            lines += [line for call in own for line in lines_of_call(call)] + [""]
             found += own
     if not found:
         raise Fault("crates/*/src: there is no public function")

@@ -22,15 +22,15 @@ def entries_of(definitions: Iterable[Definition]) -> list[str]:
         if each.comment or not entries:
             entries.append([])
         entries[-1].append(each)
-    return [entry_text(first.comment, [f"`{each.name}`" for each in (first, *others)]) for first, *others in entries]
+    return [entry_text(entry[0].comment, *(f"`{each.name}`" for each in entry)) for entry in entries]
 
 
-def entry_text(comment: str, names: list[str]) -> str:
+def entry_text(comment: str, name: str, *others: str) -> str:
     """`name`: its comment. Then `other`."""
     if not comment:
-        return ", ".join(names)
-    others = ("" if comment[-1] in ".:;" else ".") + " Then " + ", ".join(names[1:])
-    return f"{names[0]}: {comment}{others if names[1:] else ''}"
+        return ", ".join([name, *others])
+    end = "" if comment[-1] in ".:;" else "."
+    return f"{name}: {comment}{end} Then {', '.join(others)}" if others else f"{name}: {comment}"
 
 
 def lines_of(source: Source) -> list[str]:
