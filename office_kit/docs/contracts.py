@@ -13,6 +13,8 @@ from office_kit.docs.definitions import ROOT, text_of, without_nested
 
 # A function, by the words before its name: at the left, or in a block.
 FUNCTION = re.compile(r"^( *)((?:pub(?:\([^)]*\))? )?)(?:const |async |unsafe )*fn (\w+)")
+# A line above a function that belongs to it: of its comment, or an attribute.
+ABOVE = re.compile(r"\s*(?:///|#\[)")
 BLOCK = re.compile(r"^(?:pub(?:\([^)]*\))? )?(impl|trait)\b(.*)")
 CLAUSE = re.compile(r"^( *)(requires|ensures)(?: (\w+))? \{", re.MULTILINE)
 HANDED_ON = re.compile(r"^pub use (?:crate::)?(\w+)::(?:\{([^}]*)\}|(\w+));", re.MULTILINE)
@@ -35,9 +37,10 @@ class Clause(NamedTuple):
 class Call:
     """A function: its name, the type or trait that it is of (or an empty text), whether it is public, its comment, and its lines without comments."""
 
-    def __init__(self, found: re.Match[str], block: Block, doc: str) -> None:
+    def __init__(self, found: re.Match[str], block: Block, above: Sequence[str]) -> None:
         self.owner, in_public_trait, of_trait = block
-        self.indent, self.name, self.doc = len(found[1]), found[3], doc
+        self.indent, self.name = len(found[1]), found[3]
+        self.doc = first_paragraph(line for line in above if line.strip().startswith("///"))
         self.is_public = not of_trait and (in_public_trait or found[2] == "pub ")
         self.lines: list[str] = []
 
@@ -89,24 +92,17 @@ def block_at(line: str) -> Block | None:
     return name.split("::")[-1], False, of_trait
 
 
-def doc_above(lines: Sequence[str], at: int) -> str:
-    """The first paragraph of the `///` comment above a line, attributes left out."""
-    first = at
-    while first and re.match(r"\s*(?:///|#\[)", lines[first - 1]):
-        first -= 1
-    return first_paragraph(line for line in lines[first:at] if line.strip().startswith("///"))
-
-
 @cache
 def calls_of(path: Path) -> list[Call]:
     """The functions of a source, in their order, those in functions left out."""
-    lines, calls, block = text_of(path).split("\n"), list[Call](), NO_BLOCK
-    for at, line in enumerate(lines):
+    calls, block, above = list[Call](), NO_BLOCK, list[str]()
+    for line in text_of(path).split("\n"):
         found = FUNCTION.match(line)
         if line and not line[0].isspace():
             block = block_at(line) or (NO_BLOCK if found or line[0] == "}" else block)
         if found and len(found[1]) in (0, 4):
-            calls.append(Call(found, block if found[1] else NO_BLOCK, doc_above(lines, at)))
+            calls.append(Call(found, block if found[1] else NO_BLOCK, above))
+        above = [*above, line] if ABOVE.match(line) else []
         if calls and not line.lstrip().startswith("//"):
             calls[-1].lines.append(line)
     return calls

@@ -81,12 +81,6 @@ class Definition:
         return {found[1] for found in map(CASE.match, self.lines[1:]) if found} if is_of_cases else set()
 
 
-def name_at(line: str, in_mutual: bool) -> str | None:
-    """The name that a line defines, or None."""
-    found = (IN_MUTUAL.match(line) if in_mutual else None) or NAMED.match(line) or BARE.match(line)
-    return next(name for name in found.groups() if name) if found else None
-
-
 def definitions_of(path: Path, lines: Iterable[str]) -> list[Definition]:
     """The definitions of a file, in its order, each with its lines. The comment above a block is that of the first one in it."""
     made: list[Definition] = []
@@ -102,8 +96,8 @@ def definitions_of(path: Path, lines: Iterable[str]) -> list[Definition]:
             in_mutual = is_block
         if is_block:
             of_block, current = above, None
-        elif name := name_at(line, in_mutual):
-            current, of_block = Definition(name, above or of_block), ""
+        elif found := (IN_MUTUAL.match(line) if in_mutual else None) or NAMED.match(line) or BARE.match(line):
+            current, of_block = Definition(next(filter(None, found.groups())), above or of_block), ""
             made.append(current)
         elif KEYWORD.match(line) and " = " not in line:
             raise Fault(f"{path.relative_to(ROOT)}:{at}: no definition that this script knows: {line}")
