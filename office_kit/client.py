@@ -68,7 +68,6 @@ def tender(*rows: tuple[int, int], wrong: int = 0) -> str:
 
 
 def budget(*rows: str) -> str:
-    """A budget file with these rows."""
     return HEAD + "".join(row + "\n" for row in rows)
 
 
@@ -89,7 +88,6 @@ class Answer:
     seconds: float = 0.0
 
     def value(self) -> Any:
-        """The body as a value of JSON."""
         return json.loads(self.body)
 
     def __getitem__(self, member: str) -> Any:
@@ -152,7 +150,6 @@ class Asking:
         return answer
 
     def exchange(self, method: str, target: str, body: bytes, caller: Caller | None) -> Answer:
-        """The answer, whatever it is."""
         raise NotImplementedError
 
 
@@ -190,7 +187,6 @@ class Front(Asking):
         fail(f"{method} {target}: 429, {TRIES} times")
 
     def ask(self, method: str, target: str, body: bytes, caller: Caller | None) -> Answer:
-        """One answer."""
         begun = time.perf_counter()
         with contextlib.closing(self.connection()) as connection:
             who = {name.decode(): value.decode() for name, value in zip(common.FIELDS, caller or ())}

@@ -77,12 +77,10 @@ def options_of(text: str | None) -> argparse.ArgumentParser:
 
 
 def add_program(options: argparse.ArgumentParser) -> None:
-    """The option that names the program."""
     options.add_argument("--program", type=runnable, default=PROGRAM, help="the program ($PROCURE, or build/procure)")
 
 
 def runnable(path: str) -> str:
-    """The path, if there is a program."""
     found = shutil.which(path)
     if not found:
         raise argparse.ArgumentTypeError(NO_PROGRAM.format(path))

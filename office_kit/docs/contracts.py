@@ -110,7 +110,6 @@ def calls_of(path: Path) -> list[Call]:
 
 @cache
 def sources_of(crate: str) -> list[Path]:
-    """The Rust sources of a crate."""
     return sorted((ROOT / "crates" / crate / "src").rglob("*.rt"))
 
 

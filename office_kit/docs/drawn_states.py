@@ -38,7 +38,6 @@ def command_name(name: str) -> str:
 
 
 def drawn() -> set[Arrow]:
-    """The arrows of the drawing."""
     text = text_of(ROOT / DRAWING)
     found = ARROW.findall(text)
     if len(found) != len(ANY_ARROW.findall(text)) or any(kind != other for kind, _, other, _, _ in found):

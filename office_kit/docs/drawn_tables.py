@@ -68,7 +68,6 @@ def rows_of(words: list[str], width: int = 2) -> str:
 
 
 def node_of(table: Table, referring: list[str]) -> str:
-    """The box of a table."""
     others = [it for it in table.columns if it not in table.key and it not in referring]
     inside = [it for it in referring if it not in table.key]
     cells = [("#0a4a86", f'<b><font color="#ffffff">{table.name}</font></b>'), ("#dbe9f6", f"<b>{', '.join(table.key)}</b>")]

@@ -24,7 +24,6 @@ def opening(text: str) -> list[str]:
 
 
 def text_made(make: Make) -> str:
-    """The text of a document."""
     return "\n".join(make()[0]) + "\n"
 
 

@@ -65,7 +65,6 @@ def part_of(paragraph: str) -> str:
 
 
 def manual_of(name: str, moment: int) -> bytes:
-    """The manual page of a command, with this date."""
     section, script, does = COMMANDS[name]
     head = head_of(script)
     for other, (_, path, _) in COMMANDS.items():

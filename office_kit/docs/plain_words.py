@@ -89,7 +89,6 @@ def of_blocks(text: str) -> Iterator[Numbered]:
 
 
 def of_docstrings(text: str) -> Iterator[Numbered]:
-    """The docstrings of a script."""
     for node in ast.walk(ast.parse(text)):
         if isinstance(node, (ast.Module, ast.ClassDef, ast.FunctionDef)) and (doc := ast.get_docstring(node)) is not None:
             yield from joined(enumerate(doc.split("\n"), node.body[0].lineno))
@@ -102,7 +101,6 @@ def of_texts(text: str) -> Iterator[Numbered]:
 
 
 def paragraphs_of(path: Path) -> Iterator[Numbered]:
-    """The prose of a file."""
     text = path.read_text(encoding="utf-8")
     if path.suffix == ".md":
         yield from of_document(text)

@@ -63,7 +63,6 @@ def run(folder, script):
 
 @pytest.fixture(scope="module")
 def before(copy):
-    """The status and the words of a script before a change."""
     return functools.cache(functools.partial(run, copy))
 
 

@@ -26,7 +26,6 @@ FLAWS = tomllib.loads(Path(__file__).with_name("ocds_flaws.toml").read_text(enco
 
 
 def naming(extensions, package):
-    """The package with these extensions."""
     return '{"extensions":[' + extensions + "]," + package[1:]
 
 

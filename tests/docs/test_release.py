@@ -137,7 +137,6 @@ def test_tool(made, tool):
 # ---- Manual pages.
 
 def wrong_manual(text):
-    """The findings of mandoc in a manual page."""
     return run("mandoc", "-Tlint", input=text).stdout
 
 
@@ -206,7 +205,6 @@ def test_settings_of_the_package(made, program):
 
 
 def said_of(package):
-    """The output of lintian about a package."""
     told = run("lintian", "--allow-root", "--tag-display-limit", "0", package)
     return told.stdout + "".join(line for line in told.stderr.splitlines(True) if "root privileges" not in line)
 

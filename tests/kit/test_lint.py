@@ -68,6 +68,5 @@ def test_planted(folder, what):
 
 
 def test_the_repository():
-    """Nothing is found in this repository."""
     status, said = lint(ROOT)
     assert status == 0, said
