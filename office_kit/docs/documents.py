@@ -197,18 +197,14 @@ def check_link(path: str, line: int, target: str) -> None:
         raise Wrong(path, line, f"the link to {target}: {file} has no heading of that anchor")
 
 
-def texts_of(patterns: Iterable[str]) -> list[re.Pattern[str]]:
-    """The texts of a screen, each as a pattern."""
-    modules = [path.read_text(encoding="utf-8") for pattern in patterns for path in sorted(Path(ROOT).glob(pattern))]
-    texts = [json.loads(found) for module in modules for found in re.findall(r'"(?:[^"\\\n]|\\.)*"', module)]
-    parts = [re.split(r"\{\w+\}", text) for text in texts]
-    return [re.compile(".+".join(map(re.escape, it))) for it in parts if re.search(r"\w", "".join(it))]
-
-
 def check_labels(path: str) -> Iterator[Wrong]:
     """The bold texts of a page about screens that aren't texts of these screens."""
-    texts, (_, prose) = texts_of(SCREENS[path]), parts_of(path)
+    modules = [file.read_text(encoding="utf-8") for pattern in SCREENS[path] for file in sorted(Path(ROOT).glob(pattern))]
+    texts = [json.loads(found) for module in modules for found in re.findall(r'"(?:[^"\\\n]|\\.)*"', module)]
+    parts = [re.split(r"\{\w+\}", text) for text in texts]
+    patterns = [re.compile(".+".join(map(re.escape, it))) for it in parts if re.search(r"\w", "".join(it))]
+    prose = parts_of(path)[1]
     for found in re.finditer(r"\*\*(.+?)\*\*", prose, re.S):
         label = " ".join(found[1].split())
-        if not any(text.fullmatch(label) for text in texts):
+        if not any(pattern.fullmatch(label) for pattern in patterns):
             yield Wrong(path, line_at(prose, found.start()), f"**{label}** is no text of {', '.join(SCREENS[path])}")
