@@ -94,8 +94,7 @@ def pictures(request, tmp_path_factory):
 # ---- What isn't run.
 
 def pytest_runtest_setup(item):
-    tools = [tool for mark in item.iter_markers("needs") for tool in mark.args]
-    missing = [told for tool in tools if (told := needs.lacking(tool))]
+    missing = [told for mark in item.iter_markers("needs") for told in map(needs.lacking, mark.args) if told]
     if missing:
         pytest.skip("; ".join(missing))
 
@@ -153,6 +152,7 @@ class Watch:
         threading.Thread(target=self.run, daemon=True).start()
 
     def run(self):
+        # (Not `time.sleep`: a test may replace that.)
         while not self.never.wait(BETWEEN):
             if self.until < math.inf and processor.used_by(os.getpid()) > self.until:
                 self.until = math.inf
@@ -209,26 +209,18 @@ def pytest_runtest_logreport(report):
         report.nodeid = report.nodeid.rpartition("@")[0]
 
 
-def of_modules(reports):
-    """The modules of tests, each with its seconds of processor and by the clock."""
-    used, seconds = Counter(), Counter()
-    for report in reports:
+def pytest_terminal_summary(terminalreporter, config):
+    """Prints the seconds of each module, of processor and by the clock, and at the end the counts. A second try adds to those of the first."""
+    stats, used, seconds = terminalreporter.stats, Counter(), Counter()
+    for report in (it for found in stats.values() for it in found if isinstance(it, pytest.TestReport)):
         name = report.nodeid if "test_scripts" in report.nodeid else report.nodeid.partition("::")[0]
         seconds[name] += report.duration
         used[name] += dict(report.user_properties).get("processor", 0) if report.when == "teardown" else 0
-    return {name: (used[name], seconds[name]) for name in sorted(seconds)}
-
-
-def pytest_terminal_summary(terminalreporter, config):
-    """Prints the use of each module, and at the end the counts. A second try adds to those of the first."""
-    stats = terminalreporter.stats
-    uses = of_modules([it for found in stats.values() for it in found if isinstance(it, pytest.TestReport)])
-    for name, (used, seconds) in uses.items():
-        terminalreporter.write_line(f"{name:<60}{used:>7.1f} s of processor, in {seconds:>6.1f} s")
+    for name in sorted(seconds):
+        terminalreporter.write_line(f"{name:<60}{used[name]:>7.1f} s of processor, in {seconds[name]:>6.1f} s")
     passed, failed, skipped = (len(stats.get(word, ())) for word in ("passed", "failed", "skipped"))
     failed += len(stats.get("error", ()))
     before = config.cache.get("check/counts", [0, 0]) if config.getoption("second") else [0, 0]
     config.cache.set("check/counts", [before[0] + passed, before[1] + skipped])
     late = f"; {passed} of them passed at a second try" if config.getoption("second") and passed else ""
-    used = sum(used for used, _ in uses.values())
-    terminalreporter.write_line(f"{before[0] + passed} passed, {failed} failed, {before[1] + skipped} not run, by {used:.0f} s of processor{late}")
+    terminalreporter.write_line(f"{before[0] + passed} passed, {failed} failed, {before[1] + skipped} not run, by {used.total():.0f} s of processor{late}")
