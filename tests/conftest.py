@@ -50,9 +50,8 @@ def program():
 @pytest.fixture(scope="session")
 def plain_program(program):
     """The program, for tests that refuse its memory, bound its addresses or run it in valgrind. One with AddressSanitizer bears none of it."""
-    with open(program, "rb") as file:
-        if b"__asan_init" in file.read():
-            pytest.skip(f"{program} has AddressSanitizer, and this needs one without")
+    if b"__asan_init" in Path(program).read_bytes():
+        pytest.skip(f"{program} has AddressSanitizer, and this needs one without")
     return program
 
 
