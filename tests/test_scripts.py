@@ -16,6 +16,7 @@ DOCUMENTS = " ".join(path for path in documents.documents() if path != "README.m
 GROUPS = [
     {"documents": (f"tools/check_docs {DOCUMENTS}", 60)},
     {"copies": ("bench/copies 20 --kills 5", 120)},
+    {"lint": ("tools/lint", 240)},
     {"reading": ("tools/reading --check",), "pictures": ("tools/pictures --check",), "names": ("tools/check_names",), "promises": ("tools/check_promises",),
      "crates": ("tools/check_crates",), "lengths": ("tools/check_lengths",), "words": ("tools/check_words",), "gate": ("bench/gate --table --check",)},
 ]
