@@ -111,15 +111,11 @@ class Transport(Protocol[Given]):
 
 
 class Requests:
-    """Sends nothing: returns the bytes of each request."""
-
     def send(self, method: str, target: str, body: bytes, caller: Caller | None) -> bytes:
         return common.request(method.encode(), target.encode(), body, caller) if method == "POST" or caller else common.look(target.encode())
 
 
 class Blocks(Requests):
-    """Keeps each request as a block of `procure desk`, at the moment that is set."""
-
     def __init__(self, moment: str) -> None:
         self.moment = moment
         self.sent: list[bytes] = []
@@ -138,8 +134,6 @@ class Blocks(Requests):
 
 
 class Asking:
-    """Sends requests over connections."""
-
     def __init__(self, strict: bool) -> None:
         self.strict = strict
 
@@ -154,8 +148,6 @@ class Asking:
 
 
 class Port(Asking):
-    """The office itself, at a port of this machine."""
-
     def __init__(self, port: int, patience: float = PATIENCE, strict: bool = True) -> None:
         super().__init__(strict)
         self.port, self.patience = port, patience

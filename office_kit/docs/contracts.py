@@ -44,10 +44,6 @@ class Call:
         self.is_public = not of_trait and (in_public_trait or found[2] == "pub ")
         self.lines: list[str] = []
 
-    def full_name(self) -> str:
-        """As `Id::read`, or `best`."""
-        return f"{self.owner}::{self.name}" if self.owner else self.name
-
     @cached_property
     def text(self) -> str:
         return "\n".join(self.lines)

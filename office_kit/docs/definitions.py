@@ -118,11 +118,8 @@ class Source:
         self.crate, self.module = specs.parent.name, ".".join(path.relative_to(specs).with_suffix("").parts)
         self.heading = words_of(takewhile(lambda line: line.startswith("--"), lines))
         self.definitions, self.imports = definitions_of(path, lines), imports_of(text)
-        self.by_name = {case: each for each in self.definitions for case in each.cases()} | {each.name: each for each in self.definitions}
-
-    def defines(self, name: str) -> Definition | None:
-        """The definition of this name, or the one with this case; None if there is none."""
-        return self.by_name.get(name)
+        # (By name, and by the names of cases.)
+        self.defined = {case: each for each in self.definitions for case in each.cases()} | {each.name: each for each in self.definitions}
 
 
 @cache
@@ -144,7 +141,7 @@ def definition_at(crate: str, module: str, name: str) -> tuple[Source | None, De
     if not source:
         module, _, name = module.rpartition(".")
         source = source_at(crate, module)
-    return source, source.defines(name) if source else None
+    return source, source.defined.get(name) if source else None
 
 
 # ---- Imports.

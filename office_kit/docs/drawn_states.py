@@ -57,7 +57,7 @@ def source_of(crate: str, module: str) -> Source:
 
 def lines_of(source: Source, name: str) -> list[str]:
     """The lines of a definition that must exist."""
-    definition = source.defines(name)
+    definition = source.defined.get(name)
     if not definition:
         raise Fault(f"{source.path.relative_to(ROOT)}: there is no {name}")
     return definition.lines
@@ -72,7 +72,7 @@ def states_in(words: Iterable[str], source: Source) -> set[tuple[str, str]]:
 def used(words: Iterable[str], source: Source) -> Iterator[tuple[Source, Definition]]:
     """The definitions that words of a file name. The tests of states are left out: they write nothing."""
     for word in sorted(words):
-        if own := source.defines(word):
+        if own := source.defined.get(word):
             yield source, own
     for place, name in places_in(sorted(words), source.imports):
         crate, _, module = place.partition(".specs.")

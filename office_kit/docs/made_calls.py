@@ -16,7 +16,8 @@ private modules are left out, and so are those of an `impl` of a trait: the trai
 
 def lines_of_call(call: Call) -> list[str]:
     """The lines of a call: its name, its comment, and its clauses as a block of code."""
-    head = wrapped(f"`{call.full_name()}`{f': {call.doc}' if call.doc else ''}{'' if call.clauses else ' (no clause)'}", "- ", "  ")
+    name = f"{call.owner}::{call.name}" if call.owner else call.name
+    head = wrapped(f"`{name}`{f': {call.doc}' if call.doc else ''}{'' if call.clauses else ' (no clause)'}", "- ", "  ")
     if not call.clauses:
         return head
     texts = [f"{clause.kind}{f' {clause.name}' if clause.name else ''} {{ {clause.text} }}" for clause in call.clauses]

@@ -38,7 +38,7 @@ class Reached:
     def add_all(self, words: Iterable[str], imports: Mapping[str, Imported], source: Source | None = None) -> None:
         """Adds the meanings of words in a file with these imports: definitions, types and words of libraries. In a file of definitions, its own come first."""
         for word in sorted(words):
-            own = source.defines(word.split(".")[0]) if source else None
+            own = source.defined.get(word.split(".")[0]) if source else None
             if own:
                 self.add(source, own)
         for place, name in places_in(sorted(words), imports):
