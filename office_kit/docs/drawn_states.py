@@ -1,10 +1,9 @@
 """Compares the arrows of docs/pictures/states.dot with the specification. Read by tools/pictures.
 
-- Tenders and both kinds of security: the decisions of `tender_decided`, `security_decided` and `performance_decided` of Fates.antt for each command, and the
-  states in which they begin. Everything is compared: from where, to where, by which command.
+- Tenders and both kinds of security: the decisions of Fates.antt for each command, and the states in which they begin.
 - Notices, lots and awards: the states that the puts of each command write (crates/*/specs/Rules/, `NAME_puts` and the definitions that it uses). The tests in
-  BEFORE give the state from which an arrow leads: the rule of the command must use them. UNTESTED has those of new rows, and of lots with an award.
-- Contracts: whether `ended` is empty or filled in the puts of a command, and that the command refuses a contract that has ended.
+  BEFORE give the state from which an arrow leads: the rule of the command must use them.
+- Contracts: whether `ended` is empty or filled in the puts of a command.
 """
 import re
 from collections.abc import Iterable, Iterator
