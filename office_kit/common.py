@@ -230,10 +230,8 @@ SHIM_HEAD = "".join(["#define _GNU_SOURCE\n", *(f"#include <{name}.h>\n" for nam
 def made_shim(source: str, folder: str) -> str:
     """A library made from this C in the folder, to be loaded before the C library (LD_PRELOAD)."""
     need("cc", "gcc")
-    file, shim = os.path.join(folder, "shim.c"), os.path.join(folder, "shim.so")
-    with open(file, "w") as out:
-        out.write(SHIM_HEAD + source)
-    subprocess.run(["cc", "-O1", "-shared", "-fPIC", file, "-o", shim, "-ldl"], check=True)
+    shim = os.path.join(folder, "shim.so")
+    subprocess.run(["cc", "-O1", "-shared", "-fPIC", "-o", shim, "-x", "c", "-", "-ldl"], input=SHIM_HEAD + source, text=True, check=True)
     return shim
 
 
