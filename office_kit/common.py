@@ -221,6 +221,17 @@ def stand_in(path: str, script: str) -> str:
     return path
 
 
+def copy_into(folder: str | os.PathLike[str], *names: str) -> None:
+    """Copies files and folders of the repository to the same places below a folder."""
+    for name in names:
+        source, place = os.path.join(ROOT, name), os.path.join(folder, name)
+        os.makedirs(os.path.dirname(place), exist_ok=True)
+        if os.path.isdir(source):
+            shutil.copytree(source, place, ignore=shutil.ignore_patterns("out", "__pycache__"))
+        else:
+            shutil.copy(source, place)
+
+
 # The head of a library that is loaded before the C library. REAL(int, "fsync", int) makes `real` the C library's function of that name.
 HEADERS = ("dlfcn", "errno", "fcntl", "signal", "stdarg", "stdio", "stdlib", "string", "sys/stat", "sys/types", "sys/uio", "time", "unistd")
 REAL = "static result (*real)(__VA_ARGS__); if (!real) real = (result (*)(__VA_ARGS__))dlsym(RTLD_NEXT, name)"

@@ -27,7 +27,7 @@ BEFORE = {
     ("Cancel", "Lot"): ["is_open"], ("Cancel", "Award"): ["is_active"], ("Fail", "Award"): ["is_active"], ("Sign", "Award"): ["is_active"]}
 # The states before that no rule tests: a new row has none, and the lot of an award that is active is awarded.
 UNTESTED = {("Publish", "Notice"): "", ("Publish", "Lot"): "", ("Award", "Award"): "", ("Fail", "Lot"): "Awarded", ("Sign", "Lot"): "Awarded"}
-# What the puts of a rule say of a contract, and its states before and after. If it runs before, the rule must refuse contracts that have ended.
+# Words in the puts of a rule, and a contract's states before and after. If it runs before, the rule must refuse contracts that have ended.
 CONTRACTS = {"ended = None": ("", "Running"), "ended = Some": ("Running", "Ended"), "puts.Entry": ("Running", "Running")}
 
 

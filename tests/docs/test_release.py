@@ -12,7 +12,7 @@ from pathlib import Path
 
 import pytest
 
-from office_kit.common import ROOT, stand_in
+from office_kit.common import ROOT, copy_into, stand_in
 from office_kit.docs import documents
 from office_kit.docs.releases import logic_of, newest_entry
 
@@ -66,8 +66,7 @@ def made(program, tmp_path_factory):
 @pytest.fixture
 def copy(tmp_path):
     """A copy of the sources of a release."""
-    for name in SOURCES:
-        (shutil.copytree if os.path.isdir(f"{ROOT}/{name}") else shutil.copy)(f"{ROOT}/{name}", tmp_path / name)
+    copy_into(tmp_path, *SOURCES)
     (tmp_path / "crates").symlink_to(f"{ROOT}/crates")
     return tmp_path
 

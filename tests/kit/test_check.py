@@ -2,7 +2,6 @@
 or in processes that they start. It ends these processes.
 """
 import os
-import shutil
 import subprocess
 import time
 import xml.etree.ElementTree
@@ -10,7 +9,7 @@ from pathlib import Path
 
 import pytest
 
-from office_kit.common import ROOT
+from office_kit.common import copy_into
 
 pytestmark = pytest.mark.budget(120)
 HEAD = r"""
@@ -50,11 +49,7 @@ PLANTED = {
 
 def lay(folder):
     """A checkout that has the planted tests alone."""
-    for name in ("tools", "tests"):
-        (folder / name).mkdir()
-    for name in ("tools/check", "tests/conftest.py", "pyproject.toml"):
-        shutil.copy(Path(ROOT, name), folder / name)
-    shutil.copytree(Path(ROOT, "office_kit"), folder / "office_kit", ignore=shutil.ignore_patterns("__pycache__"))
+    copy_into(folder, "tools/check", "tests/conftest.py", "pyproject.toml", "office_kit")
     tests = [f"\n\n{mark}\ndef test_{name}(sh):\n    {body}\n" for name, (mark, body, *_) in PLANTED.items()]
     (folder / "tests" / "test_planted.py").write_text(HEAD + "".join(tests))
 

@@ -6,7 +6,6 @@ missing), and name the change. `tools/calls` and `tools/index` compare nothing: 
 """
 import functools
 import os
-import shutil
 import subprocess
 import sys
 import tomllib
@@ -14,7 +13,7 @@ from pathlib import Path
 
 import pytest
 
-from office_kit.common import ROOT
+from office_kit.common import ROOT, copy_into
 from office_kit.gate.wrong_bodies import came_to
 
 pytestmark = pytest.mark.budget(400)
@@ -27,20 +26,12 @@ WRITTEN = {"calls": "build/docs/CALLS.md", "index": "build/docs/INDEX.md"}
 RIGHT = {"docs": "2 blocks ran in 1 documents, 2 outputs as shown; 4 links of 3 documents; wrong: 0",
          "lint": "2 files of Python, 2 of the shell: no findings"}
 MARKS = {"lint": [pytest.mark.needs("pyflakes3", "pycodestyle", "vulture", "codespell", "shellcheck", "mypy")]}
-# What the folder of a script has of the repository.
+# The files and folders of the repository in the folder of a script.
 COPIED = {"docs": ["tools/check_docs", "tools/office_kit.py", "office_kit"],
           "lint": ["pyproject.toml"],
           "copy": ["tools", "office_kit", "docs", "bench", "tests", "deploy", "edits", "web", "crates",
                    "crates.txt", "README.md", "Makefile", "pyproject.toml"]}
-LEFT_OUT = ("out", "__pycache__", "data")
 SAID, FILES, CHANGES = tomllib.loads(Path(__file__).with_name("planted.toml").read_text(encoding="utf-8")).values()
-
-
-def copied(source, to):
-    """Copies a file. Proofs that name no command are left empty: only tools/check_crates reads them, for their commands."""
-    shutil.copy(source, to)
-    if "/proofs/" in source and b"AmendContract" not in Path(source).read_bytes():
-        os.truncate(to, 0)
 
 
 @pytest.fixture(scope="module")
@@ -49,14 +40,9 @@ def folder_of(tmp_path_factory):
     @functools.cache
     def made(name):
         folder = tmp_path_factory.mktemp(name)
-        for place in (*COPIED[name], *FILES.get(name, ())):
-            (folder / place).parent.mkdir(parents=True, exist_ok=True)
-        for place in COPIED[name]:
-            if os.path.isdir(f"{ROOT}/{place}"):
-                shutil.copytree(f"{ROOT}/{place}", folder / place, ignore=shutil.ignore_patterns(*LEFT_OUT), copy_function=copied)
-            else:
-                shutil.copy(f"{ROOT}/{place}", folder / place)
+        copy_into(folder, *COPIED[name])
         for place, text in FILES.get(name, {}).items():
+            (folder / place).parent.mkdir(parents=True, exist_ok=True)
             (folder / place).write_text(text, encoding="utf-8")
             (folder / place).chmod(0o755)
         return folder
