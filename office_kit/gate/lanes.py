@@ -29,17 +29,14 @@ def processors() -> int:
     return found if quota is None else max(1, min(found, quota // 100_000))
 
 
-def free_memory() -> int:
-    """The free memory in bytes (MemAvailable of proc_meminfo(5)), under the limit of the control group too."""
-    free = 1024 * (number_in("/proc/meminfo", "MemAvailable:") or 0)
-    limit, held = number_in("/sys/fs/cgroup/memory.max"), number_in("/sys/fs/cgroup/memory.current")
-    return free if limit is None or held is None else min(free, limit - held)
-
-
 def side_by_side(wanted: int | None = None) -> str:
-    """RT_JOBS: the number, for so many processors or for all; empty if memory is short, or as it is set already."""
-    count = wanted or processors()
-    return os.environ.get("RT_JOBS") or (str(count) if free_memory() >= EACH * count else "")
+    """RT_JOBS: the number, for so many processors or for all; empty if memory is short, or as it is set already. Free is the MemAvailable of proc_meminfo(5),
+    under the limit of the control group too."""
+    count, free = wanted or processors(), 1024 * (number_in("/proc/meminfo", "MemAvailable:") or 0)
+    limit, held = number_in("/sys/fs/cgroup/memory.max"), number_in("/sys/fs/cgroup/memory.current")
+    if limit is not None and held is not None:
+        free = min(free, limit - held)
+    return os.environ.get("RT_JOBS") or (str(count) if free >= EACH * count else "")
 
 
 if __name__ == "__main__":
