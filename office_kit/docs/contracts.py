@@ -20,7 +20,6 @@ CLAUSE = re.compile(r"^( *)(requires|ensures)(?: (\w+))? \{", re.MULTILINE)
 HANDED_ON = re.compile(r"^pub use (?:crate::)?(\w+)::(?:\{([^}]*)\}|(\w+));", re.MULTILINE)
 MODULE = re.compile(r"^(pub(?:\([^)]*\))? )?mod (\w+);", re.MULTILINE)
 
-
 # An owner, whether it is a public trait, and whether the block is an `impl` of a trait.
 Block = tuple[str, bool, bool]
 NO_BLOCK: Block = ("", False, False)
