@@ -6,6 +6,7 @@
 - Contracts: whether `ended` is empty or filled in the puts of a command.
 """
 import re
+from collections import defaultdict
 from collections.abc import Iterable, Iterator
 from functools import cache
 
@@ -17,16 +18,18 @@ Arrow = tuple[str, str, str, str]
 DRAWING = "docs/pictures/states.dot"
 ARROW = re.compile(r'^\s*([a-z]+)(?:_(\w+))? -> ([a-z]+)_(\w+) \[label="([a-z_]+)(?: \([^)]*\))?"\];', re.MULTILINE)
 ANY_ARROW = re.compile(r"^(?!\s*//).*->", re.MULTILINE)
-STATE = re.compile(r"office_base\.specs\.declared\.records\.(\w+)State\.TheVariants$")
+# The place of a kind's states, and a line of a test of States.antt.
+STATES = re.compile(r"office_base\.specs\.declared\.records\.(\w+)State\.TheVariants$")
+TEST = re.compile(r"^(\w+) \w+_states\.(\w+) = (true|false)$", re.MULTILINE)
 # The crates that have the rules, a file for each command.
 CORES = ("tender_core", "award_core")
-KINDS = {"Notice": "notice", "Lot": "lot", "Award": "award"}
+KINDS = ("notice", "lot", "award")
 # The states from which a command leads: by a test of States.antt that its rule uses, or `not` such a test.
 BEFORE = {
-    ("Open", "Notice"): ["not is_cancelled", "not is_opened"], ("Cancel", "Notice"): ["is_receiving"], ("Award", "Lot"): ["is_undecided"],
-    ("Cancel", "Lot"): ["is_open"], ("Cancel", "Award"): ["is_active"], ("Fail", "Award"): ["is_active"], ("Sign", "Award"): ["is_active"]}
+    ("Open", "notice"): ["not is_cancelled", "not is_opened"], ("Cancel", "notice"): ["is_receiving"], ("Award", "lot"): ["is_undecided"],
+    ("Cancel", "lot"): ["is_open"], ("Cancel", "award"): ["is_active"], ("Fail", "award"): ["is_active"], ("Sign", "award"): ["is_active"]}
 # The states before that no rule tests: a new row has none, and the lot of an award that is active is awarded.
-UNTESTED = {("Publish", "Notice"): "", ("Publish", "Lot"): "", ("Award", "Award"): "", ("Fail", "Lot"): "Awarded", ("Sign", "Lot"): "Awarded"}
+UNTESTED = {("Publish", "notice"): "", ("Publish", "lot"): "", ("Award", "award"): "", ("Fail", "lot"): "Awarded", ("Sign", "lot"): "Awarded"}
 # Words in the puts of a rule, and a contract's states before and after. If it runs before, the rule must refuse contracts that have ended.
 CONTRACTS = {"ended = None": ("", "Running"), "ended = Some": ("Running", "Ended"), "puts.Entry": ("Running", "Running")}
 
@@ -46,26 +49,12 @@ def drawn() -> set[Arrow]:
 
 # ---- What definitions say.
 
-def source_of(crate: str, module: str) -> Source:
-    """A file of definitions that must exist."""
-    source = source_at(crate, module)
-    if not source:
-        raise Fault(f"crates/{crate}/specs: there is no module {module}")
-    return source
-
-
 def lines_of(source: Source, name: str) -> list[str]:
     """The lines of a definition that must exist."""
     definition = source.defined.get(name)
     if not definition:
         raise Fault(f"{source.path.relative_to(ROOT)}: there is no {name}")
     return definition.lines
-
-
-def states_in(words: Iterable[str], source: Source) -> set[tuple[str, str]]:
-    """The states that words of a file name, each with its kind."""
-    places = ((STATE.search(place), name) for place, name in places_in(words, source.imports))
-    return {(found[1], name) for found, name in places if found}
 
 
 def used(words: Iterable[str], source: Source) -> Iterator[tuple[Source, Definition]]:
@@ -93,8 +82,10 @@ def reached(words: Iterable[str], source: Source) -> list[tuple[Source, Definiti
 
 
 def states_of(words: Iterable[str], source: Source) -> set[tuple[str, str]]:
-    """The states that words of a file name, themselves or by the definitions that they lead to."""
-    return states_in(words, source).union(*(states_in(definition.words(), there) for there, definition in reached(words, source)))
+    """The states that words of a file name, themselves or by the definitions that they lead to, each with its kind."""
+    named = [(words, source), *((definition.words(), there) for there, definition in reached(words, source))]
+    places = [(STATES.search(place), name) for some, there in named for place, name in places_in(some, there.imports)]
+    return {(found[1].lower(), name) for found, name in places if found}
 
 
 # ---- Tenders and securities: Fates.antt.
@@ -132,11 +123,9 @@ def decided(source: Source) -> Iterator[Arrow]:
 @cache
 def tests_of_states() -> dict[str, set[str]]:
     """The tests of States.antt: in which states each holds, and in which it doesn't, as `not` and its name."""
-    source, found = source_of("office_base", "States"), {}
-    for definition in source.definitions:
-        for value, name in (("true", definition.name), ("false", f"not {definition.name}")):
-            lines = [line for line in definition.lines[1:] if line.endswith(f"= {value}")]
-            found[name] = {state for _, state in states_in(WORD.findall("\n".join(lines)), source)}
+    found: defaultdict[str, set[str]] = defaultdict(set)
+    for test, state, value in TEST.findall(text_of(ROOT / "crates/office_base/specs/States.antt")):
+        found[test if value == "true" else f"not {test}"].add(state)
     return found
 
 
@@ -161,7 +150,7 @@ def arrows_of(source: Source) -> Iterator[Arrow]:
     words = {word for _, definition in put + tests for word in definition.words()}
     for kind, state in states_of([f"{name}_puts"], source):
         if kind in KINDS:
-            yield from ((KINDS[kind], before, state, name) for before in states_before(command, kind, words) if before != state)
+            yield from ((kind, before, state, name) for before in states_before(command, kind, words) if before != state)
     put_text, test_text = ("\n".join(line for _, definition in some for line in definition.lines) for some in (put, tests))
     for said, (before, after) in CONTRACTS.items():
         if said in put_text and (not before or "has_ended" in test_text):
@@ -171,7 +160,9 @@ def arrows_of(source: Source) -> Iterator[Arrow]:
 
 def faults_of_states() -> list[str]:
     """The arrows that the drawing has and the specification hasn't, and the other way."""
-    fates = source_of("office_machine", "Fates")
+    fates = source_at("office_machine", "Fates")
+    if not fates:
+        raise Fault("crates/office_machine/specs: there is no module Fates")
     rules = [source for crate in CORES for source in sources_of(crate) if source.module.startswith("Rules.")]
     wanted, had = {*begun(fates), *decided(fates)}.union(*map(arrows_of, rules)), drawn()
     faults = [("the specification has no arrow", arrow) for arrow in sorted(had - wanted)] + [("there is no arrow", arrow) for arrow in sorted(wanted - had)]
