@@ -63,10 +63,10 @@ def words_of(comment: Iterable[str]) -> str:
 
 
 class Definition:
-    """A definition: its name, the comment above it, and the lines of its text without comments."""
+    """A definition: its file, its name, the comment above it, and the lines of its text without comments."""
 
-    def __init__(self, name: str, comment: str) -> None:
-        self.name, self.comment = name, comment
+    def __init__(self, source: "Source", name: str, comment: str) -> None:
+        self.source, self.name, self.comment = source, name, comment
         self.lines: list[str] = []
 
     def words(self) -> set[str]:
@@ -81,7 +81,7 @@ class Definition:
         return {found[1] for found in map(CASE.match, self.lines[1:]) if found} if is_of_cases else set()
 
 
-def definitions_of(path: Path, lines: Iterable[str]) -> list[Definition]:
+def definitions_of(source: "Source", lines: Iterable[str]) -> list[Definition]:
     """The definitions of a file, in its order, each with its lines. The comment above a block is that of the first one in it."""
     made: list[Definition] = []
     current: Definition | None = None
@@ -97,10 +97,10 @@ def definitions_of(path: Path, lines: Iterable[str]) -> list[Definition]:
         if is_block:
             of_block, current = above, None
         elif found := (IN_MUTUAL.match(line) if in_mutual else None) or NAMED.match(line) or BARE.match(line):
-            current, of_block = Definition(next(filter(None, found.groups())), above or of_block), ""
+            current, of_block = Definition(source, next(filter(None, found.groups())), above or of_block), ""
             made.append(current)
         elif KEYWORD.match(line) and " = " not in line:
-            raise Fault(f"{path.relative_to(ROOT)}:{at}: no definition that this script knows: {line}")
+            raise Fault(f"{source.path.relative_to(ROOT)}:{at}: no definition that this script knows: {line}")
         elif APART.match(line):
             current = None
         if current and line.strip():
@@ -117,7 +117,7 @@ class Source:
         specs = next(above for above in path.parents if above.name == "specs")
         self.crate, self.module = specs.parent.name, ".".join(path.relative_to(specs).with_suffix("").parts)
         self.heading = words_of(takewhile(lambda line: line.startswith("--"), lines))
-        self.definitions, self.imports = definitions_of(path, lines), imports_of(text)
+        self.definitions, self.imports = definitions_of(self, lines), imports_of(text)
         # (By name, and by the names of cases.)
         self.defined = {case: each for each in self.definitions for case in each.cases()} | {each.name: each for each in self.definitions}
 
@@ -135,13 +135,13 @@ def source_at(crate: str, module: str) -> Source | None:
     return next((source for source in sources_of(crate) if source.module == module), None)
 
 
-def definition_at(crate: str, module: str, name: str) -> tuple[Source | None, Definition | None]:
-    """(file, definition) of a name of a module; a module may be that of a definition's cases. (None, None) if there is none."""
+def definition_at(crate: str, module: str, name: str) -> Definition | None:
+    """The definition of a name of a module, if there is one; a module may be that of a definition's cases."""
     source = source_at(crate, module)
     if not source:
         module, _, name = module.rpartition(".")
         source = source_at(crate, module)
-    return source, source.defined.get(name) if source else None
+    return source.defined.get(name) if source else None
 
 
 # ---- Imports.

@@ -57,33 +57,30 @@ def lines_of(source: Source, name: str) -> list[str]:
     return definition.lines
 
 
-def used(words: Iterable[str], source: Source) -> Iterator[tuple[Source, Definition]]:
+def used(words: Iterable[str], source: Source) -> Iterator[Definition]:
     """The definitions that words of a file name. The tests of states are left out: they write nothing."""
-    for word in sorted(words):
-        if own := source.defined.get(word):
-            yield source, own
+    yield from (source.defined[word] for word in sorted(words) if word in source.defined)
     for place, name in places_in(sorted(words), source.imports):
         crate, _, module = place.partition(".specs.")
-        there, definition = definition_at(crate, module, name)
-        if there and definition and module != "States":
-            yield there, definition
+        definition = definition_at(crate, module, name)
+        if definition and module != "States":
+            yield definition
 
 
-def reached(words: Iterable[str], source: Source) -> list[tuple[Source, Definition]]:
+def reached(words: Iterable[str], source: Source) -> list[Definition]:
     """All definitions that words of a file lead to."""
-    found: list[tuple[Source, Definition]] = []
-    waiting = list(used(words, source))
+    found, waiting = list[Definition](), list(used(words, source))
     while waiting:
-        there, definition = waiting.pop()
-        if (there, definition) not in found:
-            found.append((there, definition))
-            waiting += used(definition.words(), there)
+        definition = waiting.pop()
+        if definition not in found:
+            found.append(definition)
+            waiting += used(definition.words(), definition.source)
     return found
 
 
 def states_of(words: Iterable[str], source: Source) -> set[tuple[str, str]]:
     """The states that words of a file name, themselves or by the definitions that they lead to, each with its kind."""
-    named = [(words, source), *((definition.words(), there) for there, definition in reached(words, source))]
+    named = [(words, source), *((definition.words(), definition.source) for definition in reached(words, source))]
     places = [(STATES.search(place), name) for some, there in named for place, name in places_in(some, there.imports)]
     return {(found[1].lower(), name) for found, name in places if found}
 
@@ -147,11 +144,11 @@ def arrows_of(source: Source) -> Iterator[Arrow]:
     command = source.module.removeprefix("Rules.")
     name = command_name(command)
     put, tests = reached([f"{name}_puts"], source), reached([f"{name}_tests"], source)
-    words = {word for _, definition in put + tests for word in definition.words()}
+    words = {word for definition in put + tests for word in definition.words()}
     for kind, state in states_of([f"{name}_puts"], source):
         if kind in KINDS:
             yield from ((kind, before, state, name) for before in states_before(command, kind, words) if before != state)
-    put_text, test_text = ("\n".join(line for _, definition in some for line in definition.lines) for some in (put, tests))
+    put_text, test_text = ("\n".join(line for definition in some for line in definition.lines) for some in (put, tests))
     for said, (before, after) in CONTRACTS.items():
         if said in put_text and (not before or "has_ended" in test_text):
             yield "contract", before, after, name

@@ -32,7 +32,7 @@ class Reached:
         self.definitions: dict[tuple[str, str, str], Definition] = {}
         self.types: defaultdict[str, set[str]] = defaultdict(set)
         self.libraries: defaultdict[str, defaultdict[str, set[str]]] = defaultdict(lambda: defaultdict(set))
-        self.waiting: list[tuple[Source, Definition]] = []
+        self.waiting: list[Definition] = []
         self.seen: set[Path] = set()
 
     def add_all(self, words: Iterable[str], imports: Mapping[str, Imported], source: Source | None = None) -> None:
@@ -40,7 +40,7 @@ class Reached:
         for word in sorted(words):
             own = source.defined.get(word.split(".")[0]) if source else None
             if own:
-                self.add(source, own)
+                self.add(own)
         for place, name in places_in(sorted(words), imports):
             crate, _, module = place.partition(".specs.")
             if crate not in self.crates:
@@ -48,26 +48,27 @@ class Reached:
             elif module.startswith("declared."):
                 self.types[crate].add(module.removeprefix("declared.").removesuffix(".TheVariants"))
             else:
-                self.add(*definition_at(crate, module, name))
+                self.add(definition_at(crate, module, name))
 
     def need(self, imports: Mapping[str, Imported], where: Path | str) -> None:
         """Checks that each definition of the program's crates that a file imports exists."""
         for place, name in imports.values():
             crate, _, module = place.partition(".specs.")
-            if name and crate in self.crates and not module.startswith("declared.") and not definition_at(crate, module, name)[1]:
+            if name and crate in self.crates and not module.startswith("declared.") and not definition_at(crate, module, name):
                 raise Fault(f"{where}: there is no definition {name} in {place}")
 
-    def add(self, source: Source | None, definition: Definition | None) -> None:
+    def add(self, definition: Definition | None) -> None:
         """Adds a definition, once; with the first one of a file what the file imports is looked for."""
-        if source is None or definition is None:
+        if not definition:
             raise Fault("a definition that is used isn't there")
+        source = definition.source
         if source.path not in self.seen:
             self.seen.add(source.path)
             self.need(source.imports, source.path.relative_to(ROOT))
         key = source.crate, source.module, definition.name
         if key not in self.definitions:
             self.definitions[key] = definition
-            self.waiting.append((source, definition))
+            self.waiting.append(definition)
 
     def files(self) -> dict[tuple[str, str], list[Definition]]:
         """The files that were reached, with the definitions of each that were."""
@@ -89,5 +90,5 @@ def begin(made: Reached, start: Mapping[str, Sequence[str]]) -> None:
         for call in calls:
             made.add_all(set(WORD.findall(" ".join(clause.text for clause in call.clauses))), imports)
     while made.waiting:
-        source, definition = made.waiting.pop(0)
-        made.add_all(definition.words() - {definition.name}, source.imports, source)
+        definition = made.waiting.pop(0)
+        made.add_all(definition.words() - {definition.name}, definition.source.imports, definition.source)
