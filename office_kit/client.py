@@ -187,11 +187,6 @@ class Front(Asking):
             return Answer(response.status, dict(response.headers), response.read(), time.perf_counter() - begun)
 
 
-def behind(after: str | None) -> str:
-    """The query that says after which one a page begins."""
-    return "" if after is None else f"?after={after}"
-
-
 def hello(_: str) -> str:
     """The key that each tenderer has if no other is given."""
     return "hello"
@@ -293,10 +288,10 @@ class Client(Generic[Told]):
         return self.query(who, f"/notices/{name}/evaluation")
 
     def notices(self, after: str | None = None) -> Told:
-        return self.query(None, f"/notices{behind(after)}")
+        return self.query(None, f"/notices?after={after}" if after else "/notices")
 
     def tenderers(self, after: str | None = None) -> Told:
-        return self.query("clerk", f"/tenderers{behind(after)}")
+        return self.query("clerk", f"/tenderers?after={after}" if after else "/tenderers")
 
 
 # The names of the methods that are commands and queries: as many as docs/API.md has routes.
