@@ -225,20 +225,18 @@ def test_lintian_finds_symbols(made, program, tmp_path):
 @pytest.mark.parametrize("is_right", [True, False], ids=["as_it_is", "without_rm"])
 def test_purge(made, tmp_path, is_right):
     """Of links to the front's settings, to another missing file and to a file, only the first go."""
-    for name in ("conf.d", "sites-enabled"):
-        (tmp_path / "etc/nginx" / name).mkdir(parents=True)
     (tmp_path / "file").touch()
-    front = tmp_path / "absent/nginx.conf"
-    for name, target in (("procure.conf", front), ("other.conf", tmp_path / "absent/other.conf"), ("file.conf", tmp_path / "file")):
-        (tmp_path / "etc/nginx/conf.d" / name).symlink_to(target)
-    (tmp_path / "etc/nginx/sites-enabled/procure").symlink_to(front)
+    front, nginx = tmp_path / "absent/nginx.conf", tmp_path / "etc/nginx"
+    for name, target in (("conf.d/procure.conf", front), ("conf.d/other.conf", tmp_path / "absent/other.conf"), ("conf.d/file.conf", tmp_path / "file"),
+                         ("sites-enabled/procure", front)):
+        (nginx / name).parent.mkdir(parents=True, exist_ok=True)
+        (nginx / name).symlink_to(target)
     text = (made.told / "postrm").read_text()
-    for old, new in (("/etc/nginx/", f"{tmp_path}/etc/nginx/"), ("/etc/procure/nginx.conf", str(front)), ("/run/systemd/system", f"{tmp_path}/absent")):
+    for old, new in (("/etc/nginx/", f"{nginx}/"), ("/etc/procure/nginx.conf", str(front)), ("/run/systemd/system", f"{tmp_path}/absent")):
         text = text.replace(old, new)
     told = run("sh", "-c", text if is_right else text.replace('rm "$link"', "true"), "sh", "purge")
     assert told.returncode == 0 and "stay" in told.stdout
-    left = {os.path.basename(name) for name in files_in(tmp_path / "etc/nginx")}
-    assert left == {"other.conf", "file.conf", *(() if is_right else ("procure.conf", "procure"))}
+    assert files_in(nginx) == {"conf.d/other.conf", "conf.d/file.conf", *(() if is_right else ("conf.d/procure.conf", "sites-enabled/procure"))}
 
 
 # ---- Links.
