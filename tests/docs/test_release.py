@@ -39,16 +39,16 @@ class Made:
         self.ran = run(f"{root}/tools/release", "--to", self.to, *flags, env={**os.environ, "PROCURE": program, "SOURCE_DATE_EPOCH": "1700000000"})
         if self.ran.returncode == 0:
             self.version = re.search(r", version (\S+)\n", self.ran.stdout)[1]
-            self.top, self.tree, self.told = folder / f"procure-{self.version}", folder / "tree", folder / "told"
+            self.top, self.tree, self.told = folder / f"procure-{self.version}", folder / "tree", folder / "tree/DEBIAN"
             self.package = self.to / f"procure_{self.version}_amd64.deb"
             run("tar", "-xzf", self.to / f"procure-{self.version}.tar.gz", "-C", folder, check=True)
-            run("dpkg-deb", "-x", self.package, self.tree, check=True)
-            run("dpkg-deb", "-e", self.package, self.told, check=True)
+            run("dpkg-deb", "-R", self.package, self.tree, check=True)
 
     def copy(self, folder):
         """A copy, into which faults can be planted."""
         copy = Made.__new__(Made)
-        copy.top, copy.tree, copy.told = (shutil.copytree(it, folder / it.name, symlinks=True) for it in (self.top, self.tree, self.told))
+        copy.top, copy.tree = (shutil.copytree(it, folder / it.name, symlinks=True) for it in (self.top, self.tree))
+        copy.told = copy.tree / "DEBIAN"
         return copy
 
 
@@ -215,7 +215,6 @@ def test_lintian(made):
 def test_lintian_finds_symbols(made, program, tmp_path):
     """Without the words about them."""
     planted = made.copy(tmp_path)
-    planted.told.rename(planted.tree / "DEBIAN")
     (planted.tree / "usr/share/lintian/overrides/procure").unlink()
     run("dpkg-deb", "--root-owner-group", "--build", planted.tree, tmp_path / "procure_1_amd64.deb", check=True)
     is_whole = re.search(r"\.symtab\b", run("readelf", "-S", "--wide", program).stdout)
