@@ -8,6 +8,7 @@
 Over a connection a method returns the office's `Answer`, whose members are read as `answer["receipt"]`. An answer with another status than 200 ends the script,
 unless the transport was made with `strict=False`. `lot`, `notice`, `tender` and `text_of` make the parts of requests.
 """
+import contextlib
 import hashlib
 import http.client
 import json
@@ -18,6 +19,7 @@ import time
 import urllib.parse
 from collections.abc import Callable, Mapping
 from dataclasses import dataclass
+from functools import partialmethod
 from typing import Any, Generic, Protocol, TypeVar
 
 from office_kit import common
@@ -66,7 +68,6 @@ def tender(*rows: tuple[int, int], wrong: int = 0) -> str:
 
 
 def budget(*rows: str) -> str:
-    """A budget file with these rows."""
     return HEAD + "".join(row + "\n" for row in rows)
 
 
@@ -87,7 +88,6 @@ class Answer:
     seconds: float = 0.0
 
     def value(self) -> Any:
-        """The body as a value of JSON."""
         return json.loads(self.body)
 
     def __getitem__(self, member: str) -> Any:
@@ -111,15 +111,11 @@ class Transport(Protocol[Given]):
 
 
 class Requests:
-    """Sends nothing: returns the bytes of each request."""
-
     def send(self, method: str, target: str, body: bytes, caller: Caller | None) -> bytes:
         return common.request(method.encode(), target.encode(), body, caller) if method == "POST" or caller else common.look(target.encode())
 
 
 class Blocks(Requests):
-    """Keeps each request as a block of `procure desk`, at the moment that is set."""
-
     def __init__(self, moment: str) -> None:
         self.moment = moment
         self.sent: list[bytes] = []
@@ -138,8 +134,6 @@ class Blocks(Requests):
 
 
 class Asking:
-    """Sends requests over connections."""
-
     def __init__(self, strict: bool) -> None:
         self.strict = strict
 
@@ -150,13 +144,10 @@ class Asking:
         return answer
 
     def exchange(self, method: str, target: str, body: bytes, caller: Caller | None) -> Answer:
-        """The answer, whatever it is."""
         raise NotImplementedError
 
 
 class Port(Asking):
-    """The office itself, at a port of this machine."""
-
     def __init__(self, port: int, patience: float = PATIENCE, strict: bool = True) -> None:
         super().__init__(strict)
         self.port, self.patience = port, patience
@@ -168,15 +159,15 @@ class Port(Asking):
 class Front(Asking):
     """An office with a front, at an address without a path; a context for TLS if its certificate is self-signed."""
 
-    def __init__(self, base: str, context: ssl.SSLContext | None = None, source: str | None = None, strict: bool = True) -> None:
+    def __init__(self, base: str, context: ssl.SSLContext | None = None, strict: bool = True) -> None:
         super().__init__(strict)
-        self.base, self.context, self.source = urllib.parse.urlsplit(base), context, (source, 0) if source else None
+        self.base, self.context = urllib.parse.urlsplit(base), context
 
     def connection(self) -> http.client.HTTPConnection:
         host, port = self.base.hostname or HOST, self.base.port
         if self.base.scheme == "https":
-            return http.client.HTTPSConnection(host, port, timeout=PATIENCE, context=self.context, source_address=self.source)
-        return http.client.HTTPConnection(host, port, timeout=PATIENCE, source_address=self.source)
+            return http.client.HTTPSConnection(host, port, timeout=PATIENCE, context=self.context)
+        return http.client.HTTPConnection(host, port, timeout=PATIENCE)
 
     def exchange(self, method: str, target: str, body: bytes, caller: Caller | None) -> Answer:
         """The answer; after a 429 the next one, when the time of its Retry-After is over, or a second."""
@@ -188,20 +179,12 @@ class Front(Asking):
         fail(f"{method} {target}: 429, {TRIES} times")
 
     def ask(self, method: str, target: str, body: bytes, caller: Caller | None) -> Answer:
-        """One answer."""
-        connection, begun = self.connection(), time.perf_counter()
-        try:
+        begun = time.perf_counter()
+        with contextlib.closing(self.connection()) as connection:
             who = {name.decode(): value.decode() for name, value in zip(common.FIELDS, caller or ())}
             connection.request(method, target, body or None, who)
             response = connection.getresponse()
             return Answer(response.status, dict(response.headers), response.read(), time.perf_counter() - begun)
-        finally:
-            connection.close()
-
-
-def behind(after: str | None) -> str:
-    """The query that says after which one a page begins."""
-    return "" if after is None else f"?after={after}"
 
 
 def hello(_: str) -> str:
@@ -224,6 +207,10 @@ class Client(Generic[Told]):
 
     def query(self, who: str | None, target: str) -> Told:
         return self.transport.send("GET", target, b"", self.caller_of(who) if who else None)
+
+    def ask(self, target: str, who: str | None, *names: object) -> Told:
+        """A query with these names in its path, or numbers."""
+        return self.query(who, target.format(*names))
 
     def clerk(self, target: str, body: Body = "") -> Told:
         return self.command("clerk", target, body)
@@ -283,53 +270,28 @@ class Client(Generic[Told]):
 
     # The queries: of anybody, of the clerk, and of a named caller.
 
-    def line(self, line: str) -> Told:
-        return self.query(None, f"/lines/{line}")
-
-    def ledger(self) -> Told:
-        return self.query(None, "/ledger")
-
-    def releases(self, name: str) -> Told:
-        return self.query(None, f"/notices/{name}/releases")
-
-    def record(self, name: str) -> Told:
-        return self.query(None, f"/notices/{name}/record")
-
-    def minutes(self, name: str) -> Told:
-        return self.query(None, f"/notices/{name}/minutes")
-
-    def tender_register(self, name: str) -> Told:
-        return self.query("clerk", f"/notices/{name}/register")
-
-    def tender(self, who: str, receipt: int) -> Told:
-        return self.query(who, f"/tenders/{receipt}")
-
-    def security(self, who: str, security: int) -> Told:
-        return self.query(who, f"/securities/{security}")
-
-    def performance_security(self, who: str, contract: int) -> Told:
-        return self.query(who, f"/contracts/{contract}/security")
-
-    def notices(self, after: str | None = None) -> Told:
-        return self.query(None, f"/notices{behind(after)}")
-
-    def terms(self, name: str) -> Told:
-        return self.query(None, f"/notices/{name}/terms")
-
-    def own_tenders(self, who: str, name: str) -> Told:
-        return self.query(who, f"/notices/{name}/tenders")
+    line = partialmethod(ask, "/lines/{}", None)
+    ledger = partialmethod(ask, "/ledger", None)
+    releases = partialmethod(ask, "/notices/{}/releases", None)
+    record = partialmethod(ask, "/notices/{}/record", None)
+    minutes = partialmethod(ask, "/notices/{}/minutes", None)
+    terms = partialmethod(ask, "/notices/{}/terms", None)
+    tender_register = partialmethod(ask, "/notices/{}/register", "clerk")
+    securities = partialmethod(ask, "/notices/{}/securities", "clerk")
+    tender = partialmethod(ask, "/tenders/{}")
+    security = partialmethod(ask, "/securities/{}")
+    performance_security = partialmethod(ask, "/contracts/{}/security")
+    own_tenders = partialmethod(ask, "/notices/{}/tenders")
+    contract_seen = partialmethod(ask, "/contracts/{}")
 
     def evaluation(self, name: str, who: str | None = None) -> Told:
         return self.query(who, f"/notices/{name}/evaluation")
 
-    def securities(self, name: str) -> Told:
-        return self.query("clerk", f"/notices/{name}/securities")
+    def notices(self, after: str | None = None) -> Told:
+        return self.query(None, f"/notices?after={after}" if after else "/notices")
 
     def tenderers(self, after: str | None = None) -> Told:
-        return self.query("clerk", f"/tenderers{behind(after)}")
-
-    def contract_seen(self, who: str, contract: int) -> Told:
-        return self.query(who, f"/contracts/{contract}")
+        return self.query("clerk", f"/tenderers?after={after}" if after else "/tenderers")
 
 
 # The names of the methods that are commands and queries: as many as docs/API.md has routes.

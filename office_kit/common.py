@@ -14,6 +14,7 @@ import signal
 import socket
 import subprocess
 import sys
+import tempfile
 import threading
 import time
 from collections.abc import Callable, Iterable, Iterator, Sequence
@@ -95,12 +96,10 @@ def options_of(text: str | None) -> argparse.ArgumentParser:
 
 
 def add_program(options: argparse.ArgumentParser) -> None:
-    """The option that names the program."""
     options.add_argument("--program", type=runnable, default=PROGRAM, help="the program ($PROCURE, or build/procure)")
 
 
 def runnable(path: str) -> str:
-    """The path, if there is a program."""
     found = shutil.which(path)
     if not found:
         raise argparse.ArgumentTypeError(NO_PROGRAM.format(path))
@@ -157,11 +156,9 @@ def own_ports() -> tuple[Iterator[int], socket.socket]:
     (To clients the kernel gives those above 32767.)"""
     name = socket.socket(socket.AF_UNIX)
     for first in range(20000, 32000, 100):
-        try:
+        with contextlib.suppress(OSError):
             name.bind(f"\0procure-ports-{first}")
             return itertools.cycle(range(first, first + 100)), name
-        except OSError:
-            pass
     fail("too many scripts run already")
 
 
@@ -169,13 +166,8 @@ def free_port() -> int:
     """A port at which nothing listens."""
     with TURN:
         for port in itertools.islice(own_ports()[0], 100):
-            with socket.socket() as listener:
-                listener.setsockopt(socket.SOL_SOCKET, socket.SO_REUSEADDR, 1)
-                try:
-                    listener.bind((HOST, port))
-                    return port
-                except OSError:
-                    pass
+            with contextlib.suppress(OSError), socket.create_server((HOST, port)):
+                return port
     fail("no port is free")
 
 
@@ -193,10 +185,7 @@ def connect(port: int, patience: float = 0) -> socket.socket:
 
 def read_all(stream: socket.socket) -> bytes:
     """Everything until the server closes the connection."""
-    parts = []
-    while part := stream.recv(1 << 16):
-        parts.append(part)
-    return b"".join(parts)
+    return b"".join(iter(functools.partial(stream.recv, 1 << 16), b""))
 
 
 def exchange(port: int, text: bytes, patience: float = 0, ends: bool = False) -> tuple[bytes, float]:
@@ -212,13 +201,10 @@ def exchange(port: int, text: bytes, patience: float = 0, ends: bool = False) ->
 def what_came(port: int, text: bytes) -> bytes:
     """The response to these bytes, or the part that came before the connection broke; empty without a connection."""
     parts = []
-    try:
-        with socket.create_connection((HOST, port)) as stream:
-            stream.sendall(text)
-            while part := stream.recv(1 << 16):
-                parts.append(part)
-    except OSError:
-        pass
+    with contextlib.suppress(OSError), socket.create_connection((HOST, port)) as stream:
+        stream.sendall(text)
+        while part := stream.recv(1 << 16):
+            parts.append(part)
     return b"".join(parts)
 
 
@@ -254,6 +240,17 @@ def stand_in(path: str, script: str) -> str:
     return path
 
 
+def copy_into(folder: str | os.PathLike[str], *names: str) -> None:
+    """Copies files and folders of the repository to the same places below a folder."""
+    for name in names:
+        source, place = os.path.join(ROOT, name), os.path.join(folder, name)
+        os.makedirs(os.path.dirname(place), exist_ok=True)
+        if os.path.isdir(source):
+            shutil.copytree(source, place, ignore=shutil.ignore_patterns("out", "__pycache__"))
+        else:
+            shutil.copy(source, place)
+
+
 # The head of a library that is loaded before the C library. REAL(int, "fsync", int) makes `real` the C library's function of that name.
 HEADERS = ("dlfcn", "errno", "fcntl", "signal", "stdarg", "stdio", "stdlib", "string", "sys/stat", "sys/types", "sys/uio", "time", "unistd")
 REAL = "static result (*real)(__VA_ARGS__); if (!real) real = (result (*)(__VA_ARGS__))dlsym(RTLD_NEXT, name)"
@@ -263,10 +260,8 @@ SHIM_HEAD = "".join(["#define _GNU_SOURCE\n", *(f"#include <{name}.h>\n" for nam
 def made_shim(source: str, folder: str) -> str:
     """A library made from this C in the folder, to be loaded before the C library (LD_PRELOAD)."""
     need("cc", "gcc")
-    file, shim = os.path.join(folder, "shim.c"), os.path.join(folder, "shim.so")
-    with open(file, "w") as out:
-        out.write(SHIM_HEAD + source)
-    subprocess.run(["cc", "-O1", "-shared", "-fPIC", file, "-o", shim, "-ldl"], check=True)
+    shim = os.path.join(folder, "shim.so")
+    subprocess.run(["cc", "-O1", "-shared", "-fPIC", "-o", shim, "-x", "c", "-", "-ldl"], input=SHIM_HEAD + source, text=True, check=True)
     return shim
 
 
@@ -293,24 +288,18 @@ def processor(process: "subprocess.Popen[bytes]") -> float:
 
 def run_blocks(command: Sequence[str], path: str) -> tuple[float, int, bytes, list[tuple[int, float]]]:
     """Runs a command over an input: seconds, peak memory in KiB, the output, and how many bytes of it existed at which moments."""
-    marks: list[tuple[int, float]] = []
-    chunks: list[bytes] = []
-    faults: list[bytes] = []
-    total = memory = 0
-    with open(path, "rb") as source:
+    marks, output, memory = list[tuple[int, float]](), bytearray(), 0
+    with open(path, "rb") as source, tempfile.TemporaryFile() as faults:
         start = time.perf_counter()
-        with running(command, stdin=source, stdout=subprocess.PIPE, stderr=subprocess.PIPE) as process:
-            assert process.stdout and process.stderr
-            reader = threading.Thread(target=lambda said: faults.append(said.read()), args=(process.stderr,))
-            reader.start()
+        with running(command, stdin=source, stdout=subprocess.PIPE, stderr=faults) as process:
+            assert process.stdout
             while chunk := os.read(process.stdout.fileno(), 1 << 16):
-                total += len(chunk)
-                marks.append((total, time.perf_counter() - start))
-                chunks.append(chunk)
+                output += chunk
+                marks.append((len(output), time.perf_counter() - start))
                 memory = peak(process, memory)
-            reader.join()
             process.wait()
             seconds = time.perf_counter() - start
-    if process.returncode:
-        fail(f"{command[0]} ended with {process.returncode}: {faults[0].decode(errors='replace')}")
-    return seconds, memory, b"".join(chunks), marks
+        faults.seek(0)
+        if process.returncode:
+            fail(f"{command[0]} ended with {process.returncode}: {faults.read().decode(errors='replace')}")
+    return seconds, memory, bytes(output), marks

@@ -50,9 +50,8 @@ def program():
 @pytest.fixture(scope="session")
 def plain_program(program):
     """The program, for tests that refuse its memory, bound its addresses or run it in valgrind. One with AddressSanitizer bears none of it."""
-    with open(program, "rb") as file:
-        if b"__asan_init" in file.read():
-            pytest.skip(f"{program} has AddressSanitizer, and this needs one without")
+    if b"__asan_init" in Path(program).read_bytes():
+        pytest.skip(f"{program} has AddressSanitizer, and this needs one without")
     return program
 
 
@@ -94,8 +93,7 @@ def pictures(request, tmp_path_factory):
 # ---- What isn't run.
 
 def pytest_runtest_setup(item):
-    tools = [tool for mark in item.iter_markers("needs") for tool in mark.args]
-    missing = [told for tool in tools if (told := needs.lacking(tool))]
+    missing = [told for mark in item.iter_markers("needs") for told in map(needs.lacking, mark.args) if told]
     if missing:
         pytest.skip("; ".join(missing))
 
@@ -153,6 +151,7 @@ class Watch:
         threading.Thread(target=self.run, daemon=True).start()
 
     def run(self):
+        # (Not `time.sleep`: a test may replace that.)
         while not self.never.wait(BETWEEN):
             if self.until < math.inf and processor.used_by(os.getpid()) > self.until:
                 self.until = math.inf
@@ -162,13 +161,17 @@ class Watch:
         self.was_ended = True
         pytest.fail("it was ended: it used more seconds of processor than its budget", pytrace=False)
 
-    def begin(self, item):
+    @pytest.hookimpl(hookwrapper=True, tryfirst=True)
+    def pytest_runtest_protocol(self, item):
         what, budget = budget_of(item)
         self.begun, self.was_ended = processor.used_by(os.getpid()), False
         self.until = self.begun + budget - self.used[what]
+        yield
 
-    def end(self, item):
-        """The seconds that a test used. Too many for the budget are a failure."""
+    @pytest.hookimpl(hookwrapper=True, tryfirst=True)
+    def pytest_runtest_teardown(self, item):
+        """Notes the seconds that a test used. Too many for the budget are a failure."""
+        yield
         what, budget = budget_of(item)
         self.until, used = math.inf, processor.used_by(os.getpid()) - self.begun
         self.used[what] += used
@@ -176,33 +179,21 @@ class Watch:
         if self.used[what] > budget and not self.was_ended:
             pytest.fail(f"{what} used {self.used[what]:.0f} seconds of processor, and may use {budget:.0f}", pytrace=False)
 
-
-def runs_tests(config):
-    """Whether this process runs tests itself: a worker of xdist, or pytest alone."""
-    return hasattr(config, "workerinput") or config.getoption("dist", "no") == "no"
+    @pytest.hookimpl(trylast=True)
+    def pytest_sessionfinish(self):
+        """Ends everything that tests left running."""
+        processor.end_below(os.getpid())
 
 
 def pytest_configure(config):
-    config.watch = Watch() if runs_tests(config) else None
-
-
-@pytest.hookimpl(hookwrapper=True, tryfirst=True)
-def pytest_runtest_protocol(item):
-    item.config.watch.begin(item)
-    yield
-
-
-@pytest.hookimpl(hookwrapper=True, tryfirst=True)
-def pytest_runtest_teardown(item):
-    yield
-    item.config.watch.end(item)
+    """The processes that run tests watch: a worker of xdist, or pytest alone."""
+    if hasattr(config, "workerinput") or config.getoption("dist", "no") == "no":
+        config.pluginmanager.register(Watch())
 
 
 @pytest.hookimpl(trylast=True)
 def pytest_sessionfinish(session, exitstatus):
-    """Ends everything that tests left running. In the long form the status is 3 if none failed and one wasn't run."""
-    if session.config.watch:
-        processor.end_below(os.getpid())
+    """In the long form the status is 3 if no test failed and one wasn't run."""
     reporter = session.config.pluginmanager.get_plugin("terminalreporter")
     if session.config.getoption("long") and reporter and exitstatus == 0 and reporter.stats.get("skipped"):
         session.exitstatus = 3
@@ -217,26 +208,18 @@ def pytest_runtest_logreport(report):
         report.nodeid = report.nodeid.rpartition("@")[0]
 
 
-def of_modules(reports):
-    """The modules of tests, each with its seconds of processor and by the clock."""
-    used, seconds = Counter(), Counter()
-    for report in reports:
+def pytest_terminal_summary(terminalreporter, config):
+    """Prints the seconds of each module, of processor and by the clock, and at the end the counts. A second try adds to those of the first."""
+    stats, used, seconds = terminalreporter.stats, Counter(), Counter()
+    for report in (it for found in stats.values() for it in found if isinstance(it, pytest.TestReport)):
         name = report.nodeid if "test_scripts" in report.nodeid else report.nodeid.partition("::")[0]
         seconds[name] += report.duration
         used[name] += dict(report.user_properties).get("processor", 0) if report.when == "teardown" else 0
-    return {name: (used[name], seconds[name]) for name in sorted(seconds)}
-
-
-def pytest_terminal_summary(terminalreporter, config):
-    """Prints the use of each module, and at the end the counts. A second try adds to those of the first."""
-    stats = terminalreporter.stats
-    uses = of_modules([it for found in stats.values() for it in found if isinstance(it, pytest.TestReport)])
-    for name, (used, seconds) in uses.items():
-        terminalreporter.write_line(f"{name:<60}{used:>7.1f} s of processor, in {seconds:>6.1f} s")
+    for name in sorted(seconds):
+        terminalreporter.write_line(f"{name:<60}{used[name]:>7.1f} s of processor, in {seconds[name]:>6.1f} s")
     passed, failed, skipped = (len(stats.get(word, ())) for word in ("passed", "failed", "skipped"))
     failed += len(stats.get("error", ()))
     before = config.cache.get("check/counts", [0, 0]) if config.getoption("second") else [0, 0]
     config.cache.set("check/counts", [before[0] + passed, before[1] + skipped])
     late = f"; {passed} of them passed at a second try" if config.getoption("second") and passed else ""
-    used = sum(used for used, _ in uses.values())
-    terminalreporter.write_line(f"{before[0] + passed} passed, {failed} failed, {before[1] + skipped} not run, by {used:.0f} s of processor{late}")
+    terminalreporter.write_line(f"{before[0] + passed} passed, {failed} failed, {before[1] + skipped} not run, by {used.total():.0f} s of processor{late}")

@@ -3,41 +3,55 @@
 Used by tools/calls, office_kit/docs/reached.py and tools/check_promises.
 """
 import re
-from collections.abc import Sequence
-from functools import lru_cache
+from collections.abc import Iterable, Sequence
+from functools import cache, cached_property
+from itertools import takewhile
 from pathlib import Path
+from typing import NamedTuple
 
-from office_kit.docs.definitions import ROOT, text_of
+from office_kit.docs.definitions import ROOT, text_of, without_nested
 
 # A function, by the words before its name: at the left, or in a block.
 FUNCTION = re.compile(r"^( *)((?:pub(?:\([^)]*\))? )?)(?:const |async |unsafe )*fn (\w+)")
+# A line above a function that belongs to it: of its comment, or an attribute.
+ABOVE = re.compile(r"\s*(?:///|#\[)")
 BLOCK = re.compile(r"^(?:pub(?:\([^)]*\))? )?(impl|trait)\b(.*)")
 CLAUSE = re.compile(r"^( *)(requires|ensures)(?: (\w+))? \{", re.MULTILINE)
 HANDED_ON = re.compile(r"^pub use (?:crate::)?(\w+)::(?:\{([^}]*)\}|(\w+));", re.MULTILINE)
 MODULE = re.compile(r"^(pub(?:\([^)]*\))? )?mod (\w+);", re.MULTILINE)
 
-# An owner, whether it is a trait, and whether it is an `impl` of a trait.
+# An owner, whether it is a public trait, and whether the block is an `impl` of a trait.
 Block = tuple[str, bool, bool]
+NO_BLOCK: Block = ("", False, False)
 
 
-class Clause:
+class Clause(NamedTuple):
     """A clause: `ensures` or `requires`, its name or an empty text, and its statement."""
 
-    def __init__(self, kind: str, name: str, text: str) -> None:
-        self.kind, self.name, self.text = kind, name, text
+    kind: str
+    name: str
+    text: str
 
 
 class Call:
-    """A function: its name, the type or trait that it is of (or an empty text), whether it is public, its comment, its text, and its clauses."""
+    """A function: its name, the type or trait that it is of (or an empty text), whether it is public, its comment, and its lines without comments."""
 
-    def __init__(self, name: str, owner: str, is_public: bool, doc: str) -> None:
-        self.name, self.owner, self.is_public, self.doc = name, owner, is_public, doc
-        self.text = ""
-        self.clauses: list[Clause] = []
+    def __init__(self, found: re.Match[str], block: Block, above: Sequence[str]) -> None:
+        self.owner, in_public_trait, of_trait = block
+        self.indent, self.name = len(found[1]), found[3]
+        self.doc = first_paragraph(line for line in above if line.strip().startswith("///"))
+        self.is_public = not of_trait and (in_public_trait or found[2] == "pub ")
+        self.lines: list[str] = []
 
-    def full_name(self) -> str:
-        """As `Id::read`, or `best`."""
-        return f"{self.owner}::{self.name}" if self.owner else self.name
+    @cached_property
+    def text(self) -> str:
+        return "\n".join(self.lines)
+
+    @cached_property
+    def clauses(self) -> list[Clause]:
+        """Its clauses: those that are one step further in than itself."""
+        found = [clause for clause in CLAUSE.finditer(self.text) if len(clause[1]) == self.indent + 4]
+        return [Clause(clause[2], clause[3] or "", folded(in_brace(self.text, clause.end()))) for clause in found]
 
 
 def folded(text: str) -> str:
@@ -45,41 +59,27 @@ def folded(text: str) -> str:
     return " ".join(text.split())
 
 
-def behind_brace(text: str, at: int) -> int:
-    """The end of the block whose brace opens before this place."""
-    depth = 1
+def in_brace(text: str, begin: int) -> str:
+    """The text of the block whose brace opens before this place."""
+    depth, at = 1, begin
     while depth and at < len(text):
         depth += {"{": 1, "}": -1}.get(text[at], 0)
         at += 1
-    return at
+    return text[begin:at - 1]
 
 
-def clauses_in(text: str, indent: int) -> list[Clause]:
-    """The clauses of a function's text: those that are one step further in than the function."""
-    found = []
-    for clause in CLAUSE.finditer(text):
-        if len(clause[1]) == indent + 4:
-            end = behind_brace(text, clause.end())
-            found.append(Clause(clause[2], clause[3] or "", folded(text[clause.end():end - 1])))
-    return found
+def first_paragraph(doc: Iterable[str]) -> str:
+    """The first paragraph of a comment, without the marks of three letters at the begin of its lines."""
+    return " ".join(takewhile(bool, (line.strip()[3:].strip() for line in doc)))
 
 
-def without_generics(text: str) -> str:
-    """A text without its parts in angle brackets; an arrow has none."""
-    depth, made = 0, ""
-    for at, letter in enumerate(text):
-        depth += letter == "<"
-        made += letter if not depth else ""
-        depth -= letter == ">" and text[at - 1] != "-" and depth > 0
-    return made
-
-
-def owner_of(line: str) -> Block | None:
-    """(owner, whether it is a trait, whether it is an `impl` of a trait) of a line that begins a block; None if it begins none."""
+def block_at(line: str) -> Block | None:
+    """The block that a line begins; None if it begins none."""
     found = BLOCK.match(line)
     if not found:
         return None
-    words = re.findall(r"[\w:']+", without_generics(found[2]).split(" where ")[0].split("{")[0])
+    head = without_nested("<[^<>]*>", found[2].replace("->", ""))
+    words = re.findall(r"[\w:']+", head.split(" where ")[0].split("{")[0])
     if found[1] == "trait":
         return words[0].rstrip(":"), line.startswith("pub "), False
     of_trait = "for" in words
@@ -87,76 +87,48 @@ def owner_of(line: str) -> Block | None:
     return name.split("::")[-1], False, of_trait
 
 
-def doc_above(lines: Sequence[str], at: int) -> str:
-    """The first paragraph of the `///` comment above a line, attributes left out."""
-    first = at
-    while first and re.match(r"\s*(?:///|#\[)", lines[first - 1]):
-        first -= 1
-    doc = [line.strip()[3:].strip() for line in lines[first:at] if line.strip().startswith("///")]
-    return " ".join(doc[:doc.index("")] if "" in doc else doc)
-
-
-@lru_cache(maxsize=None)
+@cache
 def calls_of(path: Path) -> list[Call]:
     """The functions of a source, in their order, those in functions left out."""
-    lines = text_of(path).split("\n")
-    starts: list[tuple[int, re.Match[str], Block]] = []
-    block: Block = ("", False, False)
-    for at, line in enumerate(lines):
-        if line and not line[0].isspace():
-            block = owner_of(line) or (("", False, False) if line[0] in "}" or FUNCTION.match(line) else block)
+    calls, block, above = list[Call](), NO_BLOCK, list[str]()
+    for line in text_of(path).split("\n"):
         found = FUNCTION.match(line)
+        if line and not line[0].isspace():
+            block = block_at(line) or (NO_BLOCK if found or line[0] == "}" else block)
         if found and len(found[1]) in (0, 4):
-            starts.append((at, found, block if found[1] else ("", False, False)))
-    ends = [at for at, _, _ in starts[1:]] + [len(lines)]
-    return [call_at(lines, at, end, found, block) for (at, found, block), end in zip(starts, ends)]
+            calls.append(Call(found, block if found[1] else NO_BLOCK, above))
+        above = [*above, line] if ABOVE.match(line) else []
+        if calls and not line.lstrip().startswith("//"):
+            calls[-1].lines.append(line)
+    return calls
 
 
-def call_at(lines: Sequence[str], at: int, end: int, found: re.Match[str], block: Block) -> Call:
-    """The function that begins at a line and ends before another."""
-    owner, in_public_trait, of_trait = block
-    call = Call(found[3], owner, not of_trait and (in_public_trait or found[2] == "pub "), doc_above(lines, at))
-    call.text = "\n".join(line for line in lines[at:end] if not line.lstrip().startswith("//"))
-    call.clauses = clauses_in(call.text, len(found[1]))
-    return call
-
-
-@lru_cache(maxsize=None)
+@cache
 def sources_of(crate: str) -> list[Path]:
-    """The Rust sources of a crate."""
     return sorted((ROOT / "crates" / crate / "src").rglob("*.rt"))
 
 
 def is_reached(crate: str, path: Path) -> bool:
     """Whether the module of a source is public from the crate's top."""
-    folder = ROOT / "crates" / crate / "src"
-    names = list(path.relative_to(folder).with_suffix("").parts)
-    above = folder / "lib.rt"
-    for name in [] if names == ["lib"] else names:
-        if not above.is_file() or ("pub ", name) not in MODULE.findall(text_of(above)):
+    top, module = ROOT / "crates" / crate / "src", path.with_suffix("")
+    while module not in (top, top / "lib"):
+        above = top / "lib.rt" if module.parent == top else module.parent.with_suffix(".rt")
+        if not above.is_file() or ("pub ", module.name) not in MODULE.findall(text_of(above)):
             return False
-        folder = folder / name
-        above = folder.with_suffix(".rt")
+        module = module.parent
     return True
 
 
-@lru_cache(maxsize=None)
-def handed_on(crate: str) -> set[tuple[str, str]]:
-    """(module, name) of each function and type of a private module that the crate's top makes public by `pub use`."""
-    top = ROOT / "crates" / crate / "src" / "lib.rt"
-    found = HANDED_ON.findall(text_of(top)) if top.is_file() else []
-    return {(module, name) for module, names, one in found for name in re.findall(r"\w+", names or one)}
-
-
 def public_calls_of(crate: str, path: Path) -> list[Call]:
-    """The functions of a source that another crate can call."""
-    public = [call for call in calls_of(path) if call.is_public]
-    return public if is_reached(crate, path) else [call for call in public if (path.stem, call.owner or call.name) in handed_on(crate)]
+    """The functions of a source that another crate can call: of a private module those that the crate's top makes public by `pub use`, by name or by type."""
+    top, public = ROOT / "crates" / crate / "src" / "lib.rt", [call for call in calls_of(path) if call.is_public]
+    if is_reached(crate, path):
+        return public
+    found = HANDED_ON.findall(text_of(top)) if top.is_file() else []
+    handed_on = {name for module, names, one in found if module == path.stem for name in re.findall(r"\w+", names or one)}
+    return [call for call in public if (call.owner or call.name) in handed_on]
 
 
 def heading_of(path: Path) -> str:
     """The `//!` comment at the head of a source."""
-    lines = text_of(path).split("\n")
-    last = next((at for at, line in enumerate(lines) if not line.startswith("//!")), len(lines))
-    doc = [line[3:].strip() for line in lines[:last]]
-    return " ".join(doc[:doc.index("")] if "" in doc else doc)
+    return first_paragraph(takewhile(lambda line: line.startswith("//!"), text_of(path).split("\n")))

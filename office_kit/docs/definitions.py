@@ -3,8 +3,9 @@
 Used by tools/index and office_kit/docs/reached.py; tools/calls and tools/check_promises take ROOT and Fault from here.
 """
 import re
-from collections.abc import Iterable, Iterator, Mapping, Sequence
-from functools import lru_cache
+from collections.abc import Iterable, Iterator, Mapping
+from functools import cache
+from itertools import takewhile
 from pathlib import Path
 
 from office_kit.gate.crates import crates_of
@@ -16,7 +17,7 @@ BARE = re.compile(r"pub (?!mod\b|use\b|record\b|data\b)(\S+) :")
 IN_MUTUAL = re.compile(r"  (?:pub )?(\S+) :")
 KEYWORD = re.compile(r"(?:abbrev|unfoldable|record|data|pub) (?!mod\b|use\b)")
 # Lines between definitions, which belong to none.
-APART = re.compile(r"(?:use|pub use|pub mod|module|infix[lr]?|abbrev mutual)\b")
+APART = re.compile(r"(?:use|pub use|pub mod|module|infix[lr]?)\b")
 WORD = re.compile(r"Rattle(?:\.[\w']+)+|[\w']+(?:\.[\w']+)*")
 IMPORT = re.compile(r"\buse Rattle\.([\w.]+?)(?:\.\{([^}]*)\}|\s+as\s+([\w']+))")
 CASE = re.compile(r"\s+(?:pub )?(\S+) :")
@@ -29,7 +30,7 @@ class Fault(Exception):
     """A text that can't be read, and its place."""
 
 
-@lru_cache(maxsize=None)
+@cache
 def text_of(path: Path) -> str:
     """A file's text, as it was at the first call."""
     try:
@@ -43,42 +44,29 @@ def crates() -> list[Path]:
     return sorted(path for path in (ROOT / "crates").glob("*") if path.is_dir())
 
 
-@lru_cache(maxsize=None)
+@cache
 def crates_of_the_program() -> set[str]:
     """The names of the crates of the program `procure`: itself, and all crates below it by crates.txt."""
     return {"procure"} | crates_of(ROOT)["procure"]
 
 
-# ---- Comments.
+def without_nested(inner: str, text: str) -> str:
+    """A text without its parts in brackets; they may be nested. A pattern finds a part that has none."""
+    while re.search(inner, text):
+        text = re.sub(inner, "", text)
+    return text
 
-def words_of(lines: Iterable[str]) -> str:
+
+def words_of(comment: Iterable[str]) -> str:
     """The text of a comment's lines; rules such as `-- ---- laws` are no comment."""
-    return " ".join(line.strip()[2:].strip() for line in lines if not line.strip().startswith("-- ----"))
+    return " ".join(line.strip()[2:].strip() for line in comment if not line.strip().startswith("-- ----"))
 
-
-def comment_above(lines: Sequence[str], at: int) -> str:
-    """The comment directly above a line, as one text; empty if there is none."""
-    first = at
-    while first > 0 and lines[first - 1].strip().startswith("--"):
-        first -= 1
-    return words_of(lines[first:at])
-
-
-def heading_of(lines: Sequence[str]) -> str:
-    """The comment at the head of a file: what the file is about."""
-    last = 0
-    while last < len(lines) and lines[last].startswith("--"):
-        last += 1
-    return words_of(lines[:last])
-
-
-# ---- Definitions.
 
 class Definition:
-    """A definition: its name, the comment above it, and the lines of its text without comments."""
+    """A definition: its file, its name, the comment above it, and the lines of its text without comments."""
 
-    def __init__(self, name: str, comment: str) -> None:
-        self.name, self.comment = name, comment
+    def __init__(self, source: "Source", name: str, comment: str) -> None:
+        self.source, self.name, self.comment = source, name, comment
         self.lines: list[str] = []
 
     def words(self) -> set[str]:
@@ -93,33 +81,29 @@ class Definition:
         return {found[1] for found in map(CASE.match, self.lines[1:]) if found} if is_of_cases else set()
 
 
-def name_at(line: str, in_mutual: bool) -> str | None:
-    """The name that a line defines, or None."""
-    found = (IN_MUTUAL.match(line) if in_mutual else None) or NAMED.match(line) or BARE.match(line)
-    return next(name for name in found.groups() if name) if found else None
-
-
-def definitions_of(path: Path, lines: Sequence[str]) -> list[Definition]:
-    """The definitions of a file, in its order, each with its lines."""
+def definitions_of(source: "Source", lines: Iterable[str]) -> list[Definition]:
+    """The definitions of a file, in its order, each with its lines. The comment above a block is that of the first one in it."""
     made: list[Definition] = []
     current: Definition | None = None
-    in_mutual, above = False, ""
-    for at, line in enumerate(lines):
-        if line.startswith("abbrev mutual"):
-            in_mutual, above, current = True, comment_above(lines, at), None
+    in_mutual, of_block, comment = False, "", list[str]()
+    for at, line in enumerate(lines, 1):
+        if line.strip().startswith("--"):
+            comment.append(line)
             continue
+        above, comment = words_of(comment), []
+        is_block = line.startswith("abbrev mutual")
         if line and not line[0].isspace():
-            in_mutual = False
-        name = name_at(line, in_mutual)
-        if name:
-            current = Definition(name, comment_above(lines, at) or above)
+            in_mutual = is_block
+        if is_block:
+            of_block, current = above, None
+        elif found := (IN_MUTUAL.match(line) if in_mutual else None) or NAMED.match(line) or BARE.match(line):
+            current, of_block = Definition(source, next(filter(None, found.groups())), above or of_block), ""
             made.append(current)
-            above = ""
         elif KEYWORD.match(line) and " = " not in line:
-            raise Fault(f"{path.relative_to(ROOT)}:{at + 1}: no definition that this script knows: {line}")
+            raise Fault(f"{source.path.relative_to(ROOT)}:{at}: no definition that this script knows: {line}")
         elif APART.match(line):
             current = None
-        if current and line.strip() and not line.strip().startswith("--"):
+        if current and line.strip():
             current.lines.append(line)
     return made
 
@@ -128,40 +112,36 @@ class Source:
     """A file of definitions: its crate, its module with dots for folders, what it is about, and its definitions."""
 
     def __init__(self, path: Path) -> None:
-        self.path, self.text = path, text_of(path)
-        lines = self.text.split("\n")
+        self.path, text = path, text_of(path)
+        lines = text.split("\n")
         specs = next(above for above in path.parents if above.name == "specs")
         self.crate, self.module = specs.parent.name, ".".join(path.relative_to(specs).with_suffix("").parts)
-        self.heading, self.definitions = heading_of(lines), definitions_of(path, lines)
-        self.imports = imports_of(self.text)
-        self.by_name = {case: each for each in self.definitions for case in each.cases()} | {each.name: each for each in self.definitions}
-
-    def defines(self, name: str) -> Definition | None:
-        """The definition of this name, or the one with this case; None if there is none."""
-        return self.by_name.get(name)
+        self.heading = words_of(takewhile(lambda line: line.startswith("--"), lines))
+        self.definitions, self.imports = definitions_of(self, lines), imports_of(text)
+        # (By name, and by the names of cases.)
+        self.defined = {case: each for each in self.definitions for case in each.cases()} | {each.name: each for each in self.definitions}
 
 
-@lru_cache(maxsize=None)
+@cache
 def sources_of(crate: str) -> list[Source]:
     """The files of definitions of a crate that have any, in the order of their paths."""
     found = map(Source, sorted((ROOT / "crates" / crate / "specs").rglob("*.antt")))
     return [source for source in found if source.definitions]
 
 
-@lru_cache(maxsize=None)
+@cache
 def source_at(crate: str, module: str) -> Source | None:
     """The file of a crate with this module, or None."""
     return next((source for source in sources_of(crate) if source.module == module), None)
 
 
-def definition_at(crate: str, module: str, name: str) -> tuple[Source | None, Definition | None]:
-    """(file, definition) of a name of a module; a module may be that of a definition's cases. (None, None) if there is none."""
+def definition_at(crate: str, module: str, name: str) -> Definition | None:
+    """The definition of a name of a module, if there is one; a module may be that of a definition's cases."""
     source = source_at(crate, module)
-    if source:
-        return source, source.defines(name)
-    above, _, last = module.rpartition(".")
-    source = source_at(crate, above)
-    return source, source.defines(last) if source else None
+    if not source:
+        module, _, name = module.rpartition(".")
+        source = source_at(crate, module)
+    return source.defined.get(name) if source else None
 
 
 # ---- Imports.
@@ -173,7 +153,7 @@ def imports_of(text: str) -> dict[str, Imported]:
     for place, names, alias in IMPORT.findall(text):
         if alias:
             found[alias] = (place, None)
-        for name in (each.strip() for each in names.split(",") if each.strip()):
+        for name in filter(None, map(str.strip, names.split(","))):
             there, _, here = name.partition(" as ")
             found[here.strip() or there] = (place, there)
     return found
@@ -182,11 +162,10 @@ def imports_of(text: str) -> dict[str, Imported]:
 def places_in(words: Iterable[str], imports: Mapping[str, Imported]) -> Iterator[tuple[str, str]]:
     """(place, name) of each word that was imported, or that has its whole place."""
     for word in words:
-        if word.startswith("Rattle."):
-            place, _, name = word[len("Rattle."):].rpartition(".")
+        first, _, rest = word.partition(".")
+        if first == "Rattle" and rest:
+            place, _, name = rest.rpartition(".")
             yield place, name
-            continue
-        first, *rest = word.split(".")
-        if first in imports:
+        elif first in imports:
             place, known = imports[first]
-            yield (place, known) if known else (place, rest[0] if rest else "")
+            yield place, known or rest.partition(".")[0]

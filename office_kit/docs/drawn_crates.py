@@ -1,5 +1,5 @@
 """The drawing of the crates in their layers, made of crates.txt. Read by tools/pictures."""
-from collections.abc import Iterator, Mapping
+from collections.abc import Mapping
 
 from office_kit.docs.definitions import ROOT, Fault, crates_of_the_program
 from office_kit.gate.crates import crates_of
@@ -26,36 +26,31 @@ digraph crates {
 """
 
 
-def direct(crate: str, below: Mapping[str, set[str]]) -> list[str]:
-    """The crates that a crate uses, without those that it also uses by way of another."""
-    used = below[crate]
-    return sorted(it for it in used if not any(it in below[other] for other in used))
-
-
-def layer_lines() -> Iterator[str]:
-    """The lines of the layers: a box for each, and the edge that keeps it above the next one."""
-    for number, (title, colour, crates) in enumerate(LAYERS):
-        yield f'  subgraph cluster_{number} {{ label="{title}"; labeljust=l; style="filled,rounded"; color="{colour}"; fillcolor="{colour}";'
-        yield f"    {{ rank=same; {'; '.join(crates)}; }}"
-        yield "  }"
-    for (_, _, upper), (_, _, lower) in zip(LAYERS, LAYERS[1:]):
-        yield f"  {{ {' '.join(upper)} }} -> {{ {' '.join(lower)} }} [style=invis];"
-
-
-def arrow_lines(layer_of: Mapping[str, int], below: Mapping[str, set[str]]) -> Iterator[str]:
-    """The lines of the arrows. Those inside of a layer don't move a crate to another height."""
-    for crate in layer_of:
-        for used in direct(crate, below):
-            yield f"  {crate} -> {used}{' [constraint=false]' if layer_of[crate] == layer_of[used] else ''};"
-
-
-def crates_dot() -> str:
-    """The source of the drawing. Each crate of the program must be in one layer, and no crate may use one of a layer above its own."""
-    program, below = crates_of_the_program(), crates_of(ROOT)
+def layer_of_crates(below: Mapping[str, set[str]]) -> dict[str, int]:
+    """The layer of each crate. Each crate of the program must be in one layer, and no crate may use one of a layer above its own."""
     layer_of = {crate: number for number, (_, _, crates) in enumerate(LAYERS) for crate in crates}
-    if program != set(layer_of):
-        raise Fault(f"office_kit/docs/drawn_crates.py: only in a layer, or only in the program: {', '.join(sorted(program ^ set(layer_of)))}")
+    apart = crates_of_the_program() ^ set(layer_of)
+    if apart:
+        raise Fault(f"office_kit/docs/drawn_crates.py: only in a layer, or only in the program: {', '.join(sorted(apart))}")
     upward = [f"{crate} uses {it}" for crate in layer_of for it in below[crate] if layer_of[it] < layer_of[crate]]
     if upward:
         raise Fault(f"office_kit/docs/drawn_crates.py: a crate uses one of a layer above its own: {', '.join(sorted(upward))}")
-    return HEAD + "\n".join([*layer_lines(), *arrow_lines(layer_of, below), "}"]) + "\n"
+    return layer_of
+
+
+def crates_dot() -> str:
+    """The source of the drawing: a box for each layer, edges that keep it above the next one, and arrows. Those inside of a layer don't move a crate to another
+    height."""
+    below = crates_of(ROOT)
+    layer_of = layer_of_crates(below)
+    lines = []
+    for number, (title, colour, crates) in enumerate(LAYERS):
+        lines += [f'  subgraph cluster_{number} {{ label="{title}"; labeljust=l; style="filled,rounded"; color="{colour}"; fillcolor="{colour}";',
+                  f"    {{ rank=same; {'; '.join(crates)}; }}", "  }"]
+    for (_, _, upper), (_, _, lower) in zip(LAYERS, LAYERS[1:]):
+        lines.append(f"  {{ {' '.join(upper)} }} -> {{ {' '.join(lower)} }} [style=invis];")
+    for crate, layer in layer_of.items():
+        by_way = set[str]().union(*(below[used] for used in below[crate]))
+        for used in sorted(below[crate] - by_way):
+            lines.append(f"  {crate} -> {used}{' [constraint=false]' if layer == layer_of[used] else ''};")
+    return HEAD + "\n".join([*lines, "}"]) + "\n"

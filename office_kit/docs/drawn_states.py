@@ -1,14 +1,14 @@
 """Compares the arrows of docs/pictures/states.dot with the specification. Read by tools/pictures.
 
-- Tenders and both kinds of security: the decisions of `tender_decided`, `security_decided` and `performance_decided` of Fates.antt for each command, and the
-  states in which they begin. Everything is compared: from where, to where, by which command.
+- Tenders and both kinds of security: the decisions of Fates.antt for each command, and the states in which they begin.
 - Notices, lots and awards: the states that the puts of each command write (crates/*/specs/Rules/, `NAME_puts` and the definitions that it uses). The tests in
-  BEFORE give the state from which an arrow leads: the rule of the command must use them. A lot whose award is signed or fails takes it from FOLLOWS.
-- Contracts: whether `ended` is empty or filled in the puts of a command, and that the command refuses a contract that has ended.
+  BEFORE give the state from which an arrow leads: the rule of the command must use them.
+- Contracts: whether `ended` is empty or filled in the puts of a command.
 """
 import re
+from collections import defaultdict
 from collections.abc import Iterable, Iterator
-from functools import lru_cache
+from functools import cache
 
 from office_kit.docs.definitions import ROOT, Definition, Fault, Source, WORD, definition_at, places_in, source_at, sources_of, text_of
 
@@ -18,17 +18,20 @@ Arrow = tuple[str, str, str, str]
 DRAWING = "docs/pictures/states.dot"
 ARROW = re.compile(r'^\s*([a-z]+)(?:_(\w+))? -> ([a-z]+)_(\w+) \[label="([a-z_]+)(?: \([^)]*\))?"\];', re.MULTILINE)
 ANY_ARROW = re.compile(r"^(?!\s*//).*->", re.MULTILINE)
-STATE = re.compile(r"office_base\.specs\.declared\.records\.(\w+)State\.TheVariants$")
+# The place of a kind's states, and a line of a test of States.antt.
+STATES = re.compile(r"office_base\.specs\.declared\.records\.(\w+)State\.TheVariants$")
+TEST = re.compile(r"^(\w+) \w+_states\.(\w+) = (true|false)$", re.MULTILINE)
 # The crates that have the rules, a file for each command.
 CORES = ("tender_core", "award_core")
-KINDS = {"Notice": "notice", "Lot": "lot", "Award": "award"}
-# The states from which a command leads: by a test of States.antt that its rule uses, or `not` such a test. A command that isn't here makes a new row.
+KINDS = ("notice", "lot", "award")
+# The states from which a command leads: by a test of States.antt that its rule uses, or `not` such a test.
 BEFORE = {
-    ("Open", "Notice"): ["not is_cancelled", "not is_opened"], ("Cancel", "Notice"): ["is_receiving"], ("Award", "Lot"): ["is_undecided"],
-    ("Cancel", "Lot"): ["is_open"], ("Cancel", "Award"): ["is_active"], ("Fail", "Award"): ["is_active"], ("Sign", "Award"): ["is_active"]}
-NEW = {("Publish", "Notice"), ("Publish", "Lot"), ("Award", "Award")}
-# The lot of an award that is active is awarded: no rule tests it.
-FOLLOWS = {("Fail", "Lot"): ["Awarded"], ("Sign", "Lot"): ["Awarded"]}
+    ("Open", "notice"): ["not is_cancelled", "not is_opened"], ("Cancel", "notice"): ["is_receiving"], ("Award", "lot"): ["is_undecided"],
+    ("Cancel", "lot"): ["is_open"], ("Cancel", "award"): ["is_active"], ("Fail", "award"): ["is_active"], ("Sign", "award"): ["is_active"]}
+# The states before that no rule tests: a new row has none, and the lot of an award that is active is awarded.
+UNTESTED = {("Publish", "notice"): "", ("Publish", "lot"): "", ("Award", "award"): "", ("Fail", "lot"): "Awarded", ("Sign", "lot"): "Awarded"}
+# Words in the puts of a rule, and a contract's states before and after. If it runs before, the rule must refuse contracts that have ended.
+CONTRACTS = {"ended = None": ("", "Running"), "ended = Some": ("Running", "Ended"), "puts.Entry": ("Running", "Running")}
 
 
 def command_name(name: str) -> str:
@@ -37,7 +40,6 @@ def command_name(name: str) -> str:
 
 
 def drawn() -> set[Arrow]:
-    """The arrows of the drawing."""
     text = text_of(ROOT / DRAWING)
     found = ARROW.findall(text)
     if len(found) != len(ANY_ARROW.findall(text)) or any(kind != other for kind, _, other, _, _ in found):
@@ -47,127 +49,94 @@ def drawn() -> set[Arrow]:
 
 # ---- What definitions say.
 
-def need(crate: str, module: str) -> Source:
-    """A file of definitions that must exist."""
-    source = source_at(crate, module)
-    if not source:
-        raise Fault(f"crates/{crate}/specs: there is no module {module}")
-    return source
+def lines_of(source: Source, name: str) -> list[str]:
+    """The lines of a definition that must exist."""
+    definition = source.defined.get(name)
+    if not definition:
+        raise Fault(f"{source.path.relative_to(ROOT)}: there is no {name}")
+    return definition.lines
 
 
-def states_in(words: Iterable[str], source: Source) -> set[tuple[str, str]]:
-    """The states that words of a file name, each with its kind."""
-    return {(found[1], name) for place, name in places_in(sorted(words), source.imports) for found in [STATE.search(place)] if found}
-
-
-def used(words: Iterable[str], source: Source) -> Iterator[tuple[Source, Definition]]:
-    """The definitions of the project that words of a file name. The tests of states are left out: they write nothing."""
-    for word in sorted(words):
-        own = source.defines(word)
-        if own:
-            yield source, own
+def used(words: Iterable[str], source: Source) -> Iterator[Definition]:
+    """The definitions that words of a file name. The tests of states are left out: they write nothing."""
+    yield from (source.defined[word] for word in sorted(words) if word in source.defined)
     for place, name in places_in(sorted(words), source.imports):
         crate, _, module = place.partition(".specs.")
-        if crate in (*CORES, "office_base", "office_machine") and not module.startswith("declared.") and module != "States":
-            there, definition = definition_at(crate, module, name)
-            if there and definition:
-                yield there, definition
+        definition = definition_at(crate, module, name)
+        if definition and module != "States":
+            yield definition
 
 
-def reached(words: Iterable[str], source: Source) -> list[tuple[Source, Definition]]:
+def reached(words: Iterable[str], source: Source) -> list[Definition]:
     """All definitions that words of a file lead to."""
-    found: dict[tuple[str, str, str], tuple[Source, Definition]] = {}
-    waiting = list(used(words, source))
+    found, waiting = list[Definition](), list(used(words, source))
     while waiting:
-        there, definition = waiting.pop()
-        key = there.crate, there.module, definition.name
-        if key not in found:
-            found[key] = there, definition
-            waiting += used(definition.words(), there)
-    return list(found.values())
+        definition = waiting.pop()
+        if definition not in found:
+            found.append(definition)
+            waiting += used(definition.words(), definition.source)
+    return found
 
 
 def states_of(words: Iterable[str], source: Source) -> set[tuple[str, str]]:
-    """The states that words of a file name, themselves or by the definitions that they lead to."""
-    found = states_in(words, source)
-    return found.union(*(states_in(definition.words(), there) for there, definition in reached(words, source)))
+    """The states that words of a file name, themselves or by the definitions that they lead to, each with its kind."""
+    named = [(words, source), *((definition.words(), definition.source) for definition in reached(words, source))]
+    places = [(STATES.search(place), name) for some, there in named for place, name in places_in(some, there.imports)]
+    return {(found[1].lower(), name) for found, name in places if found}
 
 
 # ---- Tenders and securities: Fates.antt.
 
-def lines_of(source: Source, name: str) -> Iterator[tuple[str, set[str]]]:
+def cases_of(source: Source, name: str) -> Iterator[tuple[str, set[str]]]:
     """(command, words) of each line of a definition by cases over commands; the catch-all line has no command."""
-    definition = source.defines(name)
-    if not definition:
-        raise Fault(f"crates/office_machine/specs/Fates.antt: there is no {name}")
-    for line in definition.lines[1:]:
+    for line in lines_of(source, name)[1:]:
         left, _, right = line.partition(" = ")
         command = re.match(rf"{name} \((\w+)", left)
-        yield command[1] if command else "", set(WORD.findall(right))
-
-
-def first_states(source: Source, name: str) -> set[str]:
-    """The states in which something begins."""
-    definition = source.defines(name)
-    return {state for _, state in states_of(definition.words(), source)} if definition else set()
+        yield command_name(command[1]) if command else "", set(WORD.findall(right))
 
 
 def begun(source: Source) -> Iterator[Arrow]:
     """How tenders and securities begin. A tender that replaces another is in time, and carries the old one's security."""
-    yield from (("tender", "", state, "present") for state in first_states(source, "first_state"))
-    yield from (("security", "", state, "present") for state in first_states(source, "first_security"))
-    replacing = source.defines("reception_replacing")
-    text = "\n".join(replacing.lines) if replacing else ""
+    for kind, name in (("tender", "first_state"), ("security", "first_security")):
+        words = WORD.findall("\n".join(lines_of(source, name)))
+        yield from ((kind, "", state, "present") for _, state in states_of(words, source))
+    text = "\n".join(lines_of(source, "reception_replacing"))
     if "in_time = true" not in text or "named = None" not in text:
         raise Fault("crates/office_machine/specs/Fates.antt: `reception_replacing` isn't in time, or names a security")
     yield "tender", "", "Sealed", "modify"
-    yield from (("performance", "", "Held", command_name(command)) for command, words in lines_of(source, "named_for") if command)
+    yield from (("performance", "", "Held", command) for command, words in cases_of(source, "named_for") if command)
 
 
 def decided(source: Source) -> Iterator[Arrow]:
     """The decisions of each command about tenders and securities that are undecided."""
-    for kind, name, undecided in (("tender", "tender_decided", "Sealed"), ("security", "security_decided", "Held"),
-                                  ("performance", "performance_decided", "Held")):
-        for command, words in lines_of(source, name):
+    for kind, undecided in (("tender", "Sealed"), ("security", "Held"), ("performance", "Held")):
+        for command, words in cases_of(source, f"{kind}_decided"):
             after = {state for _, state in states_of(words, source)} - {undecided}
-            yield from ((kind, undecided, state, command_name(command)) for state in after)
+            yield from ((kind, undecided, state, command) for state in after)
 
 
 # ---- Notices, lots, awards and contracts: the rules.
 
-@lru_cache(maxsize=None)
-def tests_of_states() -> dict[str, set[tuple[str, str]]]:
-    """The tests of States.antt: of which states each holds, and of which it doesn't, as `not` and its name."""
-    source, found = need("office_base", "States"), {}
-    for definition in source.definitions:
-        for value, name in (("true", definition.name), ("false", f"not {definition.name}")):
-            lines = [line for line in definition.lines[1:] if line.endswith(f"= {value}")]
-            found[name] = states_in(WORD.findall("\n".join(lines)), source)
+@cache
+def tests_of_states() -> dict[str, set[str]]:
+    """The tests of States.antt: in which states each holds, and in which it doesn't, as `not` and its name."""
+    found: defaultdict[str, set[str]] = defaultdict(set)
+    for test, state, value in TEST.findall(text_of(ROOT / "crates/office_base/specs/States.antt")):
+        found[test if value == "true" else f"not {test}"].add(state)
     return found
 
 
-def states_before(command: str, kind: str, words: set[str]) -> list[str]:
+def states_before(command: str, kind: str, words: set[str]) -> set[str]:
     """The states from which a command leads; an empty one if it makes a new row."""
-    if (command, kind) in NEW:
-        return [""]
-    if (command, kind) in FOLLOWS:
-        return FOLLOWS[command, kind]
+    if (command, kind) in UNTESTED:
+        return {UNTESTED[command, kind]}
     tests = BEFORE.get((command, kind), [])
-    missing = [test for test in tests if test.removeprefix("not ") not in words]
-    if missing or not tests:
-        raise Fault(f"docs/drawn_states.py: the rule {command} {f'uses no {missing[0]}' if missing else f'writes a {kind} in a state; from which one?'}")
-    return sorted(set.intersection(*({state for _, state in tests_of_states()[test]} for test in tests)))
-
-
-def contract_arrows(command: str, put: str, tests: str) -> Iterator[Arrow]:
-    """The arrows of a contract by a command, by the texts of its puts and of its tests."""
-    is_running = "has_ended" in tests
-    if "ended = None" in put:
-        yield "contract", "", "Running", command_name(command)
-    elif "ended = Some" in put and is_running:
-        yield "contract", "Running", "Ended", command_name(command)
-    elif "puts.Entry" in put and is_running:
-        yield "contract", "Running", "Running", command_name(command)
+    if not tests:
+        raise Fault(f"docs/drawn_states.py: the rule {command} writes a {kind} in a state; from which one?")
+    for test in tests:
+        if test.removeprefix("not ") not in words:
+            raise Fault(f"docs/drawn_states.py: the rule {command} uses no {test}")
+    return set.intersection(*(tests_of_states()[test] for test in tests))
 
 
 def arrows_of(source: Source) -> Iterator[Arrow]:
@@ -175,27 +144,23 @@ def arrows_of(source: Source) -> Iterator[Arrow]:
     command = source.module.removeprefix("Rules.")
     name = command_name(command)
     put, tests = reached([f"{name}_puts"], source), reached([f"{name}_tests"], source)
-    words = {word for _, definition in put + tests for word in definition.words()}
-    for kind, state in sorted(states_of([f"{name}_puts"], source)):
+    words = {word for definition in put + tests for word in definition.words()}
+    for kind, state in states_of([f"{name}_puts"], source):
         if kind in KINDS:
-            yield from ((KINDS[kind], before, state, name) for before in states_before(command, kind, words) if before != state)
-    texts = ["\n".join(line for _, definition in some for line in definition.lines) for some in (put, tests)]
-    yield from contract_arrows(command, *texts)
-
-
-def ruled() -> Iterator[Arrow]:
-    """The arrows by the rules of all commands."""
-    rules = [source for crate in CORES for source in sources_of(crate) if source.module.startswith("Rules.")]
-    if not rules:
-        raise Fault(f"crates/{CORES[0]}/specs/Rules: no rule is there")
-    for source in rules:
-        yield from arrows_of(source)
+            yield from ((kind, before, state, name) for before in states_before(command, kind, words) if before != state)
+    put_text, test_text = ("\n".join(line for definition in some for line in definition.lines) for some in (put, tests))
+    for said, (before, after) in CONTRACTS.items():
+        if said in put_text and (not before or "has_ended" in test_text):
+            yield "contract", before, after, name
+            break
 
 
 def faults_of_states() -> list[str]:
     """The arrows that the drawing has and the specification hasn't, and the other way."""
-    fates = need("office_machine", "Fates")
-    wanted, had = {*begun(fates), *decided(fates), *ruled()}, drawn()
-    said = {arrow: f"{arrow[0]}: {arrow[1] or '(new)'} -> {arrow[2]} by {arrow[3]}" for arrow in wanted | had}
-    return [f"{DRAWING}: the specification has no arrow {said[arrow]}" for arrow in sorted(had - wanted)] \
-        + [f"{DRAWING}: there is no arrow {said[arrow]}" for arrow in sorted(wanted - had)]
+    fates = source_at("office_machine", "Fates")
+    if not fates:
+        raise Fault("crates/office_machine/specs: there is no module Fates")
+    rules = [source for crate in CORES for source in sources_of(crate) if source.module.startswith("Rules.")]
+    wanted, had = {*begun(fates), *decided(fates)}.union(*map(arrows_of, rules)), drawn()
+    faults = [("the specification has no arrow", arrow) for arrow in sorted(had - wanted)] + [("there is no arrow", arrow) for arrow in sorted(wanted - had)]
+    return [f"{DRAWING}: {fault} {kind}: {before or '(new)'} -> {after} by {command}" for fault, (kind, before, after, command) in faults]

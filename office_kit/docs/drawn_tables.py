@@ -4,9 +4,10 @@ The texts are the CREATE of crates/office_tables/src/tables/*.rt. No column is a
 specification, crates/office_machine/specs/Parents.antt, and the arrows are made of it.
 """
 import re
-from collections.abc import Iterator, Mapping
+from collections.abc import Iterator
+from typing import NamedTuple
 
-from office_kit.docs.definitions import ROOT, Fault, text_of
+from office_kit.docs.definitions import ROOT, Fault, text_of, without_nested
 
 CREATE = re.compile(r'const CREATE: &str =\s*"CREATE TABLE (\w+) \((.*)\) STRICT";')
 RECORD = re.compile(r"impl Stored for (\w+Row) \{")
@@ -29,21 +30,13 @@ digraph tables {
 """
 
 
-class Table:
+class Table(NamedTuple):
     """A table: its name, its record in the program, its key, and its columns in their order."""
 
-    def __init__(self, name: str, record: str, key: list[str], columns: list[str]) -> None:
-        self.name, self.record, self.key, self.columns = name, record, key, columns
-
-
-def without_brackets(text: str) -> str:
-    """A text without its round brackets and their content; they may be nested."""
-    depth, made = 0, ""
-    for letter in text:
-        depth -= letter == ")"
-        made += letter if not depth and letter != ")" else ""
-        depth += letter == "("
-    return made
+    name: str
+    record: str
+    key: list[str]
+    columns: list[str]
 
 
 def table_in(text: str) -> Table:
@@ -52,14 +45,9 @@ def table_in(text: str) -> Table:
     if not found or not record:
         raise Fault("crates/office_tables/src/tables: a source without a CREATE or a record")
     key = KEY.search(found[2])
-    columns = [name for part in without_brackets(found[2]).split(",") for name in COLUMN.findall(part)[:1]]
+    columns = [name for part in without_nested(r"\([^()]*\)", found[2]).split(",") for name in COLUMN.findall(part)[:1]]
     own = key[1].split(", ") if key else [part.split()[0] for part in found[2].split(", ") if "PRIMARY KEY" in part]
     return Table(found[1], record[1], own, columns)
-
-
-def tables() -> list[Table]:
-    """The tables of an office, in the order of their names."""
-    return [table_in(text_of(path)) for path in sorted((ROOT / "crates/office_tables/src/tables").glob("*.rt"))]
 
 
 def references() -> Iterator[tuple[str, list[str], str]]:
@@ -70,18 +58,16 @@ def references() -> Iterator[tuple[str, list[str], str]]:
             found = FOUND.search(field)
             if not found or found[1] not in looked_up:
                 raise Fault(f"crates/office_machine/specs/Parents.antt: no reference that this script knows: {field.strip()}")
-            columns = re.findall(r"\w+\.(\w+)", found[2]) or [field.split()[1]]
-            yield record, columns, looked_up[found[1]]
+            yield record, re.findall(r"\w+\.(\w+)", found[2]) or [field.split()[1]], looked_up[found[1]]
 
 
 def rows_of(words: list[str], width: int = 2) -> str:
     """Words, so many to a line, as a cell of a label has them."""
     lines = [", ".join(words[at:at + width]) for at in range(0, len(words), width)]
-    return '<br align="left"/>'.join(f"{line}{',' if line != lines[-1] else ''}" for line in lines) + '<br align="left"/>'
+    return ',<br align="left"/>'.join(lines) + '<br align="left"/>'
 
 
 def node_of(table: Table, referring: list[str]) -> str:
-    """The box of a table."""
     others = [it for it in table.columns if it not in table.key and it not in referring]
     inside = [it for it in referring if it not in table.key]
     cells = [("#0a4a86", f'<b><font color="#ffffff">{table.name}</font></b>'), ("#dbe9f6", f"<b>{', '.join(table.key)}</b>")]
@@ -91,22 +77,15 @@ def node_of(table: Table, referring: list[str]) -> str:
     return f'  {table.name} [label=<<table border="1" color="#57606a" cellborder="0" cellspacing="0" cellpadding="3">{made}</table>>];'
 
 
-def arrows_of(table: Table, referred: Mapping[str, list[list[str]]]) -> list[str]:
-    """The tables that a table refers to, without one that its row of another table leads to by the same column."""
-    wider = {column for columns in sum(referred.values(), []) if len(columns) > 1 for column in columns}
-    return [f"  {table.name} -> {name};" for name, all_columns in referred.items() if any(len(it) > 1 or it[0] not in wider for it in all_columns)]
-
-
 def tables_dot() -> str:
-    """The source of the drawing."""
-    made, name_of, lines, arrows = tables(), {it.record: it.name for it in tables()}, [], []
-    found = list(references())
-    for table in made:
-        referred: dict[str, list[list[str]]] = {}
-        for record, columns, other in found:
-            if record == table.record:
-                referred.setdefault(name_of[other], []).append(columns)
-        lines.append(node_of(table, list(dict.fromkeys(column for columns in sum(referred.values(), []) for column in columns))))
-        arrows += arrows_of(table, referred)
+    """The source of the drawing. A table has no arrow to one that its row of another table leads to by the same column."""
+    tables = [table_in(text_of(path)) for path in sorted((ROOT / "crates/office_tables/src/tables").glob("*.rt"))]
+    name_of, found = {it.record: it.name for it in tables}, list(references())
+    lines, arrows = [], []
+    for table in tables:
+        referred = [(columns, name_of[other]) for record, columns, other in found if record == table.record]
+        wider = {column for columns, _ in referred if len(columns) > 1 for column in columns}
+        lines.append(node_of(table, list(dict.fromkeys(column for columns, _ in referred for column in columns))))
+        arrows += [f"  {table.name} -> {name};" for columns, name in referred if len(columns) > 1 or columns[0] not in wider]
     arrows += [f"  {name_of[record]} -> {name_of[other]} [style=dashed];" for record, other in SAME_NUMBER]
-    return HEAD + "\n".join([*lines, *arrows, "}"]) + "\n"
+    return HEAD + "\n".join([*lines, *dict.fromkeys(arrows), "}"]) + "\n"

@@ -2,7 +2,7 @@
 import re
 import sys
 import textwrap
-from collections.abc import Callable, Sequence
+from collections.abc import Callable
 
 from office_kit.common import options_of
 from office_kit.docs.definitions import ROOT, Fault, text_of
@@ -12,9 +12,9 @@ WIDTH = 100
 Make = Callable[[], tuple[list[str], str]]
 
 
-def wrapped(text: str, first: str = "", rest: str = "") -> list[str]:
-    """The lines of a text, at most WIDTH characters each."""
-    return textwrap.wrap(text, WIDTH, initial_indent=first, subsequent_indent=rest, break_long_words=False, break_on_hyphens=False)
+def wrapped(text: str, first: str = "", rest: str = "", width: int = WIDTH) -> list[str]:
+    """The lines of a text, at most so many characters each."""
+    return textwrap.wrap(text, width, initial_indent=first, subsequent_indent=rest, break_long_words=False, break_on_hyphens=False)
 
 
 def opening(text: str) -> list[str]:
@@ -24,45 +24,38 @@ def opening(text: str) -> list[str]:
 
 
 def text_made(make: Make) -> str:
-    """The text of a document."""
     return "\n".join(make()[0]) + "\n"
 
 
-def difference(name: str, had: Sequence[str], wanted: Sequence[str]) -> str:
+def difference(name: str, had: str, wanted: str) -> str:
     """The first difference between a document and its script: the line, its text, and the text that is made."""
-    at = next((i for i, (a, b) in enumerate(zip(had, wanted)) if a != b), min(len(had), len(wanted)))
-    there, made = (lines[at] if at < len(lines) else "(nothing)" for lines in (had, wanted))
+    texts = had.split("\n"), wanted.split("\n")
+    at = next((i for i, (a, b) in enumerate(zip(*texts)) if a != b), min(map(len, texts)))
+    there, made = (lines[at] if at < len(lines) else "(nothing)" for lines in texts)
     return f"{name}:{at + 1}: not what is made of the sources; `make docs` makes it again\n  there: {there}\n  made:  {made}"
 
 
-def work(name: str, make: Make, check: bool) -> int:
-    """Writes or compares a document; the exit status."""
-    lines, said = make()
-    wanted, path = "\n".join(lines) + "\n", ROOT / name
-    if check and not path.is_file():
-        print(f"{name}: doesn't exist; `make docs` makes it")
-        return 1
-    if check and text_of(path) != wanted:
-        print(difference(name, text_of(path).split("\n"), wanted.split("\n")))
-        return 1
-    if not check:
-        path.parent.mkdir(parents=True, exist_ok=True)
-        path.write_text(wanted, encoding="utf-8")
-    print(f"{said}: {name} is {'current' if check else 'written'}")
-    return 0
-
-
 def main(name: str, make: Make, manual: str | None, may_check: bool = True) -> int:
-    """Reads the words of the command line, none or --check; the exit status."""
+    """Writes or compares a document, by the words of the command line: none, or --check. The exit status."""
     options = options_of(manual)
     if may_check:
         options.add_argument("--check", action="store_true", help="write nothing, and say whether the document is current")
-    choice = options.parse_args()
+    choice, path = options.parse_args(), ROOT / name
+    is_check = may_check and choice.check
     try:
-        return work(name, make, may_check and choice.check)
+        lines, said = make()
+        wanted = "\n".join(lines) + "\n"
+        if not is_check:
+            path.parent.mkdir(parents=True, exist_ok=True)
+            path.write_text(wanted, encoding="utf-8")
+        elif (had := text_of(path) if path.is_file() else "") != wanted:
+            print(difference(name, had, wanted))
+            return 1
     except (Fault, OSError) as fault:
         print(f"{sys.argv[0]}: {fault}", file=sys.stderr)
         return 2
+    print(f"{said}: {name} is {'current' if is_check else 'written'}")
+    return 0
 
 
 def write_below(folder: str, name: str, make: Make, manual: str | None) -> int:

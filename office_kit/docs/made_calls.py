@@ -1,7 +1,5 @@
 """The list of public calls, each with the clauses of its contract as the source has them. Read by tools/calls and office_kit/docs/releases.py."""
-import textwrap
-
-from office_kit.docs.contracts import Call, Clause, heading_of, public_calls_of, sources_of
+from office_kit.docs.contracts import Call, heading_of, public_calls_of, sources_of
 from office_kit.docs.definitions import ROOT, Fault, crates_of_the_program
 from office_kit.docs.made import WIDTH, opening, wrapped
 from office_kit.gate.crates import crates_of
@@ -16,48 +14,29 @@ proved besides. [INDEX.md](INDEX.md) says what the names in the clauses mean, an
 private modules are left out, and so are those of an `impl` of a trait: the trait has their contract. Made by `tools/calls`, not by hand."""
 
 
-def crates_in_order() -> list[str]:
-    """The crates of the program, each after those that it uses."""
-    return [name for name in crates_of(ROOT) if name in crates_of_the_program()]
-
-
-def clause_lines(clause: Clause) -> list[str]:
-    """A clause, as a block of code has it."""
-    text = f"{clause.kind}{f' {clause.name}' if clause.name else ''} {{ {clause.text.strip()} }}"
-    return textwrap.wrap(text, WIDTH - 2, initial_indent="  ", subsequent_indent="      ", break_long_words=False, break_on_hyphens=False)
-
-
 def lines_of_call(call: Call) -> list[str]:
-    """The lines of a call: its name, its comment, and its clauses."""
-    head = wrapped(f"`{call.full_name()}`{f': {call.doc}' if call.doc else ''}{'' if call.clauses else ' (no clause)'}", "- ", "  ")
+    """The lines of a call: its name, its comment, and its clauses as a block of code."""
+    name = f"{call.owner}::{call.name}" if call.owner else call.name
+    head = wrapped(f"`{name}`{f': {call.doc}' if call.doc else ''}{'' if call.clauses else ' (no clause)'}", "- ", "  ")
     if not call.clauses:
         return head
-    return [*head, "", "  ```rt", *(line for clause in call.clauses for line in clause_lines(clause)), "  ```"]
-
-
-def lines_of_crate(crate: str) -> tuple[list[str], list[Call]]:
-    """The lines of a crate, and its public calls."""
-    lines: list[str] = []
-    calls: list[Call] = []
-    for path in sources_of(crate):
-        public = public_calls_of(crate, path)
-        if public:
-            heading = heading_of(path)
-            lines += [*wrapped(f"**{path.relative_to(ROOT / 'crates' / crate / 'src')}**" + (f": {heading}" if heading else "")), ""]
-            lines += [line for call in public for line in lines_of_call(call)] + [""]
-        calls += public
-    return lines, calls
+    texts = [f"{clause.kind}{f' {clause.name}' if clause.name else ''} {{ {clause.text} }}" for clause in call.clauses]
+    return [*head, "", "  ```rt", *(line for text in texts for line in wrapped(text, "  ", "      ", WIDTH - 2)), "  ```"]
 
 
 def calls() -> tuple[list[str], str]:
-    """The lines of the document, and the summary to print."""
+    """The lines of the document, and the summary to print. A crate comes after those that it uses."""
     lines, found, with_calls = opening(HEAD), list[Call](), 0
-    for crate in crates_in_order():
-        of_crate, public = lines_of_crate(crate)
+    for crate in (name for name in crates_of(ROOT) if name in crates_of_the_program()):
+        public = {path: own for path in sources_of(crate) if (own := public_calls_of(crate, path))}
         if public:
-            lines += [f"## `{crate}`", "", *of_crate]
+            lines += [f"## `{crate}`", ""]
             with_calls += 1
-        found += public
+        for path, own in public.items():
+            heading = heading_of(path)
+            lines += [*wrapped(f"**{path.relative_to(ROOT / 'crates' / crate / 'src')}**" + (f": {heading}" if heading else "")), ""]
+            lines += [line for call in own for line in lines_of_call(call)] + [""]
+            found += own
     if not found:
         raise Fault("crates/*/src: there is no public function")
     return lines[:-1], f"{len(found)} calls with {sum(len(call.clauses) for call in found)} clauses, in {with_calls} crates"

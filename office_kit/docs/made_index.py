@@ -1,5 +1,5 @@
 """The index of definitions: every definition of crates/*/specs/**/*.antt, with the comment above it. Read by tools/index and office_kit/docs/releases.py."""
-from collections.abc import Sequence
+from collections.abc import Iterable
 
 from office_kit.docs.definitions import Definition, Fault, Source, crates, sources_of
 from office_kit.docs.made import opening, wrapped
@@ -14,45 +14,38 @@ Every definition of `crates/*/specs/`, by crate and by file, with the comment ab
 """
 
 
-def entries_of(definitions: Sequence[Definition]) -> list[str]:
-    """A text for each comment: the name below it, what it says, and the names after that one that have no comment."""
-    entries: list[tuple[str, str, list[str]]] = []
+def entries_of(definitions: Iterable[Definition]) -> list[str]:
+    """A text for each comment: the name below it, what it says, and the names after that one that have no comment. If the first name has no comment, the names
+    alone."""
+    entries: list[list[Definition]] = []
     for each in definitions:
         if each.comment or not entries:
-            entries.append((each.name, each.comment, []))
-        else:
-            entries[-1][2].append(each.name)
-    return [entry_text(*entry) for entry in entries]
+            entries.append([])
+        entries[-1].append(each)
+    return [entry_text(entry[0].comment, *(f"`{each.name}`" for each in entry)) for entry in entries]
 
 
-def entry_text(name: str, comment: str, others: Sequence[str]) -> str:
-    """`name`: its comment. Then `other`. Or `name`, `other`, if there is no comment."""
+def entry_text(comment: str, name: str, *others: str) -> str:
+    """`name`: its comment. Then `other`."""
     if not comment:
-        return ", ".join(f"`{each}`" for each in [name, *others])
-    text = f"`{name}`: {comment}"
-    if others:
-        text += ("" if text[-1] in ".:;" else ".") + " Then " + ", ".join(f"`{other}`" for other in others)
-    return text
+        return ", ".join([name, *others])
+    end = "" if comment[-1] in ".:;" else "."
+    return f"{name}: {comment}{end} Then {', '.join(others)}" if others else f"{name}: {comment}"
 
 
 def lines_of(source: Source) -> list[str]:
     """The index of one file."""
     made = wrapped(f"**`{source.module}`**" + (f": {source.heading}" if source.heading else "")) + [""]
-    for text in entries_of(source.definitions):
-        made += wrapped(text, "- ", "  ")
-    return [*made, ""]
+    return made + [line for text in entries_of(source.definitions) for line in wrapped(text, "- ", "  ")] + [""]
 
 
 def index() -> tuple[list[str], str]:
     """The lines of the document, and the summary to print."""
-    made, sources = opening(HEAD), list[Source]()
-    for crate in crates():
-        of_crate = sources_of(crate.name)
-        if of_crate:
-            made += [f"## `{crate.name}`", ""]
-        for source in of_crate:
-            made += lines_of(source)
-        sources += of_crate
+    sources = {crate.name: of_crate for crate in crates() if (of_crate := sources_of(crate.name))}
     if not sources:
         raise Fault("crates/*/specs: there is no definition")
-    return made[:-1], f"{sum(len(source.definitions) for source in sources)} definitions of {len(sources)} files"
+    made = opening(HEAD)
+    for name, of_crate in sources.items():
+        made += [f"## `{name}`", "", *(line for source in of_crate for line in lines_of(source))]
+    found = [source for of_crate in sources.values() for source in of_crate]
+    return made[:-1], f"{sum(len(source.definitions) for source in found)} definitions of {len(found)} files"

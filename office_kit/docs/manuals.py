@@ -1,8 +1,9 @@
 """Manual pages of scripts, made of their heads: what `--help` prints of a script is its page too."""
 import ast
-import datetime
 import re
 import textwrap
+import time
+from pathlib import Path
 
 from office_kit.common import ROOT, fail
 
@@ -31,8 +32,7 @@ WIDTH = 70
 
 def head_of(script: str) -> str:
     """The text with which a script describes itself: its docstring, or its first comment up to an empty line."""
-    with open(f"{ROOT}/{script}", encoding="utf-8") as file:
-        text = file.read()
+    text = Path(ROOT, script).read_text(encoding="utf-8")
     if "python" in text.split("\n", 1)[0]:
         return ast.get_docstring(ast.parse(text)) or fail(f"{script} has no head")
     comment = text.split("\n\n", 1)[0].split("\nset ", 1)[0].split("\n")[1:]
@@ -49,35 +49,30 @@ def sentences(text: str) -> str:
     """A text with each sentence on lines of its own."""
     parts = re.split(r"(?<=[.:!?)]) (?=\S)", " ".join(text.split()))
     lines = [line for part in parts for line in textwrap.wrap(part, WIDTH, break_long_words=False, break_on_hyphens=False)]
-    return "\n".join(escaped(line) for line in lines)
-
-
-def listed(lines: list[str], mark: re.Pattern[str], kind: str) -> str:
-    """The items of a list."""
-    items = re.split(r"\n(?=\S)", "\n".join(lines))
-    told = [f".It\n{sentences(mark.sub('', item, count=1))}" for item in items]
-    return "\n".join([f".Bl {kind}", *told, ".El"])
+    return "\n".join(map(escaped, lines))
 
 
 def part_of(paragraph: str) -> str:
-    """A paragraph of a head: words of the command line, a list, or a text."""
-    lines = paragraph.split("\n")
-    if lines[0].startswith("    "):
-        return "\n".join([".Bd -literal -offset indent", *map(escaped, textwrap.dedent(paragraph).split("\n")), ".Ed"])
-    for mark, kind in ((re.compile(r"^- "), "-bullet"), (re.compile(r"^\d+\. "), "-enum")):
-        first = next((at for at, line in enumerate(lines) if mark.match(line)), None)
-        if first is not None:
-            before = [f".Pp\n{sentences(' '.join(lines[:first]))}"] if first else []
-            return "\n".join([*before, listed(lines[first:], mark, kind)])
+    """A paragraph of a head: words of the command line, a text, or a list after the text before it."""
+    if paragraph.startswith("    "):
+        return f".Bd -literal -offset indent\n{escaped(textwrap.dedent(paragraph))}\n.Ed"
+    for mark, kind in ((r"- ", "-bullet"), (r"\d+\. ", "-enum")):
+        before, *items = re.split(rf"(?m)^{mark}", paragraph)
+        if items:
+            told = [f".Pp\n{sentences(before)}"] if before else []
+            return "\n".join([*told, f".Bl {kind}", *(f".It\n{sentences(item)}" for item in items), ".El"])
     return f".Pp\n{sentences(paragraph)}"
 
 
 def manual_of(name: str, moment: int) -> bytes:
-    """The manual page of a command, with this date."""
     section, script, does = COMMANDS[name]
-    day = datetime.datetime.fromtimestamp(moment, datetime.timezone.utc)
     head = head_of(script)
     for other, (_, path, _) in COMMANDS.items():
         head = head.replace(path, other)
     body = "\n".join(part_of(it) for it in re.split(r"\n\s*\n", head.strip("\n"))).removeprefix(".Pp\n")
-    return PAGE.format(script=script, date=f"{day:%B} {day.day}, {day.year}", title=name.upper(), section=section, name=name, does=does, body=body).encode()
+    return PAGE.format(script=script, date=day_of(moment), title=name.upper(), section=section, name=name, does=does, body=body).encode()
+
+
+def day_of(moment: int) -> str:
+    """A day as manual pages have it."""
+    return time.strftime("%B %-d, %Y", time.gmtime(moment))

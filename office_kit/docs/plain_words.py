@@ -5,7 +5,7 @@ is its --help.) Code spans, code blocks and links' targets are no prose. These a
 """
 import ast
 import re
-from collections.abc import Iterator, Sequence
+from collections.abc import Iterable, Iterator
 from pathlib import Path
 from typing import NamedTuple
 
@@ -24,19 +24,16 @@ WORDS = {
 FOUND = {name: re.compile(rf"(?<![\w-])(?:{pattern})(?![\w-])", re.IGNORECASE) for name, pattern in WORDS.items()}
 # `who` and `what` that no noun goes before: at the beginning of a sentence that is no question and no heading, or after a word that isn't a noun.
 NO_NOUN = "of|to|for|by|from|with|in|on|at|than|as|and|or|but|that|is|are|if|where|when"
-BARE = re.compile(rf"^(?:Who|What) (?!if\b)(?=[^?]*[.;:]\W*$)|\b(?:{NO_NOUN}) (?:who|what)\b(?! (?:if|to|it is|they are)\b)")
+FOUND["bare"] = re.compile(rf"^(?:Who|What) (?!if\b)(?=[^?]*[.;:]\W*$)|\b(?:{NO_NOUN}) (?:who|what)\b(?! (?:if|to|it is|they are)\b)")
 SENTENCE = re.compile(r"(?<=[.?!])[)'\"*_]*\s+(?=[A-Z0-9`'\"(*\[_])")
 SPAN = re.compile(r"(`+).+?\1", re.DOTALL)
 LINK = re.compile(r"!?\[([^\]]*)\](?:\([^)]*\)|\[[^\]]*\])")
-ITEM = re.compile(r"\s*(?:[-*+]|\d+\.)\s+")
+ITEM = re.compile(r"^\s*(?:[-*+]|\d+\.)\s+")
 TEXT = re.compile(r'"((?:[^"\\]|\\.)*)"')
-
-
-class Paragraph(NamedTuple):
-    """A text without a break, and the line where it begins."""
-
-    line: int
-    text: str
+# How a comment begins in files of each ending; in others with #.
+MARKS = {".antt": "--", ".rt": "//", ".js": "//"}
+# A line with its number, or a paragraph with that of its first line.
+Numbered = tuple[int, str]
 
 
 class Finding(NamedTuple):
@@ -47,28 +44,28 @@ class Finding(NamedTuple):
     words: str
 
 
-def joined(lines: Sequence[tuple[int, str]]) -> Iterator[Paragraph]:
+def joined(lines: Iterable[Numbered]) -> Iterator[Numbered]:
     """Paragraphs of numbered lines: an empty line ends one, and an item of a list or an indented line begins one."""
-    begun: list[tuple[int, str]] = []
+    begun: list[Numbered] = []
     for number, line in [*lines, (0, "")]:
         starts = not line.strip() or ITEM.match(line) or line.startswith("    ") and not (begun and ITEM.match(begun[0][1]))
         if begun and (starts or number != begun[-1][0] + 1):
-            yield Paragraph(begun[0][0], " ".join(it.strip() for _, it in begun))
+            yield begun[0][0], " ".join(it.strip() for _, it in begun)
             begun = []
         begun += [(number, line)] if line.strip() else []
 
 
 # ---- What of a file is prose.
 
-def of_document(text: str) -> Iterator[Paragraph]:
+def of_document(text: str) -> Iterator[Numbered]:
     """The prose of a document: its paragraphs, items, headings and cells of tables."""
-    kept: list[tuple[int, str]] = []
+    kept: list[Numbered] = []
     fence, empty = False, True
     for number, line in enumerate(text.split("\n"), 1):
         if re.match(r"\s*(```|~~~)", line):
             fence = not fence
         elif line.startswith("|") and not fence:
-            yield from (Paragraph(number, cell.strip()) for cell in SPAN.sub("`x`", line).split("|") if cell.strip(" -:"))
+            yield from ((number, cell.strip()) for cell in SPAN.sub("`x`", line).split("|") if cell.strip(" -:"))
         elif not fence and not re.match(r"\[[^\]]+\]: ", line) and not (empty and line.startswith("    ") and not (kept and ITEM.match(kept[-1][1]))):
             kept.append((number, line.lstrip("#> ") if line.startswith(("#", ">")) else line))
             if line.startswith("#"):
@@ -77,73 +74,53 @@ def of_document(text: str) -> Iterator[Paragraph]:
     yield from joined(kept)
 
 
-def of_comments(text: str, mark: str) -> Iterator[Paragraph]:
+def of_comments(text: str, mark: str) -> Iterator[Numbered]:
     """The comments on lines of their own, by the mark with which they begin."""
     found = [(number, line.strip()) for number, line in enumerate(text.split("\n"), 1) if line.strip().startswith(mark)]
     lines = [(number, re.sub(rf"^{re.escape(mark)}[/!]* ?", "", line)) for number, line in found if not line.startswith("#!")]
-    yield from joined([(number, line) for number, line in lines if not line.startswith("----")])
+    yield from joined((number, line) for number, line in lines if not line.startswith("----"))
 
 
-def of_blocks(text: str) -> Iterator[Paragraph]:
+def of_blocks(text: str) -> Iterator[Numbered]:
     """Comments between /* and */."""
     for found in re.finditer(r"/\*(.*?)\*/", text, re.DOTALL):
-        first = text.count("\n", 0, found.start()) + 1
-        yield from joined([(first + at, re.sub(r"^\s*\*? ?", "", line)) for at, line in enumerate(found[1].split("\n"))])
+        lines = [re.sub(r"^\s*\*? ?", "", line) for line in found[1].split("\n")]
+        yield from joined(enumerate(lines, text.count("\n", 0, found.start()) + 1))
 
 
-def of_python(text: str) -> Iterator[Paragraph]:
-    """The comments and the docstrings of a script."""
-    yield from of_comments(text, "#")
+def of_docstrings(text: str) -> Iterator[Numbered]:
     for node in ast.walk(ast.parse(text)):
-        if isinstance(node, (ast.Module, ast.ClassDef, ast.FunctionDef)) and ast.get_docstring(node) is not None:
-            doc = ast.get_docstring(node) or ""
-            yield from joined(list(enumerate(doc.split("\n"), node.body[0].lineno)))
+        if isinstance(node, (ast.Module, ast.ClassDef, ast.FunctionDef)) and (doc := ast.get_docstring(node)) is not None:
+            yield from joined(enumerate(doc.split("\n"), node.body[0].lineno))
 
 
-def of_texts(text: str) -> Iterator[Paragraph]:
-    """The texts of a module that has the words of a screen, and its comments."""
-    yield from of_comments(text, "//")
+def of_texts(text: str) -> Iterator[Numbered]:
+    """The texts of a module that has the words of a screen."""
     for number, line in enumerate(text.split("\n"), 1):
-        yield from (Paragraph(number, found) for found in TEXT.findall(line) if " " in found)
+        yield from ((number, found) for found in TEXT.findall(line) if " " in found)
 
 
-def paragraphs_of(path: Path) -> list[Paragraph]:
-    """The prose of a file."""
+def paragraphs_of(path: Path) -> Iterator[Numbered]:
     text = path.read_text(encoding="utf-8")
     if path.suffix == ".md":
-        return list(of_document(text))
-    if path.suffix == ".antt":
-        return list(of_comments(text, "--"))
-    if path.suffix == ".rt":
-        return list(of_comments(text, "//"))
+        yield from of_document(text)
+        return
+    yield from of_comments(text, MARKS.get(path.suffix, "#"))
     if path.suffix == ".js":
-        return list(of_texts(text) if path.name.startswith("en") else [*of_comments(text, "//"), *of_blocks(text)])
-    is_python = path.suffix == ".py" or re.match(r"#!.*\bpython3?\b", text)
-    return list(of_python(text) if is_python else of_comments(text, "#"))
+        yield from of_texts(text) if path.name.startswith("en") else of_blocks(text)
+    if path.suffix == ".py" or re.match(r"#!.*\bpython3?\b", text):
+        yield from of_docstrings(text)
 
 
 # ---- What reads badly.
 
-def sentences_of(text: str) -> list[str]:
-    """The sentences of a paragraph, a code span as one word."""
-    return SENTENCE.split(LINK.sub(r"\1", SPAN.sub("`x`", ITEM.sub("", text, count=1) if ITEM.match(text) else text)))
-
-
-def is_long(sentence: str) -> bool:
-    """Whether a sentence has too many words."""
-    return sum(bool(re.search(r"\w", word)) for word in sentence.split()) > LONGEST
-
-
-def findings_in(paragraph: Paragraph) -> Iterator[Finding]:
-    """The findings in a paragraph."""
-    for sentence in sentences_of(paragraph.text):
-        if is_long(sentence):
-            yield Finding(paragraph.line, "long", sentence)
-        for name, pattern in FOUND.items():
-            yield from (Finding(paragraph.line, name, sentence) for _ in pattern.findall(sentence))
-        yield from (Finding(paragraph.line, "bare", sentence) for _ in BARE.findall(sentence))
-
-
 def findings_of(path: Path) -> list[Finding]:
-    """The findings in a file, in the order of its lines."""
-    return sorted((finding for paragraph in paragraphs_of(path) for finding in findings_in(paragraph)), key=lambda it: it.line)
+    """The findings in a file, in the order of its lines. A code span is one word."""
+    found = []
+    for line, text in paragraphs_of(path):
+        for sentence in SENTENCE.split(LINK.sub(r"\1", SPAN.sub("`x`", ITEM.sub("", text, count=1)))):
+            if len([word for word in sentence.split() if re.search(r"\w", word)]) > LONGEST:
+                found.append(Finding(line, "long", sentence))
+            for name, pattern in FOUND.items():
+                found += [Finding(line, name, sentence) for _ in pattern.findall(sentence)]
+    return sorted(found, key=lambda it: it.line)

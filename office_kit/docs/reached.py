@@ -2,6 +2,7 @@
 
 Used by tools/reading and tools/check_names. A variable that has the name of such a definition counts as it.
 """
+from collections import defaultdict
 from collections.abc import Iterable, Mapping, Sequence
 from pathlib import Path
 
@@ -24,61 +25,50 @@ BESIDES: dict[str, list[str]] = {
 
 
 class Reached:
-    """The definitions reached so far, and those to follow."""
+    """The definitions reached so far, the types of the program and the words of libraries that they use, and the definitions to follow."""
 
     def __init__(self) -> None:
         self.crates = crates_of_the_program()
         self.definitions: dict[tuple[str, str, str], Definition] = {}
-        self.types: dict[str, set[str]] = {}
-        self.libraries: dict[str, dict[str, set[str]]] = {}
-        self.waiting: list[tuple[Source, Definition]] = []
+        self.types: defaultdict[str, set[str]] = defaultdict(set)
+        self.libraries: defaultdict[str, defaultdict[str, set[str]]] = defaultdict(lambda: defaultdict(set))
+        self.waiting: list[Definition] = []
         self.seen: set[Path] = set()
 
     def add_all(self, words: Iterable[str], imports: Mapping[str, Imported], source: Source | None = None) -> None:
-        """Adds the meanings of words in a file with these imports. In a file of definitions, its own come first."""
+        """Adds the meanings of words in a file with these imports: definitions, types and words of libraries. In a file of definitions, its own come first."""
         for word in sorted(words):
-            own = source.defines(word.split(".")[0]) if source else None
+            own = source.defined.get(word.split(".")[0]) if source else None
             if own:
-                self.add(source, own)
+                self.add(own)
         for place, name in places_in(sorted(words), imports):
-            self.add_place(place, name)
-
-    def add_place(self, place: str, name: str) -> None:
-        """Adds a definition, a type or a word of a library by its place."""
-        crate, _, module = place.partition(".specs.")
-        if crate not in self.crates:
-            self.libraries.setdefault(crate, {}).setdefault(module, set()).add(name)
-        elif module.startswith("declared."):
-            kind = module[len("declared."):].removesuffix(".TheVariants")
-            self.types.setdefault(crate, set()).add(kind)
-        else:
-            self.add(*definition_at(crate, module, name))
+            crate, _, module = place.partition(".specs.")
+            if crate not in self.crates:
+                self.libraries[crate][module].add(name)
+            elif module.startswith("declared."):
+                self.types[crate].add(module.removeprefix("declared.").removesuffix(".TheVariants"))
+            else:
+                self.add(definition_at(crate, module, name))
 
     def need(self, imports: Mapping[str, Imported], where: Path | str) -> None:
         """Checks that each definition of the program's crates that a file imports exists."""
         for place, name in imports.values():
             crate, _, module = place.partition(".specs.")
-            if name and crate in self.crates and not module.startswith("declared."):
-                if not definition_at(crate, module, name)[1]:
-                    raise Fault(f"{where}: there is no definition {name} in {place}")
+            if name and crate in self.crates and not module.startswith("declared.") and not definition_at(crate, module, name):
+                raise Fault(f"{where}: there is no definition {name} in {place}")
 
-    def add(self, source: Source | None, definition: Definition | None) -> None:
+    def add(self, definition: Definition | None) -> None:
         """Adds a definition, once; with the first one of a file what the file imports is looked for."""
-        if source is None or definition is None:
+        if not definition:
             raise Fault("a definition that is used isn't there")
+        source = definition.source
         if source.path not in self.seen:
             self.seen.add(source.path)
             self.need(source.imports, source.path.relative_to(ROOT))
         key = source.crate, source.module, definition.name
         if key not in self.definitions:
             self.definitions[key] = definition
-            self.waiting.append((source, definition))
-
-    def follow(self) -> None:
-        """Follows definitions until nothing new is reached."""
-        while self.waiting:
-            source, definition = self.waiting.pop(0)
-            self.add_all(definition.words() - {definition.name}, source.imports, source)
+            self.waiting.append(definition)
 
     def files(self) -> dict[tuple[str, str], list[Definition]]:
         """The files that were reached, with the definitions of each that were."""
@@ -89,7 +79,7 @@ class Reached:
 
 
 def begin(made: Reached, start: Mapping[str, Sequence[str]]) -> None:
-    """Follows the names that the clauses of these calls use."""
+    """Follows the names that the clauses of these calls use, until nothing new is reached."""
     for name, wanted in start.items():
         path = ROOT / "crates" / name
         calls = [call for call in calls_of(path) if call.name in wanted]
@@ -99,4 +89,6 @@ def begin(made: Reached, start: Mapping[str, Sequence[str]]) -> None:
         made.need(imports, f"crates/{name}")
         for call in calls:
             made.add_all(set(WORD.findall(" ".join(clause.text for clause in call.clauses))), imports)
-    made.follow()
+    while made.waiting:
+        definition = made.waiting.pop(0)
+        made.add_all(definition.words() - {definition.name}, definition.source.imports, definition.source)

@@ -5,6 +5,7 @@
 import os
 import re
 import sys
+from pathlib import Path
 
 from office_kit import common
 from office_kit.common import CLERK, ROOT
@@ -41,8 +42,7 @@ def blocks_of(block: str) -> list[str]:
 
 def topics() -> list[Topic]:
     """The files that crates/tests_of_runs/args names, in their order."""
-    with open(os.path.join(CRATE, "args"), encoding="utf-8") as file:
-        return [Topic(name) for name in file.read().split()]
+    return [Topic(name) for name in Path(CRATE, "args").read_text(encoding="utf-8").split()]
 
 
 def text_of(line: str) -> str:

@@ -12,7 +12,7 @@ from pathlib import Path
 
 import pytest
 
-from office_kit.common import ROOT
+from office_kit.common import ROOT, copy_into, stand_in
 from office_kit.docs import documents
 from office_kit.docs.releases import logic_of, newest_entry
 
@@ -39,16 +39,16 @@ class Made:
         self.ran = run(f"{root}/tools/release", "--to", self.to, *flags, env={**os.environ, "PROCURE": program, "SOURCE_DATE_EPOCH": "1700000000"})
         if self.ran.returncode == 0:
             self.version = re.search(r", version (\S+)\n", self.ran.stdout)[1]
-            self.top, self.tree, self.told = folder / f"procure-{self.version}", folder / "tree", folder / "told"
+            self.top, self.tree, self.told = folder / f"procure-{self.version}", folder / "tree", folder / "tree/DEBIAN"
             self.package = self.to / f"procure_{self.version}_amd64.deb"
             run("tar", "-xzf", self.to / f"procure-{self.version}.tar.gz", "-C", folder, check=True)
-            run("dpkg-deb", "-x", self.package, self.tree, check=True)
-            run("dpkg-deb", "-e", self.package, self.told, check=True)
+            run("dpkg-deb", "-R", self.package, self.tree, check=True)
 
     def copy(self, folder):
         """A copy, into which faults can be planted."""
         copy = Made.__new__(Made)
-        copy.top, copy.tree, copy.told = (shutil.copytree(it, folder / it.name, symlinks=True) for it in (self.top, self.tree, self.told))
+        copy.top, copy.tree = (shutil.copytree(it, folder / it.name, symlinks=True) for it in (self.top, self.tree))
+        copy.told = copy.tree / "DEBIAN"
         return copy
 
 
@@ -66,18 +66,9 @@ def made(program, tmp_path_factory):
 @pytest.fixture
 def copy(tmp_path):
     """A copy of the sources of a release."""
-    for name in SOURCES:
-        (shutil.copytree if os.path.isdir(f"{ROOT}/{name}") else shutil.copy)(f"{ROOT}/{name}", tmp_path / name)
+    copy_into(tmp_path, *SOURCES)
     (tmp_path / "crates").symlink_to(f"{ROOT}/crates")
     return tmp_path
-
-
-def stand_in(folder, text):
-    """A shell script as a program."""
-    path = folder / "procure"
-    path.write_text(f"#!/bin/sh\n{text}\n")
-    path.chmod(0o755)
-    return str(path)
 
 
 # ---- The version.
@@ -97,7 +88,7 @@ def test_version(program):
 @pytest.mark.parametrize("planted", [f"echo procure {newest_entry()}; exit 2", f"echo procure {newest_entry()} >&2", "echo procure 9.9.9 >&2; exit 2"],
                          ids=["on_standard_output", "status_0", "another_version"])
 def test_wrong_version(tmp_path, planted):
-    program = stand_in(tmp_path, planted)
+    program = stand_in(f"{tmp_path}/procure", planted)
     assert len(wrong_versions(program)) == 2
     made = Made(program, tmp_path)
     assert made.ran.returncode == 1 and not made.to.exists()
@@ -105,7 +96,7 @@ def test_wrong_version(tmp_path, planted):
 
 @pytest.mark.parametrize("program, said", [("/absent/procure", "there is no proved program"), (None, "isn't proved")], ids=["none", "unproved"])
 def test_refused(tmp_path, program, said):
-    given = program or stand_in(tmp_path, "echo procure 0.0.0 >&2; exit 2")
+    given = program or stand_in(f"{tmp_path}/procure", "echo procure 0.0.0 >&2; exit 2")
     told = run(f"{ROOT}/tools/release", "--to", tmp_path / "made", env={**os.environ, "PROCURE": given})
     assert told.returncode == 1 and said in told.stderr and not (tmp_path / "made").exists()
 
@@ -145,21 +136,12 @@ def test_tool(made, tool):
 # ---- Manual pages.
 
 def wrong_manual(text):
-    """The findings of mandoc in a manual page."""
     return run("mandoc", "-Tlint", input=text).stdout
 
 
-def pages_in(tree):
-    """The manual pages, by the names of their commands."""
-    return {path.name[:-len(".1.gz")]: gzip.decompress(path.read_bytes()).decode() for path in tree.glob("usr/share/man/*/*")}
-
-
-def commands_of(tree):
-    return files_in(tree / "usr/bin") | files_in(tree / "usr/sbin")
-
-
 def test_manual(made, program):
-    page, pages = (made.top / "procure.1").read_text(), pages_in(made.tree)
+    page = (made.top / "procure.1").read_text()
+    pages = {path.name[:-len(".1.gz")]: gzip.decompress(path.read_bytes()).decode() for path in made.tree.glob("usr/share/man/*/*")}
     # (both say what names the file and the cause of a fault)
     assert "procure-check" in page and "procure-check" in run(program, "--help").stderr
     assert wrong_manual(page) == ""
@@ -167,7 +149,7 @@ def test_manual(made, program):
     assert "unknown macro" in wrong_manual(page.replace(".Sh FILES", ".Sx FILES\n.Zz a", 1))
     for name, text in pages.items():
         assert wrong_manual(text) == "" and f".Nm {name}\n" in text and len(text) > 1000
-    assert commands_of(made.tree) == pages.keys()
+    assert files_in(made.tree / "usr/bin") | files_in(made.tree / "usr/sbin") == pages.keys()
 
 
 # ---- The package.
@@ -177,7 +159,8 @@ def wrong_units(made):
     for unit in sorted((made.tree / "lib/systemd/system").glob("*.*")):
         text = unit.read_text() if unit.is_file() else ""
         absent = [path for path in re.findall(r"(?m)^Exec\w+=[-+!@:]*(/\S*procure\S*)", text) if not os.access(f"{made.tree}{path}", os.X_OK)]
-        yield from (unit.name for _ in range(bool(absent) + ("/usr/local" in text)))
+        if absent or "/usr/local" in text:
+            yield unit.name
     for script in ("postinst", "prerm", "postrm"):
         if run("sh", "-n", made.told / script).returncode or STARTS.search((made.told / script).read_text()):
             yield script
@@ -221,7 +204,6 @@ def test_settings_of_the_package(made, program):
 
 
 def said_of(package):
-    """The output of lintian about a package."""
     told = run("lintian", "--allow-root", "--tag-display-limit", "0", package)
     return told.stdout + "".join(line for line in told.stderr.splitlines(True) if "root privileges" not in line)
 
@@ -233,7 +215,6 @@ def test_lintian(made):
 def test_lintian_finds_symbols(made, program, tmp_path):
     """Without the words about them."""
     planted = made.copy(tmp_path)
-    planted.told.rename(planted.tree / "DEBIAN")
     (planted.tree / "usr/share/lintian/overrides/procure").unlink()
     run("dpkg-deb", "--root-owner-group", "--build", planted.tree, tmp_path / "procure_1_amd64.deb", check=True)
     is_whole = re.search(r"\.symtab\b", run("readelf", "-S", "--wide", program).stdout)
@@ -243,20 +224,18 @@ def test_lintian_finds_symbols(made, program, tmp_path):
 @pytest.mark.parametrize("is_right", [True, False], ids=["as_it_is", "without_rm"])
 def test_purge(made, tmp_path, is_right):
     """Of links to the front's settings, to another missing file and to a file, only the first go."""
-    for name in ("conf.d", "sites-enabled"):
-        (tmp_path / "etc/nginx" / name).mkdir(parents=True)
     (tmp_path / "file").touch()
-    front = tmp_path / "absent/nginx.conf"
-    for name, target in (("procure.conf", front), ("other.conf", tmp_path / "absent/other.conf"), ("file.conf", tmp_path / "file")):
-        (tmp_path / "etc/nginx/conf.d" / name).symlink_to(target)
-    (tmp_path / "etc/nginx/sites-enabled/procure").symlink_to(front)
+    front, nginx = tmp_path / "absent/nginx.conf", tmp_path / "etc/nginx"
+    for name, target in (("conf.d/procure.conf", front), ("conf.d/other.conf", tmp_path / "absent/other.conf"), ("conf.d/file.conf", tmp_path / "file"),
+                         ("sites-enabled/procure", front)):
+        (nginx / name).parent.mkdir(parents=True, exist_ok=True)
+        (nginx / name).symlink_to(target)
     text = (made.told / "postrm").read_text()
-    for old, new in (("/etc/nginx/", f"{tmp_path}/etc/nginx/"), ("/etc/procure/nginx.conf", str(front)), ("/run/systemd/system", f"{tmp_path}/absent")):
+    for old, new in (("/etc/nginx/", f"{nginx}/"), ("/etc/procure/nginx.conf", str(front)), ("/run/systemd/system", f"{tmp_path}/absent")):
         text = text.replace(old, new)
     told = run("sh", "-c", text if is_right else text.replace('rm "$link"', "true"), "sh", "purge")
     assert told.returncode == 0 and "stay" in told.stdout
-    left = {os.path.basename(name) for name in files_in(tmp_path / "etc/nginx")}
-    assert left == {"other.conf", "file.conf", *(() if is_right else ("procure.conf", "procure"))}
+    assert files_in(nginx) == {"conf.d/other.conf", "conf.d/file.conf", *(() if is_right else ("conf.d/procure.conf", "sites-enabled/procure"))}
 
 
 # ---- Links.

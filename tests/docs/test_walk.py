@@ -34,12 +34,6 @@ class Other(http.server.BaseHTTPRequestHandler):
         """Nothing is printed."""
 
 
-class Server(http.server.ThreadingHTTPServer):
-    """(A connection of a moment ago doesn't keep its port.)"""
-
-    allow_reuse_address, daemon_threads = True, True
-
-
 def steps_at(port):
     """The blocks of the walk with another port. README.md explains this to readers whose port is taken."""
     steps, found = documents.steps_of(WALK), 0
@@ -60,7 +54,7 @@ def test_walk(program):
 def test_other_program(program, told):
     """The answers of another program at the port to any request: something of its own, an error, and an office's page."""
     Other.told, Other.came = told, []
-    with Server((HOST, free_port()), Other) as server:
+    with http.server.ThreadingHTTPServer((HOST, free_port()), Other) as server:
         threading.Thread(target=server.serve_forever, daemon=True).start()
         with pytest.raises(documents.Wrong):
             documents.run_steps(WALK, steps_at(server.server_port), program)

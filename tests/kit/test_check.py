@@ -2,7 +2,6 @@
 or in processes that they start. It ends these processes.
 """
 import os
-import shutil
 import subprocess
 import time
 import xml.etree.ElementTree
@@ -10,11 +9,10 @@ from pathlib import Path
 
 import pytest
 
-from office_kit.common import ROOT
+from office_kit.common import copy_into
 
 pytestmark = pytest.mark.budget(120)
-PLANTED = r"""
-import os
+HEAD = r"""
 import subprocess
 
 import pytest
@@ -22,89 +20,38 @@ import pytest
 from office_kit.common import need
 
 BURN = "i=0; while [ $i -lt 100000000 ]; do i=$((i+1)); done"
-OVER, ENDS = pytest.mark.budget(1), pytest.mark.timeout(3)
+OVER, ENDS, NEEDS = pytest.mark.budget(1), pytest.mark.timeout(3), pytest.mark.needs("nothing-of-this-name")
 
 
 @pytest.fixture
 def sh(request):
     name = request.node.name
     return lambda script: subprocess.run(["sh", "-c", f"echo $$ > {name}.pid; {script}".replace("NAME", name)], check=True)
-
-
-def test_passes(sh):
-    sh("echo all is well")
-
-
-@OVER
-def test_waits(sh):
-    sh("sleep 2")
-
-
-def test_fails(sh):
-    sh("exit 7")
-
-
-def test_exits():
-    raise SystemExit("no more of it")
-
-
-@pytest.mark.needs("nothing-of-this-name")
-def test_lacks(sh):
-    sh("exit 1")
-
-
-def test_lacks_within():
-    need("nothing-of-that-name", "nothing")
-
-
-@OVER
-def test_burns(sh):
-    sh(BURN)
-
-
-@OVER
-def test_lets_burn(sh):
-    sh(f"sh -c '{BURN}' & wait")
-
-
-@OVER
-def test_burns_apart(sh):
-    sh(f"setsid sh -c '{BURN}' & echo $! > NAME.pid; wait")
-
-
-@OVER
-def test_leaves_a_process(sh):
-    sh(f"setsid sh -c '{BURN}' & echo $! > NAME.pid")
-
-
-def test_burns_less(sh):
-    sh("i=0; while [ $i -lt 100000 ]; do i=$((i+1)); done")
-
-
-@ENDS
-def test_hangs(sh):
-    sh("sleep 600")
-
-
-def test_fails_once(sh):
-    sh("[ -e NAME.once ] || { touch NAME.once; exit 1; }")
 """
-OVER = "it used more seconds of processor than its budget"
-# How each ends at the first try, and a part of the words about it.
-ENDS = {"passes": ("passed", ""), "waits": ("passed", ""), "fails": ("failure", "exit status 7"), "exits": ("failure", "no more of it"),
-        "lacks": ("skipped", "missing: nothing-of-this-name"), "lacks_within": ("skipped", "missing: nothing-of-that-name. Get it: apt-get install nothing"),
-        "burns": ("failure", OVER), "lets_burn": ("failure", OVER), "burns_apart": ("failure", OVER), "leaves_a_process": ("passed", ""),
-        "burns_less": ("passed", ""), "hangs": ("failure", "Timeout >3.0s"), "fails_once": ("failure", "exit status 1")}
+TOO_MUCH = "it used more seconds of processor than its budget"
+# The planted tests: a mark, the body, how it ends at the first try, and a part of the words about it.
+PLANTED = {
+    "passes": ("", 'sh("echo all is well")', "passed", ""),
+    "waits": ("@OVER", 'sh("sleep 2")', "passed", ""),
+    "fails": ("", 'sh("exit 7")', "failure", "exit status 7"),
+    "exits": ("", 'raise SystemExit("no more of it")', "failure", "no more of it"),
+    "lacks": ("@NEEDS", 'sh("exit 1")', "skipped", "missing: nothing-of-this-name"),
+    "lacks_within": ("", 'need("nothing-of-that-name", "nothing")', "skipped", "missing: nothing-of-that-name. Get it: apt-get install nothing"),
+    "burns": ("@OVER", "sh(BURN)", "failure", TOO_MUCH),
+    "lets_burn": ("@OVER", """sh(f"sh -c '{BURN}' & wait")""", "failure", TOO_MUCH),
+    "burns_apart": ("@OVER", """sh(f"setsid sh -c '{BURN}' & echo $! > NAME.pid; wait")""", "failure", TOO_MUCH),
+    "leaves_a_process": ("@OVER", """sh(f"setsid sh -c '{BURN}' & echo $! > NAME.pid")""", "passed", ""),
+    "burns_less": ("", 'sh("i=0; while [ $i -lt 100000 ]; do i=$((i+1)); done")', "passed", ""),
+    "hangs": ("@ENDS", 'sh("sleep 600")', "failure", "Timeout >3.0s"),
+    "fails_once": ("", 'sh("[ -e NAME.once ] || { touch NAME.once; exit 1; }")', "failure", "exit status 1"),
+}
 
 
 def lay(folder):
     """A checkout that has the planted tests alone."""
-    for name in ("tools", "tests"):
-        (folder / name).mkdir()
-    for name in ("tools/check", "tests/conftest.py", "pyproject.toml"):
-        shutil.copy(Path(ROOT, name), folder / name)
-    shutil.copytree(Path(ROOT, "office_kit"), folder / "office_kit", ignore=shutil.ignore_patterns("__pycache__"))
-    (folder / "tests" / "test_planted.py").write_text(PLANTED)
+    copy_into(folder, "tools/check", "tests/conftest.py", "pyproject.toml", "office_kit")
+    tests = [f"\n\n{mark}\ndef test_{name}(sh):\n    {body}\n" for name, (mark, body, *_) in PLANTED.items()]
+    (folder / "tests" / "test_planted.py").write_text(HEAD + "".join(tests))
 
 
 def check(folder, *words, program="/bin/true"):
@@ -124,9 +71,9 @@ def checked(tmp_path_factory):
     return folder, status, said, {case.get("name").removeprefix("test_").partition("@")[0]: case for case in cases}
 
 
-@pytest.mark.parametrize("name", ENDS)
+@pytest.mark.parametrize("name", PLANTED)
 def test_result(checked, name):
-    kind, words = ENDS[name]
+    *_, kind, words = PLANTED[name]
     found = [(it.tag, it.get("message") + (it.text or "")) for it in checked[3][name] if it.tag in ("failure", "error", "skipped")]
     assert [tag for tag, _ in found] == ([] if kind == "passed" else [kind])
     assert all(words in said for _, said in found)

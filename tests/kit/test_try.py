@@ -9,19 +9,18 @@ from pathlib import Path
 
 import pytest
 
-from office_kit.common import ROOT
+from office_kit.common import ROOT, stand_in
 
 pytestmark = pytest.mark.xdist_group("machine")
 LEDGER = "LEDGER\\nline\\tappropriation\\tfree\\treserved\\tcontracted\\tpaid\\n"
 # `rt try .. -- serve CONFIG DB PORT COUNT`: it runs a copy of python3 from below $TMPDIR. It writes the options for its compiler into $ASKED.
-RT = """#!/bin/sh
-"$(dirname "$0")/../toolchain/bin/clang" -c -O0 'a b' > "$ASKED"
+RT = '''"$(dirname "$0")/../toolchain/bin/clang" -c -O0 'a b' > "$ASKED"
 while [ "$1" != serve ]; do shift; done
 mkdir -p "$TMPDIR/rt-try/work"
 cp {python} "$TMPDIR/rt-try/work/program"
 {failing}
 exec env PYTHONHOME={home} {loader} "$TMPDIR/rt-try/work/program" -c '{server}' "$4" "$5"
-"""
+'''
 SERVER = """
 import http.server, sys
 class Ledger(http.server.BaseHTTPRequestHandler):
@@ -46,10 +45,9 @@ def run(folder, answer=LEDGER, failing="", server=SERVER, rt="bin/rt", loader=""
     """`tools/try` by a toolchain in this folder."""
     server = server % answer if "%" in server else server
     for name, text in (("bin/rt", RT.format(python=PYTHON, home=sys.base_prefix, failing=failing, loader=loader, server=server)),
-                       ("toolchain/bin/clang", '#!/bin/sh\nprintf "%s;" "$@"\n')):
+                       ("toolchain/bin/clang", 'printf "%s;" "$@"')):
         (folder / name).parent.mkdir(parents=True)
-        (folder / name).write_text(text)
-        (folder / name).chmod(0o755)
+        stand_in(str(folder / name), text)
     environment = {**os.environ, "RT": f"{folder}/{rt}", "ASKED": f"{folder}/asked"}
     return subprocess.run([f"{root}/tools/try", "--to", folder / "to" / "procure"], capture_output=True, text=True, env=environment)
 
