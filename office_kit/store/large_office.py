@@ -15,7 +15,7 @@ KINDS = ("lines", "contracts")
 # Rows of an import, at most.
 IMPORT = 500
 FIRST_LINE = 100_000
-AMOUNT, PAID = 300, 100
+AMOUNT, PAID = 3000, 100
 # Copies of the notice N0, its lot and tender, its award and contract, which come after so many receipts. The first copy is C1000001.
 COPIES = """
 CREATE TEMP TABLE copies AS WITH RECURSIVE n(k) AS (SELECT 1 UNION ALL SELECT k + 1 FROM n WHERE k < :many)
