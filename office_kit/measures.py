@@ -93,21 +93,28 @@ class InFile(Office):
 
 
 @contextlib.contextmanager
-def in_file(program: str, file: str, **how: Any) -> Iterator[InFile]:
-    """An office over a file, which holds everything in the end, without a log. `how` is for `subprocess.Popen`."""
-    port, begun = free_port(), time.perf_counter()
-    with running(serve_words(program, file, port, MANY), **how) as process:
+def answering(words: Sequence[str], port: int, **how: Any) -> "Iterator[subprocess.Popen[bytes]]":
+    """A server that has answered a first query. `how` is for `subprocess.Popen`."""
+    with running(words, **how) as process:
         while not what_came(port, look(b"/lines/none")):
             check_runs(process)
             time.sleep(0.01)
-        yield InFile(process, port, time.perf_counter() - begun)
-        check_runs(process)
-    settle(file)
+        yield process
 
 
 def check_runs(process: "subprocess.Popen[bytes]") -> None:
     if process.poll() is not None:
         fail(f"the program ended with status {process.returncode}")
+
+
+@contextlib.contextmanager
+def in_file(program: str, file: str, **how: Any) -> Iterator[InFile]:
+    """An office over a file, which holds everything in the end, without a log."""
+    port, begun = free_port(), time.perf_counter()
+    with answering(serve_words(program, file, port, MANY), port, **how) as process:
+        yield InFile(process, port, time.perf_counter() - begun)
+        check_runs(process)
+    settle(file)
 
 
 class InMemory(Office):
