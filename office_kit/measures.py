@@ -1,18 +1,13 @@
-"""What the measures of bench/ share: their options, offices whose processor time is read, rows by SQLite, and runs of `procure desk` over one input.
-
-Times of one run on one machine mean little, so measures print ratios.
-"""
+"""What the measures of bench/ share: their options, offices whose processor time is read, rows by SQLite, and runs of `procure desk` over one input."""
 import argparse
 import contextlib
-import itertools
 import os
 import sqlite3
 import statistics
 import subprocess
 import tempfile
 import time
-from collections.abc import Iterable, Iterator, Sequence
-from dataclasses import dataclass
+from collections.abc import Iterator, Sequence
 from typing import Any
 
 from office_kit.client import Client, Port
@@ -21,9 +16,8 @@ from office_kit.common import timed_exchange, what_came
 
 # More connections than a measure needs.
 MANY = 1_000_000
-# Seconds: without any use of the processor a program waits for input; anything shorter has no ratio.
-QUIET, SHORTEST = 0.02, 0.02
-TOO_SHORT = "too short to measure"
+# A program that uses no processor for so many seconds waits for input.
+QUIET = 0.02
 
 
 # ---- Options.
@@ -52,11 +46,13 @@ class Office:
     """An office that accepts each request, or else the measure fails."""
 
     name = ""
-    # The moment of the next requests, if the office is in memory.
-    moment = ""
 
     def __init__(self, process: "subprocess.Popen[bytes]") -> None:
-        self.process = process
+        self.process, self.moment = process, ""
+
+    def set_moment(self, moment: str) -> None:
+        """The moment of the next requests, if the office is in memory."""
+        self.moment = moment
 
     def send(self, texts: Sequence[bytes]) -> None:
         """Sends requests, and returns once all are answered."""
@@ -76,6 +72,13 @@ class Office:
     def median(self, rounds: int, texts: Sequence[bytes]) -> float:
         """The same, in the median of some rounds."""
         return statistics.median(self.took(texts) for _ in range(rounds))
+
+    def growth(self, texts: Sequence[bytes]) -> float:
+        """Sends requests. The time of one of their last tenth, compared with one of the first."""
+        tenth = max(1, len(texts) // 10)
+        parts = texts[:tenth], texts[tenth:-tenth], texts[max(tenth, len(texts) - tenth):]
+        times = [self.took(part) for part in parts if part]
+        return times[-1] / times[0]
 
 
 class InFile(Office):
@@ -184,68 +187,28 @@ def settle(file: str) -> None:
     check(f"{file} has a log", not os.path.exists(file + "-wal"))
 
 
-# ---- Runs over one input.
+# ---- One input.
 
-@dataclass
-class Run:
-    """A run over one input: its seconds, its peak memory in KiB, and the second at which each answer was complete, after a 0."""
-
-    seconds: float
-    memory: int
-    times: list[float]
-
-    def growth(self, first: int, last: int) -> float | None:
-        """The time of the last tenth of these requests to that of the first, unless they are too short."""
-        tenth = (last - first) // 10
-        head, tail = self.times[first + tenth] - self.times[first], self.times[last] - self.times[last - tenth]
-        return tail / head if min(head, tail) >= SHORTEST else None
+def run_over(command: Sequence[str], path: str, count: int) -> tuple[float, int]:
+    """The seconds and the peak memory in KiB of a program over an input of so many requests."""
+    seconds, memory, output, _ = run_blocks(command, path)
+    check_answers(command[0], output, count)
+    return seconds, memory
 
 
-def times_at(marks: Sequence[tuple[int, float]], ends: Iterable[int]) -> list[float]:
-    """When each of these bytes, which rise, was written: between two marks by the share of the bytes."""
-    found, index, before = [], 0, (0, 0.0)
-    for byte in ends:
-        while marks[index][0] < byte:
-            before = marks[index]
-            index += 1
-        total, seconds = marks[index]
-        share = (byte - before[0]) / max(1, total - before[0])
-        found.append(before[1] + share * (seconds - before[1]))
-    return found
-
-
-def run_over(command: Sequence[str], path: str, count: int) -> Run:
-    """Runs a program over an input of so many requests."""
-    seconds, memory, output, marks = run_blocks(command, path)
-    answers = check_answers(command[0], output, count)
-    return Run(seconds, memory, [0.0, *times_at(marks, itertools.accumulate(map(len, answers)))])
-
-
-def runs_over(choice: argparse.Namespace, requests: Sequence[bytes]) -> list[list[Run]]:
-    """The runs of the program over these blocks, and those of the program beside it, if one is named: in turn, so many rounds."""
+def tell_one_input(choice: argparse.Namespace, blocks: Sequence[bytes]) -> int:
+    """Runs the program over these blocks as one input, in turn with the one beside it, if there is one. Prints their times and peak memories. Returns our
+    memory in bytes."""
     commands = [[choice.program, "desk", CONFIG]] + ([choice.beside] if choice.beside else [])
-    runs: list[list[Run]] = [[] for _ in commands]
-    with tempfile.NamedTemporaryFile() as blocks:
-        blocks.writelines(requests)
-        blocks.flush()
-        for _ in range(choice.rounds):
-            for command, done in zip(commands, runs):
-                done.append(run_over(command, blocks.name, len(requests)))
-    return runs
-
-
-def median_of(ratios: Iterable[float | None]) -> str:
-    """The median of those ratios that exist, as it is printed."""
-    known = [it for it in ratios if it is not None]
-    return f"{statistics.median(known):.2f}" if known else TOO_SHORT
-
-
-def tell_runs(ours: Sequence[Run], *others: Sequence[Run]) -> None:
-    """Prints the peak memory, and the other program's memory and time compared with ours."""
-    median, memory = statistics.median(it.seconds for it in ours), max(it.memory for it in ours)
-    print(f"peak memory: {memory / 1024:.1f} MiB")
-    for runs in others:
-        beside, most = statistics.median(it.seconds for it in runs), max(it.memory for it in runs)
-        print(f"the other program's peak memory: {most / 1024:.1f} MiB, {most / memory:.2f} of ours")
-        print(f"the other program's median time to ours (above 1: ours is faster): {beside / median:.2f}")
-    print(f"(for orientation only: our median here {median:.2f} s, {(len(ours[0].times) - 1) / median:.0f} requests a second)")
+    with tempfile.NamedTemporaryFile() as file:
+        file.writelines(blocks)
+        file.flush()
+        rounds = [[run_over(command, file.name, len(blocks)) for command in commands] for _ in range(choice.rounds)]
+    found = [(statistics.median(seconds for seconds, _ in runs), max(memory for _, memory in runs)) for runs in zip(*rounds)]
+    ours, ours_memory = found[0]
+    print(f"peak memory: {ours_memory / 1024:.1f} MiB")
+    for seconds, memory in found[1:]:
+        print(f"the other program's peak memory: {memory / 1024:.1f} MiB, {memory / ours_memory:.2f} of ours")
+        print(f"the other program's median time to ours (above 1: ours is faster): {seconds / ours:.2f}")
+    print(f"(for orientation only: our median here {ours:.2f} s, {len(blocks) / ours:.0f} requests a second)")
+    return ours_memory * 1024
