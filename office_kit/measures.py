@@ -187,7 +187,25 @@ def settle(file: str) -> None:
     check(f"{file} has a log", not os.path.exists(file + "-wal"))
 
 
-# ---- One input.
+# ---- Figures.
+
+class Table:
+    """Prints the figures of one case after another, each in brackets also as a multiple of that of the first case."""
+
+    def __init__(self) -> None:
+        self.first: dict[str, float] = {}
+
+    def add(self, case: str, figures: dict[str, float]) -> None:
+        print(f"{case}:")
+        for what, figure in figures.items():
+            first = self.first.setdefault(what, figure)
+            print(f"  {what}: {figure:,.2f}" + (f" ({figure / first:.2f})" if first else ""), flush=True)
+
+
+def medians(runs: Sequence[dict[str, float]]) -> dict[str, float]:
+    """The medians of the figures of some runs."""
+    return {what: statistics.median(run[what] for run in runs) for what in runs[0]}
+
 
 def run_over(command: Sequence[str], path: str, count: int) -> tuple[float, int]:
     """The seconds and the peak memory in KiB of a program over an input of so many requests."""
@@ -197,18 +215,15 @@ def run_over(command: Sequence[str], path: str, count: int) -> tuple[float, int]
 
 
 def tell_one_input(choice: argparse.Namespace, blocks: Sequence[bytes]) -> int:
-    """Runs the program over these blocks as one input, in turn with the one beside it, if there is one. Prints their times and peak memories. Returns our
-    memory in bytes."""
+    """Runs the program over these blocks as one input, in turn with the one beside it, if there is one. Prints the median of their seconds and their peak
+    memory. Returns our memory in bytes."""
     commands = [[choice.program, "desk", CONFIG]] + ([choice.beside] if choice.beside else [])
     with tempfile.NamedTemporaryFile() as file:
         file.writelines(blocks)
         file.flush()
         rounds = [[run_over(command, file.name, len(blocks)) for command in commands] for _ in range(choice.rounds)]
     found = [(statistics.median(seconds for seconds, _ in runs), max(memory for _, memory in runs)) for runs in zip(*rounds)]
-    ours, ours_memory = found[0]
-    print(f"peak memory: {ours_memory / 1024:.1f} MiB")
-    for seconds, memory in found[1:]:
-        print(f"the other program's peak memory: {memory / 1024:.1f} MiB, {memory / ours_memory:.2f} of ours")
-        print(f"the other program's median time to ours (above 1: ours is faster): {seconds / ours:.2f}")
-    print(f"(for orientation only: our median here {ours:.2f} s, {len(blocks) / ours:.0f} requests a second)")
-    return ours_memory * 1024
+    table = Table()
+    for name, (seconds, memory) in zip((f"{len(blocks)} requests as one input", "the other program"), found):
+        table.add(name, {"seconds": seconds, "peak memory, MiB": memory / 1024})
+    return found[0][1] * 1024
