@@ -10,9 +10,9 @@ mutants, fill the free lanes. The model leaves out other work on the machine. It
 docs/GATE.md has both. Exit status: 0 they are printed, 1 the table can't be read or is incomplete, 2 wrong arguments.
 """
 import json
-import os
 import sys
-from dataclasses import dataclass
+from pathlib import Path
+from typing import NamedTuple
 
 sys.dont_write_bytecode = True
 from office_kit.common import ROOT, fail, options_of
@@ -25,18 +25,11 @@ FILLS = ("seed", "edits")
 
 def lines_of(root, crate):
     """How many lines of Rattle a crate has, by which rt puts its tasks in order."""
-    found = 0
-    for at, folders, names in os.walk(os.path.join(root, "crates", crate)):
-        folders[:] = [it for it in folders if it != "out"]
-        for name in names:
-            if name.endswith(".rt"):
-                with open(os.path.join(at, name), "rb") as file:
-                    found += file.read().count(b"\n")
-    return found
+    folder = Path(root, "crates", crate)
+    return sum(path.read_bytes().count(b"\n") for path in folder.rglob("*.rt") if "out" not in path.relative_to(folder).parts)
 
 
-@dataclass
-class Task:
+class Task(NamedTuple):
     """A task: the tasks that it waits for, its processor minutes and its lines."""
 
     waits: list
@@ -62,9 +55,7 @@ def tasks_of(root, table, below):
         tasks.update(edits)
         if row["last"]:
             tasks[crate, "last"] = Task([*edits], row["last"])
-    for it in tasks.values():
-        it.waits = [wait for wait in it.waits if wait in tasks]
-    return tasks
+    return {key: it._replace(waits=[wait for wait in it.waits if wait in tasks]) for key, it in tasks.items()}
 
 
 def in_order(tasks):

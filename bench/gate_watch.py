@@ -53,13 +53,12 @@ def words_of(pid):
 
 @dataclass(eq=False)
 class Work:
-    """A process that works for a crate: the folder of what it proves, its jobs, its start and when it was last seen, in seconds since the machine began, and the
-    processor seconds that it used."""
+    """A process that works for a crate: the folder of what it proves, its start and when it was last seen (seconds since the machine began), and the seconds of
+    processor that it used."""
 
     crate: str
     kind: str
     over: str
-    jobs: int
     start: float
     end: float
     used: float = 0.0
@@ -104,27 +103,22 @@ class Watch(threading.Thread):
             if not task:
                 return None
             crate, kind = task
-            jobs, over = word_after(words, "--jobs"), word_after(words, "--incremental")
+            over = word_after(words, "--incremental")
             if kind == "seed" and any(it.over == over for it in self.seen.values()):
                 kind = "last"
-            self.seen[pid, start] = Work(crate, kind, over, int(jobs) if jobs.isdigit() else 1, start, start)
+            self.seen[pid, start] = Work(crate, kind, over, start, start)
         return self.seen[pid, start]
 
     def table(self):
-        """Minutes by crate and kind: a number of each kind, and the list of the minutes of each mutant. The proof, with its builds, has the wall minutes and
-        the jobs."""
+        """Minutes by crate and kind: a number of each kind, the list of the minutes of each mutant, and the wall minutes of the proof with its builds."""
         crates = {}
         for it in self.seen.values():
-            row = crates.setdefault(it.crate, {**dict.fromkeys(KINDS, 0.0), "edits": [], "jobs": 1, "start": [], "end": []})
+            row = crates.setdefault(it.crate, {**dict.fromkeys(KINDS, 0.0), "edits": []})
             if it.kind == "edits":
                 row["edits"].append(it.used / 60)
             else:
                 row[it.kind] += it.used / 60
-            if it.kind in ("proof", "builds"):
-                row["start"].append(it.start)
-                row["end"].append(it.end)
-            if it.kind == "proof":
-                row["jobs"] = it.jobs
-        for row in crates.values():
-            row["wall"] = (max(row.pop("end"), default=0.0) - min(row.pop("start"), default=0.0)) / 60
+        for crate, row in crates.items():
+            proofs = [it for it in self.seen.values() if it.crate == crate and it.kind in ("proof", "builds")]
+            row["wall"] = (max(it.end for it in proofs) - min(it.start for it in proofs)) / 60 if proofs else 0.0
         return crates

@@ -10,10 +10,12 @@ import time
 from collections.abc import Iterator, Sequence
 from typing import Any
 
-from office_kit.client import Client, Port
+from office_kit.client import Client, Port, Requests
 from office_kit.common import CONFIG, OK, add_program, block, check, fail, free_port, look, options_of, parts_of, run_blocks, running, serve_words
 from office_kit.common import timed_exchange, what_came
 
+# The requests of measures, as bytes.
+OFFICE = Client(Requests())
 # More connections than a measure needs.
 MANY = 1_000_000
 # A program that uses no processor for so many seconds waits for input.
@@ -22,21 +24,17 @@ QUIET = 0.02
 
 # ---- Options.
 
-def options_with(text: str | None, **numbers: tuple[int, str]) -> argparse.ArgumentParser:
-    """A reader of the command line: of the program, and of numbers, each with its default and its meaning."""
+def options_with(text: str | None, **numbers: tuple[int | str, str]) -> argparse.ArgumentParser:
+    """A reader of the command line: of the program, and of numbers, each with its default and its meaning. A text is the default of several numbers."""
     options = options_of(text)
     for name, (default, meaning) in numbers.items():
-        options.add_argument(f"--{name}", type=int, default=default, help=f"{meaning} ({default:,})")
+        options.add_argument(f"--{name}", type=int if isinstance(default, int) else counts_of, default=default, help=f"{meaning} ({default})")
     add_program(options)
     return options
 
 
-def add_counts(options: argparse.ArgumentParser, name: str, default: str, meaning: str) -> None:
-    """An option that takes numbers with commas between them."""
-    options.add_argument(name, type=counts_of, default=default, metavar="NUMBER,..", help=f"{meaning} ({default})")
-
-
 def counts_of(text: str) -> list[int]:
+    """Numbers with commas between them."""
     return [int(word) for word in text.split(",")]
 
 

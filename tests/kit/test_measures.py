@@ -23,11 +23,7 @@ MEASURES = {
     "open": "bench/open --tenders 0,2 --rows 1000 --rounds 1",
     "copies": "bench/copies 2",
 }
-PROVED = {
-    "ledger": "sh bench/ledger/run.sh",
-    "merge": "sh bench/merge/run.sh",
-    "instructions": "sh bench/merge/instructions.sh",
-}
+PROVED = {"ledger": "sh bench/ledger/run.sh", "merge": "sh bench/merge/run.sh", "instructions": "sh bench/merge/instructions.sh"}
 
 
 def run(line, *more):
