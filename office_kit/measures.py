@@ -13,6 +13,7 @@ from typing import Any
 from office_kit.client import Client, Port, Requests
 from office_kit.common import CONFIG, OK, add_program, block, check, fail, free_port, look, options_of, parts_of, run_blocks, running, serve_words
 from office_kit.common import timed_exchange, what_came
+from office_kit.store import pages
 
 # The requests of measures, as bytes.
 OFFICE = Client(Requests())
@@ -167,7 +168,19 @@ def check_answers(program: str, output: bytes, count: int) -> list[bytes]:
     return answers
 
 
-# ---- Rows.
+# ---- Files.
+
+@contextlib.contextmanager
+def new_file(size: int | None = pages.NEW) -> Iterator[str]:
+    """The path of an office's file that doesn't exist yet, in a folder of its own. Its pages will have this size, or any."""
+    with tempfile.TemporaryDirectory(prefix="office-") as folder:
+        file = os.path.join(folder, "office.db")
+        if size:
+            pages.begin(file, size)
+        yield file
+        if size:
+            pages.check_size(file, size)
+
 
 @contextlib.contextmanager
 def rows_of(file: str) -> Iterator[sqlite3.Connection]:
@@ -220,7 +233,7 @@ def tell_one_input(choice: argparse.Namespace, blocks: Sequence[bytes]) -> int:
         file.writelines(blocks)
         file.flush()
         rounds = [[run_over(command, file.name, len(blocks)) for command in commands] for _ in range(choice.rounds)]
-    found = [(statistics.median(seconds for seconds, _ in runs), max(memory for _, memory in runs)) for runs in zip(*rounds)]
+    found: list[tuple[float, int]] = [(statistics.median(seconds for seconds, _ in runs), max(memory for _, memory in runs)) for runs in zip(*rounds)]
     table = Table()
     for name, (seconds, memory) in zip((f"{len(blocks)} requests as one input", "the other program"), found):
         table.add(name, {"seconds": seconds, "peak memory, MiB": memory / 1024})

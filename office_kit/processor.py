@@ -36,7 +36,7 @@ def adopt_orphans() -> None:
 
 def all_processes() -> dict[int, Process]:
     """All processes, by their numbers."""
-    found = {}
+    found: dict[int, Process] = {}
     for number in filter(str.isdigit, os.listdir("/proc")):
         with contextlib.suppress(OSError), open(f"/proc/{number}/stat") as file:
             fields = file.read().rpartition(")")[2].split()
