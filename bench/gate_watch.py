@@ -53,8 +53,8 @@ def words_of(pid):
 
 @dataclass(eq=False)
 class Work:
-    """A process that works for a crate: the folder of what it proves, its start and when it was last seen (seconds since the machine began), and the seconds of
-    processor that it used."""
+    """A process that works for a crate. `over` is the folder of its proofs. `start` and `end`, when it was last seen, are seconds since the machine began, and
+    `used` are seconds of processor."""
 
     crate: str
     kind: str

@@ -1,4 +1,4 @@
-"""What the measures of bench/ share: their options, offices whose processor time is read, rows by SQLite, and runs of `procure desk` over one input."""
+"""The parts that the measures of bench/ share: their options, offices whose processor time is read, rows by SQLite, and runs of `procure desk` over one input."""
 import argparse
 import contextlib
 import os
@@ -159,13 +159,12 @@ def in_memory(program: str) -> Iterator[InMemory]:
         check_answers(program, output.read(), office.asked)
 
 
-def check_answers(program: str, output: bytes, count: int) -> list[bytes]:
-    """The answers in an output, if they are so many and each is accepted."""
+def check_answers(program: str, output: bytes, count: int) -> None:
+    """Checks that an output has so many answers, and that each request was accepted."""
     answers = parts_of(output)
     refused = [it[:300] for it in answers if not it.startswith(OK)]
     if refused or len(answers) != count:
         fail(f"{program} answered {len(answers)} of {count} requests, and refused {len(refused)}: {refused[:1]}")
-    return answers
 
 
 # ---- Files.
