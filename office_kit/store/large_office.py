@@ -63,8 +63,8 @@ def import_lines(client: Client[Answer], many: int, title: str = "Line") -> None
         client.import_budget(f"B{first}", budget(*(f"{name},add,1000000000,{title} {name}" for name in names)))
 
 
-def examine_all(client: Client[Answer], lots: dict[str, int]) -> None:
-    """Notices with so many lots of the first line, each with one tender that is examined. It waits for the deadline."""
+def examine_all(client: Client[Answer], **lots: int) -> None:
+    """Publishes notices with so many lots of the first line, each with one tender, and examines all tenders. It waits for the deadline."""
     deadline = int(time.time()) + AHEAD
     every = [(name, f"L{number}") for name, count in lots.items() for number in range(1, count + 1)]
     for name in lots:
@@ -78,18 +78,17 @@ def examine_all(client: Client[Answer], lots: dict[str, int]) -> None:
         client.examine(receipt)
 
 
-def make_contracts(program: str, file: str, many: int, lines: int = IMPORT, others: dict[str, int] | None = None) -> None:
-    """So many contracts after the first one, on so many lines. Other notices may have lots of the first line, which no award has decided yet."""
-    lots = {"N0": 1, **(others or {})}
+def make_contracts(program: str, file: str, many: int, lines: int = IMPORT, **others: int) -> None:
+    """So many contracts after the first one, on so many lines. Other notices have so many lots of the first line, which no award has decided yet."""
     with in_file(program, file) as office:
         client = office.client
         import_lines(client, lines)
         client.register("T0")
-        examine_all(client, lots)
+        examine_all(client, N0=1, **others)
         client.award("N0")
         client.sign(1)
         for entry in ("P1", "P2"):
             client.pay(1, entry, PAID)
     with rows_of(file) as base:
         for statement in COPIES.split(";\n")[:-1] if many else ():
-            base.execute(statement, {"many": many, "lines": lines, "receipts": sum(lots.values()), "amount": AMOUNT})
+            base.execute(statement, {"many": many, "lines": lines, "receipts": 1 + sum(others.values()), "amount": AMOUNT})
