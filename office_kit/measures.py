@@ -7,7 +7,7 @@ import statistics
 import subprocess
 import tempfile
 import time
-from collections.abc import Iterator, Sequence
+from collections.abc import Callable, Iterable, Iterator, Sequence
 from typing import Any
 
 from office_kit.client import Client, Port, Requests
@@ -237,3 +237,31 @@ def tell_one_input(choice: argparse.Namespace, blocks: Sequence[bytes]) -> int:
     for name, (seconds, memory) in zip((f"{len(blocks)} requests as one input", "the other program"), found):
         table.add(name, {"seconds": seconds, "peak memory, MiB": memory / 1024})
     return found[0][1] * 1024
+
+
+# ---- Phases: each has a kind, a moment, and requests.
+
+Phase = tuple[str, str, Sequence[bytes]]
+
+
+def run_phases(phases: Iterable[Phase], office: Office, set_moment: Callable[[str], None]) -> dict[str, float]:
+    """Sends the requests phase by phase. For each kind: the processor time of a request, and that of the last tenth to that of the first."""
+    found: dict[str, float] = {}
+    for kind, moment, texts in phases:
+        set_moment(moment)
+        before = office.used()
+        growth = office.growth(texts)
+        found |= {f"{kind}, microseconds": (office.used() - before) / len(texts) * 1e6, f"{kind}, last tenth to first": growth}
+    return found
+
+
+def run_in_memory(program: str, phases: Iterable[Phase]) -> dict[str, float]:
+    with in_memory(program) as office:
+        return run_phases(phases, office, office.set_moment)
+
+
+def tell_phases(choice: argparse.Namespace, phases: Sequence[Phase]) -> tuple[dict[str, float], int]:
+    """Runs the phases in memory, so many rounds, and then all of them as one input. Returns the figures and the peak memory in bytes."""
+    figures = medians([run_in_memory(choice.program, phases) for _ in range(choice.rounds)])
+    Table().add("in memory", figures)
+    return figures, tell_one_input(choice, [block(moment.encode(), text) for _, moment, texts in phases for text in texts])
