@@ -1,4 +1,4 @@
-"""The parts that the measures of bench/ share: their options, offices whose processor time is read, rows by SQLite, and runs of `procure desk` over one input."""
+"""The parts that the measures of bench/ share: options, offices whose processor time is read, rows by SQLite, and runs of `procure desk` over one input."""
 import argparse
 import contextlib
 import os
@@ -44,8 +44,6 @@ def counts_of(text: str) -> list[int]:
 class Office:
     """An office that accepts each request, or else the measure fails."""
 
-    name = ""
-
     def __init__(self, process: "subprocess.Popen[bytes]") -> None:
         self.process, self.moment = process, ""
 
@@ -82,8 +80,6 @@ class Office:
 
 class InFile(Office):
     """An office over a file. `seconds` are those from its start to its first answer by the clock, and `opening` those of processor."""
-
-    name = "over a file"
 
     def __init__(self, process: "subprocess.Popen[bytes]", port: int, seconds: float) -> None:
         super().__init__(process)
@@ -122,7 +118,6 @@ def in_file(program: str, file: str, **how: Any) -> Iterator[InFile]:
 class InMemory(Office):
     """An office in memory whose input comes piece by piece: after each piece the program waits for the next."""
 
-    name = "in memory"
     asked = 0
 
     def send(self, texts: Sequence[bytes]) -> None:
