@@ -219,19 +219,24 @@ def run_over(command: Sequence[str], path: str, count: int) -> tuple[float, int]
     return seconds, memory
 
 
-def tell_one_input(choice: argparse.Namespace, blocks: Sequence[bytes]) -> int:
+def tell_one_input(choice: argparse.Namespace, blocks: Sequence[bytes]) -> float:
     """Runs the program over these blocks as one input, in turn with the one beside it, if there is one. Prints the median of their seconds and their peak
-    memory. Returns our memory in bytes."""
-    commands = [[choice.program, "desk", CONFIG]] + ([choice.beside] if choice.beside else [])
+    memory. Returns our memory in MiB."""
+    commands = {f"{len(blocks)} requests as one input": [choice.program, "desk", CONFIG]}
+    if choice.beside:
+        commands["the other program"] = choice.beside
+    runs: dict[str, list[tuple[float, int]]] = {name: [] for name in commands}
     with tempfile.NamedTemporaryFile() as file:
         file.writelines(blocks)
         file.flush()
-        rounds = [[run_over(command, file.name, len(blocks)) for command in commands] for _ in range(choice.rounds)]
-    found: list[tuple[float, int]] = [(statistics.median(seconds for seconds, _ in runs), max(memory for _, memory in runs)) for runs in zip(*rounds)]
+        for _ in range(choice.rounds):
+            for name, command in commands.items():
+                runs[name].append(run_over(command, file.name, len(blocks)))
     table = Table()
-    for name, (seconds, memory) in zip((f"{len(blocks)} requests as one input", "the other program"), found):
-        table.add(name, {"seconds": seconds, "peak memory, MiB": memory / 1024})
-    return found[0][1] * 1024
+    for name, found in runs.items():
+        seconds, memory = zip(*found)
+        table.add(name, {"seconds": statistics.median(seconds), "peak memory, MiB": max(memory) / 1024})
+    return table.first["peak memory, MiB"]
 
 
 # ---- Phases: each has a kind, a moment, and requests.
@@ -250,13 +255,12 @@ def run_phases(phases: Iterable[Phase], office: Office, set_moment: Callable[[st
     return found
 
 
-def run_in_memory(program: str, phases: Iterable[Phase]) -> dict[str, float]:
-    with in_memory(program) as office:
-        return run_phases(phases, office, office.set_moment)
-
-
-def tell_phases(choice: argparse.Namespace, phases: Sequence[Phase]) -> tuple[dict[str, float], int]:
-    """Runs the phases in memory, so many rounds, and then all of them as one input. Returns the figures and the peak memory in bytes."""
-    figures = medians([run_in_memory(choice.program, phases) for _ in range(choice.rounds)])
+def tell_phases(choice: argparse.Namespace, phases: Sequence[Phase]) -> tuple[dict[str, float], float]:
+    """Runs the phases in memory, so many rounds, and then all of them as one input. Returns the figures and the peak memory in MiB."""
+    runs = []
+    for _ in range(choice.rounds):
+        with in_memory(choice.program) as office:
+            runs.append(run_phases(phases, office, office.set_moment))
+    figures = medians(runs)
     Table().add("in memory", figures)
     return figures, tell_one_input(choice, [block(moment.encode(), text) for _, moment, texts in phases for text in texts])
