@@ -1,14 +1,12 @@
 """Makes the table of a run of the gate: its figures by crate, the budgets beside them, and docs/GATE.md. Used by bench/gate.
 
-A row is the report of gate_watch for a crate, with the minutes of each mutant. Or it is a row of sums written down by hand from a printed table. Then `edits`
-is their sum, `tries` their number, `around` the checks around them, and `all` the printed sum.
+A row is the report of gate_watch for a crate.
 """
 import os
 import re
 import statistics
 
 HEADS = ("wall", "proof", "builds", "tests", "wrong bodies", "tries", "around these", "runs", "all")
-IN_TURN = "This rt tries a crate's wrong bodies one after another: the first takes the whole check with it that they begin with elsewhere."
 AIMS = {4: 75, 2: 135}
 INTRO = """# The gate, measured
 
@@ -26,24 +24,8 @@ the number of wrong bodies, `around these` the check that they begin with and th
 
 def cells_of(row):
     """The figures of a crate's line: the wall minutes, the number of mutants tried, and the processor minutes by kind and in total."""
-    if isinstance(row["edits"], list):
-        edits, tries, around = sum(row["edits"], 0.0), len(row["edits"]), row["seed"] + row["last"]
-    else:
-        edits, tries, around = row["edits"], row["tries"], row["around"]
-    used = [row["proof"], row["builds"], row["tests"], edits, around, row["runs"]]
-    return [row["wall"], *used[:4], tries, *used[4:], row.get("all", sum(used))]
-
-
-def is_raw(table):
-    """Whether a table has the minutes of each mutant, which the model of rt's schedule needs."""
-    return all(isinstance(row["edits"], list) for row in table["crates"].values())
-
-
-def lines_of(names, crates):
-    """The cells of the table's lines, and of the line of all."""
-    lines = {f"`{name}`": cells_of(crates[name]) for name in names}
-    lines["all"] = ["", *map(sum, list(zip(*lines.values()))[1:])]
-    return lines
+    used = [row["proof"], row["builds"], row["tests"], sum(row["edits"], 0.0), row["seed"] + row["last"], row["runs"]]
+    return [row["wall"], *used[:4], len(row["edits"]), *used[4:], sum(used)]
 
 
 def texts_of(cells):
@@ -62,49 +44,48 @@ def above_budget(crates, allowed):
 
     A budget is a tenth more than its crate took when it was set, so the time taken then is a tenth less; the median is that of single crates.
     """
-    named = sorted({*allowed} & {*crates})
-    used = {name: cells_of(crates[name])[-1] for name in named}
-    slower = max(1.0, statistics.median([1.1 * used[name] / allowed[name] for name in named] or [1.0]))
-    return slower, {name: used[name] for name in named if used[name] > 1.1 * slower * allowed[name]}
+    used = {name: cells_of(crates[name])[-1] for name in sorted({*allowed} & {*crates})}
+    slower = max(1.0, statistics.median([1.1 * minutes / allowed[name] for name, minutes in used.items()] or [1.0]))
+    return slower, {name: minutes for name, minutes in used.items() if minutes > 1.1 * slower * allowed[name]}
 
 
 def lines_of_bodies(table):
-    """The results of the mutants in a line, and a line for each that wasn't simply rejected; nothing if the run didn't report them."""
-    if "came" in table:
-        kinds = [kind for _, _, kind in table["came"]]
-        counts = ", ".join(f"{kinds.count(kind)} {kind}" for kind in sorted({*kinds}, key=lambda it: (it != "refused", it)))
-        yield f"{len(kinds)} wrong bodies: {counts or 'none was tried'}"
-        yield from (f"crates/{crate}/must-fail/{name}: {kind}" for crate, name, kind in table["came"] if kind != "refused")
+    """The results of the mutants in a line, and a line for each that wasn't simply rejected."""
+    kinds = [kind for _, _, kind in table["came"]]
+    counts = ", ".join(f"{kinds.count(kind)} {kind}" for kind in sorted({*kinds}, key=lambda it: (it != "refused", it)))
+    yield f"{len(kinds)} wrong bodies: {counts or 'none was tried'}"
+    yield from (f"crates/{crate}/must-fail/{name}: {kind}" for crate, name, kind in table["came"] if kind != "refused")
 
 
 def totals_of(table):
     """The lines of the table of totals."""
-    minutes, chain = table["chain"]
-    yield "wall minutes", f"{table['wall']:.1f} on {table['lanes']} processors", f"at most {AIMS[table['lanes']]}" if table["lanes"] in AIMS else ""
-    yield "processor minutes", f"{table['processor']:.1f}" + (f", and {table['stolen']:.1f} that the host took" if "stolen" in table else ""), ""
-    yield "the longest chain of crates, in wall minutes of their proofs", f"{minutes:.1f}", ""
+    def aim(lanes):
+        return f"at most {AIMS[int(lanes)]}" if int(lanes) in AIMS else ""
+    yield "wall minutes", f"{table['wall']:.1f} on {table['lanes']} processors", aim(table["lanes"])
+    yield "processor minutes", f"{table['processor']:.1f}, and {table['stolen']:.1f} that the host took", ""
+    yield "the longest chain of crates, in wall minutes of their proofs", f"{table['chain'][0]:.1f}", ""
     for lanes, by_model in sorted(table["model"].items(), reverse=True):
-        yield f"wall minutes by the model, on {lanes} processors", f"{by_model:.0f}", f"at most {AIMS[int(lanes)]}" if int(lanes) in AIMS else ""
-    yield "wrong bodies", str(sum(cells_of(row)[5] for row in table["crates"].values())), ""
+        yield f"wall minutes by the model, on {lanes} processors", f"{by_model:.0f}", aim(lanes)
+    yield "wrong bodies", str(sum(len(row["edits"]) for row in table["crates"].values())), ""
 
 
-def run_of(table):
-    """The code that a run was of."""
-    return table.get("run") or (f"commit {table['commit']}" if "commit" in table else "a checkout whose run was watched")
+def lines_of_crates(crates, names, allowed):
+    """The lines of the table by crate, and that of all."""
+    cells = {f"`{name}`": cells_of(crates[name]) for name in names}
+    cells["all"] = ["", *map(sum, list(zip(*cells.values()))[1:])]
+    most = {"all": sum(allowed.values()), **{f"`{name}`": minutes for name, minutes in allowed.items()}}
+    for name, them in cells.items():
+        yield f"| {name} | {' | '.join(texts_of(them))} | {f'{most[name]:.1f}' if name in most else 'none'} |"
 
 
-def page_of(table, names, allowed):
-    """The text of docs/GATE.md."""
+def page_of(table, order, allowed):
+    """The text of docs/GATE.md, with the crates in this order."""
     crates = table["crates"]
-    names = [name for name in names if name in crates] + sorted({*crates} - {*names})
-    out = [INTRO, f"The run: {run_of(table)}. The machine: {table['machine']}.", "", "| Measured | | Aim |", "|---|---|---|"]
+    names = [name for name in order if name in crates] + sorted({*crates} - {*order})
+    out = [INTRO, f"The run: commit {table['commit']}. The machine: {table['machine']}.", "", "| Measured | | Aim |", "|---|---|---|"]
     out += [f"| {' | '.join(line)} |" for line in totals_of(table)]
     out += ["", f"The chain: {' > '.join(f'`{name}`' for name in table['chain'][1])}.", *(f"\n{it}." for it in lines_of_bodies(table)), LEGEND]
-    out += [f"{IN_TURN}\n"] if table.get("in_turn") else []
-    out += [f"| Crate | {' | '.join(HEADS)} | budget |", f"|{'---|' * (len(HEADS) + 2)}"]
-    for name, cells in lines_of(names, crates).items():
-        most = allowed.get(name.strip("`"), sum(allowed.values()) if name == "all" else None)
-        out.append(f"| {name} | {' | '.join(texts_of(cells))} | {'none' if most is None else f'{most:.1f}'} |")
+    out += [f"| Crate | {' | '.join(HEADS)} | budget |", f"|{'---|' * (len(HEADS) + 2)}", *lines_of_crates(crates, names, allowed)]
     slower, above = above_budget(crates, allowed)
     told = ", ".join(f"`{name}` ({used:.1f})" for name, used in above.items()) or "none"
     held = f" In the median crates took {slower:.2f} of what they took where budgets were set, and each is held to its own times that." if slower > 1 else ""

@@ -7,15 +7,18 @@ import os
 import re
 import threading
 import time
+from collections import Counter, defaultdict
+from dataclasses import dataclass
 
-TICKS = os.sysconf("SC_CLK_TCK")
+from office_kit.processor import all_processes
+
 EVERY = 0.5
 # The kinds of work of rt's processes, in this order. A crate's proof. The proof and the build of its tests. The check that its mutants begin with (the seed).
 # Each mutant. The last check over the seed. The builds of a proved program. The runs of programs and tests.
 KINDS = ("proof", "tests", "seed", "edits", "last", "builds", "runs")
 
 
-def word_behind(words, name):
+def word_after(words, name):
     return words[words.index(name) + 1] if name in words[:-1] else ""
 
 
@@ -26,30 +29,20 @@ def task_of(words, folder):
         return ran[1].removesuffix("_tests"), "runs"
     tool = os.path.basename(words[0]) if words else ""
     if tool == "rattle-link":
-        made = os.path.basename(word_behind(words, "-o")).removesuffix(".by-rattle")
+        made = os.path.basename(word_after(words, "-o")).removesuffix(".by-rattle")
         return made.removesuffix("_tests"), "tests" if made.endswith("_tests") else "builds"
     if tool != "rattle" or words[1:2] not in (["check"], ["build"]):
         return None
-    crate = word_behind(words, "--crate-name")
+    crate = word_after(words, "--crate-name")
     if "/rt-edit-" in folder:
-        return crate, "seed" if word_behind(words, "--incremental").endswith("/seed") else "edits"
+        return crate, "seed" if word_after(words, "--incremental").endswith("/seed") else "edits"
     if "--test" in words:
         return crate, "tests"
     return crate, "builds" if "--crate-checked" in words else "proof"
 
 
-def stat_of(pid):
-    """A process's parent, its start in ticks, its own ticks and those of its children that ended, or None if it is gone."""
-    try:
-        with open(f"/proc/{pid}/stat") as file:
-            told = file.read().rpartition(")")[2].split()
-    except OSError:
-        return None
-    own, ended = int(told[11]) + int(told[12]), int(told[13]) + int(told[14])
-    return int(told[1]), int(told[19]), own, ended
-
-
 def words_of(pid):
+    """The command line and the folder of a process."""
     try:
         with open(f"/proc/{pid}/cmdline", "rb") as file:
             words = file.read().decode(errors="replace").split("\0")
@@ -58,100 +51,74 @@ def words_of(pid):
         return [], ""
 
 
-class Process:
-    """A process that works for a crate: when it began and was last seen, in seconds since the machine began, and the processor seconds it used."""
+@dataclass(eq=False)
+class Work:
+    """A process that works for a crate. `over` is the folder of its proofs. `start` and `end`, when it was last seen, are seconds since the machine began, and
+    `used` are seconds of processor."""
 
-    def __init__(self, crate, kind, start, jobs):
-        self.crate, self.kind, self.start, self.end, self.jobs, self.used = crate, kind, start, start, jobs, 0.0
+    crate: str
+    kind: str
+    over: str
+    start: float
+    end: float
+    used: float = 0.0
 
 
 class Watch(threading.Thread):
-    """Looks at the process of that number and all below it until it ends or stop() is called."""
+    """Reads the processes below that of a number until it ends or stop() is called."""
 
     def __init__(self, pid):
         super().__init__(daemon=True)
-        self.pid, self.stopped, self.seen, self.total = pid, threading.Event(), {}, 0.0
-        self.begun = self.ended = stat_of(pid)[1] / TICKS
+        self.pid, self.stopped, self.seen = pid, threading.Event(), {}
 
     def run(self):
-        while not self.stopped.is_set() and self.look():
+        while not self.stopped.is_set() and self.read():
             self.stopped.wait(EVERY)
 
     def stop(self):
         self.stopped.set()
         self.join()
 
-    def look(self):
-        """One reading; whether the watched process still runs."""
-        stats = {int(name): stat_of(name) for name in os.listdir("/proc") if name.isdigit()}
-        stats = {pid: it for pid, it in stats.items() if it}
-        if self.pid not in stats:
-            return False
-        children = {}
-        for pid, stat in stats.items():
-            children.setdefault(stat[0], []).append(pid)
-        self.ended, used = time.clock_gettime(time.CLOCK_BOOTTIME), {}
-        self.walk(self.pid, None, stats, children, used)
-        for it, seconds in used.items():
-            it.used, it.end = max(it.used, seconds), self.ended
-        self.total = max(self.total, self.sum_below(self.pid, stats, children))
-        return True
+    def read(self):
+        """One reading; whether the watched process still runs. A process counts for the nearest one at or above it that works for a crate."""
+        every, now, used, below = all_processes(), time.clock_gettime(time.CLOCK_BOOTTIME), Counter(), defaultdict(list)
+        for pid, process in every.items():
+            below[process.parent].append(pid)
+        left = [(pid, None) for pid in below[self.pid]]
+        while left:
+            pid, above = left.pop()
+            work = above or self.work_of(pid, every[pid].start)
+            if work:
+                used[work] += every[pid].used
+            left += [(it, work) for it in below[pid]]
+        for work, seconds in used.items():
+            work.used, work.end = max(work.used, seconds), now
+        return self.pid in every
 
-    def walk(self, pid, owner, stats, children, used):
-        """Adds what each process used to the one that it works for: itself, or the nearest one above."""
-        for child in children.get(pid, ()):
-            it = owner or self.process_of(child, stats[child])
-            if it:
-                used[it] = used.get(it, 0.0) + (stats[child][2] + stats[child][3]) / TICKS
-            self.walk(child, it, stats, children, used)
-
-    def sum_below(self, pid, stats, children):
-        return (stats[pid][2] + stats[pid][3]) / TICKS + sum(self.sum_below(it, stats, children) for it in children.get(pid, ()))
-
-    def process_of(self, pid, stat):
-        """The entry of a process. A new process gets one once its command line shows its work."""
-        key = pid, stat[1]
-        if key not in self.seen:
+    def work_of(self, pid, start):
+        """The work of a process, once its command line shows it."""
+        if (pid, start) not in self.seen:
             words, folder = words_of(pid)
             task = task_of(words, folder)
             if not task:
                 return None
-            jobs = word_behind(words, "--jobs")
-            over = word_behind(words, "--incremental")
-            kind = "last" if task[1] == "seed" and any(it.over == over for it in self.seen.values()) else task[1]
-            self.seen[key] = Process(task[0], kind, stat[1] / TICKS, int(jobs) if jobs.isdigit() else 1)
-            self.seen[key].over = over
-        return self.seen[key]
-
-    def in_turn(self):
-        """By crate, the tries of an rt that has no seed: it tries a crate's mutants one after another in one folder, and then the crate itself."""
-        found, seeded = {}, {it.crate for it in self.seen.values() if it.kind == "seed"}
-        for it in self.seen.values():
-            if it.kind in ("edits", "last") and "/rt-edits-" in it.over and it.crate not in seeded:
-                found.setdefault(it.crate, []).append(it)
-        return found
-
-    def name_last(self):
-        """Gives the check of the crate itself, after its mutants, its own kind: it is the last try in their folder."""
-        for tries in self.in_turn().values():
-            max(tries, key=lambda it: it.start).kind = "last"
+            crate, kind = task
+            over = word_after(words, "--incremental")
+            if kind == "seed" and any(it.over == over for it in self.seen.values()):
+                kind = "last"
+            self.seen[pid, start] = Work(crate, kind, over, start, start)
+        return self.seen[pid, start]
 
     def table(self):
-        """Minutes by crate and kind: a number of each kind, and the list of the minutes of each mutant. The proof, with its builds, has the wall minutes and
-        the jobs."""
+        """Minutes by crate and kind: a number of each kind, the list of the minutes of each mutant, and the wall minutes of the proof with its builds."""
         crates = {}
-        self.name_last()
         for it in self.seen.values():
-            row = crates.setdefault(it.crate, {**dict.fromkeys(KINDS, 0.0), "edits": [], "jobs": 1})
+            row = crates.setdefault(it.crate, {**dict.fromkeys(KINDS, 0.0), "edits": []})
             if it.kind == "edits":
                 row["edits"].append(it.used / 60)
             else:
                 row[it.kind] += it.used / 60
-            if it.kind in ("proof", "builds"):
-                row["start"] = min(row.get("start", it.start), it.start)
-                row["end"] = max(row.get("end", it.end), it.end)
-            if it.kind == "proof":
-                row["jobs"] = it.jobs
-        for row in crates.values():
-            row["wall"] = (row.pop("end", 0.0) - row.pop("start", 0.0)) / 60
+        for crate, row in crates.items():
+            proofs = [it for it in self.seen.values() if it.crate == crate and it.kind in ("proof", "builds")]
+            row["wall"] = (max(it.end for it in proofs) - min(it.start for it in proofs)) / 60 if proofs else 0.0
         return crates

@@ -1,15 +1,24 @@
-"""What processes use of the processor, and how slow this machine is: for the budgets of tests."""
+"""What processes use of the processor, and how slow this machine is: for the budgets of tests and of the gate."""
 import contextlib
 import ctypes
 import os
 import signal
 import time
+from typing import NamedTuple
 
 TICK = os.sysconf("SC_CLK_TCK")
 # Seconds of processor for a million rounds of a loop, where the budgets were measured.
 LOOP = 0.025
 # Of prctl(2): an orphan of a process below this one gets this one as its parent.
 ADOPTS = 36
+
+
+class Process(NamedTuple):
+    """The parent of a process; its start, in seconds after that of the machine; and the seconds that it used, with those of children that it waited for."""
+
+    parent: int
+    start: float
+    used: float
 
 
 def slowness() -> float:
@@ -25,22 +34,28 @@ def adopt_orphans() -> None:
     ctypes.CDLL(None).prctl(ADOPTS, 1)
 
 
-def family_of(first: int) -> dict[int, int]:
-    """A process and those below it, each with the ticks that it used, and the ticks of children that it waited for."""
-    parents, ticks, found = {}, {}, {first}
+def all_processes() -> dict[int, Process]:
+    """All processes, by their numbers."""
+    found: dict[int, Process] = {}
     for number in filter(str.isdigit, os.listdir("/proc")):
-        with contextlib.suppress(OSError):
-            with open(f"/proc/{number}/stat") as file:
-                fields = file.read().rpartition(")")[2].split()
-            parents[int(number)], ticks[int(number)] = int(fields[1]), sum(map(int, fields[11:15]))
-    while more := {it for it, parent in parents.items() if parent in found} - found:
+        with contextlib.suppress(OSError), open(f"/proc/{number}/stat") as file:
+            fields = file.read().rpartition(")")[2].split()
+            found[int(number)] = Process(int(fields[1]), int(fields[19]) / TICK, sum(map(int, fields[11:15])) / TICK)
+    return found
+
+
+def family_of(first: int) -> dict[int, Process]:
+    """A process and those below it."""
+    every = all_processes()
+    found = {first} & every.keys()
+    while more := {it for it, process in every.items() if process.parent in found} - found:
         found |= more
-    return {it: ticks.get(it, 0) for it in found}
+    return {it: every[it] for it in found}
 
 
 def used_by(first: int) -> float:
     """The seconds of processor that a process and those below it have used so far."""
-    return sum(family_of(first).values()) / TICK
+    return sum(it.used for it in family_of(first).values())
 
 
 def end_below(first: int) -> None:

@@ -2,10 +2,7 @@
 
 Each measure of the program also runs over a program that answers nothing: it must not end with 0 then. bench/gate is left out, since it runs the gate itself.
 """
-import json
-import os
 import subprocess
-from pathlib import Path
 
 import pytest
 
@@ -18,19 +15,15 @@ MEASURES = {
     "year_in_files": "bench/year --notices 1 --size 200 --rounds 1 --page-sizes 4096,1024",
     "long_notice": "bench/long_notice --releases 60",
     "serve": "bench/serve --count 10 --lines 10 --rounds 1 --page-sizes 4096,1024",
-    "record": "bench/record --counts 2,4 --rounds 2 --page-sizes 4096,1024",
+    "record": "bench/record --counts 2,4 --merges 4,8 --rounds 2 --page-sizes 4096,1024",
     "frames": "bench/frames --lines 100 --tenderers 4 --notices 2 --tenders 2 --rounds 2 --pages --page-sizes 4096,1024",
     "present": "bench/present --many 4 --few 2 --rounds 3 --times 1 --page-sizes 4096,1024",
-    "looks": "bench/looks --few 110 --many 220 --count 3 --rounds 1 --notices 1 --lots 2 --tenders 2",
-    "sums": "bench/sums --contracts 4 --lines 2 --bare 1000 --count 2 --rounds 1 --payments 2",
-    "open": "bench/open --tenders 0,2 --rounds 1",
+    "looks": "bench/looks --few 110 --many 220 --count 3 --rounds 1 --notices 1 --lots 2 --tenders 2 --lines 1000",
+    "sums": "bench/sums --contracts 4,8 --lines 2 --bare 1000 --count 2 --rounds 1 --payments 2",
+    "open": "bench/open --tenders 0,2 --rows 1000 --rounds 1",
     "copies": "bench/copies 2",
 }
-PROVED = {
-    "ledger": "sh bench/ledger/run.sh",
-    "merge": "sh bench/merge/run.sh",
-    "instructions": "sh bench/merge/instructions.sh",
-}
+PROVED = {"ledger": "sh bench/ledger/run.sh", "merge": "sh bench/merge/run.sh", "instructions": "sh bench/merge/instructions.sh"}
 
 
 def run(line, *more):
@@ -43,7 +36,7 @@ def run(line, *more):
 
 @pytest.mark.parametrize("line", MEASURES.values(), ids=MEASURES)
 def test_measure(request, line):
-    """(bench/year puts a library before the C library to count what reaches the disk.)"""
+    """(bench/year puts a library before the C library to set the program's clock.)"""
     program = request.getfixturevalue("plain_program" if line.startswith("bench/year") and "--page-sizes" in line else "program")
     status, said = run(line, "--program", program)
     assert status == 0, said
@@ -63,10 +56,5 @@ def test_measure_with_a_program_of_its_own(line):
 
 
 def test_model_of_the_gate():
-    """(It needs the last gate's table, with the minutes of each mutant.)"""
-    table = os.path.join("bench", "gate.json")
-    rows = json.loads(Path(ROOT, table).read_text(encoding="utf-8"))["crates"].values()
-    if not all(isinstance(row["edits"], list) for row in rows):
-        pytest.skip(f"{table} doesn't have the minutes of each mutant")
-    status, said = run(f"bench/gate_model.py {table}")
+    status, said = run("bench/gate_model.py bench/gate.json")
     assert status == 0, said

@@ -1,0 +1,266 @@
+"""The parts that the measures of bench/ share: options, offices whose processor time is read, rows by SQLite, and runs of `procure desk` over one input."""
+import argparse
+import contextlib
+import os
+import sqlite3
+import statistics
+import subprocess
+import tempfile
+import time
+from collections.abc import Callable, Iterable, Iterator, Sequence
+from typing import Any
+
+from office_kit.client import Client, Port, Requests
+from office_kit.common import CONFIG, OK, add_program, block, check, fail, free_port, look, options_of, parts_of, run_blocks, running, serve_words
+from office_kit.common import timed_exchange, what_came
+from office_kit.store import pages
+
+# The requests of measures, as bytes.
+OFFICE = Client(Requests())
+# More connections than a measure needs.
+MANY = 1_000_000
+# A program that uses no processor for so many seconds waits for input.
+QUIET = 0.02
+
+
+# ---- Options.
+
+def options_with(text: str | None, **numbers: tuple[int | str, str]) -> argparse.ArgumentParser:
+    """A reader of the command line: of the program, and of numbers, each with its default and its meaning. A text is the default of several numbers."""
+    options = options_of(text)
+    for name, (default, meaning) in numbers.items():
+        options.add_argument(f"--{name}", type=int if isinstance(default, int) else counts_of, default=default, help=f"{meaning} ({default})")
+    add_program(options)
+    return options
+
+
+def counts_of(text: str) -> list[int]:
+    """Numbers with commas between them."""
+    return [int(word) for word in text.split(",")]
+
+
+# ---- Offices.
+
+class Office:
+    """An office that accepts each request, or else the measure fails."""
+
+    def __init__(self, process: "subprocess.Popen[bytes]") -> None:
+        self.process, self.moment = process, ""
+
+    def set_moment(self, moment: str) -> None:
+        """The moment of the next requests, if the office is in memory."""
+        self.moment = moment
+
+    def send(self, texts: Sequence[bytes]) -> None:
+        """Sends requests, and returns once all are answered."""
+        raise NotImplementedError
+
+    def used(self) -> float:
+        """The seconds of processor that the program took so far, with the kernel's for it."""
+        with open(f"/proc/{self.process.pid}/schedstat") as stat:
+            return int(stat.read().split()[0]) / 1e9
+
+    def took(self, texts: Sequence[bytes]) -> float:
+        """The seconds of processor for each of these requests."""
+        before = self.used()
+        self.send(texts)
+        return (self.used() - before) / len(texts)
+
+    def median(self, rounds: int, texts: Sequence[bytes]) -> float:
+        """The same, in the median of some rounds."""
+        return statistics.median(self.took(texts) for _ in range(rounds))
+
+    def growth(self, texts: Sequence[bytes]) -> float:
+        """Sends requests. The time of one of their last tenth, compared with one of the first."""
+        tenth = max(1, len(texts) // 10)
+        parts = texts[:tenth], texts[tenth:-tenth], texts[max(tenth, len(texts) - tenth):]
+        times = [self.took(part) for part in parts if part]
+        return times[-1] / times[0]
+
+
+class InFile(Office):
+    """An office over a file. `seconds` are those from its start to its first answer by the clock, and `opening` those of processor."""
+
+    def __init__(self, process: "subprocess.Popen[bytes]", port: int, seconds: float) -> None:
+        super().__init__(process)
+        self.port, self.client, self.seconds, self.opening = port, Client(Port(port)), seconds, self.used()
+
+    def send(self, texts: Sequence[bytes]) -> None:
+        for text in texts:
+            timed_exchange(self.port, text)
+
+
+@contextlib.contextmanager
+def answering(words: Sequence[str], port: int, **how: Any) -> "Iterator[subprocess.Popen[bytes]]":
+    """A server that has answered a first query. `how` is for `subprocess.Popen`."""
+    with running(words, **how) as process:
+        while not what_came(port, look(b"/lines/none")):
+            check_runs(process)
+            time.sleep(0.01)
+        yield process
+
+
+def check_runs(process: "subprocess.Popen[bytes]") -> None:
+    if process.poll() is not None:
+        fail(f"the program ended with status {process.returncode}")
+
+
+@contextlib.contextmanager
+def in_file(program: str, file: str, **how: Any) -> Iterator[InFile]:
+    """An office over a file, which holds everything in the end, without a log."""
+    port, begun = free_port(), time.perf_counter()
+    with answering(serve_words(program, file, port, MANY), port, **how) as process:
+        yield InFile(process, port, time.perf_counter() - begun)
+        check_runs(process)
+    settle(file)
+
+
+class InMemory(Office):
+    """An office in memory whose input comes piece by piece: after each piece the program waits for the next."""
+
+    asked = 0
+
+    def send(self, texts: Sequence[bytes]) -> None:
+        assert self.process.stdin
+        self.asked += len(texts)
+        try:
+            self.process.stdin.writelines(block(self.moment.encode(), text) for text in texts)
+            self.process.stdin.flush()
+        except BrokenPipeError:
+            fail("the program ended before its input did")
+        while not self.waits():
+            pass
+
+    def waits(self) -> bool:
+        """Whether the program waits for something, and hasn't run for a moment."""
+        before = self.used()
+        time.sleep(QUIET)
+        with open(f"/proc/{self.process.pid}/stat") as stat:
+            state = stat.read().rpartition(")")[2].split()[0]
+        return state != "R" and self.used() == before
+
+
+@contextlib.contextmanager
+def in_memory(program: str) -> Iterator[InMemory]:
+    """An office in memory. In the end all its answers are checked."""
+    with tempfile.TemporaryFile() as output:
+        with running([program, "desk", CONFIG], stdin=subprocess.PIPE, stdout=output) as process:
+            office = InMemory(process)
+            yield office
+            process.communicate()
+        if process.returncode:
+            fail(f"the program ended with status {process.returncode}")
+        output.seek(0)
+        check_answers(program, output.read(), office.asked)
+
+
+def check_answers(program: str, output: bytes, count: int) -> None:
+    """Checks that an output has so many answers, and that each request was accepted."""
+    answers = parts_of(output)
+    refused = [it[:300] for it in answers if not it.startswith(OK)]
+    if refused or len(answers) != count:
+        fail(f"{program} answered {len(answers)} of {count} requests, and refused {len(refused)}: {refused[:1]}")
+
+
+# ---- Files.
+
+@contextlib.contextmanager
+def new_file(size: int | None = pages.NEW) -> Iterator[str]:
+    """The path of an office's file that doesn't exist yet, in a folder of its own. Its pages will have this size, or any."""
+    with tempfile.TemporaryDirectory(prefix="office-") as folder:
+        file = os.path.join(folder, "office.db")
+        if size:
+            pages.begin(file, size)
+        yield file
+        if size:
+            pages.check_size(file, size)
+
+
+@contextlib.contextmanager
+def rows_of(file: str) -> Iterator[sqlite3.Connection]:
+    """A transaction over a file that nobody serves. Afterwards it has no log."""
+    with contextlib.closing(sqlite3.connect(file)) as base, base:
+        yield base
+    settle(file)
+
+
+def settle(file: str) -> None:
+    """Moves the log into the file, so that the file alone is the office."""
+    with contextlib.closing(sqlite3.connect(file)) as base:
+        if base.execute("PRAGMA wal_checkpoint(TRUNCATE)").fetchone()[0]:
+            fail(f"{file}: its log can't be moved")
+    check(f"{file} has a log", not os.path.exists(file + "-wal"))
+
+
+# ---- Figures.
+
+class Table:
+    """Prints the figures of one case after another, each in brackets also as a multiple of that of the first case."""
+
+    def __init__(self) -> None:
+        self.first: dict[str, float] = {}
+
+    def add(self, case: str, figures: dict[str, float]) -> None:
+        print(f"{case}:")
+        for what, figure in figures.items():
+            first = self.first.setdefault(what, figure)
+            print(f"  {what}: {figure:,.2f}" + (f" ({figure / first:.2f})" if first else ""), flush=True)
+
+
+def medians(runs: Sequence[dict[str, float]]) -> dict[str, float]:
+    """The medians of the figures of some runs."""
+    return {what: statistics.median(run[what] for run in runs) for what in runs[0]}
+
+
+def run_over(command: Sequence[str], path: str, count: int) -> tuple[float, int]:
+    """The seconds and the peak memory in KiB of a program over an input of so many requests."""
+    seconds, memory, output, _ = run_blocks(command, path)
+    check_answers(command[0], output, count)
+    return seconds, memory
+
+
+def tell_one_input(choice: argparse.Namespace, blocks: Sequence[bytes]) -> float:
+    """Runs the program over these blocks as one input, in turn with the one beside it, if there is one. Prints the median of their seconds and their peak
+    memory. Returns our memory in MiB."""
+    commands = {f"{len(blocks)} requests as one input": [choice.program, "desk", CONFIG]}
+    if choice.beside:
+        commands["the other program"] = choice.beside
+    runs: dict[str, list[tuple[float, int]]] = {name: [] for name in commands}
+    with tempfile.NamedTemporaryFile() as file:
+        file.writelines(blocks)
+        file.flush()
+        for _ in range(choice.rounds):
+            for name, command in commands.items():
+                runs[name].append(run_over(command, file.name, len(blocks)))
+    table = Table()
+    for name, found in runs.items():
+        seconds, memory = zip(*found)
+        table.add(name, {"seconds": statistics.median(seconds), "peak memory, MiB": max(memory) / 1024})
+    return table.first["peak memory, MiB"]
+
+
+# ---- Phases: each has a kind, a moment, and requests.
+
+Phase = tuple[str, str, Sequence[bytes]]
+
+
+def run_phases(phases: Iterable[Phase], office: Office, set_moment: Callable[[str], None]) -> dict[str, float]:
+    """Sends the requests phase by phase. For each kind: the processor time of a request, and that of the last tenth to that of the first."""
+    found: dict[str, float] = {}
+    for kind, moment, texts in phases:
+        set_moment(moment)
+        before = office.used()
+        growth = office.growth(texts)
+        found |= {f"{kind}, microseconds": (office.used() - before) / len(texts) * 1e6, f"{kind}, last tenth to first": growth}
+    return found
+
+
+def tell_phases(choice: argparse.Namespace, phases: Sequence[Phase]) -> tuple[dict[str, float], float]:
+    """Runs the phases in memory, so many rounds, and then all of them as one input. Returns the figures and the peak memory in MiB."""
+    runs = []
+    for _ in range(choice.rounds):
+        with in_memory(choice.program) as office:
+            runs.append(run_phases(phases, office, office.set_moment))
+    figures = medians(runs)
+    Table().add("in memory", figures)
+    return figures, tell_one_input(choice, [block(moment.encode(), text) for _, moment, texts in phases for text in texts])
