@@ -57,10 +57,12 @@ def lines_of_bodies(table):
     yield from (f"crates/{crate}/must-fail/{name}: {kind}" for crate, name, kind in table["came"] if kind != "refused")
 
 
-def totals_of(table):
-    """The lines of the table of totals."""
+def totals_of(table, slower):
+    """The lines of the table of totals, from a machine that is this many times slower than the one for which aims were set."""
     def aim(lanes):
-        return f"at most {AIMS[int(lanes)]}" if int(lanes) in AIMS else ""
+        most = AIMS.get(int(lanes))
+        here = f" where budgets were set, {most * slower:.0f} here" if most and slower > 1 else ""
+        return f"at most {most}{here}" if most else ""
     yield "wall minutes", f"{table['wall']:.1f} on {table['lanes']} processors", aim(table["lanes"])
     yield "processor minutes", f"{table['processor']:.1f}, and {table['stolen']:.1f} that the host took", ""
     yield "the longest chain of crates, in wall minutes of their proofs", f"{table['chain'][0]:.1f}", ""
@@ -83,11 +85,11 @@ def page_of(table, order, allowed):
     crates = table["crates"]
     names = [name for name in order if name in crates] + sorted({*crates} - {*order})
     out = [INTRO, f"The run: commit {table['commit']}. The machine: {table['machine']}.", "", "| Measured | | Aim |", "|---|---|---|"]
-    out += [f"| {' | '.join(line)} |" for line in totals_of(table)]
+    slower, above = above_budget(crates, allowed)
+    out += [f"| {' | '.join(line)} |" for line in totals_of(table, slower)]
     out += ["", f"The chain: {' > '.join(f'`{name}`' for name in table['chain'][1])}.", *(f"\n{it}." for it in lines_of_bodies(table)), LEGEND]
     out += [f"| Crate | {' | '.join(HEADS)} | budget |", f"|{'---|' * (len(HEADS) + 2)}", *lines_of_crates(crates, names, allowed)]
-    slower, above = above_budget(crates, allowed)
     told = ", ".join(f"`{name}` ({used:.1f})" for name, used in above.items()) or "none"
-    held = f" In the median crates took {slower:.2f} of what they took where budgets were set, and each is held to its own times that." if slower > 1 else ""
+    held = f" In the median crates took {slower:.2f} of what they took where budgets were set. Each budget and each aim counts times that." if slower > 1 else ""
     out += ["", f"Above its budget by more than a tenth: {told}.{held}"]
     return "\n".join(out) + "\n"
