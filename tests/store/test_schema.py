@@ -1,9 +1,11 @@
 """The tables in an office's file, as the sqlite3 program sees them (Debian's `sqlite3`): bounds, types, keys, and how each query finds its rows.
 
-That program knows nothing of ours. docs/TABLES.md says the same. Each row is added to a file that the program made, and taken back in a transaction.
+That program knows nothing of ours. tables.txt has the tables, and docs/TABLES.md says the same. Each row is added to a file that the program made, and taken
+back in a transaction.
 """
 import re
 from pathlib import Path
+from typing import NamedTuple
 
 import pytest
 
@@ -11,72 +13,39 @@ from office_kit.common import ROOT
 from office_kit.store.files import ledger_of, sqlite
 
 pytestmark = pytest.mark.needs("sqlite3")
-EUROS, TOTAL, MOMENT, NUMBER = 10**12, 10**15, 4102444799, 10**9
+VALUES = {"INTEGER": str, "TEXT": lambda length: f"'{'a' * length}'", "BLOB": "zeroblob({})".format}
+# Values of other types than that of a column.
+OTHERS = {"INTEGER": ["'a'", "1.5", "x'00'"], "TEXT": ["x'00'"], "BLOB": ["'a'", "1", "1.5"]}
 
 
-def number(least, most):
-    return ("INTEGER", [str(least), str(most)], [str(least - 1), str(most + 1)])
+class Column(NamedTuple):
+    """A column: its type, values that it takes, values that it doesn't, and whether it may be NULL."""
+
+    kind: str
+    takes: list
+    refuses: list
+    may_be_null: bool
 
 
-def text(least, most):
-    return ("TEXT", [f"'{'a' * least}'", f"'{'a' * most}'"], [f"'{'a' * (least - 1)}'", f"'{'a' * (most + 1)}'"])
+def column_of(kind, *words):
+    """A column, by the words of tables.txt."""
+    is_null, words = "NULL" in words, [it for it in words if it != "NULL"]
+    if kind == "word":
+        return Column("TEXT", [f"'{it}'" for it in words], ["''", "'other'", *(f"'{it.upper()}'" for it in words)], is_null)
+    bounds, value = [int(it) for it in words], VALUES[kind]
+    return Column(kind, [value(it) for it in bounds] or ["'any'"], [value(it + step) for it, step in zip(bounds, (-1, 1))], is_null)
 
 
-def word(*words):
-    return ("TEXT", [f"'{it}'" for it in words], ["''", "'other'"] + [f"'{it.upper()}'" for it in words])
+def tables():
+    """The tables of tables.txt: the key of each, and its columns in order."""
+    found = {}
+    for part in Path(__file__).with_name("tables.txt").read_text(encoding="utf-8").split("\n\n")[1:]:
+        (table, *key), *rows = (line.split() for line in part.splitlines())
+        found[table.rstrip(":")] = key, {name: column_of(*words) for name, *words in rows}
+    return found
 
 
-def blob(least, most):
-    return ("BLOB", [f"zeroblob({least})", f"zeroblob({most})"], [f"zeroblob({least - 1})", f"zeroblob({most + 1})"])
-
-
-def perhaps(column):
-    return (*column, "NULL")
-
-
-ID, TITLE, ANY = text(1, 32), text(1, 200), ("TEXT", ["'any'"], [])
-# The columns of notices in version 1, whose table version 2 keeps empty.
-FORMER = {
-    "notice": ID, "title": TITLE, "published": number(0, MOMENT), "deadline": number(0, MOMENT), "validity": number(1, 365), "standstill": number(0, 90),
-    "weight": number(0, 100), "state": word("receiving", "opened", "cancelled"), "opened": perhaps(number(0, MOMENT)), "amendments": number(0, 50),
-    "releases": number(0, 9999)}
-# Each table: its key, and its columns in order, each with its kind, values that it takes, values that it doesn't, and whether it may be NULL.
-TABLES = {
-    "lines": (["line"], {"line": ID, "title": TITLE, "appropriation": number(0, TOTAL), "free": number(0, TOTAL)}),
-    "batches": (["batch"], {"batch": ID, "moment": number(0, MOMENT), "rows": number(0, 500)}),
-    "tenderers": (["tenderer"], {"tenderer": ID, "name": TITLE, "address": TITLE, "key": blob(32, 32)}),
-    "notices": (["notice"], FORMER),
-    "notices_2": (["notice"], FORMER | {"performance": number(0, EUROS)}),
-    "lots": (["notice", "lot"], {
-        "notice": ID, "lot": ID, "title": TITLE, "line": ID, "estimate": number(1, EUROS), "security": number(0, EUROS), "items": ANY,
-        "state": word("undecided", "awarded", "contracted", "unsuccessful", "cancelled"), "reserved": number(0, EUROS)}),
-    "envelopes": (["receipt"], {
-        "receipt": number(1, NUMBER), "notice": ID, "lot": ID, "tenderer": ID, "moment": number(0, MOMENT), "length": number(1, 32768), "digest": blob(32, 32),
-        "security": perhaps(number(1, NUMBER)), "state": word("sealed", "withdrawn", "returned", "opened"),
-        "reading": perhaps(word("unreadable", "nonconforming", "priced")),
-        "stated": perhaps(number(0, TOTAL)), "corrected": perhaps(number(0, EUROS)), "corrections": perhaps(("INTEGER", ["0", str(2**63 - 1)], ["-1"])),
-        "responsive": perhaps(number(0, 1)), "quality": perhaps(number(0, 100)), "failed": number(0, 1)}),
-    "seals": (["receipt"], {"receipt": number(1, NUMBER), "bytes": blob(1, 32768)}),
-    "securities": (["security"], {
-        "security": number(1, NUMBER), "tenderer": ID, "notice": ID, "lot": ID, "reference": ID, "amount": number(1, EUROS),
-        "state": word("held", "returned", "forfeited")}),
-    "awards": (["award"], {
-        "award": number(1, NUMBER), "notice": ID, "lot": ID, "receipt": number(1, NUMBER), "price": number(0, EUROS), "moment": number(0, MOMENT),
-        "state": word("active", "failed", "cancelled", "signed")}),
-    "contracts": (["contract"], {
-        "contract": number(1, NUMBER), "notice": ID, "lot": ID, "tenderer": ID, "signed": number(0, TOTAL), "moment": number(0, MOMENT),
-        "ended": perhaps(number(0, MOMENT)),
-        "how": perhaps(word("regular", "default")), "released": number(0, TOTAL)}),
-    "entries": (["contract", "entry"], {
-        "contract": number(1, NUMBER), "entry": ID, "kind": word("raise", "cut", "payment"), "amount": number(1, EUROS),
-        "moment": number(0, MOMENT), "rationale": perhaps(TITLE)}),
-    "releases": (["notice", "seq"], {"notice": ID, "seq": number(1, 9999), "moment": number(0, MOMENT), "text": ANY}),
-    "compiled": (["notice"], {"notice": ID, "text": ANY}),
-    "late_rules": (["notice"], {"notice": ID}),
-    "performance": (["contract"], {
-        "contract": number(1, NUMBER), "reference": ID, "amount": number(1, EUROS), "state": word("held", "returned", "forfeited")}),
-    "office": (["version"], {"version": number(1, 2**31 - 1), "moment": number(0, MOMENT), "receipts": number(0, NUMBER), "awards": number(0, NUMBER)}),
-}
+TABLES = tables()
 INDEXES = {
     "lots_of_line": ("lots", ["line"]),
     "envelopes_of_notice": ("envelopes", ["notice", "lot", "tenderer"]),
@@ -102,16 +71,11 @@ BY_INDEX = {
     ("entries", "contract = ?1"): "sqlite_autoindex_entries_1 (contract=?)",
     ("releases", "notice = ?1"): "sqlite_autoindex_releases_1 (notice=?)",
 }
-KINDS = {"INTEGER": ["'a'", "1.5", "x'00'"], "TEXT": ["x'00'"], "BLOB": ["'a'", "1", "1.5"]}
-
-
-def may_be_null(column):
-    return column[-1] == "NULL"
 
 
 def is_rowid(table):
     key, columns = TABLES[table]
-    return len(key) == 1 and columns[key[0]][0] == "INTEGER"
+    return len(key) == 1 and columns[key[0]].kind == "INTEGER"
 
 
 class File:
@@ -147,7 +111,7 @@ def file(program, tmp_path_factory):
 
 def base(table):
     """A row that the table takes."""
-    return {name: column[1][0] for name, column in TABLES[table][1].items()}
+    return {name: column.takes[0] for name, column in TABLES[table][1].items()}
 
 
 def with_value(table, name, value):
@@ -163,7 +127,7 @@ def test_table(file, table):
     """Its columns, the kinds of their values, its key, and which columns may be NULL."""
     key, columns = TABLES[table]
     places = {name: key.index(name) + 1 if name in key else 0 for name in columns}
-    wanted = [f"{at}|{name}|{column[0]}|{0 if may_be_null(column) else 1}||{places[name]}" for at, (name, column) in enumerate(columns.items())]
+    wanted = [f"{at}|{name}|{column.kind}|{int(not column.may_be_null)}||{places[name]}" for at, (name, column) in enumerate(columns.items())]
     assert file.ask(f"PRAGMA table_info({table});") == wanted
 
 
@@ -182,17 +146,17 @@ def test_bounds(file, table):
     key, columns = TABLES[table]
     wanted = []
     for name, column in columns.items():
-        wanted += [(name, value, True) for value in column[1]] + [(name, value, False) for value in column[2]]
+        wanted += [(name, value, True) for value in column.takes] + [(name, value, False) for value in column.refuses]
         # SQLite chooses a rowid for NULL, so the table accepts it.
-        if may_be_null(column) or not (is_rowid(table) and name in key):
-            wanted.append((name, "NULL", may_be_null(column)))
+        if column.may_be_null or not (is_rowid(table) and name in key):
+            wanted.append((name, "NULL", column.may_be_null))
     file.judges(table, wanted)
 
 
 @each_table
 def test_kinds(file, table):
     """No column accepts a value of another kind."""
-    file.judges(table, [(name, value, False) for name, column in TABLES[table][1].items() for value in KINDS[column[0]]])
+    file.judges(table, [(name, value, False) for name, column in TABLES[table][1].items() for value in OTHERS[column.kind]])
 
 
 @each_table
@@ -200,7 +164,7 @@ def test_key(file, table):
     """No two rows have the same key. A key that is a number is the rowid."""
     key, columns = TABLES[table]
     one = list(base(table).values())
-    others = [with_value(table, name, columns[name][1][1]) for name in key]
+    others = [with_value(table, name, columns[name].takes[1]) for name in key]
     assert file.takes(table, [[one, one], *([one, other] for other in others)]) == [False] + [True] * len(key)
     if is_rowid(table):
         same = file.ask(f"BEGIN; INSERT OR REPLACE INTO {table} VALUES ({', '.join(one)}); SELECT min(rowid = {key[0]}) FROM {table}; ROLLBACK;")
