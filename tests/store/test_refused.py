@@ -13,9 +13,9 @@ from concurrent.futures import ThreadPoolExecutor
 
 import pytest
 
-from office_kit.common import CONFIG, ROOT, block, import_of, look, made_shim, parts_of
-from office_kit.gate.transcripts import request_of, topics
-from office_kit.store.shims import ALLOCATORS
+from office_kit.common import CONFIG, ROOT, block, import_of, look, parts_of
+from office_kit.gate.transcripts import request_of
+from office_kit.store.refusing import counted, plays, refusing
 
 pytestmark = [pytest.mark.long, pytest.mark.needs("cc")]
 MOMENT = b"2026-01-05T09:00:00Z"
@@ -25,19 +25,6 @@ CRATES, MOST = ("tests_of_tables", "tests_of_stores", "tests_of_faults", "tests_
 PLAYS = (("published_lives.txt", "two lots"), ("cancellations.txt", "unopened"), ("cancellations.txt", "awarded"), ("performances.txt", "forfeited"),
          ("lists.txt", "notices"), ("terms.txt", "by points"), ("own_tenders.txt", "lot by lot"), ("evaluations.txt", "every state"),
          ("desk_looks.txt", "default"))
-# It refuses the allocation of that number, and no other. If asked, it says how many there were.
-SHIM = r"""
-static long count, refused = -1;
-static int told;
-static void tell(void) { if (!told) { told = 1; fprintf(stderr, "allocation refused\n"); } }
-static void __attribute__((destructor)) tell_count(void) { if (getenv("COUNTED")) fprintf(stderr, "%ld allocations\n", count); }
-static int is_refused(void) {
-    if (refused < 0) { const char *n = getenv("REFUSED"); refused = n ? atol(n) : 0; }
-    if (++count != refused) return 0;
-    tell();
-    return 1;
-}
-""" + ALLOCATORS
 # The words of a test that asks for its own memory once and finds none.
 OWN_WANT = r"memory|AllocError|no settings|no changes|no row|no command|no plan|error: Unavailable"
 UNAVAILABLE = (b"HTTP/1.1 503 Service Unavailable\r\nContent-Type: application/json\r\nContent-Length: 35\r\nConnection: close\r\n\r\n"
@@ -46,18 +33,7 @@ UNAVAILABLE = (b"HTTP/1.1 503 Service Unavailable\r\nContent-Type: application/j
 
 @pytest.fixture(scope="module")
 def shim(tmp_path_factory):
-    return made_shim(SHIM, str(tmp_path_factory.mktemp("shim")))
-
-
-def played(name, title):
-    """The blocks of a play of the transcripts."""
-    pieces = {}
-    for topic in topics():
-        pieces.update(topic.pieces)
-        for kind, play, parts in topic.played:
-            if (topic.name, kind, play) == (name, "play", title):
-                return [request_of(it) for piece in parts[0] for it in pieces[piece]]
-    raise AssertionError(f"{name} has no play {title}")
+    return refusing(str(tmp_path_factory.mktemp("shim")))
 
 
 # Imports and queries: an import and a query; an empty file, twice; and the limits of imports. Each ends with a query.
@@ -111,19 +87,20 @@ def test_imports(plain_program, shim, name):
 
 @pytest.mark.parametrize("name, title", PLAYS)
 def test_play(plain_program, shim, name, title):
-    refuse_each(plain_program, shim, played(name, title))
+    refuse_each(plain_program, shim, [request_of(it) for it in plays()[name, title]])
 
 
 # ---- Tests of crates.
 
-def run_test(tests, name, shim, **env):
-    run = subprocess.run([tests, name], env={"LD_PRELOAD": shim, **env}, capture_output=True, text=True, timeout=300)
+def run_test(tests, name, shim, number):
+    """The status and the output of a test whose allocation of that number is refused."""
+    run = subprocess.run([tests, name], env={"LD_PRELOAD": shim, "REFUSED": str(number)}, capture_output=True, text=True, timeout=300)
     return run.returncode, run.stdout + run.stderr
 
 
 def refuse_in_test(tests, name, shim, number):
-    """How a test ended whose allocation of that number was refused."""
-    status, told = run_test(tests, name, shim, REFUSED=str(number))
+    """How such a test ended."""
+    status, told = run_test(tests, name, shim, number)
     if "allocation refused" not in told:
         return "nothing was refused"
     assert status == 0 or re.search(OWN_WANT, told), f"{name} failed where allocation {number} was refused: {told}"
@@ -141,6 +118,6 @@ def test_crate(shim, crate):
     assert names
     with ThreadPoolExecutor() as pool:
         for name in names:
-            count = int(re.findall(r"^(\d+) allocations$", run_test(tests, name, shim, COUNTED="1")[1], re.M)[-1])
+            count, _ = counted(run_test(tests, name, shim, 0)[1])
             numbers = sorted({1 + step * (count - 1) // (MOST - 1) for step in range(MOST)}) if count > MOST else range(1, count + 1)
             print(name, Counter(pool.map(lambda number, name=name: refuse_in_test(tests, name, shim, number), numbers)))
