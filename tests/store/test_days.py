@@ -95,8 +95,8 @@ class Office:
             pages.begin(self.path, size)
 
     @contextlib.contextmanager
-    def on(self, number, count, settings=CONFIG):
-        """A server of so many connections on a day, and its first connection."""
+    def on(self, number, count=MANY, settings=CONFIG):
+        """A server of so many connections on a day, and its first connection. If it doesn't end on its own, it is killed."""
         clock = {"LD_PRELOAD": self.shim, "SECOND": str(FIRST + number * DAY)}
         with server(self.program, self.path, count, settings, env={**os.environ, **clock}) as (process, port), connect(port, LISTENS) as stream:
             yield process, stream
@@ -114,17 +114,15 @@ class Office:
 
     def answered(self, number, request):
         """Sends a request on a day that is killed after its answer."""
-        with self.on(number, MANY) as (process, stream):
+        with self.on(number) as (_, stream):
             stream.sendall(request)
             assert is_whole(read_all(stream))
-            kill(process)
 
     def killed(self, number, request, delay, by_log):
         """Whether a request was answered as a whole, on a day with a kill after so many seconds. (It is sent after the first ones of these, BEFORE.) If
         `by_log`, they are counted from the first write to the log."""
-        with self.on(number, MANY) as (process, stream):
-            log = self.path + "-wal"
-            killer = threading.Thread(target=kill_in_time, args=(process, delay, *((log, stamp_of(log)) if by_log else ())))
+        with self.on(number) as (process, stream):
+            killer = threading.Thread(target=self.kill_in_time, args=(process, delay, self.log() if by_log else None))
             killer.start()
             time.sleep(BEFORE)
             response = told_until_killed(stream, request)
@@ -133,29 +131,23 @@ class Office:
         assert not response or OK.startswith(response[:len(OK)]), "refused"
         return is_whole(response)
 
+    def kill_in_time(self, process, delay, log):
+        """Kills a server after this many seconds; if the log as it was is given, counted from the first write to it."""
+        end = time.monotonic() + LISTENS
+        while log and self.log() == log and time.monotonic() < end:
+            time.sleep(0.0001)
+        time.sleep(delay)
+        process.kill()
+
+    def log(self):
+        """The size of the log and its last change; of one that doesn't exist, two that none has."""
+        with contextlib.suppress(FileNotFoundError):
+            found = os.stat(self.path + "-wal")
+            return found.st_size, found.st_mtime_ns
+        return -1, -1
+
     def rows(self):
         return rows_of(self.path, schema=True)
-
-
-def kill(process):
-    process.kill()
-    process.wait()
-
-
-def stamp_of(path):
-    """The size of a file and its last change; None if it doesn't exist."""
-    with contextlib.suppress(FileNotFoundError):
-        found = os.stat(path)
-        return found.st_size, found.st_mtime_ns
-
-
-def kill_in_time(process, delay, log=None, before=None):
-    """Kills a server after this many seconds; if a log is named, counted from the first write to it."""
-    end = time.monotonic() + LISTENS
-    while log and stamp_of(log) == before and time.monotonic() < end:
-        time.sleep(0.0001)
-    time.sleep(delay)
-    kill(process)
 
 
 def told_until_killed(stream, request):
