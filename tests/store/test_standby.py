@@ -23,8 +23,8 @@ from concurrent.futures import ThreadPoolExecutor
 
 import pytest
 
-from office_kit.client import Client, Port, Requests, budget, lot, notice, text_of
-from office_kit.common import CONFIG, HOST, ROOT, free_port, is_whole, need, place_of, planted, running, serve_words, stand_in, what_came
+from office_kit.client import Client, Port, budget, lot, notice, text_of
+from office_kit.common import CONFIG, HOST, ROOT, free_port, need, place_of, planted, running, serve_words, stand_in
 from office_kit.store.files import copied, ledger_of
 from office_kit.store.served import MANY
 
@@ -37,49 +37,46 @@ WITHIN, SERVES, LOAD, WAITS = 10, 60, 16, 60
 RATE, SIZE = 20, 30_000
 # A command in the place of `ssh`, which runs the first machine's command here.
 NO_SSH = 'while [ "$1" != here ]; do shift; done; shift; exec sh -c "$*"'
-ASKS = Client(Requests())
 
 
 class Load:
     """Firms that submit tenders and a clerk who imports. It keeps the second of each answer, what the receipts say, and the imports that were sent."""
 
     def __init__(self, trial):
-        self.port, self.size, self.rate = trial.port, trial.size, trial.rate
+        self.client, self.size, self.pause = Client(Port(trial.port, patience=0)), trial.size, 1 / trial.rate
         self.ends, self.answered, self.receipts, self.sent = threading.Event(), {}, {}, set()
 
     @contextlib.contextmanager
     def runs(self):
-        with ThreadPoolExecutor() as pool:
-            works = [pool.submit(work) for work in (self.submit_all, self.import_all)]
-            try:
-                yield
-            finally:
-                self.ends.set()
+        with ThreadPoolExecutor() as pool, contextlib.ExitStack() as stack:
+            stack.callback(self.ends.set)
+            works = [pool.submit(self.until_killed, work) for work in (self.submit_all, self.import_all)]
+            yield
         for work in works:
             work.result()
 
-    def send(self, text):
-        """The members of the answer; None if no whole answer of status 200 came."""
-        response = what_came(self.port, text)
-        self.ends.wait(1 / self.rate)
-        return json.loads(response.partition(b"\r\n\r\n")[2]) if is_whole(response) else None
+    def until_killed(self, work):
+        """Works until an answer doesn't come, or comes in part."""
+        with contextlib.suppress(OSError, SystemExit, ValueError):
+            work()
 
     def submit_all(self):
         for place, firm in itertools.product(LOTS, FIRMS):
-            if self.ends.is_set():
-                return
             tender = random.randbytes(self.size)
-            if told := self.send(ASKS.present(firm, "N1", place, tender)):
-                self.answered[f"receipt {told['receipt']}"] = time.monotonic()
-                self.receipts[told["receipt"]] = (firm, place, told["digest"])
-                assert (told["digest"], told["state"]) == (hashlib.sha256(tender).hexdigest(), "sealed")
+            told = self.client.present(firm, "N1", place, tender).value()
+            self.answered[f"receipt {told['receipt']}"] = time.monotonic()
+            self.receipts[told["receipt"]] = (firm, place, told["digest"])
+            assert (told["digest"], told["state"]) == (hashlib.sha256(tender).hexdigest(), "sealed")
+            if self.ends.wait(self.pause):
+                return
 
     def import_all(self):
-        while not self.ends.is_set():
-            name = f"I{len(self.sent)}"
+        for name in (f"I{number}" for number in itertools.count()):
             self.sent.add(name)
-            if self.send(ASKS.import_budget(name, budget(f"{name},add,7,Roads", "1000,add,1,Roads"))):
-                self.answered[f"import {name}"] = time.monotonic()
+            self.client.import_budget(name, budget(f"{name},add,7,Roads", "1000,add,1,Roads")).value()
+            self.answered[f"import {name}"] = time.monotonic()
+            if self.ends.wait(self.pause):
+                return
 
 
 class Trial:
