@@ -1,14 +1,15 @@
 """An office lives from day to day over one file. Each day ends by a kill in a command, and the file has the rows before the command or those after it.
 
-Each of the sixteen commands occurs, each on its own date, by a clock that the test sets. First each server ends on its own: this gives the rows of every
-table after each command, and the time that it takes. Then each is killed at a random moment between just before its command is sent and just after its
-answer, and the next one continues from these files. At the end `tools/audit` finds nothing, and the ledger is that of the life without kills. Then the life
-happens with another clerk's key on every other day. Faults that are planted in copies of the file are found.
+Each of the sixteen commands occurs, by a clock that the test sets (office_kit/store/fault_plays.py has the life). First each server ends on its own: this gives
+the rows of every table after each command, and the time that it takes. Then each is killed at a random moment between just before its command is sent and just
+after its answer, and the next one continues from these files. At the end `tools/audit` finds nothing, and the ledger is that of the life without kills. Then
+the life happens with another clerk's key on every other day. Faults that are planted in copies of the file are found.
 """
 import contextlib
 import hashlib
 import os
 import random
+import re
 import shutil
 import signal
 import sqlite3
@@ -19,70 +20,24 @@ from collections import Counter
 
 import pytest
 
-from office_kit.client import COMMANDS, Client, Requests, budget, lot, notice, tender, text_of
+from office_kit.client import COMMANDS
 from office_kit.common import CLERK, CONFIG, OK, ROOT, connect, is_whole, look, made_shim, read_all
-from office_kit.store import pages
+from office_kit.store import fault_plays, pages
 from office_kit.store.files import ledger_of, rows_of, unlike
 from office_kit.store.served import MANY, server
 from office_kit.store.shims import CLOCK
 
 pytestmark = [pytest.mark.needs("cc"), pytest.mark.budget(120)]
+# What is asked on each day, and at which second: the ledger, and then a command on each.
 LEDGER = look(b"/ledger")
-# The first day, in seconds since 1970 (2026-01-05T09:00:00Z), and the length of a day.
-FIRST, DAY = 1_767_603_600, 86_400
+LIFE = [fault_plays.Step("the ledger", fault_plays.BEGUN, LEDGER), *fault_plays.life().steps]
+DAYS = {f"{number} {step.name}": number for number, step in enumerate(LIFE) if number}
 # Seconds for which a server may open its file; those between the first moment of a kill and the sending; and those after the time that the command took.
 LISTENS, BEFORE, AFTER = 300, 0.002, 0.002
 # Seconds after the first write to the log, at most, if a kill is counted from that. (Most are far less.)
 WRITING = 0.002
 OTHER_KEY, BAD_KEY = b"another key", b"HTTP/1.1 401 "
 OUT, IN, UNANSWERED = "out", "in", "in though no answer had come"
-
-
-def day(number):
-    """The text of a day's moment."""
-    return text_of(FIRST + number * DAY)
-
-
-# The commands: the client's method, and its arguments. (Receipts and awards count from 1.)
-LIFE = [
-    ("import_budget", "B1", budget("1000,add,100000,Roads", "2000,add,50000,Schools", "2000,cut,5000,Schools")),
-    ("register", "T1"),
-    ("register", "T2"),
-    ("publish", "N1", notice(day(12), lot("L1", "1000", 600, 50), performance=30)),
-    ("publish", "N2", notice(day(20), lot("L1", "1000", 300), lot("L2", "2000", 400, 10), title="School")),
-    ("amend_notice", "N1", day(13)),
-    ("present", "T1", "N1", "L1", tender((3, 100)), "S1", 50),
-    ("present", "T2", "N1", "L1", tender((3, 150)), "S2", 60),
-    ("modify", "T2", 2, tender((3, 120))),
-    ("present", "T1", "N2", "L2", tender((3, 90)), "S3", 10),
-    ("present", "T2", "N2", "L2", tender((3, 80)), "S4", 10),
-    ("withdraw", "T2", 5),
-    ("cancel", "N2"),
-    ("open", "N1"),
-    ("examine", 1),
-    ("examine", 3),
-    ("award", "N1", "L1"),
-    ("fail", 1),
-    ("award", "N1", "L1"),
-    ("sign", 2, "P1", 30),
-    ("amend_contract", 2, "A1", "raise", 40),
-    ("pay", 2, "P1", 250),
-    ("end", 2),
-]
-DAYS = {f"{number} {method}": number for number, (method, *_) in enumerate(LIFE, 1)}
-
-
-class OtherClerk(Client):
-    """A client that has another key of the clerk."""
-
-    def caller_of(self, who):
-        return (CLERK[0], OTHER_KEY) if who == "clerk" else super().caller_of(who)
-
-
-def request_of(number, client=Client):
-    """The bytes of a day's request: that of the ledger, and then the commands."""
-    method, *arguments = LIFE[number - 1]
-    return getattr(client(Requests()), method)(*arguments) if number else LEDGER
 
 
 class Office:
@@ -97,7 +52,7 @@ class Office:
     @contextlib.contextmanager
     def on(self, number, count=MANY, settings=CONFIG):
         """A server of so many connections on a day, and its first connection. If it doesn't end on its own, it is killed."""
-        clock = {"LD_PRELOAD": self.shim, "SECOND": str(FIRST + number * DAY)}
+        clock = {"LD_PRELOAD": self.shim, "SECOND": str(LIFE[number].second)}
         with server(self.program, self.path, count, settings, env={**os.environ, **clock}) as (process, port), connect(port, LISTENS) as stream:
             yield process, stream
 
@@ -182,8 +137,8 @@ class WholeLife(Office):
     def __init__(self, program, shim, folder, size):
         super().__init__(program, shim, folder / "whole", size)
         self.size, self.seconds, self.rows_after, self.copies = size, [], [], []
-        for number in range(len(LIFE) + 1):
-            self.seconds.append(self.whole(number, request_of(number)))
+        for number, step in enumerate(LIFE):
+            self.seconds.append(self.whole(number, step.text))
             self.rows_after.append(self.rows())
             self.copies.append(shutil.copy(self.path, folder / f"day-{number}.db"))
 
@@ -194,7 +149,9 @@ def whole(request, program, shim, tmp_path_factory):
 
 
 def test_each_command_is_in_the_life():
-    assert {method for method, *_ in LIFE} == set(COMMANDS)
+    """(A command is known by the first part of its path and the last one.)"""
+    kinds = {re.match(rb"POST /(\w+)/\w+(?:/lots/\w+)?/?(\w*)", step.text).groups() for step in LIFE[1:]}
+    assert len(kinds) == len(COMMANDS)
 
 
 def take_back(path, before, tables):
@@ -258,7 +215,7 @@ class Moments:
 def kill_in(office, whole, number, moments, turn):
     """Kills in a command, and serves again. Returns the state that the kill left."""
     before, after = whole.rows_after[number - 1:][:2]
-    request, (delay, by_log) = request_of(number), moments.choose(turn)
+    request, (delay, by_log) = LIFE[number].text, moments.choose(turn)
     answered = office.killed(number, request, delay, by_log)
     found = what_is_left(before, after, office.rows(), answered)
     if not by_log:
@@ -301,8 +258,9 @@ def test_two_keys(whole, tmp_path):
     office.whole(0, LEDGER)
     assert office.rows() != whole.rows_after[-1], "an office that was forgotten"
     for number in DAYS.values():
-        settings, client = (str(other), OtherClerk) if number % 2 else (CONFIG, Client)
-        if request_of(number, client) != request_of(number):
-            office.whole(number, request_of(number), settings, BAD_KEY)
-        office.whole(number, request_of(number, client), settings)
+        settings, key = (str(other), OTHER_KEY) if number % 2 else (CONFIG, CLERK[1])
+        text = LIFE[number].text.replace(b"\r\nOffice-Key: %s\r\n" % CLERK[1], b"\r\nOffice-Key: %s\r\n" % key)
+        if text != LIFE[number].text:
+            office.whole(number, LIFE[number].text, settings, BAD_KEY)
+        office.whole(number, text, settings)
         assert office.rows() == whole.rows_after[number]
