@@ -1,9 +1,9 @@
 """Each allocation of a run fails in turn, of the program and of crates' proved tests.
 
-The program runs over imports and queries, and over plays of transcripts. If one request is answered Unavailable, all others must be answered as if it had never
-been sent. If it couldn't be read whole, the place of the next one is unknown: those before it must be answered as always, and the program ends there. A crate's
-`rt test` leaves its tests as a program, out/CRATE_tests. Each test there tries a step a second time if the first try finds no memory, so it must pass whichever
-single allocation is refused. One that asks for its own memory only once may end for that reason. (tests/refused_rows compares all rows too.)
+The program runs over plays of transcripts. If one request is answered Unavailable, all others must be answered as if it had never been sent. If it couldn't be
+read whole, the place of the next one is unknown: those before it must be answered as always, and the program ends there. A crate's `rt test` leaves its tests
+as a program, out/CRATE_tests. Each test there tries a step a second time if the first try finds no memory, so it must pass whichever single allocation is
+refused. One that asks for its own memory only once may end for that reason. (tests/refused_rows compares all rows too.)
 """
 import os
 import re
@@ -13,16 +13,17 @@ from concurrent.futures import ThreadPoolExecutor
 
 import pytest
 
-from office_kit.common import CONFIG, ROOT, block, import_of, look, parts_of
+from office_kit.common import CONFIG, ROOT, parts_of
 from office_kit.gate.transcripts import request_of
 from office_kit.store.refusing import counted, plays, refusing
 
 pytestmark = [pytest.mark.long, pytest.mark.needs("cc")]
-MOMENT = b"2026-01-05T09:00:00Z"
 # The crates whose tests try a step a second time if the first try finds no memory, and the most refusals in each test, spread evenly over its allocations.
 CRATES, MOST = ("tests_of_tables", "tests_of_stores", "tests_of_faults", "tests_of_looks"), int(os.environ.get("MOST", "300"))
 # The plays of transcripts: their files and titles.
-PLAYS = (("published_lives.txt", "two lots"), ("cancellations.txt", "unopened"), ("cancellations.txt", "awarded"), ("performances.txt", "forfeited"),
+PLAYS = (("imports.txt", "a file without rows"), ("imports.txt", "a batch is taken once"), ("imports.txt", "a file has 500 rows at most"),
+         ("imports.txt", "a bad row is numbered"), ("imports.txt", "an appropriation has a bound"), ("imports.txt", "a cut takes no more than is free"),
+         ("published_lives.txt", "two lots"), ("cancellations.txt", "unopened"), ("cancellations.txt", "awarded"), ("performances.txt", "forfeited"),
          ("lists.txt", "notices"), ("terms.txt", "by points"), ("own_tenders.txt", "lot by lot"), ("evaluations.txt", "every state"),
          ("desk_looks.txt", "default"))
 # The words of a test that asks for its own memory once and finds none.
@@ -34,19 +35,6 @@ UNAVAILABLE = (b"HTTP/1.1 503 Service Unavailable\r\nContent-Type: application/j
 @pytest.fixture(scope="module")
 def shim(tmp_path_factory):
     return refusing(str(tmp_path_factory.mktemp("shim")))
-
-
-# Imports and queries: an import and a query; an empty file, twice; and the limits of imports. Each ends with a query.
-ROW = b"1000,add,1,Roads"
-IMPORTS = {
-    "an import and a look": [(b"B1", [b"1000,add,1000,Roads", b"2000,add,50,Parks"])],
-    "an empty file, twice": [(b"B2", []), (b"B2", [])],
-    "500 rows": [(b"B1", [ROW] * 500)],
-    "501 rows": [(b"B1", [ROW] * 501)],
-    "a bad row": [(b"B1", [ROW] * 2 + [b"1000,add,0,Roads"])],
-    "the bound of an appropriation": [(b"B1", [b"1000,add,1000000000000000,Roads"]), (b"B2", [ROW])],
-    "cuts": [(b"B1", [b"1000,add,1000,Roads"]), (b"B2", [b"1000,cut,1001,Roads"]), (b"B2", [b"3000,cut,1,Roads"])],
-}
 
 
 def run_desk(program, requests, **env):
@@ -78,11 +66,6 @@ def refuse_each(program, shim, requests):
         number += 1
     assert counts
     print(counts)
-
-
-@pytest.mark.parametrize("name", IMPORTS)
-def test_imports(plain_program, shim, name):
-    refuse_each(plain_program, shim, [block(MOMENT, it) for it in [*(import_of(*it) for it in IMPORTS[name]), look(b"/lines/1000")]])
 
 
 @pytest.mark.parametrize("name, title", PLAYS)
