@@ -19,7 +19,7 @@ from unittest import mock
 
 import pytest
 
-from office_kit.common import CONFIG, ROOT, made_shim, planted, stand_in
+from office_kit.common import CONFIG, ROOT, planted, stand_in
 from office_kit.store.served import Handler, answered_by
 
 CHECK = os.path.join(ROOT, "deploy", "check")
@@ -57,14 +57,6 @@ WRONG_BASES = ["foo bar", "https://office.example/", "https://office.example/a/"
                "https://office.example?x=1", "https://", "https://a b"]
 
 
-def run_here(words):
-    """The status and the output of a Python script with these arguments."""
-    said = io.StringIO()
-    with mock.patch.object(sys, "argv", words), contextlib.redirect_stdout(said), contextlib.redirect_stderr(said), pytest.raises(SystemExit) as end:
-        runpy.run_path(words[0], run_name="__main__")
-    return end.value.code or 0, said.getvalue()
-
-
 class Trial:
     """A folder with settings, and the script over its content."""
 
@@ -79,17 +71,16 @@ class Trial:
         text = Path(CONFIG).read_text(encoding="utf-8")
         self.config.write_text(re.sub(rf"(?m)^{re.escape(begins)}.*$", lambda _: line, text), encoding="utf-8")
 
-    def run(self, *words, **more):
-        """The status of the script, and its output. It runs in this process, unless it needs an environment of its own."""
+    def run(self, *words):
+        """The status of the script, which runs in this process, and its output."""
         places = {"--config": self.config, "--file": self.file, "--copies": self.copies, "--program": self.opener}
-        words = [self.script, *(f"{name}={place}" for name, place in places.items()), *map(str, words)]
-        if not more:
-            return run_here(words)
-        run = subprocess.run([sys.executable, *words], capture_output=True, text=True, env={**os.environ, **more})
-        return run.returncode, run.stdout + run.stderr
+        line, said = [self.script, *(f"{name}={place}" for name, place in places.items()), *map(str, words)], io.StringIO()
+        with mock.patch.object(sys, "argv", line), contextlib.redirect_stdout(said), contextlib.redirect_stderr(said), pytest.raises(SystemExit) as end:
+            runpy.run_path(self.script, run_name="__main__")
+        return end.value.code or 0, said.getvalue()
 
-    def says(self, status, told, *words, **more):
-        found, text = self.run(*words, **more)
+    def says(self, status, told, *words):
+        found, text = self.run(*words)
         assert found == status and told in text
 
     def make_office(self, file, moment):
@@ -146,18 +137,18 @@ def test_settings(trial):
     trial.says(WARNING, "lots extension", "settings")
 
 
-@pytest.fixture(scope="module")
-def clocks(tmp_path_factory):
-    """Libraries by which the kernel takes its clock for so many microseconds wrong: for right, and for wrong."""
-    source = "struct timex; int adjtimex(struct timex *it) { ((long *)it)[3] = %d; return 0; }"
-    return [made_shim(source % wrong_by, str(tmp_path_factory.mktemp("clock"))) for wrong_by in (5_000, 16_000_000)]
+def kernel(wrong_by):
+    """While this lasts, the kernel takes its clock for so many microseconds wrong."""
+    def adjtimex(timex):
+        timex[24:32] = wrong_by.to_bytes(8, sys.byteorder)
+        return 0
+    return mock.patch("ctypes.CDLL", lambda _: mock.Mock(adjtimex=adjtimex))
 
 
-@pytest.mark.needs("cc")
-def test_clock(trial, clocks):
+def test_clock(trial):
     """A clock is critical if it is earlier than the last command, or more than a day later. It isn't if somebody says that it is right: by an option, by a new
     file, or by the kernel."""
-    now, told, (right, wrong) = time.time(), trial.told, clocks
+    now, told, by_kernel = time.time(), trial.told, ("clock", "--synchronized-is-right")
     for ahead, status in ((HOUR, OK), (23 * HOUR, OK), (-HOUR, CRITICAL), (25 * HOUR, CRITICAL), (365 * DAY, CRITICAL)):
         copy = trial.make_copy(60, now - ahead)
         trial.says(status, "ahead" if status and ahead > 0 else "behind" if status else "the last command", "clock")
@@ -169,8 +160,11 @@ def test_clock(trial, clocks):
         os.utime(told, (now - 2 * HOUR, now - 2 * HOUR))
         trial.says(status, "", "clock", "--told", told)
         told.unlink()
-        trial.says(is_told, "", "clock", "--synchronized-is-right", LD_PRELOAD=right)
-        trial.says(status, "", "clock", "--synchronized-is-right", LD_PRELOAD=wrong)
+        assert trial.run(*by_kernel)[0] in (is_told, status)
+        with kernel(wrong_by=5_000):
+            trial.says(is_told, "", *by_kernel)
+        with kernel(wrong_by=16_000_000):
+            trial.says(status, "", *by_kernel)
         copy.unlink()
     trial.says(OK, "no command is known", "clock")
 
@@ -345,12 +339,11 @@ PLANTS = [
 ]
 
 
-@pytest.mark.needs("cc")
 @pytest.mark.parametrize("old, new, test", PLANTS, ids=[f"{new} in {test.__name__.removeprefix('test_')}" for _, new, test in PLANTS])
-def test_planted(program, tmp_path, clocks, old, new, test):
+def test_planted(program, tmp_path, old, new, test):
     trial = Trial(program, tmp_path / "trial", planted(CHECK, tmp_path, old, new))
     with pytest.raises(AssertionError):
-        test(trial, *[clocks] if test is test_clock else [])
+        test(trial)
 
 
 # ---- The units.
