@@ -36,41 +36,17 @@ def column_of(kind, *words):
     return Column(kind, [value(it) for it in bounds] or ["'any'"], [value(it + step) for it, step in zip(bounds, (-1, 1))], is_null)
 
 
-def tables():
-    """The tables of tables.txt: the key of each, and its columns in order."""
-    found = {}
-    for part in Path(__file__).with_name("tables.txt").read_text(encoding="utf-8").split("\n\n")[1:]:
-        (table, *key), *rows = (line.split() for line in part.splitlines())
-        found[table.rstrip(":")] = key, {name: column_of(*words) for name, *words in rows}
-    return found
+def table_of(part):
+    """A table of tables.txt: its name, with its key and its columns in order."""
+    (name, *key), *rows = (line.split() for line in part.splitlines())
+    return name.rstrip(":"), (key, {column: column_of(*words) for column, *words in rows})
 
 
-TABLES = tables()
-INDEXES = {
-    "lots_of_line": ("lots", ["line"]),
-    "envelopes_of_notice": ("envelopes", ["notice", "lot", "tenderer"]),
-    "securities_of_notice": ("securities", ["notice"]),
-    "awards_of_notice": ("awards", ["notice"]),
-    "contracts_of_notice": ("contracts", ["notice"]),
-}
+_, *TEXTS, INDEXED, SEARCHED = Path(__file__).with_name("tables.txt").read_text(encoding="utf-8").split("\n\n")
+TABLES = dict(map(table_of, TEXTS))
+INDEXES = {name: [table, *columns] for name, table, *columns in (line.split() for line in INDEXED.splitlines()[1:])}
+BY_INDEX = {(table, test): by for table, test, by in (line.strip().split(": ") for line in SEARCHED.splitlines()[1:])}
 ROWID, KEY = "INTEGER PRIMARY KEY (rowid=?)", "sqlite_autoindex_{}_1 ({})"
-# How SQLite answers a question of a table with such a test, if not by the key.
-BY_INDEX = {
-    ("notices_2", "notice > ?1"): "sqlite_autoindex_notices_2_1 (notice>?)",
-    ("tenderers", "tenderer > ?1"): "sqlite_autoindex_tenderers_1 (tenderer>?)",
-    ("lots", "line = ?1"): "lots_of_line (line=?)",
-    ("lots", "notice = ?1"): "sqlite_autoindex_lots_1 (notice=?)",
-    ("envelopes", "notice = ?1"): "envelopes_of_notice (notice=?)",
-    ("envelopes", "notice = ?1 AND lot = ?2"): "envelopes_of_notice (notice=? AND lot=?)",
-    ("envelopes", "notice = ?1 AND lot = ?2 AND tenderer = ?3"): "envelopes_of_notice (notice=? AND lot=? AND tenderer=?)",
-    ("securities", "notice = ?1"): "securities_of_notice (notice=?)",
-    # (those of a lot are sought among those of its notice)
-    ("securities", "notice = ?1 AND lot = ?2"): "securities_of_notice (notice=?)",
-    ("awards", "notice = ?1"): "awards_of_notice (notice=?)",
-    ("contracts", "notice = ?1"): "contracts_of_notice (notice=?)",
-    ("entries", "contract = ?1"): "sqlite_autoindex_entries_1 (contract=?)",
-    ("releases", "notice = ?1"): "sqlite_autoindex_releases_1 (notice=?)",
-}
 
 
 def is_rowid(table):
@@ -100,7 +76,7 @@ class File:
 
     def judges(self, table, wanted):
         """Each row, by its column and value, is accepted or refused as expected."""
-        told = self.takes(table, [[with_value(table, name, value)] for name, value, _ in wanted])
+        told = self.takes(table, [[row_of(table, **{name: value})] for name, value, _ in wanted])
         assert [(*it[:2], taken) for it, taken in zip(wanted, told)] == wanted
 
 
@@ -109,14 +85,9 @@ def file(program, tmp_path_factory):
     return File(program, tmp_path_factory.mktemp("schema"))
 
 
-def base(table):
-    """A row that the table takes."""
-    return {name: column.takes[0] for name, column in TABLES[table][1].items()}
-
-
-def with_value(table, name, value):
-    """The same row with another value in one column."""
-    return list((base(table) | {name: value}).values())
+def row_of(table, **other):
+    """A row that the table takes, or one with another value."""
+    return list(({name: column.takes[0] for name, column in TABLES[table][1].items()} | other).values())
 
 
 each_table = pytest.mark.parametrize("table", TABLES)
@@ -135,9 +106,9 @@ def test_tables(file):
     """There are these tables and indexes, and all tables are STRICT."""
     assert file.ask("SELECT name FROM pragma_table_list WHERE schema = 'main' AND strict = 1 ORDER BY name;") == sorted(TABLES)
     assert file.ask("SELECT name FROM sqlite_master WHERE name NOT LIKE 'sqlite!_%' ESCAPE '!' ORDER BY name;") == sorted([*TABLES, *INDEXES])
-    for index, (table, columns) in INDEXES.items():
+    for index, wanted in INDEXES.items():
         told = file.ask(f"SELECT tbl_name FROM sqlite_master WHERE name = '{index}'; SELECT name FROM pragma_index_info('{index}') ORDER BY seqno;")
-        assert told == [table, *columns]
+        assert told == wanted
 
 
 @each_table
@@ -163,8 +134,7 @@ def test_kinds(file, table):
 def test_key(file, table):
     """No two rows have the same key. A key that is a number is the rowid."""
     key, columns = TABLES[table]
-    one = list(base(table).values())
-    others = [with_value(table, name, columns[name].takes[1]) for name in key]
+    one, others = row_of(table), [row_of(table, **{name: columns[name].takes[1]}) for name in key]
     assert file.takes(table, [[one, one], *([one, other] for other in others)]) == [False] + [True] * len(key)
     if is_rowid(table):
         same = file.ask(f"BEGIN; INSERT OR REPLACE INTO {table} VALUES ({', '.join(one)}); SELECT min(rowid = {key[0]}) FROM {table}; ROLLBACK;")

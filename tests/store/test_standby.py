@@ -20,6 +20,7 @@ import tempfile
 import threading
 import time
 from concurrent.futures import ThreadPoolExecutor
+from pathlib import Path
 
 import pytest
 
@@ -31,8 +32,8 @@ from office_kit.store.served import MANY
 pytestmark = [pytest.mark.needs("rsync"), pytest.mark.time, pytest.mark.budget(180)]
 SCRIPT, CHECK = (os.path.join(ROOT, "deploy", name) for name in ("follow", "check"))
 FIRMS, LOTS = [f"T{number}" for number in range(1, 41)], [f"L{number}" for number in range(1, 21)]
-# Seconds: which commands may be lost, how long a machine may need, how long the load runs before the kill, and how long a test waits for a copy.
-WITHIN, SERVES, LOAD, WAITS = 10, 60, 16, 60
+# Seconds: which commands may be lost, how long a machine may need, and how long the load runs before the kill.
+WITHIN, SERVES, LOAD = 10, 60, 16
 # Commands a second of each client, and the bytes of a tender.
 RATE, SIZE = 20, 30_000
 # A command in the place of `ssh`, which runs the first machine's command here.
@@ -147,13 +148,12 @@ class Trial:
         return json.loads((self.copies / "state").read_text(encoding="utf-8"))
 
     def wait_for(self, holds):
-        end = time.monotonic() + WAITS
-        while True:
+        for _ in range(600):
             with contextlib.suppress(OSError, ValueError, KeyError):
                 if holds():
                     return
-            assert time.monotonic() < end, self.said.read_text(encoding="utf-8")
             time.sleep(0.1)
+        pytest.fail(f"it waits for a minute: {self.said.read_text(encoding='utf-8')}")
 
     def ended(self, words):
         """The status of a script, and its output."""
@@ -262,14 +262,13 @@ def test_over_ssh(trial):
 def served_by(sshd, trial, stack):
     """Starts a server of ssh for this user, whose key may read the first machine's folder only. The command that reaches it."""
     # (The path of ssh's own socket may be no longer than 100 bytes.)
-    at, port = stack.enter_context(tempfile.TemporaryDirectory()), free_port()
+    at, port = Path(stack.enter_context(tempfile.TemporaryDirectory())), free_port()
     os.makedirs("/run/sshd", exist_ok=True)
     for name in ("host", "key"):
         subprocess.run([need("ssh-keygen", "openssh-client"), "-q", "-t", "ed25519", "-N", "", "-f", f"{at}/{name}"], check=True)
-    with open(f"{at}/key.pub") as key, open(f"{at}/allowed", "w") as allowed:
-        allowed.write(f'restrict,command="{need("rrsync", "rsync")} -ro {trial.first}" {key.read()}')
-    with open(f"{at}/config", "w") as config:
-        config.write(f"Port {port}\nListenAddress {HOST}\nHostKey {at}/host\nAuthorizedKeysFile {at}/allowed\nStrictModes no\nPidFile none\nUsePAM no\n")
+    (at / "allowed").write_text(f'restrict,command="{need("rrsync", "rsync")} -ro {trial.first}" {(at / "key.pub").read_text()}')
+    (at / "config").write_text(f"Port {port}\nListenAddress {HOST}\nHostKey {at}/host\nAuthorizedKeysFile {at}/allowed\n"
+                               "StrictModes no\nPidFile none\nUsePAM no\n")
     stack.enter_context(running([sshd, "-D", "-f", f"{at}/config"], stderr=subprocess.DEVNULL))
     return (f"ssh -F none -p {port} -i {at}/key -l {getpass.getuser()} -o HostName={HOST} -o StrictHostKeyChecking=no -o UserKnownHostsFile={at}/known "
             f"-o BatchMode=yes -o LogLevel=ERROR -o ControlMaster=auto -o ControlPersist=5 -o ControlPath={at}/%C")
