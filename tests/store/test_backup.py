@@ -1,5 +1,6 @@
 """The copies of deploy/backup.sh, of running and stopped offices: whole, checked, and deleted in turn. Scripts without one of its checks accept bad ones."""
 import contextlib
+import functools
 import lzma
 import os
 import subprocess
@@ -27,7 +28,7 @@ class Trial:
     """A folder with an office's file, its pages of this size, and the words that stop and start its server."""
 
     def __init__(self, program, folder, size):
-        self.program, self.folder, self.size = program, folder, size
+        self.program, self.folder, self.size, self.count = program, folder, size, 0
         self.file, self.log, self.copies, self.said = (folder / name for name in ("office.db", "office.db-wal", "copies", "said"))
         self.copies.mkdir()
         self.said.touch()
@@ -77,23 +78,31 @@ class Trial:
         assert run.returncode == 1 and told in run.stderr
         assert len(self.left(".wrong")) == 1 and not self.left(".db")
 
-    def works_between(self, work):
-        """From now on the work is done after each copy of the file, before the copy of the log."""
+    def works_between(self, *works):
+        """A piece of work is done after each copy of the file, before the copy of the log."""
         asked, done, tools = (self.folder / name for name in ("asked", "done", "tools"))
         os.mkfifo(asked)
         os.mkfifo(done)
         tools.mkdir()
         stand_in(str(tools / "cp"), f'/bin/cp "$@" || exit\ncase $2 in {self.file}) echo >{asked}; read -r _ <{done} ;; esac')
         self.words["PATH"] = f"{tools}:{os.environ['PATH']}"
-        threading.Thread(target=answer_each, args=(asked, done, work), daemon=True).start()
+        threading.Thread(target=answer_each, args=(asked, done, works), daemon=True).start()
+
+    def move_log(self, office):
+        """Imports until the log was moved, and once more."""
+        before, is_moved = self.log.read_bytes()[:32], False
+        while not is_moved:
+            is_moved = self.log.read_bytes()[:32] != before
+            self.count += 1
+            # (Each changes pages of its own, so that the log is soon moved, and a pair has not all of them.)
+            office.import_budget(f"M{self.count}", rows(250, 1000 * self.count, "Roads".ljust(200, ".")))
 
 
-def answer_each(asked, done, work):
-    """Does the work each time it is asked for, as long as the folder exists."""
-    with contextlib.suppress(OSError):
-        while asked.read_text():
-            work()
-            done.write_text("\n")
+def answer_each(asked, done, works):
+    for work in works:
+        asked.read_bytes()
+        work()
+        done.write_text("\n")
 
 
 @pytest.fixture
@@ -118,43 +127,20 @@ def test_a_good_copy(trial):
         assert office.ledger().body == ledger
 
 
-class MovesTheLog:
-    """A work that imports until the log was moved, and once more. It does so once, and again if `is_done` is set back."""
-
-    def __init__(self, trial, office):
-        self.trial, self.office, self.count, self.is_done = trial, office, 0, False
-
-    def head(self):
-        return self.trial.log.read_bytes()[:32]
-
-    def add(self):
-        self.count += 1
-        # (Each changes pages of its own, so that the log is soon moved, and a pair has not all of them.)
-        self.office.import_budget(f"M{self.count}", rows(250, 1000 * self.count, "Roads".ljust(200, ".")))
-
-    def __call__(self):
-        if not self.is_done:
-            head = self.head()
-            while self.head() == head:
-                self.add()
-            self.add()
-            self.is_done = True
-
-
 def test_a_moved_log(trial):
     """If the log is moved between the two copies, the script makes them again. Without this check it takes a pair in which answered commands are missing."""
     batches = "SELECT count(*) FROM batches"
     with trial.served() as office:
         office.import_budget("B1", rows(LINES))
-        work = MovesTheLog(trial, office)
-        trial.works_between(work)
+        moves = functools.partial(trial.move_log, office)
+        trial.works_between(moves, lambda: None, moves)
         run = trial.back_up(TRIES="2")
-        assert run.returncode == 0 and "whole at try 2" in run.stdout and work.is_done
-        assert trial.asked(batches) == str(work.count + 1)
-        before, work.is_done = work.count, False
+        assert run.returncode == 0 and "whole at try 2" in run.stdout
+        before = trial.count + 1
+        assert trial.asked(batches) == str(before) and before > 1
         run = trial.back_up(trial.planted('    [ "$(head_of_log)" = "$before" ]\n', ""), TRIES="2")
-        assert "whole at try 1" in run.stdout and work.is_done
-        assert run.returncode or int(trial.asked(batches)) < before + 1
+        assert "whole at try 1" in run.stdout and trial.count >= before
+        assert run.returncode or int(trial.asked(batches)) < before
 
 
 def moved(file, log, share):
