@@ -1,9 +1,10 @@
 """deploy/check, and the units of deploy/ as systemd reads them.
 
-Each comparison of the check is made void, and a test fails then. `systemd-analyze verify` prints nothing about the units, with other programs in place of the
-installed ones, and something if a word in one is wrong.
+Each comparison of the check is made void (planted_in_check.tsv), and a test fails then. `systemd-analyze verify` prints nothing about the units, with other
+programs in place of the installed ones, and something if a word in one is wrong.
 """
 import contextlib
+import functools
 import io
 import json
 import os
@@ -305,49 +306,20 @@ def test_wrong_words(trial, words):
     trial.says(WORDS, "check: ", *words.split())
 
 
-# Parts of the script that are made void, and the test that then fails.
-PLANTS = [
-    ("ahead < 0", "False", test_clock),
-    ("0 <= ahead <= DAY", "True", test_clock),
-    ("< 16_000_000", "< 1 << 62", test_clock),
-    ("time.time() - os.stat(choice.told).st_mtime", "0", test_clock),
-    ("and not ADDRESS.fullmatch(table[\"base\"])", "and False", test_settings),
-    ("if not ADDRESS.fullmatch(text)", "if False", test_settings),
-    ("if not any(LOTS", "if False and not any(LOTS", test_settings),
-    ("[A-Z]{3}", "[A-Za-z]{3}", test_settings),
-    ("len(value.encode()) <= 200", "len(value) <= 200", test_settings),
-    ("free < choice.room * MB // 2", "False", test_room),
-    ("WARNING if free < choice.room * MB", "WARNING if False", test_room),
-    ("min(level, WARNING) if choice.before_start", "level if choice.before_start", test_room),
-    ("if size > most * 4 // 5:", "if size > most:", test_room),
-    ("age <= choice.age * HOUR", "True", test_copy),
-    ("if since > moment", "if False", test_copy),
-    ("run.returncode == 0 and run.stdout.startswith(b\"LEDGER\")", "True", test_copy),
-    ("good = text == EMPTY", "good = True", test_answer),
-    ("self.exit(3,", "self.exit(2,", lambda trial: test_wrong_words(trial, "colour")),
-    ("OK if choice.before_start and worst == WARNING else worst", "worst", test_before_start),
-    ("mode=ro", "immutable=1", test_before_start),
-    ("os.remove(name)", "pass", test_before_start),
-    ("abs(jump) <= MINUTE", "jump <= MINUTE", test_jump),
-    ("yield OK if who else CRITICAL, f\"the clock jumped", "yield OK, f\"the clock jumped", test_jump),
-    ("if choice.before_start and worst != CRITICAL:", "if choice.before_start:", test_jump),
-    ("    if who:\n        note_distance(choice)\n", "", test_jump),
-    ("OK if -most <= age <= most else", "OK if age <= most else", test_standby),
-    ("WARNING if age <= 4 * most and age >= 0", "WARNING if True", test_standby),
-    ("20 * choice.lag)):", "2000 * choice.lag)):", test_standby),
-    ("if state.get(\"fault\"):", "if False:", test_standby),
-]
+PLANTS = [line.replace(r"\n", "\n").split("\t") for line in Path(__file__).with_name("planted_in_check.tsv").read_text(encoding="utf-8").splitlines()[1:]]
+TESTS = {"settings": test_settings, "clock": test_clock, "before_start": test_before_start, "room": test_room, "copy": test_copy, "answer": test_answer,
+         "jump": test_jump, "standby": test_standby, "wrong_words": functools.partial(test_wrong_words, words="colour")}
 
 
-@pytest.mark.parametrize("old, new, test", PLANTS, ids=[f"{new} in {test.__name__.removeprefix('test_')}" for _, new, test in PLANTS])
-def test_planted(program, tmp_path, old, new, test):
+@pytest.mark.parametrize("name, old, new", PLANTS, ids=[f"{new} in {name}" for name, _, new in PLANTS])
+def test_planted(program, tmp_path, name, old, new):
+    """A part of the script is made void, and a test fails then."""
     trial = Trial(program, tmp_path / "trial", planted(CHECK, tmp_path, old, new))
     with pytest.raises(AssertionError):
-        test(trial)
+        TESTS[name](trial)
 
 
 # ---- The units.
-
 
 def verified(units):
     run = subprocess.run(["systemd-analyze", "verify", *units], capture_output=True, text=True)
