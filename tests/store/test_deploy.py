@@ -306,7 +306,8 @@ def test_wrong_words(trial, words):
     trial.says(WORDS, "check: ", *words.split())
 
 
-PLANTS = [line.replace(r"\n", "\n").split("\t") for line in Path(__file__).with_name("planted_in_check.tsv").read_text(encoding="utf-8").splitlines()[1:]]
+ROWS = Path(__file__).with_name("planted_in_check.tsv").read_text(encoding="utf-8").splitlines()[1:]
+PLANTS = [row.replace(r"\n", "\n").split("\t") for row in ROWS]
 TESTS = {"settings": test_settings, "clock": test_clock, "before_start": test_before_start, "room": test_room, "copy": test_copy, "answer": test_answer,
          "jump": test_jump, "standby": test_standby, "wrong_words": functools.partial(test_wrong_words, words="colour")}
 
