@@ -43,8 +43,8 @@ OUT, IN, UNANSWERED = "out", "in", "in though no answer had come"
 class Office:
     """An office's file in a folder of its own, which a program serves on days."""
 
-    def __init__(self, program, shim, folder, size=pages.NEW):
-        self.program, self.shim, self.folder, self.path = program, shim, folder, str(folder / "office.db")
+    def __init__(self, program, shim, folder, size):
+        self.program, self.shim, self.folder, self.path, self.size = program, shim, folder, str(folder / "office.db"), size
         if not folder.exists():
             folder.mkdir()
             pages.begin(self.path, size)
@@ -56,31 +56,29 @@ class Office:
         with server(self.program, self.path, count, settings, env={**os.environ, **clock}) as (process, port), connect(port, LISTENS) as stream:
             yield process, stream
 
-    def whole(self, number, request, settings=CONFIG, answer=OK):
-        """The seconds of a request, on a day that ends on its own after it."""
-        with self.on(number, 1, settings) as (process, stream):
+    def asked(self, number, request, settings=CONFIG, answer=OK, is_killed=False):
+        """The seconds of a request, on a day that ends on its own after it, or is killed."""
+        with self.on(number, MANY if is_killed else 1, settings) as (process, stream):
             begun = time.perf_counter()
             stream.sendall(request)
             response = read_all(stream)
             took = time.perf_counter() - begun
             assert response.startswith(answer) and is_whole(response) == (answer == OK)
-            assert process.wait(LISTENS) == 0
+            assert is_killed or process.wait(LISTENS) == 0
         return took
-
-    def answered(self, number, request):
-        """Sends a request on a day that is killed after its answer."""
-        with self.on(number) as (_, stream):
-            stream.sendall(request)
-            assert is_whole(read_all(stream))
 
     def killed(self, number, request, delay, by_log):
         """Whether a request was answered as a whole, on a day with a kill after so many seconds. (It is sent after the first ones of these, BEFORE.) If
         `by_log`, they are counted from the first write to the log."""
+        response = b""
         with self.on(number) as (process, stream):
             killer = threading.Thread(target=self.kill_in_time, args=(process, delay, self.log() if by_log else None))
             killer.start()
             time.sleep(BEFORE)
-            response = told_until_killed(stream, request)
+            with contextlib.suppress(OSError):
+                stream.sendall(request)
+                while part := stream.recv(1 << 16):
+                    response += part
             killer.join()
             assert process.wait() == -signal.SIGKILL, "it ended by itself"
         assert not response or OK.startswith(response[:len(OK)]), "refused"
@@ -105,16 +103,6 @@ class Office:
         return rows_of(self.path, schema=True)
 
 
-def told_until_killed(stream, request):
-    """The part of the response that came before the connection ended."""
-    parts = []
-    with contextlib.suppress(OSError):
-        stream.sendall(request)
-        while part := stream.recv(1 << 16):
-            parts.append(part)
-    return b"".join(parts)
-
-
 def what_is_left(before, after, found, answered):
     """Whether a command is out or in, by the rows before it, the rows after it, and the rows found."""
     if found == after:
@@ -136,9 +124,9 @@ class WholeLife(Office):
 
     def __init__(self, program, shim, folder, size):
         super().__init__(program, shim, folder / "whole", size)
-        self.size, self.seconds, self.rows_after, self.copies = size, [], [], []
+        self.seconds, self.rows_after, self.copies = [], [], []
         for number, step in enumerate(LIFE):
-            self.seconds.append(self.whole(number, step.text))
+            self.seconds.append(self.asked(number, step.text))
             self.rows_after.append(self.rows())
             self.copies.append(shutil.copy(self.path, folder / f"day-{number}.db"))
 
@@ -220,7 +208,7 @@ def kill_in(office, whole, number, moments, turn):
     found = what_is_left(before, after, office.rows(), answered)
     if not by_log:
         moments.learn(delay, found)
-    office.answered(number, request if found == OUT else LEDGER)
+    office.asked(number, request if found == OUT else LEDGER, is_killed=True)
     assert office.rows() == after
     return found
 
@@ -229,13 +217,13 @@ def test_killed(whole, tmp_path, seed, is_long):
     """With more than one kill in each command all but the last are over copies, as the files were before it."""
     random.seed(seed)
     rounds, office, counts = 20 if is_long else 1, Office(whole.program, whole.shim, tmp_path / "killed", whole.size), Counter()
-    office.answered(0, LEDGER)
+    office.asked(0, LEDGER, is_killed=True)
     assert office.rows() == whole.rows_after[0]
     for number in DAYS.values():
         moments = Moments(whole.seconds[number], rounds)
         for turn in range(1, rounds):
             copy = shutil.copytree(office.folder, tmp_path / f"{number}-{turn}")
-            counts[kill_in(Office(whole.program, whole.shim, copy), whole, number, moments, turn)] += 1
+            counts[kill_in(Office(whole.program, whole.shim, copy, whole.size), whole, number, moments, turn)] += 1
             shutil.rmtree(copy)
         counts[kill_in(office, whole, number, moments, 0)] += 1
     print(counts)
@@ -255,12 +243,12 @@ def test_two_keys(whole, tmp_path):
     with open(CONFIG, encoding="utf-8") as file:
         other.write_text(file.read().replace(hashlib.sha256(CLERK[1]).hexdigest(), hashlib.sha256(OTHER_KEY).hexdigest()), encoding="utf-8")
     office = Office(whole.program, whole.shim, tmp_path / "keyed", whole.size)
-    office.whole(0, LEDGER)
+    office.asked(0, LEDGER)
     assert office.rows() != whole.rows_after[-1], "an office that was forgotten"
     for number in DAYS.values():
         settings, key = (str(other), OTHER_KEY) if number % 2 else (CONFIG, CLERK[1])
         text = LIFE[number].text.replace(b"\r\nOffice-Key: %s\r\n" % CLERK[1], b"\r\nOffice-Key: %s\r\n" % key)
         if text != LIFE[number].text:
-            office.whole(number, LIFE[number].text, settings, BAD_KEY)
-        office.whole(number, text, settings)
+            office.asked(number, LIFE[number].text, settings, BAD_KEY)
+        office.asked(number, text, settings)
         assert office.rows() == whole.rows_after[number]
