@@ -36,10 +36,6 @@ class Trial:
         self.words = {**os.environ, "PROCURE": program, "TRIES": "1", "STOP": f"{say} stop", "START": f"{say} start"}
         pages.begin(str(self.file), size)
 
-    def planted(self, old, new):
-        """The script with a part of it replaced."""
-        return planted(SCRIPT, self.folder, old, new)
-
     @contextlib.contextmanager
     def served(self, count=None, file=None):
         """The client of a server over the file. It ends on its own after so many requests, or is killed."""
@@ -55,7 +51,9 @@ class Trial:
         self.fill()
         sqlite(self.file, "PRAGMA wal_checkpoint(TRUNCATE)")
 
-    def back_up(self, script=SCRIPT, **more):
+    def back_up(self, *plant, **more):
+        """Runs the script, with a part of it replaced by another one if they are given."""
+        script = planted(SCRIPT, self.folder, *plant) if plant else SCRIPT
         return subprocess.run(["sh", script, CONFIG, self.file, self.copies], env={**self.words, **more}, capture_output=True, text=True)
 
     def left(self, ending=""):
@@ -86,7 +84,13 @@ class Trial:
         tools.mkdir()
         stand_in(str(tools / "cp"), f'/bin/cp "$@" || exit\ncase $2 in {self.file}) echo >{asked}; read -r _ <{done} ;; esac')
         self.words["PATH"] = f"{tools}:{os.environ['PATH']}"
-        threading.Thread(target=answer_each, args=(asked, done, works), daemon=True).start()
+
+        def answer_each():
+            for work in works:
+                asked.read_bytes()
+                work()
+                done.write_text("\n")
+        threading.Thread(target=answer_each, daemon=True).start()
 
     def move_log(self, office):
         """Imports until the log was moved, and once more."""
@@ -96,13 +100,6 @@ class Trial:
             self.count += 1
             # (Each changes pages of its own, so that the log is soon moved, and a pair has not all of them.)
             office.import_budget(f"M{self.count}", rows(250, 1000 * self.count, "Roads".ljust(200, ".")))
-
-
-def answer_each(asked, done, works):
-    for work in works:
-        asked.read_bytes()
-        work()
-        done.write_text("\n")
 
 
 @pytest.fixture
@@ -138,7 +135,7 @@ def test_a_moved_log(trial):
         assert run.returncode == 0 and "whole at try 2" in run.stdout
         before = trial.count + 1
         assert trial.asked(batches) == str(before) and before > 1
-        run = trial.back_up(trial.planted('    [ "$(head_of_log)" = "$before" ]\n', ""), TRIES="2")
+        run = trial.back_up('    [ "$(head_of_log)" = "$before" ]\n', "", TRIES="2")
         assert "whole at try 1" in run.stdout and trial.count >= before
         assert run.returncode or int(trial.asked(batches)) < before
 
@@ -199,7 +196,7 @@ def test_an_earlier_version(program, tmp_path):
     assert trial.back_up().returncode == 0
     assert trial.asked("SELECT version FROM office") == "1"
     trial.copy().unlink()
-    trial.back_up(trial.planted('ledger "$config" "$copy.trial"', 'ledger "$config" "$copy.part"'))
+    trial.back_up('ledger "$config" "$copy.trial"', 'ledger "$config" "$copy.part"')
     assert trial.asked("SELECT version FROM office") == "2"
 
 
@@ -241,7 +238,7 @@ def test_a_row_that_its_table_forbids(trial):
     trial.words["PROCURE"] = stand_in(str(trial.folder / "blind"), "echo LEDGER")
     run = trial.back_up()
     assert run.returncode == 1 and "the copy is broken: CHECK" in run.stderr
-    assert trial.back_up(trial.planted('[ "$told" = ok ]', "true")).returncode == 0
+    assert trial.back_up('[ "$told" = ok ]', "true").returncode == 0
 
 
 def test_no_database(trial):
@@ -253,7 +250,7 @@ def test_no_office(trial):
     """Without asking `procure` the script accepts a database that is no office."""
     sqlite(trial.file, "CREATE TABLE office (version INTEGER); PRAGMA journal_mode = wal;")
     trial.is_refused(trial.back_up(), "the copy is no office")
-    assert trial.back_up(trial.planted('''|| wrong 'the copy is no office\'''', "|| true")).returncode == 0
+    assert trial.back_up('''|| wrong 'the copy is no office\'''', "|| true").returncode == 0
 
 
 def test_no_room(trial):
@@ -261,7 +258,7 @@ def test_no_room(trial):
     with trial.served() as office:
         for number in range(20):
             office.import_budget(f"C{number}", rows(LINES))
-        run = trial.back_up(trial.planted("set -eu\n", "set -eu\nulimit -f 4\n"))
+        run = trial.back_up("set -eu\n", "set -eu\nulimit -f 4\n")
     assert run.returncode == 1 and "the copy can't be written" in run.stderr
     assert not trial.left() and not trial.said.read_text()
 
