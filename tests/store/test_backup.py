@@ -93,7 +93,7 @@ class Trial:
         threading.Thread(target=answer_each, daemon=True).start()
 
     def move_log(self, office):
-        """Imports until the log was moved, and once more."""
+        """Imports until the log was moved, and then one more time."""
         before, is_moved = self.log.read_bytes()[:32], False
         while not is_moved:
             is_moved = self.log.read_bytes()[:32] != before

@@ -28,7 +28,7 @@ from office_kit.store.served import MANY, server
 from office_kit.store.shims import CLOCK
 
 pytestmark = [pytest.mark.needs("cc"), pytest.mark.budget(120)]
-# What is asked on each day, and at which second: the ledger, and then a command on each.
+# The request of each day, and its second: first that of the ledger, and then one command a day.
 LEDGER = look(b"/ledger")
 LIFE = [fault_plays.Step("the ledger", fault_plays.BEGUN, LEDGER), *fault_plays.life().steps]
 DAYS = {f"{number} {step.name}": number for number, step in enumerate(LIFE) if number}
