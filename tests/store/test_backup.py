@@ -63,7 +63,6 @@ class Trial:
         return self.copies / self.left(".db")[-1]
 
     def asked(self, query):
-        """The answer of sqlite3 about the copy."""
         return sqlite(self.copy(), query)[0]
 
     def is_one_copy(self):

@@ -51,7 +51,6 @@ def test_each_route_is_asked():
 
 
 def life(office):
-    """The answers to a small life."""
     return [office.import_budget("B1", budget("1000,add,1000,Roads")), office.register("T1"), office.publish("N1", notice(DEADLINE, lot(security=50))),
             office.present("T1", "N1", "L1", tender((3, 190)), "G1", 50), office.modify("T1", 1, tender((3, 180))), office.tender("T1", 2),
             office.tender("T1", 1), office.open("N1"), office.security("clerk", 1), office.line("1000"), office.ledger(), office.record("N1")]
@@ -76,7 +75,6 @@ def relay(office, times=0, wait="1"):
 
 
 def plain(answers):
-    """Answers without their moments."""
     return [(answer.status, MOMENT.sub(b"MOMENT", answer.body)) for answer in answers]
 
 
@@ -148,7 +146,6 @@ ASK, EXCHANGE = Front.ask, Port.exchange
     (test_it_gives_up_after_429, ["office"], client, "TRIES", 2),
 ])
 def test_planted_fault(request, monkeypatch, test, given, thing, name, instead):
-    """A fault of the client makes the test fail."""
     words = [request.getfixturevalue(it) if it in ("serving", "office", "of_blocks") else it for it in given]
     monkeypatch.setattr(thing, name, instead)
     with pytest.raises((AssertionError, SystemExit, KeyError, pytest.fail.Exception)):

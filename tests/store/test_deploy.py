@@ -227,7 +227,6 @@ def test_copy(trial):
 
 
 def answering(status, body):
-    """A server that answers so to the question of this check."""
     class Answering(Handler):
         def do_GET(self):
             self.tell(status if self.path == "/notices?after=" + "z" * 32 else 404, body)
@@ -305,7 +304,6 @@ TESTS = {"settings": test_settings, "clock": test_clock, "before_start": test_be
 
 @pytest.mark.parametrize("name, old, new", PLANTS, ids=[f"{new} in {name}" for name, _, new in PLANTS])
 def test_planted(program, tmp_path, name, old, new):
-    """A part of the script is made void, and a test fails then."""
     trial = Trial(program, tmp_path / "trial", planted(CHECK, tmp_path, old, new))
     with pytest.raises(AssertionError):
         TESTS[name](trial)

@@ -82,7 +82,6 @@ def run_test(tests, name, shim, number):
 
 
 def refuse_in_test(tests, name, shim, number):
-    """How such a test ended."""
     status, told = run_test(tests, name, shim, number)
     if "allocation refused" not in told:
         return "nothing was refused"

@@ -29,7 +29,6 @@ def test_counts():
 
 
 def lay_out(folder):
-    """The wrong files beside right ones."""
     right = Path(CRATE, "data", "imports.txt").read_text(encoding="utf-8")
     changed = right.replace('"rows":500}', '"rows":501}')
     assert changed != right

@@ -28,7 +28,6 @@ class Column(NamedTuple):
 
 
 def column_of(kind, *words):
-    """A column, by the words of tables.txt."""
     is_null, words = "NULL" in words, [it for it in words if it != "NULL"]
     if kind == "word":
         return Column("TEXT", [f"'{it}'" for it in words], ["''", "'other'", *(f"'{it.upper()}'" for it in words)], is_null)

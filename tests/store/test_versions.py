@@ -37,7 +37,6 @@ OTHERS, *IN_THE_WAY = BESIDE
 
 
 def texts_of(file):
-    """The texts of a file of constants, by their names."""
     return {name: raw or json.loads(text) for name, raw, text in TEXT.findall((STORES / file).read_text(encoding="utf-8"))}
 
 
@@ -66,7 +65,6 @@ def test_copies(name, tmp_path):
 
 
 def line_of(row):
-    """The line that is printed of a notice of the list."""
     names = ("notice", "state", "published", "deadline", "opened", "amendments", "releases", "title")
     return "\t".join("-" if row[name] is None else str(row[name]) for name in names) + "\n"
 
@@ -137,7 +135,6 @@ class Migrated(Life):
         assert [seen[name] for name in ("how", "outstanding", "paid", "released", "signed")] == [None, 450, 300, 0, 700]
 
     def settle(self):
-        """Queries the office, and ends its contract."""
         self.has_line(free=250, contracted=450, paid=300)
         self.has_looks()
         for who in ("clerk", "T1"):
@@ -179,7 +176,6 @@ def test_served(program, size, tmp_path):
 
 
 def dump(path):
-    """The statements that make all of a file."""
     with closing(sqlite3.connect(path)) as base:
         return list(base.iterdump())
 

@@ -24,8 +24,6 @@ from office_kit.store.served import server
 
 
 class Running(Life):
-    """A contract that runs."""
-
     def before_the_deadline(self):
         self.import_budget("B1", budget("1000,add,1000,Roads"))
         self.enrol("T1", "T2")
