@@ -3,9 +3,10 @@
 That program knows nothing of ours. tables.txt has the tables, and docs/TABLES.md says the same. Each row is added to a file that the program made, and taken
 back in a transaction.
 """
+import functools
 import re
+from collections import namedtuple
 from pathlib import Path
-from typing import NamedTuple
 
 import pytest
 
@@ -16,15 +17,8 @@ pytestmark = pytest.mark.needs("sqlite3")
 VALUES = {"INTEGER": str, "TEXT": lambda length: f"'{'a' * length}'", "BLOB": "zeroblob({})".format}
 # Values of other types than that of a column.
 OTHERS = {"INTEGER": ["'a'", "1.5", "x'00'"], "TEXT": ["x'00'"], "BLOB": ["'a'", "1", "1.5"]}
-
-
-class Column(NamedTuple):
-    """A column: its type, values that it takes, values that it doesn't, and whether it may be NULL."""
-
-    kind: str
-    takes: list
-    refuses: list
-    may_be_null: bool
+# A column: its type, values that it takes, values that it doesn't, and whether it may be NULL.
+Column = namedtuple("Column", "kind takes refuses may_be_null")
 
 
 def column_of(kind, *words):
@@ -53,35 +47,28 @@ def is_rowid(table):
     return len(key) == 1 and columns[key[0]].kind == "INTEGER"
 
 
-class File:
-    """An office's file that the program made."""
-
-    def __init__(self, program, folder):
-        self.path = str(folder / "office.db")
-        ledger_of(program, self.path)
-
-    def ask(self, script):
-        """The lines that sqlite3 prints for a script; a statement that it refuses is skipped."""
-        return sqlite(self.path, script, may_fail=True)
-
-    def takes(self, table, rows):
-        """Which of these lists of rows, each put alone, the table takes whole."""
-        names = ", ".join(TABLES[table][1])
-        puts = [[f"INSERT INTO {table} ({names}) VALUES ({', '.join(row)});" for row in some] for some in rows]
-        script = "\n".join(f"BEGIN; DELETE FROM {table};\n" + "\n".join(put) + f"\nSELECT count(*) = {len(put)} FROM {table}; ROLLBACK;" for put in puts)
-        told = self.ask(script)
-        assert len(told) == len(rows)
-        return [it == "1" for it in told]
-
-    def judges(self, table, wanted):
-        """Each row, by its column and value, is accepted or refused as expected."""
-        told = self.takes(table, [[row_of(table, **{name: value})] for name, value, _ in wanted])
-        assert [(*it[:2], taken) for it, taken in zip(wanted, told)] == wanted
-
-
 @pytest.fixture(scope="module")
-def file(program, tmp_path_factory):
-    return File(program, tmp_path_factory.mktemp("schema"))
+def ask(program, tmp_path_factory):
+    """Runs a script over an office's file: the lines that sqlite3 prints. A statement that it refuses is skipped."""
+    path = str(tmp_path_factory.mktemp("schema") / "office.db")
+    ledger_of(program, path)
+    return functools.partial(sqlite, path, may_fail=True)
+
+
+def takes(ask, table, rows):
+    """Which of these lists of rows, each put alone, the table takes whole."""
+    names = ", ".join(TABLES[table][1])
+    puts = [[f"INSERT INTO {table} ({names}) VALUES ({', '.join(row)});" for row in some] for some in rows]
+    script = "\n".join(f"BEGIN; DELETE FROM {table};\n" + "\n".join(put) + f"\nSELECT count(*) = {len(put)} FROM {table}; ROLLBACK;" for put in puts)
+    told = ask(script)
+    assert len(told) == len(rows)
+    return [it == "1" for it in told]
+
+
+def judges(ask, table, wanted):
+    """Each row, by its column and value, is accepted or refused as expected."""
+    told = takes(ask, table, [[row_of(table, **{name: value})] for name, value, _ in wanted])
+    assert [(*it[:2], taken) for it, taken in zip(wanted, told)] == wanted
 
 
 def row_of(table, **other):
@@ -93,25 +80,25 @@ each_table = pytest.mark.parametrize("table", TABLES)
 
 
 @each_table
-def test_table(file, table):
+def test_table(ask, table):
     """Its columns, the kinds of their values, its key, and which columns may be NULL."""
     key, columns = TABLES[table]
     places = {name: key.index(name) + 1 if name in key else 0 for name in columns}
     wanted = [f"{at}|{name}|{column.kind}|{int(not column.may_be_null)}||{places[name]}" for at, (name, column) in enumerate(columns.items())]
-    assert file.ask(f"PRAGMA table_info({table});") == wanted
+    assert ask(f"PRAGMA table_info({table});") == wanted
 
 
-def test_tables(file):
+def test_tables(ask):
     """There are these tables and indexes, and all tables are STRICT."""
-    assert file.ask("SELECT name FROM pragma_table_list WHERE schema = 'main' AND strict = 1 ORDER BY name;") == sorted(TABLES)
-    assert file.ask("SELECT name FROM sqlite_master WHERE name NOT LIKE 'sqlite!_%' ESCAPE '!' ORDER BY name;") == sorted([*TABLES, *INDEXES])
+    assert ask("SELECT name FROM pragma_table_list WHERE schema = 'main' AND strict = 1 ORDER BY name;") == sorted(TABLES)
+    assert ask("SELECT name FROM sqlite_master WHERE name NOT LIKE 'sqlite!_%' ESCAPE '!' ORDER BY name;") == sorted([*TABLES, *INDEXES])
     for index, wanted in INDEXES.items():
-        told = file.ask(f"SELECT tbl_name FROM sqlite_master WHERE name = '{index}'; SELECT name FROM pragma_index_info('{index}') ORDER BY seqno;")
+        told = ask(f"SELECT tbl_name FROM sqlite_master WHERE name = '{index}'; SELECT name FROM pragma_index_info('{index}') ORDER BY seqno;")
         assert told == wanted
 
 
 @each_table
-def test_bounds(file, table):
+def test_bounds(ask, table):
     """A column accepts the least and the most that its record has, and each word. It refuses one below, one above, another word, and, if need be, NULL."""
     key, columns = TABLES[table]
     wanted = []
@@ -120,23 +107,23 @@ def test_bounds(file, table):
         # SQLite chooses a rowid for NULL, so the table accepts it.
         if column.may_be_null or not (is_rowid(table) and name in key):
             wanted.append((name, "NULL", column.may_be_null))
-    file.judges(table, wanted)
+    judges(ask, table, wanted)
 
 
 @each_table
-def test_kinds(file, table):
+def test_kinds(ask, table):
     """No column accepts a value of another kind."""
-    file.judges(table, [(name, value, False) for name, column in TABLES[table][1].items() for value in OTHERS[column.kind]])
+    judges(ask, table, [(name, value, False) for name, column in TABLES[table][1].items() for value in OTHERS[column.kind]])
 
 
 @each_table
-def test_key(file, table):
+def test_key(ask, table):
     """No two rows have the same key. A key that is a number is the rowid."""
     key, columns = TABLES[table]
     one, others = row_of(table), [row_of(table, **{name: columns[name].takes[1]}) for name in key]
-    assert file.takes(table, [[one, one], *([one, other] for other in others)]) == [False] + [True] * len(key)
+    assert takes(ask, table, [[one, one], *([one, other] for other in others)]) == [False] + [True] * len(key)
     if is_rowid(table):
-        same = file.ask(f"BEGIN; INSERT OR REPLACE INTO {table} VALUES ({', '.join(one)}); SELECT min(rowid = {key[0]}) FROM {table}; ROLLBACK;")
+        same = ask(f"BEGIN; INSERT OR REPLACE INTO {table} VALUES ({', '.join(one)}); SELECT min(rowid = {key[0]}) FROM {table}; ROLLBACK;")
         assert same == ["1"]
 
 
@@ -163,9 +150,9 @@ def step_of(table, test, columns):
 
 
 @pytest.mark.parametrize("query", asked())
-def test_query(file, query):
+def test_query(ask, query):
     """`EXPLAIN QUERY PLAN` uses the key or the index that is listed here."""
-    steps = [line.lstrip(" |`-") for line in file.ask(f"EXPLAIN QUERY PLAN {query};") if line != "QUERY PLAN"]
+    steps = [line.lstrip(" |`-") for line in ask(f"EXPLAIN QUERY PLAN {query};") if line != "QUERY PLAN"]
     plain = re.fullmatch(r"(?:SELECT (.*)|DELETE) FROM (\w+) WHERE (.*?)(?: ORDER BY .*)?", query)
     first = re.fullmatch(r"SELECT .* FROM (\w+) ORDER BY (\w+) LIMIT \?1", query)
     if "JOIN" in query:
@@ -200,19 +187,19 @@ def sections():
     return found
 
 
-def test_dictionary(file):
+def test_dictionary():
     """docs/TABLES.md has each table of the file."""
     assert sections().keys() == TABLES.keys()
 
 
 @each_table
-def test_dictionary_of(file, table):
+def test_dictionary_of(ask, table):
     """docs/TABLES.md has each column in order. Type, place in the key, whether it may be NULL, and the words of a column are those of the file."""
-    rows, columns = sections()[table], [line.split("|") for line in file.ask(f"PRAGMA table_info({table});")]
+    rows, columns = sections()[table], [line.split("|") for line in ask(f"PRAGMA table_info({table});")]
     wanted = [(name, kind, key if key != "0" else "", needed == "0") for _, name, kind, needed, _, key in columns]
     assert [(name, kind, key, unit.endswith("or empty")) for name, kind, key, unit, _ in rows] == wanted
     assert all(unit and meaning for *_, unit, meaning in rows)
-    made = "\n".join(file.ask(f"SELECT sql FROM sqlite_master WHERE name = '{table}';"))
+    made = "\n".join(ask(f"SELECT sql FROM sqlite_master WHERE name = '{table}';"))
     for name, _, _, unit, meaning in rows:
         words = re.search(rf"\({name} IN \(([^)]*)\)", made)
         assert bool(words) == unit.startswith("word")
