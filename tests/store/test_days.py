@@ -16,7 +16,7 @@ import sqlite3
 import subprocess
 import threading
 import time
-from collections import Counter
+from collections import Counter, namedtuple
 
 import pytest
 
@@ -38,13 +38,15 @@ LISTENS, BEFORE, AFTER = 300, 0.002, 0.002
 WRITING = 0.002
 OTHER_KEY, BAD_KEY = b"another key", b"HTTP/1.1 401 "
 OUT, IN, UNANSWERED = "out", "in", "in though no answer had come"
+# A day on which nothing was killed: the seconds of its command, the rows after it, and a copy of the file.
+Day = namedtuple("Day", "seconds rows copy")
 
 
 class Office:
     """An office's file in a folder of its own, which a program serves on days."""
 
     def __init__(self, program, shim, folder, size):
-        self.program, self.shim, self.folder, self.path, self.size = program, shim, folder, str(folder / "office.db"), size
+        self.program, self.shim, self.folder, self.path, self.size, self.days = program, shim, folder, str(folder / "office.db"), size, []
         if not folder.exists():
             folder.mkdir()
             pages.begin(self.path, size)
@@ -114,26 +116,15 @@ def what_is_left(before, after, found, answered):
 
 # ---- The life without kills.
 
-@pytest.fixture(scope="module")
-def shim(tmp_path_factory):
-    return made_shim(CLOCK, str(tmp_path_factory.mktemp("shim")))
-
-
-class WholeLife(Office):
-    """The rows after each day, the seconds of its command, and a copy of the file."""
-
-    def __init__(self, program, shim, folder, size):
-        super().__init__(program, shim, folder / "whole", size)
-        self.seconds, self.rows_after, self.copies = [], [], []
-        for number, step in enumerate(LIFE):
-            self.seconds.append(self.asked(number, step.text))
-            self.rows_after.append(self.rows())
-            self.copies.append(shutil.copy(self.path, folder / f"day-{number}.db"))
-
-
 @pytest.fixture(scope="module", params=[pages.NEW, pytest.param(pages.FORMER, marks=pytest.mark.long)])
-def whole(request, program, shim, tmp_path_factory):
-    return WholeLife(program, shim, tmp_path_factory.mktemp("days"), request.param)
+def whole(request, program, tmp_path_factory):
+    """An office that was served on all days, with these."""
+    folder = tmp_path_factory.mktemp("days")
+    office = Office(program, made_shim(CLOCK, str(folder)), folder / "whole", request.param)
+    for number, step in enumerate(LIFE):
+        seconds = office.asked(number, step.text)
+        office.days.append(Day(seconds, office.rows(), shutil.copy(office.path, folder / f"day-{number}.db")))
+    return office
 
 
 def test_each_command_is_in_the_life():
@@ -154,11 +145,11 @@ def take_back(path, before, tables):
 @pytest.mark.parametrize("name", DAYS)
 def test_planted(whole, name, tmp_path):
     """After a command only one table's rows are taken back, for each that it changed: it is then stored in part. If all are, an answered command is lost."""
-    before, after = whole.rows_after[DAYS[name] - 1:][:2]
+    before, after = (day.rows for day in whole.days[DAYS[name] - 1:DAYS[name] + 1])
     changed = unlike(before, after)
     assert len(changed) > 1, "it can't be in by a half"
     for tables, answered, said in [*(([table], False, "in part") for table in changed), (changed, True, "answered, and not there")]:
-        path = shutil.copy(whole.copies[DAYS[name]], tmp_path / "office.db")
+        path = shutil.copy(whole.days[DAYS[name]].copy, tmp_path / "office.db")
         take_back(path, before, tables)
         with pytest.raises(AssertionError, match=said):
             what_is_left(before, after, rows_of(str(path), schema=True), answered)
@@ -166,7 +157,7 @@ def test_planted(whole, name, tmp_path):
 
 def test_planted_page(whole, tmp_path):
     """The second page of the file is overwritten."""
-    path = shutil.copy(whole.copies[-1], tmp_path / "office.db")
+    path = shutil.copy(whole.days[-1].copy, tmp_path / "office.db")
     with open(path, "r+b") as file:
         file.seek(whole.size)
         file.write(b"\xa5" * whole.size)
@@ -202,7 +193,7 @@ class Moments:
 
 def kill_in(office, whole, number, moments, turn):
     """Kills in a command, and serves again. Returns the state that the kill left."""
-    before, after = whole.rows_after[number - 1:][:2]
+    before, after = (day.rows for day in whole.days[number - 1:number + 1])
     request, (delay, by_log) = LIFE[number].text, moments.choose(turn)
     answered = office.killed(number, request, delay, by_log)
     found = what_is_left(before, after, office.rows(), answered)
@@ -218,9 +209,9 @@ def test_killed(whole, tmp_path, seed, is_long):
     random.seed(seed)
     rounds, office, counts = 20 if is_long else 1, Office(whole.program, whole.shim, tmp_path / "killed", whole.size), Counter()
     office.asked(0, LEDGER, is_killed=True)
-    assert office.rows() == whole.rows_after[0]
+    assert office.rows() == whole.days[0].rows
     for number in DAYS.values():
-        moments = Moments(whole.seconds[number], rounds)
+        moments = Moments(whole.days[number].seconds, rounds)
         for turn in range(1, rounds):
             copy = shutil.copytree(office.folder, tmp_path / f"{number}-{turn}")
             counts[kill_in(Office(whole.program, whole.shim, copy, whole.size), whole, number, moments, turn)] += 1
@@ -231,7 +222,7 @@ def test_killed(whole, tmp_path, seed, is_long):
     audit = subprocess.run([os.path.join(ROOT, "tools", "audit"), office.path], capture_output=True, text=True)
     assert audit.returncode == 0, audit.stdout + audit.stderr
     assert ledger_of(office.program, office.path) == ledger_of(whole.program, whole.path)
-    assert office.rows() == whole.rows_after[-1]
+    assert office.rows() == whole.days[-1].rows
     pages.check_size(office.path, whole.size)
 
 
@@ -244,11 +235,11 @@ def test_two_keys(whole, tmp_path):
         other.write_text(file.read().replace(hashlib.sha256(CLERK[1]).hexdigest(), hashlib.sha256(OTHER_KEY).hexdigest()), encoding="utf-8")
     office = Office(whole.program, whole.shim, tmp_path / "keyed", whole.size)
     office.asked(0, LEDGER)
-    assert office.rows() != whole.rows_after[-1], "an office that was forgotten"
+    assert office.rows() != whole.days[-1].rows, "an office that was forgotten"
     for number in DAYS.values():
         settings, key = (str(other), OTHER_KEY) if number % 2 else (CONFIG, CLERK[1])
         text = LIFE[number].text.replace(b"\r\nOffice-Key: %s\r\n" % CLERK[1], b"\r\nOffice-Key: %s\r\n" % key)
         if text != LIFE[number].text:
             office.asked(number, LIFE[number].text, settings, BAD_KEY)
         office.asked(number, text, settings)
-        assert office.rows() == whole.rows_after[number]
+        assert office.rows() == whole.days[number].rows
