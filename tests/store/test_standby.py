@@ -36,52 +36,14 @@ FIRMS, LOTS = [f"T{number}" for number in range(1, 41)], [f"L{number}" for numbe
 WITHIN, SERVES, LOAD = 10, 60, 16
 # Commands a second of each client, and the bytes of a tender.
 RATE, SIZE = 20, 30_000
+# The exceptions of a client whose answer doesn't come, or comes in part.
+BROKEN = OSError, SystemExit, ValueError
 # A command in the place of `ssh`, which runs the first machine's command here.
 NO_SSH = 'while [ "$1" != here ]; do shift; done; shift; exec sh -c "$*"'
 
 
-class Load:
-    """Firms that submit tenders and a clerk who imports. It keeps the second of each answer, what the receipts say, and the imports that were sent."""
-
-    def __init__(self, trial):
-        self.client, self.size, self.pause = Client(Port(trial.port, patience=0)), trial.size, 1 / trial.rate
-        self.ends, self.answered, self.receipts, self.sent = threading.Event(), {}, {}, set()
-
-    @contextlib.contextmanager
-    def runs(self):
-        with ThreadPoolExecutor() as pool, contextlib.ExitStack() as stack:
-            stack.callback(self.ends.set)
-            works = [pool.submit(self.until_killed, work) for work in (self.submit_all, self.import_all)]
-            yield
-        for work in works:
-            work.result()
-
-    def until_killed(self, work):
-        """Works until an answer doesn't come, or comes in part."""
-        with contextlib.suppress(OSError, SystemExit, ValueError):
-            work()
-
-    def submit_all(self):
-        for place, firm in itertools.product(LOTS, FIRMS):
-            tender = random.randbytes(self.size)
-            told = self.client.present(firm, "N1", place, tender).value()
-            self.answered[f"receipt {told['receipt']}"] = time.monotonic()
-            self.receipts[told["receipt"]] = (firm, place, told["digest"])
-            assert (told["digest"], told["state"]) == (hashlib.sha256(tender).hexdigest(), "sealed")
-            if self.ends.wait(self.pause):
-                return
-
-    def import_all(self):
-        for name in (f"I{number}" for number in itertools.count()):
-            self.sent.add(name)
-            self.client.import_budget(name, budget(f"{name},add,7,Roads", "1000,add,1,Roads")).value()
-            self.answered[f"import {name}"] = time.monotonic()
-            if self.ends.wait(self.pause):
-                return
-
-
 class Trial:
-    """Two machines: a folder each."""
+    """Two machines, a folder each. It keeps the second of each answer to the load, what the receipts say, and the imports that were sent."""
 
     def __init__(self, program, folder):
         self.program, self.folder, self.script, self.port = program, folder, SCRIPT, free_port()
@@ -93,6 +55,7 @@ class Trial:
         self.copies.mkdir(parents=True)
         self.said.touch()
         self.source, self.count, self.size, self.rate = self.file, 0, SIZE, RATE
+        self.ends, self.answered, self.receipts, self.sent = threading.Event(), {}, {}, set()
 
     @contextlib.contextmanager
     def served(self, file=None, is_prepared=True):
@@ -106,6 +69,36 @@ class Trial:
                     self.client.register(firm)
                 self.client.publish("N1", notice(text_of(time.time() + 86_400), *(lot(place) for place in LOTS)))
             yield process
+
+    @contextlib.contextmanager
+    def loaded(self):
+        """While this lasts, or the server, firms submit tenders and a clerk imports."""
+        with ThreadPoolExecutor() as pool, contextlib.ExitStack() as stack:
+            stack.callback(self.ends.set)
+            works = [pool.submit(work, Client(Port(self.port, patience=0))) for work in (self.submit_all, self.import_all)]
+            yield
+        for work in works:
+            work.result()
+
+    def submit_all(self, client):
+        with contextlib.suppress(*BROKEN):
+            for place, firm in itertools.product(LOTS, FIRMS):
+                tender = random.randbytes(self.size)
+                told = client.present(firm, "N1", place, tender).value()
+                self.answered[f"receipt {told['receipt']}"] = time.monotonic()
+                self.receipts[told["receipt"]] = (firm, place, told["digest"])
+                assert (told["digest"], told["state"]) == (hashlib.sha256(tender).hexdigest(), "sealed")
+                if self.ends.wait(1 / self.rate):
+                    return
+
+    def import_all(self, client):
+        with contextlib.suppress(*BROKEN):
+            for name in (f"I{number}" for number in itertools.count()):
+                self.sent.add(name)
+                client.import_budget(name, budget(f"{name},add,7,Roads", "1000,add,1,Roads")).value()
+                self.answered[f"import {name}"] = time.monotonic()
+                if self.ends.wait(1 / self.rate):
+                    return
 
     def submit(self, size=SIZE):
         """Submits a tender, or another one in its place."""
@@ -188,9 +181,8 @@ def trial(program, tmp_path):
 # ---- A lost machine.
 
 def lose(trial, stopped=False):
-    """Loses the first machine under load; before that, if asked, the follower. The load, the second of the kill, the output of `take-over`, and the faults."""
-    load = Load(trial)
-    with trial.served() as server, trial.followed() as follower, load.runs():
+    """Loses the first machine under load; before that, if asked, the follower. The second of the kill, the output of `take-over`, and the faults."""
+    with trial.served() as server, trial.followed() as follower, trial.loaded():
         trial.wait_for(lambda: trial.state()["good"])
         if stopped:
             follower.kill()
@@ -203,7 +195,7 @@ def lose(trial, stopped=False):
         killed = time.monotonic()
         shutil.rmtree(trial.first)
     status, told = trial.take_over()
-    return load, killed, told, [told] if status else list(faults_of(load, killed, trial.made))
+    return killed, told, [told] if status else list(faults_of(trial, killed))
 
 
 def rows(file, query):
@@ -211,38 +203,38 @@ def rows(file, query):
         return office.execute(query).fetchall()
 
 
-def faults_of(load, killed, file):
-    """The commands that are missing in a file though they were answered more than ten seconds before the kill, and the faults of its rows."""
-    receipts = {number: tuple(told) for number, *told in rows(file, "SELECT receipt, tenderer, lot, lower(hex(digest)) FROM envelopes")}
-    sealed = {number: hashlib.sha256(data).hexdigest() for number, data in rows(file, "SELECT receipt, bytes FROM seals")}
-    imports = {name for name, in rows(file, "SELECT batch FROM batches WHERE batch LIKE 'I%'")}
-    lines = dict(rows(file, "SELECT line, appropriation FROM lines"))
+def faults_of(trial, killed):
+    """The commands that are missing in the file though they were answered more than ten seconds before the kill, and the faults of its rows."""
+    receipts = {number: tuple(told) for number, *told in rows(trial.made, "SELECT receipt, tenderer, lot, lower(hex(digest)) FROM envelopes")}
+    sealed = {number: hashlib.sha256(data).hexdigest() for number, data in rows(trial.made, "SELECT receipt, bytes FROM seals")}
+    imports = {name for name, in rows(trial.made, "SELECT batch FROM batches WHERE batch LIKE 'I%'")}
+    lines = dict(rows(trial.made, "SELECT line, appropriation FROM lines"))
     kept = {f"receipt {number}" for number in receipts} | {f"import {name}" for name in imports}
-    for name, answered in load.answered.items():
+    for name, answered in trial.answered.items():
         if name not in kept and answered < killed - WITHIN:
             yield f"{name} is lost, {killed - answered:.1f} seconds after its answer"
-    for number, told in load.receipts.items():
+    for number, told in trial.receipts.items():
         if number in receipts and receipts[number] != told:
             yield f"receipt {number} says {told}, and the row {receipts[number]}"
     if {number: digest for number, (_, _, digest) in receipts.items()} != sealed or sorted(receipts) != list(range(1, len(receipts) + 1)):
         yield "tenders are there in part, or out of order"
-    if not imports <= load.sent or lines != {"1000": 1_000_000 + len(imports)} | dict.fromkeys(imports, 7):
+    if not imports <= trial.sent or lines != {"1000": 1_000_000 + len(imports)} | dict.fromkeys(imports, 7):
         yield "imports are there in part, or weren't sent"
 
 
 def test_a_lost_machine(trial):
     """The missing receipts are those above the number that `take-over` prints. A server over the file that was made answers as the others say. The office began
     its log again meanwhile, and the whole file was copied once."""
-    load, killed, told, faults = lose(trial)
+    killed, told, faults = lose(trial)
     assert not faults and "LEDGER\n" in told
     last = int(re.search(r"its last receipt the number (\d+)", told)[1])
-    assert len(load.receipts) > LOAD * RATE / 4
-    assert rows(trial.made, "SELECT max(receipt) FROM envelopes") == [(last,)] and last >= min(load.receipts)
+    assert len(trial.receipts) > LOAD * RATE / 4
+    assert rows(trial.made, "SELECT max(receipt) FROM envelopes") == [(last,)] and last >= min(trial.receipts)
     with trial.served(trial.made):
         client = Client(Port(trial.port, strict=False))
         assert told.endswith(client.ledger().body.decode())
         assert time.monotonic() - killed < SERVES
-        for number, (firm, place, digest) in load.receipts.items():
+        for number, (firm, place, digest) in trial.receipts.items():
             answer = client.tender(firm, number)
             shown = (answer.status, answer.value().get("lot"), answer.value().get("digest"))
             assert shown == ((200, place, digest) if number <= last else (404, None, None))
@@ -383,9 +375,9 @@ def test_a_forgotten_end(trial):
 
 def test_a_killed_follower(trial):
     """A follower is killed again and again. Its newest copy opens each time, with at least the receipts that it had before."""
-    load, had = Load(trial), 0
-    with trial.served(), load.runs():
-        trial.wait_for(lambda: load.receipts)
+    had = 0
+    with trial.served(), trial.loaded():
+        trial.wait_for(lambda: trial.receipts)
         for number in range(12):
             begun = time.time()
             with trial.followed(every="0.1"):
