@@ -28,10 +28,10 @@ from office_kit.store.served import MANY, server
 from office_kit.store.shims import CLOCK
 
 pytestmark = [pytest.mark.needs("cc"), pytest.mark.budget(120)]
-# The request of each day, and its second: first that of the ledger, and then one command a day.
+# The second of each day, and its request: first that of the ledger, and then one command a day.
 LEDGER = look(b"/ledger")
-LIFE = [fault_plays.Step("the ledger", fault_plays.BEGUN, LEDGER), *fault_plays.life().steps]
-DAYS = {f"{number} {step.name}": number for number, step in enumerate(LIFE) if number}
+LIFE = [(fault_plays.BEGUN, LEDGER), *((step.second, step.text) for step in fault_plays.life().steps)]
+DAYS = {f"{number} {text.split()[1].decode()}": number for number, (_, text) in enumerate(LIFE) if number}
 # Seconds for which a server may open its file; those between the first moment of a kill and the sending; and those after the time that the command took.
 LISTENS, BEFORE, AFTER = 300, 0.002, 0.002
 # Seconds after the first write to the log, at most, if a kill is counted from that. (Most are far less.)
@@ -54,7 +54,7 @@ class Office:
     @contextlib.contextmanager
     def on(self, number, count=MANY, settings=CONFIG):
         """A server of so many connections on a day, and its first connection. If it doesn't end on its own, it is killed."""
-        clock = {"LD_PRELOAD": self.shim, "SECOND": str(LIFE[number].second)}
+        clock = {"LD_PRELOAD": self.shim, "SECOND": str(LIFE[number][0])}
         with server(self.program, self.path, count, settings, env={**os.environ, **clock}) as (process, port), connect(port, LISTENS) as stream:
             yield process, stream
 
@@ -121,15 +121,15 @@ def whole(request, program, tmp_path_factory):
     """An office that was served on all days, with these."""
     folder = tmp_path_factory.mktemp("days")
     office = Office(program, made_shim(CLOCK, str(folder)), folder / "whole", request.param)
-    for number, step in enumerate(LIFE):
-        seconds = office.asked(number, step.text)
+    for number, (_, text) in enumerate(LIFE):
+        seconds = office.asked(number, text)
         office.days.append(Day(seconds, office.rows(), shutil.copy(office.path, folder / f"day-{number}.db")))
     return office
 
 
 def test_each_command_is_in_the_life():
     """(A command is known by the first part of its path and the last one.)"""
-    kinds = {re.match(rb"POST /(\w+)/\w+(?:/lots/\w+)?/?(\w*)", step.text).groups() for step in LIFE[1:]}
+    kinds = {re.match(rb"POST /(\w+)/\w+(?:/lots/\w+)?/?(\w*)", text).groups() for _, text in LIFE[1:]}
     assert len(kinds) == len(COMMANDS)
 
 
@@ -194,7 +194,7 @@ class Moments:
 def kill_in(office, whole, number, moments, turn):
     """Kills in a command, and serves again. Returns the state that the kill left."""
     before, after = (day.rows for day in whole.days[number - 1:number + 1])
-    request, (delay, by_log) = LIFE[number].text, moments.choose(turn)
+    request, (delay, by_log) = LIFE[number][1], moments.choose(turn)
     answered = office.killed(number, request, delay, by_log)
     found = what_is_left(before, after, office.rows(), answered)
     if not by_log:
@@ -236,10 +236,10 @@ def test_two_keys(whole, tmp_path):
     office = Office(whole.program, whole.shim, tmp_path / "keyed", whole.size)
     office.asked(0, LEDGER)
     assert office.rows() != whole.days[-1].rows, "an office that was forgotten"
-    for number in DAYS.values():
+    for number, (_, text) in enumerate(LIFE[1:], 1):
         settings, key = (str(other), OTHER_KEY) if number % 2 else (CONFIG, CLERK[1])
-        text = LIFE[number].text.replace(b"\r\nOffice-Key: %s\r\n" % CLERK[1], b"\r\nOffice-Key: %s\r\n" % key)
-        if text != LIFE[number].text:
-            office.asked(number, LIFE[number].text, settings, BAD_KEY)
-        office.asked(number, text, settings)
+        keyed = text.replace(b"\r\nOffice-Key: %s\r\n" % CLERK[1], b"\r\nOffice-Key: %s\r\n" % key)
+        if keyed != text:
+            office.asked(number, text, settings, BAD_KEY)
+        office.asked(number, keyed, settings)
         assert office.rows() == whole.days[number].rows
