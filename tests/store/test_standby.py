@@ -59,10 +59,11 @@ class Trial:
 
     @contextlib.contextmanager
     def served(self, file=None, is_prepared=True):
-        """A server over a file, or the first machine's. A file that is new gets a notice to which firms submit, unless it isn't to be prepared."""
+        """A server that answers, over a file or the first machine's. A new file gets a notice to which firms submit, unless it isn't to be prepared."""
         file = file or self.file
         is_prepared = is_prepared and not file.exists()
         with running(serve_words(self.program, str(file), self.port, MANY), stderr=subprocess.DEVNULL) as process:
+            self.client.ledger()
             if is_prepared:
                 self.client.import_budget("B1", budget("1000,add,1000000,Roads"))
                 for firm in FIRMS:
@@ -183,7 +184,7 @@ def trial(program, tmp_path):
 def lose(trial, stopped=False):
     """Loses the first machine under load; before that, if asked, the follower. The second of the kill, the output of `take-over`, and the faults."""
     with trial.served() as server, trial.followed() as follower, trial.loaded():
-        trial.wait_for(lambda: trial.state()["good"])
+        trial.wait_for(lambda: trial.state()["good"] and trial.receipts)
         if stopped:
             follower.kill()
         before = trial.head()
@@ -316,7 +317,6 @@ def test_an_earlier_office(trial):
     shutil.rmtree(trial.first)
     trial.first.mkdir()
     with trial.served(is_prepared=False):
-        trial.client.ledger()
         status, told = trial.once()
         assert status == 1 and "its last command has the moment" in told
         assert rows(trial.good, "SELECT * FROM lines") == ledger and ledger
