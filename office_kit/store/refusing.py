@@ -16,7 +16,7 @@ def counted(errors: str) -> tuple[int, int]:
     """The allocations that the library counted, and how many of them it refused, by a program's standard error."""
     counts = re.findall(r"^(\d+) made, (\d+) refused$", errors, re.M)
     if not counts:
-        raise AssertionError(errors.strip())
+        raise AssertionError(f"the library counted nothing: {errors.strip()}")
     return int(counts[-1][0]), int(counts[-1][1])
 
 
