@@ -251,6 +251,17 @@ def copy_into(folder: str | os.PathLike[str], *names: str) -> None:
             shutil.copy(source, place)
 
 
+def planted(script: str, folder: str | os.PathLike[str], old: str, new: str) -> str:
+    """The path of a copy of a script in another folder, with a fault: a part that it has once is replaced."""
+    with open(script, encoding="utf-8") as file:
+        text = file.read()
+    check(f"{script} has {text.count(old)} times: {old}", text.count(old) == 1)
+    path = os.path.join(folder, os.path.basename(script))
+    with open(path, "w", encoding="utf-8") as out:
+        out.write(text.replace(old, new))
+    return path
+
+
 # The head of a library that is loaded before the C library. REAL(int, "fsync", int) makes `real` the C library's function of that name.
 HEADERS = ("dlfcn", "errno", "fcntl", "signal", "stdarg", "stdio", "stdlib", "string", "sys/stat", "sys/types", "sys/uio", "time", "unistd")
 REAL = "static result (*real)(__VA_ARGS__); if (!real) real = (result (*)(__VA_ARGS__))dlsym(RTLD_NEXT, name)"

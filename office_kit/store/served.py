@@ -1,13 +1,15 @@
-"""Offices that are served, each over a file, for tests."""
+"""Offices that are served, each over a file, for tests, and servers that answer in the place of one."""
 import contextlib
+import http.server
 import os
 import subprocess
-from collections.abc import Callable, Iterator
+import threading
+from collections.abc import Iterator
 from dataclasses import dataclass
 from typing import Any
 
 from office_kit.client import PATIENCE, Answer, Client, Port
-from office_kit.common import CONFIG, connect, free_port, running, serve_words
+from office_kit.common import CONFIG, HOST, connect, free_port, running, serve_words
 
 MANY = 1_000_000
 
@@ -35,22 +37,40 @@ def server(program: str, path: Any, count: int = MANY, settings: str = CONFIG, *
         yield process, port
 
 
-class Serving:
+class Serving(contextlib.ExitStack):
     """Starts offices until the end of its `with`, which ends them. Each gets the next name in the folder, unless a file is named."""
 
     def __init__(self, program: str, folder: str) -> None:
-        self.program, self.folder, self.count, self.stack = program, folder, 0, contextlib.ExitStack()
+        super().__init__()
+        self.program, self.folder, self.count = program, folder, 0
 
-    def __enter__(self) -> "Callable[..., Office]":
-        return self.start
-
-    def __exit__(self, *_: object) -> None:
-        self.stack.close()
-
-    def start(self, file: str | None = None, strict: bool = True, count: int = MANY, settings: str = CONFIG, **how: Any) -> Office:
+    def __call__(self, file: str | None = None, strict: bool = True, count: int = MANY, settings: str = CONFIG, **how: Any) -> Office:
         """An office that answers. With `strict`, its client ends the test if a request is refused; `how` is for `subprocess.Popen`."""
         self.count += 1
-        path, port = str(file or os.path.join(self.folder, f"office-{self.count}.db")), free_port()
-        process = self.stack.enter_context(running(serve_words(self.program, path, port, count, settings), **how))
+        path = str(file or os.path.join(self.folder, f"office-{self.count}.db"))
+        process, port = self.enter_context(server(self.program, path, count, settings, **how))
         connect(port, PATIENCE).close()
         return Office(path, port, process, Client(Port(port, strict=strict)))
+
+
+class Handler(http.server.BaseHTTPRequestHandler):
+    """Answers a request, and prints nothing."""
+
+    def tell(self, status: int, body: bytes, **fields: str) -> None:
+        self.send_response(status)
+        for name, value in {**fields, "Content-Length": str(len(body))}.items():
+            self.send_header(name, value)
+        self.end_headers()
+        self.wfile.write(body)
+
+    def log_message(self, *_: object) -> None:
+        """Nothing is printed."""
+
+
+@contextlib.contextmanager
+def answered_by(handler: type[Handler]) -> Iterator[str]:
+    """The address of a server that answers so while this lasts."""
+    with http.server.ThreadingHTTPServer((HOST, free_port()), handler) as listener:
+        threading.Thread(target=listener.serve_forever, daemon=True).start()
+        yield f"http://{HOST}:{listener.server_port}"
+        listener.shutdown()

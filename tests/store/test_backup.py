@@ -1,104 +1,69 @@
 """The copies of deploy/backup.sh, of running and stopped offices: whole, checked, and deleted in turn. Scripts without one of its checks accept bad ones."""
 import contextlib
+import functools
 import lzma
 import os
-import sqlite3
 import subprocess
 import threading
 
 import pytest
 
-from office_kit.common import CONFIG, ROOT, free_port, import_of, look, running, serve_words, timed_exchange
+from office_kit.client import Client, Port, budget
+from office_kit.common import CONFIG, ROOT, planted, stand_in
 from office_kit.store import pages
 from office_kit.store.files import VERSION_1, sqlite
-from office_kit.store.served import MANY
+from office_kit.store.served import server
 
 pytestmark = [pytest.mark.needs("sqlite3"), pytest.mark.budget(120)]
 SCRIPT = os.path.join(ROOT, "deploy", "backup.sh")
 LISTENS, LINES = 60, 300
-ROWS = [b"%d,add,5,Roads" % line for line in range(LINES)]
 
 
-def value_of(file, query):
-    """The first value of a query over a file, which stays unchanged."""
-    with contextlib.closing(sqlite3.connect(f"file:{file}?immutable=1", uri=True)) as office:
-        return office.execute(query).fetchone()[0]
-
-
-def bytes_of(path):
-    with open(path, "rb") as file:
-        return file.read()
+def rows(count, first=0, title="Roads"):
+    """A budget file that adds 5 to each of so many lines."""
+    return budget(*(f"{line},add,5,{title}" for line in range(first, first + count)))
 
 
 class Trial:
     """A folder with an office's file, its pages of this size, and the words that stop and start its server."""
 
     def __init__(self, program, folder, size):
-        self.program, self.folder, self.size, self.port = program, str(folder), size, free_port()
-        self.file, self.copies = str(folder / "office.db"), str(folder / "copies")
-        self.words = {**os.environ, "PROCURE": program, "TRIES": "1"}
-        os.mkdir(self.copies)
-        self.stop, self.start = self.script("stop", "echo stop >> told"), self.script("start", "echo start >> told")
-        pages.begin(self.file, size)
+        self.program, self.folder, self.size, self.count = program, folder, size, 0
+        self.file, self.log, self.copies, self.said = (folder / name for name in ("office.db", "office.db-wal", "copies", "said"))
+        self.copies.mkdir()
+        self.said.touch()
+        say = stand_in(str(folder / "say"), f'echo "$1" >> {self.said}')
+        self.words = {**os.environ, "PROCURE": program, "TRIES": "1", "STOP": f"{say} stop", "START": f"{say} start"}
+        pages.begin(str(self.file), size)
 
-    def write(self, name, text):
-        path = os.path.join(self.folder, name)
-        with open(path, "w") as file:
-            file.write(text)
-        os.chmod(path, 0o755)
-        return path
-
-    def script(self, name, line):
-        """The words of a shell script in the folder."""
-        return f"sh {self.write(name, f'cd {self.folder}{chr(10)}{line}{chr(10)}')}"
-
-    def planted(self, old, new):
-        """The script with a part of it replaced."""
-        text = bytes_of(SCRIPT).decode()
-        assert text.count(old) == 1
-        return self.write("planted.sh", text.replace(old, new))
+    @contextlib.contextmanager
+    def served(self, count=None, file=None):
+        """The client of a server over the file. It ends on its own after so many requests, or is killed."""
+        with server(self.program, file or self.file, *[count] if count else []) as (process, port):
+            yield Client(Port(port))
+            assert not count or process.wait(LISTENS) == 0
 
     def fill(self):
-        """Makes the file, by a server that answers an import and ends."""
-        with running(serve_words(self.program, self.file, self.port, 1)) as process:
-            self.add("B1")
-            process.wait(LISTENS)
+        with self.served(1) as office:
+            office.import_budget("B1", rows(LINES))
 
     def fill_without_log(self):
         self.fill()
         sqlite(self.file, "PRAGMA wal_checkpoint(TRUNCATE)")
 
-    @contextlib.contextmanager
-    def served(self):
-        """The office is served, and has lines."""
-        with running(serve_words(self.program, self.file, self.port, MANY)):
-            self.add("B1")
-            yield
-
-    def add(self, batch, rows=ROWS):
-        timed_exchange(self.port, import_of(batch.encode(), rows), LISTENS)
-
-    def ledger(self):
-        return timed_exchange(self.port, look(b"/ledger"), LISTENS)[0]
-
-    def back_up(self, script=SCRIPT, before="", **more):
-        """Runs the script, after other words of the shell."""
-        words = {**self.words, "STOP": self.stop, "START": self.start, **more}
-        return subprocess.run(["sh", "-c", f'{before} exec "$@"', "sh", script, CONFIG, self.file, self.copies], env=words, capture_output=True, text=True)
-
-    def told(self):
-        """The output of the two scripts, in order."""
-        path = os.path.join(self.folder, "told")
-        return bytes_of(path).decode().split() if os.path.exists(path) else []
+    def back_up(self, *plant, **more):
+        """Runs the script, with a part of it replaced by another one if they are given."""
+        script = planted(SCRIPT, self.folder, *plant) if plant else SCRIPT
+        return subprocess.run(["sh", script, CONFIG, self.file, self.copies], env={**self.words, **more}, capture_output=True, text=True)
 
     def left(self, ending=""):
         return sorted(it for it in os.listdir(self.copies) if it.endswith(ending))
 
     def copy(self):
-        return os.path.join(self.copies, self.left(".db")[-1])
+        return self.copies / self.left(".db")[-1]
 
-    def head(self):
-        return bytes_of(self.file + "-wal")[:32]
+    def asked(self, query):
+        return sqlite(self.copy(), query)[0]
 
     def is_one_copy(self):
         """One copy and its ledger are left, and nothing else."""
@@ -110,26 +75,30 @@ class Trial:
         assert run.returncode == 1 and told in run.stderr
         assert len(self.left(".wrong")) == 1 and not self.left(".db")
 
-    def works_between(self, work):
-        """From now on the work is done after each copy of the file, before the copy of the log."""
-        asked, done = (os.path.join(self.folder, name) for name in ("asked", "done"))
-        for fifo in (asked, done):
-            os.mkfifo(fifo)
-        tools = os.path.join(self.folder, "tools")
-        os.mkdir(tools)
-        self.write("tools/cp", f'#!/bin/sh\n/bin/cp "$@" || exit\ncase $2 in {self.file}) echo >{asked}; read -r _ <{done} ;; esac\n')
+    def works_between(self, *works):
+        """A piece of work is done after each copy of the file, before the copy of the log."""
+        asked, done, tools = (self.folder / name for name in ("asked", "done", "tools"))
+        os.mkfifo(asked)
+        os.mkfifo(done)
+        tools.mkdir()
+        stand_in(str(tools / "cp"), f'/bin/cp "$@" || exit\ncase $2 in {self.file}) echo >{asked}; read -r _ <{done} ;; esac')
         self.words["PATH"] = f"{tools}:{os.environ['PATH']}"
-        threading.Thread(target=answer_each, args=(asked, done, work), daemon=True).start()
 
+        def answer_each():
+            for work in works:
+                asked.read_bytes()
+                work()
+                done.write_text("\n")
+        threading.Thread(target=answer_each, daemon=True).start()
 
-def answer_each(asked, done, work):
-    """Does the work each time it is asked for, as long as the folder exists."""
-    with contextlib.suppress(OSError):
-        while True:
-            bytes_of(asked)
-            work()
-            with open(done, "w") as file:
-                file.write("\n")
+    def move_log(self, office):
+        """Imports until the log was moved, and then one more time."""
+        before, is_moved = self.log.read_bytes()[:32], False
+        while not is_moved:
+            is_moved = self.log.read_bytes()[:32] != before
+            self.count += 1
+            # (Each changes pages of its own, so that the log is soon moved, and a pair has not all of them.)
+            office.import_budget(f"M{self.count}", rows(250, 1000 * self.count, "Roads".ljust(200, ".")))
 
 
 @pytest.fixture
@@ -141,56 +110,33 @@ def trial(program, tmp_path, size):
 
 def test_a_good_copy(trial):
     """A copy of an office that is being served is one file with everything that was answered. Nothing is stopped."""
-    with trial.served():
-        ledger = trial.ledger()
+    with trial.served() as office:
+        office.import_budget("B1", rows(LINES))
+        ledger = office.ledger().body
         run = trial.back_up()
         assert run.returncode == 0 and "nothing was stopped" in run.stdout and "is good" in run.stdout
-        assert not trial.told()
-        assert trial.ledger() == ledger
+        assert not trial.said.read_text() and office.ledger().body == ledger
     trial.is_one_copy()
-    assert bytes_of(trial.copy()[:-2] + "ledger") == ledger
-    assert os.stat(trial.copy()).st_mode & 0o077 == 0, "others can't read the copy"
-    with running(serve_words(trial.program, trial.copy(), trial.port, 1)):
-        assert trial.ledger() == ledger
-
-
-class MovesTheLog:
-    """A work that imports until the log was moved, and a few more; at most once after each `begin`."""
-
-    def __init__(self, trial):
-        self.trial, self.count, self.moves = trial, 0, 0
-
-    def add(self):
-        self.count += 1
-        # (Each changes pages of its own, so that the log is soon moved, and a pair has not all of them.)
-        self.trial.add(f"M{self.count}", [b"%d,add,5,%s" % (1000 * self.count + line, b"Roads".ljust(200, b".")) for line in range(250)])
-
-    def __call__(self):
-        if self.moves:
-            return
-        head = self.trial.head()
-        while self.trial.head() == head:
-            self.add()
-        self.add()
-        self.moves += 1
-
-
-def batches(file):
-    return value_of(file, "SELECT count(*) FROM batches")
+    assert trial.copy().with_suffix(".ledger").read_bytes() == ledger
+    assert trial.copy().stat().st_mode & 0o077 == 0, "others can't read the copy"
+    with trial.served(1, trial.copy()) as office:
+        assert office.ledger().body == ledger
 
 
 def test_a_moved_log(trial):
     """If the log is moved between the two copies, the script makes them again. Without this check it takes a pair in which answered commands are missing."""
-    with trial.served():
-        work = MovesTheLog(trial)
-        trial.works_between(work)
+    batches = "SELECT count(*) FROM batches"
+    with trial.served() as office:
+        office.import_budget("B1", rows(LINES))
+        moves = functools.partial(trial.move_log, office)
+        trial.works_between(moves, lambda: None, moves)
         run = trial.back_up(TRIES="2")
-        assert run.returncode == 0 and "whole at try 2" in run.stdout and work.moves == 1
-        assert batches(trial.copy()) == work.count + 1
-        before, work.moves = work.count, 0
-        run = trial.back_up(trial.planted('    [ "$(head_of_log)" = "$before" ]\n', ""), TRIES="2")
-        assert "whole at try 1" in run.stdout and work.moves == 1
-        assert run.returncode or batches(trial.copy()) < before + 1
+        assert run.returncode == 0 and "whole at try 2" in run.stdout
+        before = trial.count + 1
+        assert trial.asked(batches) == str(before) and before > 1
+        run = trial.back_up('    [ "$(head_of_log)" = "$before" ]\n', "", TRIES="2")
+        assert "whole at try 1" in run.stdout and trial.count >= before
+        assert run.returncode or int(trial.asked(batches)) < before
 
 
 def moved(file, log, share):
@@ -209,25 +155,24 @@ def moved(file, log, share):
 
 def is_whole(trial, file, log, early, late):
     """Whether sqlite3 finds no fault in a file and its log, and, after the first import, so many of the early ones and of the late ones."""
-    path = trial.write("pair.db", "")
-    for name, content in ((path, file), (path + "-wal", log)):
-        with open(name, "wb") as out:
-            out.write(content)
-    told = sqlite(path, "PRAGMA integrity_check; SELECT count(*), (SELECT sum(appropriation) FROM lines) FROM batches;", may_fail=True)
+    pair = trial.folder / "pair.db"
+    pair.write_bytes(file)
+    pair.with_name("pair.db-wal").write_bytes(log)
+    told = sqlite(pair, "PRAGMA integrity_check; SELECT count(*), (SELECT sum(appropriation) FROM lines) FROM batches;", may_fail=True)
     return told == ["ok", f"{1 + early + late}|{5 * (LINES + early + late * LINES)}"]
 
 
 def test_half_moved(trial):
     """While an office's log is being moved into the file, the file is whole with a log that was copied after it, and isn't with one copied before it."""
     trial.fill_without_log()
-    with running(serve_words(trial.program, trial.file, trial.port, MANY)):
+    with trial.served() as office:
         # Imports of one line first, and then of all: so the later log has pages that the earlier one doesn't have.
         for number in range(3):
-            trial.add(f"C{number}", ROWS[:1])
-        earlier = bytes_of(trial.file + "-wal")
+            office.import_budget(f"C{number}", rows(1))
+        earlier = trial.log.read_bytes()
         for number in range(3):
-            trial.add(f"D{number}")
-        file, log = bytes_of(trial.file), bytes_of(trial.file + "-wal")
+            office.import_budget(f"D{number}", rows(LINES))
+        file, log = trial.file.read_bytes(), trial.log.read_bytes()
     assert log[:32] == earlier[:32], "the log has one head"
     assert is_whole(trial, file, log, 3, 3) and is_whole(trial, file, earlier, 3, 0)
     halves = [moved(file, log, share) for share in (0.25, 0.5, 0.75, 1)]
@@ -239,20 +184,19 @@ def test_no_log(trial):
     """Without a log that has a head, the script stops the service and starts it again."""
     trial.fill_without_log()
     run = trial.back_up()
-    assert run.returncode == 0 and "the service was stopped for " in run.stdout and trial.told() == ["stop", "start"]
+    assert run.returncode == 0 and "the service was stopped for " in run.stdout and trial.said.read_text() == "stop\nstart\n"
     trial.is_one_copy()
 
 
 def test_an_earlier_version(program, tmp_path):
     """The copy of an office of version 1 keeps that version. A script that opens the copy itself turns it into version 2."""
     trial = Trial(program, tmp_path, pages.NEW)
-    with open(trial.file, "wb") as file:
-        file.write(lzma.decompress((VERSION_1 / "version_1.db.xz").read_bytes()))
+    trial.file.write_bytes(lzma.decompress((VERSION_1 / "version_1.db.xz").read_bytes()))
     assert trial.back_up().returncode == 0
-    assert value_of(trial.copy(), "SELECT version FROM office") == 1
-    os.remove(trial.copy())
-    trial.back_up(trial.planted('ledger "$config" "$copy.trial"', 'ledger "$config" "$copy.part"'))
-    assert value_of(trial.copy(), "SELECT version FROM office") == 2
+    assert trial.asked("SELECT version FROM office") == "1"
+    trial.copy().unlink()
+    trial.back_up('ledger "$config" "$copy.trial"', 'ledger "$config" "$copy.part"')
+    assert trial.asked("SELECT version FROM office") == "2"
 
 
 def test_rotation(trial):
@@ -261,14 +205,14 @@ def test_rotation(trial):
     earlier = [f"202601{day:02}T{hour}0000Z" for day in range(1, 8) for hour in ("01", "13")]
     others = ["notes", "office-old.db", "other-20260101T010000Z.db"]
     for name in [*others, *(f"office-{moment}.{ending}" for moment in earlier for ending in ("db", "ledger", "wrong"))]:
-        trial.write(f"copies/{name}", "")
+        (trial.copies / name).touch()
     assert trial.back_up(KEEP="4", DAYS="3").returncode == 0
     left = [name for name in trial.left(".db") if name not in others]
     # (of the newest four one is new; the last of the 6th is the fourth)
     assert left[:-1] == [f"office-202601{moment}0000Z.db" for moment in ("03T13", "04T13", "05T13", "06T13", "07T01", "07T13")]
     assert [it[:-2] for it in left] == [it[:-6] for it in trial.left(".ledger")]
     assert {*others} <= {*trial.left()} and len(trial.left(".wrong")) == len(earlier)
-    trial.write("office.db", "no database\n" * 1000)
+    trial.file.write_text("no database\n" * 1000)
     trial.back_up()
     wrong = trial.left(".wrong")
     assert len(wrong) == 3 and wrong[0] == "office-20260107T010000Z.wrong"
@@ -279,11 +223,9 @@ def test_rotation(trial):
 
 def test_a_page_of_zeros(trial):
     trial.fill_without_log()
-    with open(trial.file, "r+b") as file:
-        file.seek(os.path.getsize(trial.file) - trial.size)
-        file.write(bytes(trial.size))
+    trial.file.write_bytes(trial.file.read_bytes()[:-trial.size] + bytes(trial.size))
     trial.is_refused(trial.back_up())
-    assert trial.told() == ["stop", "start"]
+    assert trial.said.read_text() == "stop\nstart\n"
 
 
 def test_a_row_that_its_table_forbids(trial):
@@ -292,14 +234,14 @@ def test_a_row_that_its_table_forbids(trial):
     sqlite(trial.file, "PRAGMA ignore_check_constraints = 1; UPDATE batches SET rows = 501;")
     run = trial.back_up()
     assert run.returncode == 1 and "the copy is no office" in run.stderr
-    trial.words["PROCURE"] = trial.write("blind", "#!/bin/sh\necho LEDGER\n")
+    trial.words["PROCURE"] = stand_in(str(trial.folder / "blind"), "echo LEDGER")
     run = trial.back_up()
     assert run.returncode == 1 and "the copy is broken: CHECK" in run.stderr
-    assert trial.back_up(trial.planted('[ "$told" = ok ]', "true")).returncode == 0
+    assert trial.back_up('[ "$told" = ok ]', "true").returncode == 0
 
 
 def test_no_database(trial):
-    trial.write("office.db", "no database\n" * 1000)
+    trial.file.write_text("no database\n" * 1000)
     trial.is_refused(trial.back_up(), "the copy is no office")
 
 
@@ -307,35 +249,29 @@ def test_no_office(trial):
     """Without asking `procure` the script accepts a database that is no office."""
     sqlite(trial.file, "CREATE TABLE office (version INTEGER); PRAGMA journal_mode = wal;")
     trial.is_refused(trial.back_up(), "the copy is no office")
-    assert trial.back_up(trial.planted('''|| wrong 'the copy is no office\'''', "|| true")).returncode == 0
+    assert trial.back_up('''|| wrong 'the copy is no office\'''', "|| true").returncode == 0
 
 
 def test_no_room(trial):
     """If the copy can't be written, nothing of it is left, and nothing was stopped."""
-    with trial.served():
+    with trial.served() as office:
         for number in range(20):
-            trial.add(f"C{number}")
-        run = trial.back_up(before="ulimit -f 4;")
+            office.import_budget(f"C{number}", rows(LINES))
+        run = trial.back_up("set -eu\n", "set -eu\nulimit -f 4\n")
     assert run.returncode == 1 and "the copy can't be written" in run.stderr
-    assert not trial.left() and not trial.told()
+    assert not trial.left() and not trial.said.read_text()
 
 
-def test_no_stop(trial):
-    """If the server can't be stopped, the script copies nothing."""
+@pytest.mark.parametrize("word, said", [("STOP", "could not be stopped"), ("START", "could not be started")])
+def test_no_service(trial, word, said):
+    """If the server can't be stopped, the script copies nothing. If it can't be started again, the copy is checked and kept."""
     trial.fill_without_log()
-    trial.stop = trial.script("stop", "exit 1")
-    run = trial.back_up()
-    assert run.returncode == 1 and "could not be stopped" in run.stderr
-    assert not trial.left()
-
-
-def test_no_start(trial):
-    """If the server can't be started again, the copy is checked and kept."""
-    trial.fill_without_log()
-    trial.start = trial.script("start", "exit 1")
-    run = trial.back_up()
-    assert run.returncode == 1 and "could not be started" in run.stderr
-    trial.is_one_copy()
+    run = trial.back_up(**{word: "false"})
+    assert run.returncode == 1 and said in run.stderr
+    if word == "STOP":
+        assert not trial.left()
+    else:
+        trial.is_one_copy()
 
 
 @pytest.mark.parametrize("words", ["", "CONFIG office.db", "CONFIG office.db copies", "CONFIG CONFIG office.db", "office.db CONFIG copies"])
@@ -343,6 +279,6 @@ def test_wrong_words(program, tmp_path, words):
     """The status is 2 for wrong arguments, or a file or folder that doesn't exist, before anything is stopped."""
     trial = Trial(program, tmp_path, pages.NEW)
     words = [CONFIG if it == "CONFIG" else str(tmp_path / it) for it in words.split()]
-    run = subprocess.run([SCRIPT, *words], env={**trial.words, "STOP": trial.stop, "START": trial.start}, capture_output=True, text=True)
+    run = subprocess.run([SCRIPT, *words], env=trial.words, capture_output=True, text=True)
     assert run.returncode == 2 and run.stderr
-    assert not trial.told()
+    assert not trial.said.read_text()

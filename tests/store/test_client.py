@@ -1,6 +1,4 @@
 """The client that tests and measures share (office_kit/client.py): its routes, its transports, refusals, and how it waits. Planted faults are found."""
-import contextlib
-import http.server
 import re
 import socket
 import threading
@@ -11,7 +9,8 @@ import pytest
 
 from office_kit import client
 from office_kit.client import Answer, Blocks, Client, Front, Port, Requests, budget, lot, notice, tender
-from office_kit.common import HOST, ROOT, free_port
+from office_kit.common import FIELDS, HOST, ROOT
+from office_kit.store.served import Handler, answered_by
 
 MOMENT = re.compile(rb"\d{4}-\d\d-\d\dT\d\d:\d\d:\d\dZ")
 DEADLINE = "2099-03-01T12:00:00Z"
@@ -52,52 +51,30 @@ def test_each_route_is_asked():
 
 
 def life(office):
-    """The answers to a small life."""
     return [office.import_budget("B1", budget("1000,add,1000,Roads")), office.register("T1"), office.publish("N1", notice(DEADLINE, lot(security=50))),
             office.present("T1", "N1", "L1", tender((3, 190)), "G1", 50), office.modify("T1", 1, tender((3, 180))), office.tender("T1", 2),
             office.tender("T1", 1), office.open("N1"), office.security("clerk", 1), office.line("1000"), office.ledger(), office.record("N1")]
 
 
-class Relay(http.server.BaseHTTPRequestHandler):
-    """A front that passes requests on to the office at a port, or first answers 429 some times."""
-
-    office, times, wait, came = 0, 0, "", []
-
-    def answer(self):
-        self.came.append(time.monotonic())
-        body = self.rfile.read(int(self.headers.get("Content-Length", "0")))
-        if len(self.came) <= self.times:
-            return self.tell(429, b"later", {"Retry-After": self.wait})
-        names = ("Office-Caller", "Office-Key")
-        caller = tuple(self.headers[name].encode() for name in names) if self.headers["Office-Key"] else None
-        answer = Port(self.office, strict=False).send(self.command, self.path, body, caller)
-        return self.tell(answer.status, answer.body, {})
-
-    def tell(self, status, body, fields):
-        self.send_response(status)
-        for name, value in {**fields, "Content-Length": str(len(body))}.items():
-            self.send_header(name, value)
-        self.end_headers()
-        self.wfile.write(body)
-
-    do_GET = do_POST = answer
-
-    def log_message(self, *_):
-        """Nothing is printed."""
-
-
-@contextlib.contextmanager
 def relay(office, times=0, wait="1"):
-    """The address of a front before the office at a port."""
-    Relay.office, Relay.times, Relay.wait, Relay.came = office, times, wait, []
-    with http.server.ThreadingHTTPServer((HOST, free_port()), Relay) as server:
-        threading.Thread(target=server.serve_forever, daemon=True).start()
-        yield f"http://{HOST}:{server.server_port}"
-        server.shutdown()
+    """A front that passes requests on to the office at a port, or first answers 429 some times; and the moments of all requests, as they come."""
+    came = []
+
+    class Relay(Handler):
+        def do_GET(self):
+            came.append(time.monotonic())
+            body = self.rfile.read(int(self.headers.get("Content-Length", "0")))
+            if len(came) <= times:
+                return self.tell(429, b"later", **{"Retry-After": wait})
+            caller = tuple(self.headers.get(name.decode(), "").encode() for name in FIELDS)
+            answer = Port(office, strict=False).send(self.command, self.path, body, caller if any(caller) else None)
+            return self.tell(answer.status, answer.body)
+
+        do_POST = do_GET
+    return answered_by(Relay), came
 
 
 def plain(answers):
-    """Answers without their moments."""
     return [(answer.status, MOMENT.sub(b"MOMENT", answer.body)) for answer in answers]
 
 
@@ -118,7 +95,7 @@ def test_a_port_answers_as_blocks(serving, of_blocks):
 
 
 def test_a_front_answers_as_blocks(serving, of_blocks):
-    with relay(serving().port) as base:
+    with relay(serving().port)[0] as base:
         assert plain(life(Client(Front(base, strict=False)))) == of_blocks
 
 
@@ -139,16 +116,18 @@ def test_no_response():
 
 
 def test_it_waits_after_429(office):
-    with relay(office.port, times=2, wait="1") as base:
+    front, came = relay(office.port, times=2, wait="1")
+    with front as base:
         Client(Front(base)).ledger()
-    gaps = [later - earlier for earlier, later in zip(Relay.came, Relay.came[1:])]
+    gaps = [later - earlier for earlier, later in zip(came, came[1:])]
     assert len(gaps) == 2 and min(gaps) >= 1
 
 
 def test_it_gives_up_after_429(office):
-    with relay(office.port, times=1000, wait="0") as base, pytest.raises(SystemExit, match=f"GET /ledger: 429, {client.TRIES} times"):
+    front, came = relay(office.port, times=1000, wait="0")
+    with front as base, pytest.raises(SystemExit, match=f"GET /ledger: 429, {client.TRIES} times"):
         Client(Front(base)).ledger()
-    assert len(Relay.came) == 60
+    assert len(came) == 60
 
 
 ASK, EXCHANGE = Front.ask, Port.exchange
@@ -167,7 +146,6 @@ ASK, EXCHANGE = Front.ask, Port.exchange
     (test_it_gives_up_after_429, ["office"], client, "TRIES", 2),
 ])
 def test_planted_fault(request, monkeypatch, test, given, thing, name, instead):
-    """A fault of the client makes the test fail."""
     words = [request.getfixturevalue(it) if it in ("serving", "office", "of_blocks") else it for it in given]
     monkeypatch.setattr(thing, name, instead)
     with pytest.raises((AssertionError, SystemExit, KeyError, pytest.fail.Exception)):

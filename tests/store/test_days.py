@@ -1,171 +1,108 @@
 """An office lives from day to day over one file. Each day ends by a kill in a command, and the file has the rows before the command or those after it.
 
-Each of the sixteen commands occurs, each on its own date, by a clock that the test sets. First each server ends on its own: this gives the rows of every
-table after each command, and the time that it takes. Then each is killed at a random moment between just before its command is sent and just after its
-answer, and the next one continues from these files. At the end `tools/audit` finds nothing, and the ledger is that of the life without kills. Then the life
-happens with another clerk's key on every other day. Faults that are planted in copies of the file are found.
+Each of the sixteen commands occurs, by a clock that the test sets (office_kit/store/fault_plays.py has the life). First each server ends on its own: this gives
+the rows of every table after each command, and the time that it takes. Then each is killed at a random moment between just before its command is sent and just
+after its answer, and the next one continues from these files. At the end `tools/audit` finds nothing, and the ledger is that of the life without kills. Then
+the life happens with another clerk's key on every other day. Faults that are planted in copies of the file are found.
 """
 import contextlib
 import hashlib
 import os
 import random
+import re
 import shutil
 import signal
 import sqlite3
 import subprocess
 import threading
 import time
-from collections import Counter
+from collections import Counter, namedtuple
 
 import pytest
 
-from office_kit.client import COMMANDS, Client, Requests, budget, lot, notice, tender, text_of
+from office_kit.client import COMMANDS
 from office_kit.common import CLERK, CONFIG, OK, ROOT, connect, is_whole, look, made_shim, read_all
-from office_kit.store import pages
+from office_kit.store import fault_plays, pages
 from office_kit.store.files import ledger_of, rows_of, unlike
 from office_kit.store.served import MANY, server
 from office_kit.store.shims import CLOCK
 
 pytestmark = [pytest.mark.needs("cc"), pytest.mark.budget(120)]
+# The second of each day, and its request: first that of the ledger, and then one command a day.
 LEDGER = look(b"/ledger")
-# The first day, in seconds since 1970 (2026-01-05T09:00:00Z), and the length of a day.
-FIRST, DAY = 1_767_603_600, 86_400
+LIFE = [(fault_plays.BEGUN, LEDGER), *((step.second, step.text) for step in fault_plays.life().steps)]
+DAYS = {f"{number} {text.split()[1].decode()}": number for number, (_, text) in enumerate(LIFE) if number}
 # Seconds for which a server may open its file; those between the first moment of a kill and the sending; and those after the time that the command took.
 LISTENS, BEFORE, AFTER = 300, 0.002, 0.002
 # Seconds after the first write to the log, at most, if a kill is counted from that. (Most are far less.)
 WRITING = 0.002
 OTHER_KEY, BAD_KEY = b"another key", b"HTTP/1.1 401 "
 OUT, IN, UNANSWERED = "out", "in", "in though no answer had come"
-
-
-def day(number):
-    """The text of a day's moment."""
-    return text_of(FIRST + number * DAY)
-
-
-# The commands: the client's method, and its arguments. (Receipts and awards count from 1.)
-LIFE = [
-    ("import_budget", "B1", budget("1000,add,100000,Roads", "2000,add,50000,Schools", "2000,cut,5000,Schools")),
-    ("register", "T1"),
-    ("register", "T2"),
-    ("publish", "N1", notice(day(12), lot("L1", "1000", 600, 50), performance=30)),
-    ("publish", "N2", notice(day(20), lot("L1", "1000", 300), lot("L2", "2000", 400, 10), title="School")),
-    ("amend_notice", "N1", day(13)),
-    ("present", "T1", "N1", "L1", tender((3, 100)), "S1", 50),
-    ("present", "T2", "N1", "L1", tender((3, 150)), "S2", 60),
-    ("modify", "T2", 2, tender((3, 120))),
-    ("present", "T1", "N2", "L2", tender((3, 90)), "S3", 10),
-    ("present", "T2", "N2", "L2", tender((3, 80)), "S4", 10),
-    ("withdraw", "T2", 5),
-    ("cancel", "N2"),
-    ("open", "N1"),
-    ("examine", 1),
-    ("examine", 3),
-    ("award", "N1", "L1"),
-    ("fail", 1),
-    ("award", "N1", "L1"),
-    ("sign", 2, "P1", 30),
-    ("amend_contract", 2, "A1", "raise", 40),
-    ("pay", 2, "P1", 250),
-    ("end", 2),
-]
-DAYS = {f"{number} {method}": number for number, (method, *_) in enumerate(LIFE, 1)}
-
-
-class OtherClerk(Client):
-    """A client that has another key of the clerk."""
-
-    def caller_of(self, who):
-        return (CLERK[0], OTHER_KEY) if who == "clerk" else super().caller_of(who)
-
-
-def request_of(number, client=Client):
-    """The bytes of a day's request: that of the ledger, and then the commands."""
-    method, *arguments = LIFE[number - 1]
-    return getattr(client(Requests()), method)(*arguments) if number else LEDGER
+# A day on which nothing was killed: the seconds of its command, the rows after it, and a copy of the file.
+Day = namedtuple("Day", "seconds rows copy")
 
 
 class Office:
     """An office's file in a folder of its own, which a program serves on days."""
 
-    def __init__(self, program, shim, folder, size=pages.NEW):
-        self.program, self.shim, self.folder, self.path = program, shim, folder, str(folder / "office.db")
+    def __init__(self, program, shim, folder, size):
+        self.program, self.shim, self.folder, self.path, self.size, self.days = program, shim, folder, str(folder / "office.db"), size, []
         if not folder.exists():
             folder.mkdir()
             pages.begin(self.path, size)
 
     @contextlib.contextmanager
-    def on(self, number, count, settings=CONFIG):
-        """A server of so many connections on a day, and its first connection."""
-        clock = {"LD_PRELOAD": self.shim, "SECOND": str(FIRST + number * DAY)}
+    def on(self, number, count=MANY, settings=CONFIG):
+        """A server of so many connections on a day, and its first connection. If it doesn't end on its own, it is killed."""
+        clock = {"LD_PRELOAD": self.shim, "SECOND": str(LIFE[number][0])}
         with server(self.program, self.path, count, settings, env={**os.environ, **clock}) as (process, port), connect(port, LISTENS) as stream:
             yield process, stream
 
-    def whole(self, number, request, settings=CONFIG, answer=OK):
-        """The seconds of a request, on a day that ends on its own after it."""
-        with self.on(number, 1, settings) as (process, stream):
+    def asked(self, number, request, settings=CONFIG, answer=OK, is_killed=False):
+        """The seconds of a request, on a day that ends on its own after it, or is killed."""
+        with self.on(number, MANY if is_killed else 1, settings) as (process, stream):
             begun = time.perf_counter()
             stream.sendall(request)
             response = read_all(stream)
             took = time.perf_counter() - begun
             assert response.startswith(answer) and is_whole(response) == (answer == OK)
-            assert process.wait(LISTENS) == 0
+            assert is_killed or process.wait(LISTENS) == 0
         return took
-
-    def answered(self, number, request):
-        """Sends a request on a day that is killed after its answer."""
-        with self.on(number, MANY) as (process, stream):
-            stream.sendall(request)
-            assert is_whole(read_all(stream))
-            kill(process)
 
     def killed(self, number, request, delay, by_log):
         """Whether a request was answered as a whole, on a day with a kill after so many seconds. (It is sent after the first ones of these, BEFORE.) If
         `by_log`, they are counted from the first write to the log."""
-        with self.on(number, MANY) as (process, stream):
-            log = self.path + "-wal"
-            killer = threading.Thread(target=kill_in_time, args=(process, delay, *((log, stamp_of(log)) if by_log else ())))
+        response = b""
+        with self.on(number) as (process, stream):
+            killer = threading.Thread(target=self.kill_in_time, args=(process, delay, self.log() if by_log else None))
             killer.start()
             time.sleep(BEFORE)
-            response = told_until_killed(stream, request)
+            with contextlib.suppress(OSError):
+                stream.sendall(request)
+                while part := stream.recv(1 << 16):
+                    response += part
             killer.join()
             assert process.wait() == -signal.SIGKILL, "it ended by itself"
         assert not response or OK.startswith(response[:len(OK)]), "refused"
         return is_whole(response)
 
+    def kill_in_time(self, process, delay, log):
+        """Kills a server after this many seconds; if the log as it was is given, counted from the first write to it."""
+        end = time.monotonic() + LISTENS
+        while log and self.log() == log and time.monotonic() < end:
+            time.sleep(0.0001)
+        time.sleep(delay)
+        process.kill()
+
+    def log(self):
+        """The size of the log and its last change; of one that doesn't exist, two that none has."""
+        with contextlib.suppress(FileNotFoundError):
+            found = os.stat(self.path + "-wal")
+            return found.st_size, found.st_mtime_ns
+        return -1, -1
+
     def rows(self):
         return rows_of(self.path, schema=True)
-
-
-def kill(process):
-    process.kill()
-    process.wait()
-
-
-def stamp_of(path):
-    """The size of a file and its last change; None if it doesn't exist."""
-    with contextlib.suppress(FileNotFoundError):
-        found = os.stat(path)
-        return found.st_size, found.st_mtime_ns
-
-
-def kill_in_time(process, delay, log=None, before=None):
-    """Kills a server after this many seconds; if a log is named, counted from the first write to it."""
-    end = time.monotonic() + LISTENS
-    while log and stamp_of(log) == before and time.monotonic() < end:
-        time.sleep(0.0001)
-    time.sleep(delay)
-    kill(process)
-
-
-def told_until_killed(stream, request):
-    """The part of the response that came before the connection ended."""
-    parts = []
-    with contextlib.suppress(OSError):
-        stream.sendall(request)
-        while part := stream.recv(1 << 16):
-            parts.append(part)
-    return b"".join(parts)
 
 
 def what_is_left(before, after, found, answered):
@@ -179,30 +116,21 @@ def what_is_left(before, after, found, answered):
 
 # ---- The life without kills.
 
-@pytest.fixture(scope="module")
-def shim(tmp_path_factory):
-    return made_shim(CLOCK, str(tmp_path_factory.mktemp("shim")))
-
-
-class WholeLife(Office):
-    """The rows after each day, the seconds of its command, and a copy of the file."""
-
-    def __init__(self, program, shim, folder, size):
-        super().__init__(program, shim, folder / "whole", size)
-        self.size, self.seconds, self.rows_after, self.copies = size, [], [], []
-        for number in range(len(LIFE) + 1):
-            self.seconds.append(self.whole(number, request_of(number)))
-            self.rows_after.append(self.rows())
-            self.copies.append(shutil.copy(self.path, folder / f"day-{number}.db"))
-
-
 @pytest.fixture(scope="module", params=[pages.NEW, pytest.param(pages.FORMER, marks=pytest.mark.long)])
-def whole(request, program, shim, tmp_path_factory):
-    return WholeLife(program, shim, tmp_path_factory.mktemp("days"), request.param)
+def whole(request, program, tmp_path_factory):
+    """An office that was served on all days, with these."""
+    folder = tmp_path_factory.mktemp("days")
+    office = Office(program, made_shim(CLOCK, str(folder)), folder / "whole", request.param)
+    for number, (_, text) in enumerate(LIFE):
+        seconds = office.asked(number, text)
+        office.days.append(Day(seconds, office.rows(), shutil.copy(office.path, folder / f"day-{number}.db")))
+    return office
 
 
 def test_each_command_is_in_the_life():
-    assert {method for method, *_ in LIFE} == set(COMMANDS)
+    """(A command is known by the first part of its path and the last one.)"""
+    kinds = {re.match(rb"POST /(\w+)/\w+(?:/lots/\w+)?/?(\w*)", text).groups() for _, text in LIFE[1:]}
+    assert len(kinds) == len(COMMANDS)
 
 
 def take_back(path, before, tables):
@@ -217,11 +145,11 @@ def take_back(path, before, tables):
 @pytest.mark.parametrize("name", DAYS)
 def test_planted(whole, name, tmp_path):
     """After a command only one table's rows are taken back, for each that it changed: it is then stored in part. If all are, an answered command is lost."""
-    before, after = whole.rows_after[DAYS[name] - 1:][:2]
+    before, after = (day.rows for day in whole.days[DAYS[name] - 1:DAYS[name] + 1])
     changed = unlike(before, after)
     assert len(changed) > 1, "it can't be in by a half"
     for tables, answered, said in [*(([table], False, "in part") for table in changed), (changed, True, "answered, and not there")]:
-        path = shutil.copy(whole.copies[DAYS[name]], tmp_path / "office.db")
+        path = shutil.copy(whole.days[DAYS[name]].copy, tmp_path / "office.db")
         take_back(path, before, tables)
         with pytest.raises(AssertionError, match=said):
             what_is_left(before, after, rows_of(str(path), schema=True), answered)
@@ -229,7 +157,7 @@ def test_planted(whole, name, tmp_path):
 
 def test_planted_page(whole, tmp_path):
     """The second page of the file is overwritten."""
-    path = shutil.copy(whole.copies[-1], tmp_path / "office.db")
+    path = shutil.copy(whole.days[-1].copy, tmp_path / "office.db")
     with open(path, "r+b") as file:
         file.seek(whole.size)
         file.write(b"\xa5" * whole.size)
@@ -265,13 +193,13 @@ class Moments:
 
 def kill_in(office, whole, number, moments, turn):
     """Kills in a command, and serves again. Returns the state that the kill left."""
-    before, after = whole.rows_after[number - 1:][:2]
-    request, (delay, by_log) = request_of(number), moments.choose(turn)
+    before, after = (day.rows for day in whole.days[number - 1:number + 1])
+    request, (delay, by_log) = LIFE[number][1], moments.choose(turn)
     answered = office.killed(number, request, delay, by_log)
     found = what_is_left(before, after, office.rows(), answered)
     if not by_log:
         moments.learn(delay, found)
-    office.answered(number, request if found == OUT else LEDGER)
+    office.asked(number, request if found == OUT else LEDGER, is_killed=True)
     assert office.rows() == after
     return found
 
@@ -280,13 +208,13 @@ def test_killed(whole, tmp_path, seed, is_long):
     """With more than one kill in each command all but the last are over copies, as the files were before it."""
     random.seed(seed)
     rounds, office, counts = 20 if is_long else 1, Office(whole.program, whole.shim, tmp_path / "killed", whole.size), Counter()
-    office.answered(0, LEDGER)
-    assert office.rows() == whole.rows_after[0]
+    office.asked(0, LEDGER, is_killed=True)
+    assert office.rows() == whole.days[0].rows
     for number in DAYS.values():
-        moments = Moments(whole.seconds[number], rounds)
+        moments = Moments(whole.days[number].seconds, rounds)
         for turn in range(1, rounds):
             copy = shutil.copytree(office.folder, tmp_path / f"{number}-{turn}")
-            counts[kill_in(Office(whole.program, whole.shim, copy), whole, number, moments, turn)] += 1
+            counts[kill_in(Office(whole.program, whole.shim, copy, whole.size), whole, number, moments, turn)] += 1
             shutil.rmtree(copy)
         counts[kill_in(office, whole, number, moments, 0)] += 1
     print(counts)
@@ -294,7 +222,7 @@ def test_killed(whole, tmp_path, seed, is_long):
     audit = subprocess.run([os.path.join(ROOT, "tools", "audit"), office.path], capture_output=True, text=True)
     assert audit.returncode == 0, audit.stdout + audit.stderr
     assert ledger_of(office.program, office.path) == ledger_of(whole.program, whole.path)
-    assert office.rows() == whole.rows_after[-1]
+    assert office.rows() == whole.days[-1].rows
     pages.check_size(office.path, whole.size)
 
 
@@ -306,11 +234,12 @@ def test_two_keys(whole, tmp_path):
     with open(CONFIG, encoding="utf-8") as file:
         other.write_text(file.read().replace(hashlib.sha256(CLERK[1]).hexdigest(), hashlib.sha256(OTHER_KEY).hexdigest()), encoding="utf-8")
     office = Office(whole.program, whole.shim, tmp_path / "keyed", whole.size)
-    office.whole(0, LEDGER)
-    assert office.rows() != whole.rows_after[-1], "an office that was forgotten"
-    for number in DAYS.values():
-        settings, client = (str(other), OtherClerk) if number % 2 else (CONFIG, Client)
-        if request_of(number, client) != request_of(number):
-            office.whole(number, request_of(number), settings, BAD_KEY)
-        office.whole(number, request_of(number, client), settings)
-        assert office.rows() == whole.rows_after[number]
+    office.asked(0, LEDGER)
+    assert office.rows() != whole.days[-1].rows, "an office that was forgotten"
+    for number, (_, text) in enumerate(LIFE[1:], 1):
+        settings, key = (str(other), OTHER_KEY) if number % 2 else (CONFIG, CLERK[1])
+        keyed = text.replace(b"\r\nOffice-Key: %s\r\n" % CLERK[1], b"\r\nOffice-Key: %s\r\n" % key)
+        if keyed != text:
+            office.asked(number, text, settings, BAD_KEY)
+        office.asked(number, keyed, settings)
+        assert office.rows() == whole.days[number].rows

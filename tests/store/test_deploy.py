@@ -1,31 +1,30 @@
 """deploy/check, and the units of deploy/ as systemd reads them.
 
-Each comparison of the check is made void, and a test fails then. `systemd-analyze verify` prints nothing about the units, with other programs in place of the
-installed ones, and something if a word in one is wrong.
+Each comparison of the check is made void (planted_in_check.tsv), and a test fails then. `systemd-analyze verify` prints nothing about the units, with other
+programs in place of the installed ones, and something if a word in one is wrong.
 """
 import contextlib
-import http.server
+import functools
 import io
 import json
 import os
 import re
 import runpy
+import shutil
 import sqlite3
 import subprocess
 import sys
-import threading
 import time
 from pathlib import Path
+from unittest import mock
 
 import pytest
 
-from office_kit.common import CONFIG, HOST, ROOT, made_shim, stand_in
+from office_kit.common import CONFIG, ROOT, planted, stand_in
+from office_kit.store.served import Handler, answered_by
 
 CHECK = os.path.join(ROOT, "deploy", "check")
-UNITS = [os.path.join(ROOT, "deploy", name) for name in (
-    "procure.service", "procure-backup.service", "procure-backup.timer", "procure-check.service", "procure-check.timer", "procure-clock.service",
-    "procure-clock.timer", "procure-follow.service", "procure-standby.service", "procure-standby.timer", "procure-mirror.service", "procure-mirror.timer",
-    "procure-failed@.service")]
+UNITS = {path.name: path.read_text(encoding="utf-8") for path in sorted(Path(ROOT, "deploy").iterdir()) if path.suffix in (".service", ".timer")}
 OK, WARNING, CRITICAL, WORDS = range(4)
 DAY, HOUR = 86_400, 3_600
 LOTS = "https://raw.githubusercontent.com/open-contracting-extensions/ocds_lots_extension/v1.1.5/extension.json"
@@ -59,73 +58,55 @@ WRONG_BASES = ["foo bar", "https://office.example/", "https://office.example/a/"
                "https://office.example?x=1", "https://", "https://a b"]
 
 
-def run_here(words):
-    """The status and the output of a Python script with these arguments."""
-    said, kept = io.StringIO(), sys.argv
-    try:
-        sys.argv = words
-        with contextlib.redirect_stdout(said), contextlib.redirect_stderr(said):
-            runpy.run_path(words[0], run_name="__main__")
-    except SystemExit as end:
-        return end.code or 0, said.getvalue()
-    finally:
-        sys.argv = kept
-    return 0, said.getvalue()
-
-
 class Trial:
     """A folder with settings, and the script over its content."""
 
     def __init__(self, program, folder, script=CHECK):
-        self.program, self.folder, self.script = program, str(folder), script
-        self.file, self.copies, self.config = (self.at(name) for name in ("office.db", "copies", "office.toml"))
-        os.makedirs(self.copies)
-        self.lay(self.settings("extensions =", f'extensions = ["{LOTS}"]'))
+        self.program, self.folder, self.script = program, folder, script
+        self.file, self.copies, self.config, self.told, self.opener = (folder / name for name in ("office.db", "copies", "office.toml", "told", "opens"))
+        self.copies.mkdir(parents=True)
+        self.set("extensions =", f'extensions = ["{LOTS}"]')
 
-    def at(self, name):
-        return os.path.join(self.folder, name)
+    def set(self, begins, line):
+        """Writes the settings of the walks, with a line that begins so in another form."""
+        text = Path(CONFIG).read_text(encoding="utf-8")
+        self.config.write_text(re.sub(rf"(?m)^{re.escape(begins)}.*$", lambda _: line, text), encoding="utf-8")
 
-    def lay(self, text):
-        Path(self.config).write_text(text, encoding="utf-8")
+    def run(self, *words):
+        """The status of the script, which runs in this process, and its output."""
+        places = {"--config": self.config, "--file": self.file, "--copies": self.copies, "--program": self.opener}
+        line, said = [self.script, *(f"{name}={place}" for name, place in places.items()), *map(str, words)], io.StringIO()
+        with mock.patch.object(sys, "argv", line), contextlib.redirect_stdout(said), contextlib.redirect_stderr(said), pytest.raises(SystemExit) as end:
+            runpy.run_path(self.script, run_name="__main__")
+        return end.value.code or 0, said.getvalue()
 
-    def settings(self, begins, line):
-        """The settings of the walks, with a line that begins so in another form."""
-        return re.sub(rf"(?m)^{re.escape(begins)}.*$", lambda _: line, Path(CONFIG).read_text(encoding="utf-8"))
-
-    def run(self, *words, **more):
-        """The status of the script, and its output. It runs in this process, unless it needs an environment of its own."""
-        words = [self.script, "--config", self.config, "--file", self.file, "--copies", self.copies, "--program", self.at("opens"), *words]
-        if not more:
-            return run_here(words)
-        run = subprocess.run([sys.executable, *words], capture_output=True, text=True, env={**os.environ, **more})
-        return run.returncode, run.stdout + run.stderr
-
-    def says(self, status, told, *words, **more):
-        found, text = self.run(*words, **more)
-        assert found == status and told in text, f"{words}: {found}: {text}"
+    def says(self, status, pattern, *words):
+        found, text = self.run(*words)
+        assert found == status and re.search(pattern, text)
 
     def make_office(self, file, moment):
         """As much of an office as this script reads: the moment of its last command, in the log of a file that nobody serves."""
-        for name in (file, file + "-wal", file + "-shm"):
-            Path(name).unlink(missing_ok=True)
-        program = "import os, sqlite3, sys; o = sqlite3.connect(sys.argv[1]); " \
-                  "o.executescript('PRAGMA journal_mode = wal; CREATE TABLE office (moment INTEGER)'); " \
-                  "o.execute('INSERT INTO office VALUES (0)'); o.commit(); o.execute('PRAGMA wal_checkpoint(TRUNCATE)'); " \
-                  "o.execute('UPDATE office SET moment = ' + sys.argv[2]); o.commit(); os._exit(0)"
-        subprocess.run([sys.executable, "-c", program, file, str(int(moment))], check=True)
-        os.remove(file + "-shm")
+        made = self.folder / "made.db"
+        with contextlib.closing(sqlite3.connect(made)) as office:
+            office.executescript("PRAGMA journal_mode = wal; DROP TABLE IF EXISTS office; CREATE TABLE office AS SELECT 0 AS moment; "
+                                 f"PRAGMA wal_checkpoint(TRUNCATE); UPDATE office SET moment = {int(moment)};")
+            for ending in ("", "-wal"):
+                shutil.copy(f"{made}{ending}", f"{file}{ending}")
 
     def make_copy(self, age, moment, ending="db"):
         """A copy of this age, of an office whose last command is of this moment."""
-        path = os.path.join(self.copies, time.strftime(f"office-%Y%m%dT%H%M%SZ.{ending}", time.gmtime(time.time() - age)))
+        path = self.copies / time.strftime(f"office-%Y%m%dT%H%M%SZ.{ending}", time.gmtime(time.time() - age))
         self.make_office(path, moment)
         with contextlib.closing(sqlite3.connect(path)) as office:
             office.execute("PRAGMA wal_checkpoint(TRUNCATE)")
         return path
 
+    def content(self):
+        return {path.name: path.read_bytes() for path in self.folder.iterdir() if path.is_file()}
+
     def opens(self, text, status=0):
         """The stand-in for `procure ledger` prints this, and ends with this status."""
-        stand_in(self.at("opens"), f"echo '{text}'\nexit {status}")
+        stand_in(str(self.opener), f"echo '{text}'\nexit {status}")
 
 
 @pytest.fixture
@@ -144,91 +125,82 @@ def named(trial):
 def test_settings(trial):
     """Of missing or wrong settings the check names first the one that the program names first. It also reports texts that are no address."""
     for begins, line, name in SETTINGS:
-        trial.lay(trial.settings(begins, line))
+        trial.set(begins, line)
         assert named(trial) == name
         told = re.findall(r"(?m)^CRITICAL settings: (\S+)", trial.run("settings")[1])
-        assert told[:1] == ([] if name == "" else [name or trial.config])
+        assert told[:1] == ([] if name == "" else [name or str(trial.config)])
     for base in RIGHT_BASES + WRONG_BASES:
-        trial.lay(trial.settings("base =", f'base = "{base}"'))
+        trial.set("base =", f'base = "{base}"')
         assert named(trial) == ""
         trial.says(*((WARNING, "all nine") if base in RIGHT_BASES else (CRITICAL, "base is")), "settings")
-    trial.lay(trial.settings("extensions =", 'extensions = ["lots"]'))
-    trial.says(CRITICAL, "no address", "settings")
-    trial.lay(trial.settings("extensions =", f'extensions = ["{LOTS}"]'))
-    trial.says(OK, "all nine", "settings")
-    trial.lay(trial.settings("extensions =", 'extensions = ["https://example.org/points"]'))
-    trial.says(WARNING, "lots extension", "settings")
+    for extension, status, told in (("lots", CRITICAL, "no address"), (LOTS, OK, "all nine"), ("https://example.org/points", WARNING, "lots extension")):
+        trial.set("extensions =", f'extensions = ["{extension}"]')
+        trial.says(status, told, "settings")
 
 
-def made_clock(folder, wrong_by):
-    """A library by which the kernel takes its clock for so many microseconds wrong."""
-    return made_shim("struct timex; int adjtimex(struct timex *it) { ((long *)it)[3] = %d; return 0; }" % wrong_by, str(folder))
+def kernel(wrong_by):
+    """While this lasts, the kernel takes its clock for so many microseconds wrong."""
+    def adjtimex(timex):
+        timex[24:32] = wrong_by.to_bytes(8, sys.byteorder)
+        return 0
+    return mock.patch("ctypes.CDLL", lambda _: mock.Mock(adjtimex=adjtimex))
 
 
-@pytest.fixture(scope="module")
-def clocks(tmp_path_factory):
-    """A clock that is right, and one that is wrong."""
-    return [made_clock(tmp_path_factory.mktemp("clock"), wrong_by) for wrong_by in (5_000, 16_000_000)]
-
-
-@pytest.mark.needs("cc")
-def test_clock(trial, clocks):
+def test_clock(trial):
     """A clock is critical if it is earlier than the last command, or more than a day later. It isn't if somebody says that it is right: by an option, by a new
     file, or by the kernel."""
-    now, told, (right, wrong) = time.time(), trial.at("told"), clocks
+    now, told, by_kernel = time.time(), trial.told, ("clock", "--synchronized-is-right")
     for ahead, status in ((HOUR, OK), (23 * HOUR, OK), (-HOUR, CRITICAL), (25 * HOUR, CRITICAL), (365 * DAY, CRITICAL)):
         copy = trial.make_copy(60, now - ahead)
         trial.says(status, "ahead" if status and ahead > 0 else "behind" if status else "the last command", "clock")
         is_told = WARNING if ahead < 0 else OK
         trial.says(is_told, "", "clock", "--clock-is-right")
         trial.says(status, "", "clock", "--told", told)
-        Path(told).touch()
+        told.touch()
         trial.says(is_told, "", "clock", "--told", told)
         os.utime(told, (now - 2 * HOUR, now - 2 * HOUR))
         trial.says(status, "", "clock", "--told", told)
-        os.remove(told)
-        trial.says(is_told, "", "clock", "--synchronized-is-right", LD_PRELOAD=right)
-        trial.says(status, "", "clock", "--synchronized-is-right", LD_PRELOAD=wrong)
-        os.remove(copy)
+        told.unlink()
+        assert trial.run(*by_kernel)[0] in (is_told, status)
+        with kernel(wrong_by=5_000):
+            trial.says(is_told, "", *by_kernel)
+        with kernel(wrong_by=16_000_000):
+            trial.says(status, "", *by_kernel)
+        copy.unlink()
     trial.says(OK, "no command is known", "clock")
 
 
 def test_before_start(trial):
     """The check reads the last moment from the file and its log, and changes neither. A warning lets the office start."""
     now = time.time()
-    trial.lay(trial.settings("extensions =", "extensions = []"))
+    trial.set("extensions =", "extensions = []")
     trial.says(OK, "no command is known", "--before-start", "--room", "1")
     for ahead, status in ((HOUR, OK), (-HOUR, CRITICAL), (25 * HOUR, CRITICAL)):
         trial.make_office(trial.file, now - ahead)
-        before = found_in(trial.folder)
+        before = trial.content()
         assert "office.db-wal" in before
         trial.says(status, f"PROCURE {'CRITICAL: clock' if status else 'WARNING: settings'}", "--before-start", "--room", "1")
-        assert found_in(trial.folder) == before
-    os.remove(trial.file + "-wal")
+        assert trial.content() == before
+    log = trial.folder / "office.db-wal"
+    log.unlink()
     trial.says(OK, "", "clock", "--before-start")
-    assert not os.path.exists(trial.file + "-wal")
-    trial.lay("currency")
+    assert not log.exists()
+    trial.config.write_text("currency")
     trial.says(CRITICAL, "can't be read as TOML", "--before-start")
-
-
-def found_in(folder):
-    """The bytes of each file in a folder."""
-    return {path.name: path.read_bytes() for path in Path(folder).iterdir() if path.is_file()}
 
 
 def test_room(trial):
     """Less than the required space is a warning, and less than half of it is critical. Before the start neither prevents the start. A file that is nearly as
     large as the bound of memory is a warning, and the check knows the bound of procure.service."""
-    free = os.statvfs(trial.folder)
-    free = free.f_bavail * free.f_frsize // 1_000_000
+    free = shutil.disk_usage(trial.folder).free // 1_000_000
     for wanted, status in ((1, OK), (free * 5 // 4, WARNING), (free * 3, CRITICAL)):
-        trial.says(status, "MB", "room", "--room", str(wanted))
-        trial.says(OK, "", "room", "--before-start", "--room", str(wanted))
+        trial.says(status, "MB", "room", "--room", wanted)
+        trial.says(OK, "", "room", "--before-start", "--room", wanted)
     with open(trial.file, "w") as file:
         file.truncate(8_100_000)
     for memory, status in ((10, WARNING), (11, OK)):
-        trial.says(status, "raise LimitAS" if status else "MB free", "room", "--room", "1", "--memory", str(memory))
-    bound = int(re.search(r"\nLimitAS=(\d+)G\n", Path(UNITS[0]).read_text(encoding="utf-8"))[1])
+        trial.says(status, "raise LimitAS" if status else "MB free", "room", "--room", "1", "--memory", memory)
+    bound = int(re.search(r"\nLimitAS=(\d+)G\n", UNITS["procure.service"])[1])
     known = int(re.search(r'"--memory", type=int, default=(\d+)', Path(CHECK).read_text(encoding="utf-8"))[1])
     assert known == bound * 1024 ** 3 // 1_000_000
 
@@ -240,36 +212,25 @@ def test_copy(trial):
     trial.make_copy(30 * HOUR, 0)
     trial.says(CRITICAL, "old; it may be at most", "copy")
     copy = trial.make_copy(2 * HOUR, 0)
-    before = Path(copy).read_bytes()
+    before = copy.read_bytes()
     trial.says(OK, "can be opened", "copy")
     trial.says(CRITICAL, "", "copy", "--age", "1")
-    trial.opens("procure: store", 1)
-    trial.says(CRITICAL, "can't be opened", "copy")
-    trial.opens("something else")
-    trial.says(CRITICAL, "can't be opened", "copy")
+    for text, status in (("procure: store", 1), ("something else", 0)):
+        trial.opens(text, status)
+        trial.says(CRITICAL, "can't be opened", "copy")
     trial.opens("LEDGER")
     trial.make_copy(HOUR, 0, "wrong")
     trial.says(CRITICAL, "was made after it and isn't good", "copy")
     trial.make_copy(0, 0)
     trial.says(OK, "", "copy")
-    assert Path(copy).read_bytes() == before and not list(Path(trial.copies).glob("check-*"))
+    assert copy.read_bytes() == before and not list(trial.copies.glob("check-*"))
 
 
-@contextlib.contextmanager
 def answering(status, body):
-    """A server that answers everything so, and its address."""
-    class Handler(http.server.BaseHTTPRequestHandler):
+    class Answering(Handler):
         def do_GET(self):
-            self.send_response(status if self.path == "/notices?after=" + "z" * 32 else 404)
-            self.end_headers()
-            self.wfile.write(body)
-
-        def log_message(self, *_):
-            pass
-    with http.server.ThreadingHTTPServer((HOST, 0), Handler) as server:
-        threading.Thread(target=server.serve_forever, daemon=True).start()
-        yield f"http://{HOST}:{server.server_port}"
-        server.shutdown()
+            self.tell(status if self.path == "/notices?after=" + "z" * 32 else 404, body)
+    return answered_by(Answering)
 
 
 def test_answer(trial):
@@ -283,31 +244,29 @@ def test_answer(trial):
 def test_jump(trial):
     """A clock that moved by more than a minute since the start is critical, forwards and back. It isn't if somebody says that it is right, and then the next
     comparison begins there. Before a start that is allowed the check notes the clock, and before another it doesn't."""
-    note, told = trial.at("clock"), trial.at("told")
+    note, told = trial.folder / "clock", trial.told
     words = ["jump", "--clock-file", note, "--told", told]
     trial.says(WARNING, "nobody noted the clock", *words)
-    trial.lay("currency")
+    trial.config.write_text("currency")
     trial.run("--before-start", "--clock-file", note)
-    assert not os.path.exists(note)
-    trial.lay(trial.settings("extensions =", f'extensions = ["{LOTS}"]'))
+    assert not note.exists()
+    trial.set("extensions =", f'extensions = ["{LOTS}"]')
     trial.says(OK, "", "--before-start", "--clock-file", note)
     trial.says(OK, "hasn't jumped", *words)
-    noted = float(Path(note).read_text(encoding="utf-8"))
+    noted = float(note.read_text())
     for jump, status in ((50, OK), (-50, OK), (70, CRITICAL), (-70, CRITICAL), (400 * DAY, CRITICAL), (-400 * DAY, CRITICAL)):
-        Path(note).write_text(repr(noted - jump), encoding="utf-8")
-        trial.says(status, "hasn't jumped" if not status else "jumped", *words)
-        if status:
-            assert ("ahead" if jump > 0 else "back") in trial.run(*words)[1]
-    Path(told).touch()
+        note.write_text(repr(noted - jump))
+        trial.says(status, f"jumped .* {'ahead' if jump > 0 else 'back'}" if status else "hasn't jumped", *words)
+    told.touch()
     trial.says(OK, "says that the clock is right", *words)
-    os.remove(told)
+    told.unlink()
     trial.says(OK, "hasn't jumped", *words)
 
 
 def test_standby(trial):
     """A copy on a second machine is a warning if it is older than it should be. It is critical if it is four times as old, has a fault, or is missing."""
-    now, copies = time.time(), Path(trial.at("standby"))
-    words = ["standby", "--standby", str(copies), "--lag", "30"]
+    now, copies = time.time(), trial.folder / "standby"
+    words = ["standby", "--standby", copies, "--lag", "30"]
     trial.says(CRITICAL, "can't be read", *words)
     copies.mkdir()
     ages = [(5, 5, "", OK), (40, 40, "", WARNING), (140, 5, "", CRITICAL), (5, 500, "", OK), (5, 700, "", WARNING), (5, 2500, "", CRITICAL),
@@ -324,8 +283,8 @@ def test_standby(trial):
 @pytest.mark.parametrize("runs, found, status, is_stopped", [(0, 0, 0, False), (0, 1, 0, False), (0, 2, 2, True), (3, 2, 0, False)])
 def test_stop(tmp_path, runs, found, status, is_stopped):
     """The command of procure-clock.service stops the office after a jump, and only then, and only if it runs."""
-    unit, did = Path(ROOT, "deploy", "procure-clock.service").read_text(encoding="utf-8"), tmp_path / "did"
-    text = re.search(r"(?s)ExecStart=/bin/sh -c '(.*?)'\n", unit)[1].replace("\\\n", "").replace("$$", "$")
+    text, did = re.search(r"(?s)ExecStart=/bin/sh -c '(.*?)'\n", UNITS["procure-clock.service"])[1], tmp_path / "did"
+    text = text.replace("\\\n", "").replace("$$", "$")
     stand_in(str(tmp_path / "systemctl"), f'case $1 in --quiet) exit {runs} ;; *) echo "$@" > {did} ;; esac')
     stand_in(str(tmp_path / "procure-check"), f"exit {found}")
     run = subprocess.run(["sh", "-c", text], env={**os.environ, "PATH": f"{tmp_path}:{os.environ['PATH']}"}, capture_output=True, text=True)
@@ -337,62 +296,25 @@ def test_wrong_words(trial, words):
     trial.says(WORDS, "check: ", *words.split())
 
 
-# Parts of the script that are made void, and the test that then fails.
-PLANTS = [
-    ("ahead < 0", "False", test_clock),
-    ("0 <= ahead <= DAY", "True", test_clock),
-    ("< 16_000_000", "< 1 << 62", test_clock),
-    ("time.time() - os.stat(choice.told).st_mtime", "0", test_clock),
-    ("and not ADDRESS.fullmatch(table[\"base\"])", "and False", test_settings),
-    ("if not ADDRESS.fullmatch(text)", "if False", test_settings),
-    ("if not any(LOTS", "if False and not any(LOTS", test_settings),
-    ("[A-Z]{3}", "[A-Za-z]{3}", test_settings),
-    ("len(value.encode()) <= 200", "len(value) <= 200", test_settings),
-    ("free < choice.room * MB // 2", "False", test_room),
-    ("WARNING if free < choice.room * MB", "WARNING if False", test_room),
-    ("min(level, WARNING) if choice.before_start", "level if choice.before_start", test_room),
-    ("if size > most * 4 // 5:", "if size > most:", test_room),
-    ("age <= choice.age * HOUR", "True", test_copy),
-    ("if since > moment", "if False", test_copy),
-    ("run.returncode == 0 and run.stdout.startswith(b\"LEDGER\")", "True", test_copy),
-    ("good = text == EMPTY", "good = True", test_answer),
-    ("self.exit(3,", "self.exit(2,", lambda trial: test_wrong_words(trial, "colour")),
-    ("OK if choice.before_start and worst == WARNING else worst", "worst", test_before_start),
-    ("mode=ro", "immutable=1", test_before_start),
-    ("os.remove(name)", "pass", test_before_start),
-    ("abs(jump) <= MINUTE", "jump <= MINUTE", test_jump),
-    ("yield OK if who else CRITICAL, f\"the clock jumped", "yield OK, f\"the clock jumped", test_jump),
-    ("if choice.before_start and worst != CRITICAL:", "if choice.before_start:", test_jump),
-    ("    if who:\n        note_distance(choice)\n", "", test_jump),
-    ("OK if -most <= age <= most else", "OK if age <= most else", test_standby),
-    ("WARNING if age <= 4 * most and age >= 0", "WARNING if True", test_standby),
-    ("20 * choice.lag)):", "2000 * choice.lag)):", test_standby),
-    ("if state.get(\"fault\"):", "if False:", test_standby),
-]
+ROWS = Path(__file__).with_name("planted_in_check.tsv").read_text(encoding="utf-8").splitlines()[1:]
+PLANTS = [row.replace(r"\n", "\n").split("\t") for row in ROWS]
+TESTS = {"settings": test_settings, "clock": test_clock, "before_start": test_before_start, "room": test_room, "copy": test_copy, "answer": test_answer,
+         "jump": test_jump, "standby": test_standby, "wrong_words": functools.partial(test_wrong_words, words="colour")}
 
 
-@pytest.mark.needs("cc")
-@pytest.mark.parametrize("old, new, test", PLANTS, ids=[f"{new} in {test.__name__.removeprefix('test_')}" for _, new, test in PLANTS])
-def test_planted(program, tmp_path, clocks, old, new, test):
-    text, script = Path(CHECK).read_text(encoding="utf-8"), tmp_path / "check"
-    assert text.count(old) == 1
-    script.write_text(text.replace(old, new), encoding="utf-8")
+@pytest.mark.parametrize("name, old, new", PLANTS, ids=[f"{new} in {name}" for name, _, new in PLANTS])
+def test_planted(program, tmp_path, name, old, new):
+    trial = Trial(program, tmp_path / "trial", planted(CHECK, tmp_path, old, new))
     with pytest.raises(AssertionError):
-        test(Trial(program, tmp_path / "trial", str(script)), *[clocks] if test is test_clock else [])
+        TESTS[name](trial)
 
 
 # ---- The units.
-
 
 def verified(units):
     run = subprocess.run(["systemd-analyze", "verify", *units], capture_output=True, text=True)
     # (It reports the machine's own units too.)
     return run.returncode, [line for line in (run.stdout + run.stderr).split("\n") if "procure" in line]
-
-
-def holds(condition):
-    """Whether systemd finds that an assertion of a unit holds on this machine."""
-    return subprocess.run(["systemd-analyze", "condition", condition], capture_output=True).returncode == 0
 
 
 def memory_of(text):
@@ -402,50 +324,48 @@ def memory_of(text):
     return {name: int(value, 16) for name, value in re.findall(r"(?m)^glibc\.malloc\.(\w+): (0x[0-9a-f]+) ", run.stdout) if f"malloc.{name}=" in said[2]}
 
 
-TEXTS = {os.path.basename(unit): Path(unit).read_text(encoding="utf-8") for unit in UNITS}
-
-
 def test_memory_of_the_unit():
     """The C library reads the settings of procure.service for its memory."""
-    memory = memory_of(TEXTS["procure.service"])
+    memory = memory_of(UNITS["procure.service"])
     assert memory == {"trim_threshold": 64 << 20, "mmap_threshold": 64 << 20, "top_pad": 8 << 20}
-    assert memory_of(TEXTS["procure.service"].replace("top_pad", "top_pat")) != memory
+    assert memory_of(UNITS["procure.service"].replace("top_pad", "top_pat")) != memory
 
 
 @pytest.mark.parametrize("words", ["ExecStart=/usr/local/bin/procure ", "ExecStartPre=+/usr/local/sbin/procure-check "])
 def test_programs_of_the_unit(words):
     """It has the programs as they are installed."""
-    assert TEXTS["procure.service"].count(words) == 1
+    assert UNITS["procure.service"].count(words) == 1
 
 
 @pytest.mark.systemd
 @pytest.mark.needs("systemd-analyze")
 def test_start_without_settings(tmp_path):
     """A start of procure.service fails if its settings are missing."""
-    settings, asked = (re.search(word, TEXTS["procure.service"]) for word in (r"\nExecStart=\S+ serve (\S+) ", r"\n(Assert\S+)\n"))
+    settings, asked = (re.search(word, UNITS["procure.service"]) for word in (r"\nExecStart=\S+ serve (\S+) ", r"\n(Assert\S+)\n"))
     assert asked and asked[1] == f"AssertPathExists={settings[1]}"
-    assert not holds(f"AssertPathExists={tmp_path / 'none'}")
-    assert holds(f"AssertPathExists={CONFIG}")
+    for path in (tmp_path / "none", tmp_path):
+        ran = subprocess.run(["systemd-analyze", "condition", f"AssertPathExists={path}"], capture_output=True)
+        assert (ran.returncode == 0) == path.exists()
 
 
-@pytest.mark.parametrize("name", [name for name in TEXTS if not name.endswith(".timer") and "@" not in name])
+@pytest.mark.parametrize("name", [name for name in UNITS if not name.endswith(".timer") and "@" not in name])
 def test_failed_unit(name):
     """Each unit that may fail names the unit that reports it."""
-    assert "\nOnFailure=procure-failed@%n.service\n" in TEXTS[name]
+    assert "\nOnFailure=procure-failed@%n.service\n" in UNITS[name]
 
 
 @pytest.mark.systemd
 @pytest.mark.needs("systemd-analyze")
 def test_units(program, tmp_path):
-    for name, text in TEXTS.items():
+    for name, text in UNITS.items():
         (tmp_path / name).write_text(re.sub(r"/usr/(local/s?bin/procure[a-z-]*|share/procure/tools/mirror)", program, text), encoding="utf-8")
-    assert verified([tmp_path / name for name in TEXTS]) == (0, [])
+    assert len(UNITS) == 13 and verified([tmp_path / name for name in UNITS]) == (0, [])
 
 
 @pytest.mark.systemd
 @pytest.mark.needs("systemd-analyze")
 @pytest.mark.parametrize("name, old", [("procure-backup.service", "ExecStart="), ("procure-check.timer", "OnCalendar="), ("procure.service", "Restart=always")])
 def test_planted_in_a_unit(tmp_path, name, old):
-    text = TEXTS[name].replace("/usr/local/sbin/", "/usr/bin/").replace(old, old.replace("=", "e=", 1), 1)
+    text = UNITS[name].replace("/usr/local/sbin/", "/usr/bin/").replace(old, old.replace("=", "e=", 1), 1)
     (tmp_path / name).write_text(text, encoding="utf-8")
     assert verified([tmp_path / name])[1]

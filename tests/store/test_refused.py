@@ -1,9 +1,9 @@
 """Each allocation of a run fails in turn, of the program and of crates' proved tests.
 
-The program runs over imports and queries, and over plays of transcripts. If one request is answered Unavailable, all others must be answered as if it had never
-been sent. If it couldn't be read whole, the place of the next one is unknown: those before it must be answered as always, and the program ends there. A crate's
-`rt test` leaves its tests as a program, out/CRATE_tests. Each test there tries a step a second time if the first try finds no memory, so it must pass whichever
-single allocation is refused. One that asks for its own memory only once may end for that reason. (tests/refused_rows compares all rows too.)
+The program runs over plays of transcripts. If one request is answered Unavailable, all others must be answered as if it had never been sent. If it couldn't be
+read whole, the place of the next one is unknown: those before it must be answered as always, and the program ends there. A crate's `rt test` leaves its tests
+as a program, out/CRATE_tests. Each test there tries a step a second time if the first try finds no memory, so it must pass whichever single allocation is
+refused. One that asks for its own memory only once may end for that reason. (tests/refused_rows compares all rows too.)
 """
 import os
 import re
@@ -13,31 +13,19 @@ from concurrent.futures import ThreadPoolExecutor
 
 import pytest
 
-from office_kit.common import CONFIG, ROOT, block, import_of, look, made_shim, parts_of
-from office_kit.gate.transcripts import request_of, topics
-from office_kit.store.shims import ALLOCATORS
+from office_kit.common import CONFIG, ROOT, parts_of
+from office_kit.gate.transcripts import request_of
+from office_kit.store.refusing import counted, plays, refusing
 
 pytestmark = [pytest.mark.long, pytest.mark.needs("cc")]
-MOMENT = b"2026-01-05T09:00:00Z"
 # The crates whose tests try a step a second time if the first try finds no memory, and the most refusals in each test, spread evenly over its allocations.
 CRATES, MOST = ("tests_of_tables", "tests_of_stores", "tests_of_faults", "tests_of_looks"), int(os.environ.get("MOST", "300"))
 # The plays of transcripts: their files and titles.
-PLAYS = (("published_lives.txt", "two lots"), ("cancellations.txt", "unopened"), ("cancellations.txt", "awarded"), ("performances.txt", "forfeited"),
+PLAYS = (("imports.txt", "a file without rows"), ("imports.txt", "a batch is taken once"), ("imports.txt", "a file has 500 rows at most"),
+         ("imports.txt", "a bad row is numbered"), ("imports.txt", "an appropriation has a bound"), ("imports.txt", "a cut takes no more than is free"),
+         ("published_lives.txt", "two lots"), ("cancellations.txt", "unopened"), ("cancellations.txt", "awarded"), ("performances.txt", "forfeited"),
          ("lists.txt", "notices"), ("terms.txt", "by points"), ("own_tenders.txt", "lot by lot"), ("evaluations.txt", "every state"),
          ("desk_looks.txt", "default"))
-# It refuses the allocation of that number, and no other. If asked, it says how many there were.
-SHIM = r"""
-static long count, refused = -1;
-static int told;
-static void tell(void) { if (!told) { told = 1; fprintf(stderr, "allocation refused\n"); } }
-static void __attribute__((destructor)) tell_count(void) { if (getenv("COUNTED")) fprintf(stderr, "%ld allocations\n", count); }
-static int is_refused(void) {
-    if (refused < 0) { const char *n = getenv("REFUSED"); refused = n ? atol(n) : 0; }
-    if (++count != refused) return 0;
-    tell();
-    return 1;
-}
-""" + ALLOCATORS
 # The words of a test that asks for its own memory once and finds none.
 OWN_WANT = r"memory|AllocError|no settings|no changes|no row|no command|no plan|error: Unavailable"
 UNAVAILABLE = (b"HTTP/1.1 503 Service Unavailable\r\nContent-Type: application/json\r\nContent-Length: 35\r\nConnection: close\r\n\r\n"
@@ -46,31 +34,7 @@ UNAVAILABLE = (b"HTTP/1.1 503 Service Unavailable\r\nContent-Type: application/j
 
 @pytest.fixture(scope="module")
 def shim(tmp_path_factory):
-    return made_shim(SHIM, str(tmp_path_factory.mktemp("shim")))
-
-
-def played(name, title):
-    """The blocks of a play of the transcripts."""
-    pieces = {}
-    for topic in topics():
-        pieces.update(topic.pieces)
-        for kind, play, parts in topic.played:
-            if (topic.name, kind, play) == (name, "play", title):
-                return [request_of(it) for piece in parts[0] for it in pieces[piece]]
-    raise AssertionError(f"{name} has no play {title}")
-
-
-# Imports and queries: an import and a query; an empty file, twice; and the limits of imports. Each ends with a query.
-ROW = b"1000,add,1,Roads"
-IMPORTS = {
-    "an import and a look": [(b"B1", [b"1000,add,1000,Roads", b"2000,add,50,Parks"])],
-    "an empty file, twice": [(b"B2", []), (b"B2", [])],
-    "500 rows": [(b"B1", [ROW] * 500)],
-    "501 rows": [(b"B1", [ROW] * 501)],
-    "a bad row": [(b"B1", [ROW] * 2 + [b"1000,add,0,Roads"])],
-    "the bound of an appropriation": [(b"B1", [b"1000,add,1000000000000000,Roads"]), (b"B2", [ROW])],
-    "cuts": [(b"B1", [b"1000,add,1000,Roads"]), (b"B2", [b"1000,cut,1001,Roads"]), (b"B2", [b"3000,cut,1,Roads"])],
-}
+    return refusing(str(tmp_path_factory.mktemp("shim")))
 
 
 def run_desk(program, requests, **env):
@@ -104,26 +68,21 @@ def refuse_each(program, shim, requests):
     print(counts)
 
 
-@pytest.mark.parametrize("name", IMPORTS)
-def test_imports(plain_program, shim, name):
-    refuse_each(plain_program, shim, [block(MOMENT, it) for it in [*(import_of(*it) for it in IMPORTS[name]), look(b"/lines/1000")]])
-
-
 @pytest.mark.parametrize("name, title", PLAYS)
 def test_play(plain_program, shim, name, title):
-    refuse_each(plain_program, shim, played(name, title))
+    refuse_each(plain_program, shim, [request_of(it) for it in plays()[name, title]])
 
 
 # ---- Tests of crates.
 
-def run_test(tests, name, shim, **env):
-    run = subprocess.run([tests, name], env={"LD_PRELOAD": shim, **env}, capture_output=True, text=True, timeout=300)
+def run_test(tests, name, shim, number):
+    """The status and the output of a test whose allocation of that number is refused."""
+    run = subprocess.run([tests, name], env={"LD_PRELOAD": shim, "REFUSED": str(number)}, capture_output=True, text=True, timeout=300)
     return run.returncode, run.stdout + run.stderr
 
 
 def refuse_in_test(tests, name, shim, number):
-    """How a test ended whose allocation of that number was refused."""
-    status, told = run_test(tests, name, shim, REFUSED=str(number))
+    status, told = run_test(tests, name, shim, number)
     if "allocation refused" not in told:
         return "nothing was refused"
     assert status == 0 or re.search(OWN_WANT, told), f"{name} failed where allocation {number} was refused: {told}"
@@ -141,6 +100,6 @@ def test_crate(shim, crate):
     assert names
     with ThreadPoolExecutor() as pool:
         for name in names:
-            count = int(re.findall(r"^(\d+) allocations$", run_test(tests, name, shim, COUNTED="1")[1], re.M)[-1])
+            count, _ = counted(run_test(tests, name, shim, 0)[1])
             numbers = sorted({1 + step * (count - 1) // (MOST - 1) for step in range(MOST)}) if count > MOST else range(1, count + 1)
             print(name, Counter(pool.map(lambda number, name=name: refuse_in_test(tests, name, shim, number), numbers)))

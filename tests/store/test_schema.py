@@ -1,8 +1,11 @@
 """The tables in an office's file, as the sqlite3 program sees them (Debian's `sqlite3`): bounds, types, keys, and how each query finds its rows.
 
-That program knows nothing of ours. docs/TABLES.md says the same. Each row is added to a file that the program made, and taken back in a transaction.
+That program knows nothing of ours. tables.txt has the tables, and docs/TABLES.md says the same. Each row is added to a file that the program made, and taken
+back in a transaction.
 """
+import functools
 import re
+from collections import namedtuple
 from pathlib import Path
 
 import pytest
@@ -11,199 +14,116 @@ from office_kit.common import ROOT
 from office_kit.store.files import ledger_of, sqlite
 
 pytestmark = pytest.mark.needs("sqlite3")
-EUROS, TOTAL, MOMENT, NUMBER = 10**12, 10**15, 4102444799, 10**9
+VALUES = {"INTEGER": str, "TEXT": lambda length: f"'{'a' * length}'", "BLOB": "zeroblob({})".format}
+# Values of other types than that of a column.
+OTHERS = {"INTEGER": ["'a'", "1.5", "x'00'"], "TEXT": ["x'00'"], "BLOB": ["'a'", "1", "1.5"]}
+# A column: its type, values that it takes, values that it doesn't, and whether it may be NULL.
+Column = namedtuple("Column", "kind takes refuses may_be_null")
 
 
-def number(least, most):
-    return ("INTEGER", [str(least), str(most)], [str(least - 1), str(most + 1)])
+def column_of(kind, *words):
+    is_null, words = "NULL" in words, [it for it in words if it != "NULL"]
+    if kind == "word":
+        return Column("TEXT", [f"'{it}'" for it in words], ["''", "'other'", *(f"'{it.upper()}'" for it in words)], is_null)
+    bounds, value = [int(it) for it in words], VALUES[kind]
+    return Column(kind, [value(it) for it in bounds] or ["'any'"], [value(it + step) for it, step in zip(bounds, (-1, 1))], is_null)
 
 
-def text(least, most):
-    return ("TEXT", [f"'{'a' * least}'", f"'{'a' * most}'"], [f"'{'a' * (least - 1)}'", f"'{'a' * (most + 1)}'"])
+def table_of(part):
+    """A table of tables.txt: its name, with its key and its columns in order."""
+    (name, *key), *rows = (line.split() for line in part.splitlines())
+    return name.rstrip(":"), (key, {column: column_of(*words) for column, *words in rows})
 
 
-def word(*words):
-    return ("TEXT", [f"'{it}'" for it in words], ["''", "'other'"] + [f"'{it.upper()}'" for it in words])
-
-
-def blob(least, most):
-    return ("BLOB", [f"zeroblob({least})", f"zeroblob({most})"], [f"zeroblob({least - 1})", f"zeroblob({most + 1})"])
-
-
-def perhaps(column):
-    return (*column, "NULL")
-
-
-ID, TITLE, ANY = text(1, 32), text(1, 200), ("TEXT", ["'any'"], [])
-# The columns of notices in version 1, whose table version 2 keeps empty.
-FORMER = {
-    "notice": ID, "title": TITLE, "published": number(0, MOMENT), "deadline": number(0, MOMENT), "validity": number(1, 365), "standstill": number(0, 90),
-    "weight": number(0, 100), "state": word("receiving", "opened", "cancelled"), "opened": perhaps(number(0, MOMENT)), "amendments": number(0, 50),
-    "releases": number(0, 9999)}
-# Each table: its key, and its columns in order, each with its kind, values that it takes, values that it doesn't, and whether it may be NULL.
-TABLES = {
-    "lines": (["line"], {"line": ID, "title": TITLE, "appropriation": number(0, TOTAL), "free": number(0, TOTAL)}),
-    "batches": (["batch"], {"batch": ID, "moment": number(0, MOMENT), "rows": number(0, 500)}),
-    "tenderers": (["tenderer"], {"tenderer": ID, "name": TITLE, "address": TITLE, "key": blob(32, 32)}),
-    "notices": (["notice"], FORMER),
-    "notices_2": (["notice"], FORMER | {"performance": number(0, EUROS)}),
-    "lots": (["notice", "lot"], {
-        "notice": ID, "lot": ID, "title": TITLE, "line": ID, "estimate": number(1, EUROS), "security": number(0, EUROS), "items": ANY,
-        "state": word("undecided", "awarded", "contracted", "unsuccessful", "cancelled"), "reserved": number(0, EUROS)}),
-    "envelopes": (["receipt"], {
-        "receipt": number(1, NUMBER), "notice": ID, "lot": ID, "tenderer": ID, "moment": number(0, MOMENT), "length": number(1, 32768), "digest": blob(32, 32),
-        "security": perhaps(number(1, NUMBER)), "state": word("sealed", "withdrawn", "returned", "opened"),
-        "reading": perhaps(word("unreadable", "nonconforming", "priced")),
-        "stated": perhaps(number(0, TOTAL)), "corrected": perhaps(number(0, EUROS)), "corrections": perhaps(("INTEGER", ["0", str(2**63 - 1)], ["-1"])),
-        "responsive": perhaps(number(0, 1)), "quality": perhaps(number(0, 100)), "failed": number(0, 1)}),
-    "seals": (["receipt"], {"receipt": number(1, NUMBER), "bytes": blob(1, 32768)}),
-    "securities": (["security"], {
-        "security": number(1, NUMBER), "tenderer": ID, "notice": ID, "lot": ID, "reference": ID, "amount": number(1, EUROS),
-        "state": word("held", "returned", "forfeited")}),
-    "awards": (["award"], {
-        "award": number(1, NUMBER), "notice": ID, "lot": ID, "receipt": number(1, NUMBER), "price": number(0, EUROS), "moment": number(0, MOMENT),
-        "state": word("active", "failed", "cancelled", "signed")}),
-    "contracts": (["contract"], {
-        "contract": number(1, NUMBER), "notice": ID, "lot": ID, "tenderer": ID, "signed": number(0, TOTAL), "moment": number(0, MOMENT),
-        "ended": perhaps(number(0, MOMENT)),
-        "how": perhaps(word("regular", "default")), "released": number(0, TOTAL)}),
-    "entries": (["contract", "entry"], {
-        "contract": number(1, NUMBER), "entry": ID, "kind": word("raise", "cut", "payment"), "amount": number(1, EUROS),
-        "moment": number(0, MOMENT), "rationale": perhaps(TITLE)}),
-    "releases": (["notice", "seq"], {"notice": ID, "seq": number(1, 9999), "moment": number(0, MOMENT), "text": ANY}),
-    "compiled": (["notice"], {"notice": ID, "text": ANY}),
-    "late_rules": (["notice"], {"notice": ID}),
-    "performance": (["contract"], {
-        "contract": number(1, NUMBER), "reference": ID, "amount": number(1, EUROS), "state": word("held", "returned", "forfeited")}),
-    "office": (["version"], {"version": number(1, 2**31 - 1), "moment": number(0, MOMENT), "receipts": number(0, NUMBER), "awards": number(0, NUMBER)}),
-}
-INDEXES = {
-    "lots_of_line": ("lots", ["line"]),
-    "envelopes_of_notice": ("envelopes", ["notice", "lot", "tenderer"]),
-    "securities_of_notice": ("securities", ["notice"]),
-    "awards_of_notice": ("awards", ["notice"]),
-    "contracts_of_notice": ("contracts", ["notice"]),
-}
+_, *TEXTS, INDEXED, SEARCHED = Path(__file__).with_name("tables.txt").read_text(encoding="utf-8").split("\n\n")
+TABLES = dict(map(table_of, TEXTS))
+INDEXES = {name: [table, *columns] for name, table, *columns in (line.split() for line in INDEXED.splitlines()[1:])}
+BY_INDEX = {(table, test): by for table, test, by in (line.strip().split(": ") for line in SEARCHED.splitlines()[1:])}
 ROWID, KEY = "INTEGER PRIMARY KEY (rowid=?)", "sqlite_autoindex_{}_1 ({})"
-# How SQLite answers a question of a table with such a test, if not by the key.
-BY_INDEX = {
-    ("notices_2", "notice > ?1"): "sqlite_autoindex_notices_2_1 (notice>?)",
-    ("tenderers", "tenderer > ?1"): "sqlite_autoindex_tenderers_1 (tenderer>?)",
-    ("lots", "line = ?1"): "lots_of_line (line=?)",
-    ("lots", "notice = ?1"): "sqlite_autoindex_lots_1 (notice=?)",
-    ("envelopes", "notice = ?1"): "envelopes_of_notice (notice=?)",
-    ("envelopes", "notice = ?1 AND lot = ?2"): "envelopes_of_notice (notice=? AND lot=?)",
-    ("envelopes", "notice = ?1 AND lot = ?2 AND tenderer = ?3"): "envelopes_of_notice (notice=? AND lot=? AND tenderer=?)",
-    ("securities", "notice = ?1"): "securities_of_notice (notice=?)",
-    # (those of a lot are sought among those of its notice)
-    ("securities", "notice = ?1 AND lot = ?2"): "securities_of_notice (notice=?)",
-    ("awards", "notice = ?1"): "awards_of_notice (notice=?)",
-    ("contracts", "notice = ?1"): "contracts_of_notice (notice=?)",
-    ("entries", "contract = ?1"): "sqlite_autoindex_entries_1 (contract=?)",
-    ("releases", "notice = ?1"): "sqlite_autoindex_releases_1 (notice=?)",
-}
-KINDS = {"INTEGER": ["'a'", "1.5", "x'00'"], "TEXT": ["x'00'"], "BLOB": ["'a'", "1", "1.5"]}
-
-
-def may_be_null(column):
-    return column[-1] == "NULL"
 
 
 def is_rowid(table):
     key, columns = TABLES[table]
-    return len(key) == 1 and columns[key[0]][0] == "INTEGER"
-
-
-class File:
-    """An office's file that the program made."""
-
-    def __init__(self, program, folder):
-        self.path = str(folder / "office.db")
-        ledger_of(program, self.path)
-
-    def ask(self, script):
-        """The lines that sqlite3 prints for a script; a statement that it refuses is skipped."""
-        return sqlite(self.path, script, may_fail=True)
-
-    def takes(self, table, rows):
-        """Which of these lists of rows, each put alone, the table takes whole."""
-        names = ", ".join(TABLES[table][1])
-        puts = [[f"INSERT INTO {table} ({names}) VALUES ({', '.join(row)});" for row in some] for some in rows]
-        script = "\n".join(f"BEGIN; DELETE FROM {table};\n" + "\n".join(put) + f"\nSELECT count(*) = {len(put)} FROM {table}; ROLLBACK;" for put in puts)
-        told = self.ask(script)
-        assert len(told) == len(rows)
-        return [it == "1" for it in told]
-
-    def judges(self, table, wanted):
-        """Each row, by its column and value, is accepted or refused as expected."""
-        told = self.takes(table, [[with_value(table, name, value)] for name, value, _ in wanted])
-        assert [(*it[:2], taken) for it, taken in zip(wanted, told)] == wanted
+    return len(key) == 1 and columns[key[0]].kind == "INTEGER"
 
 
 @pytest.fixture(scope="module")
-def file(program, tmp_path_factory):
-    return File(program, tmp_path_factory.mktemp("schema"))
+def ask(program, tmp_path_factory):
+    """Runs a script over an office's file: the lines that sqlite3 prints. A statement that it refuses is skipped."""
+    path = str(tmp_path_factory.mktemp("schema") / "office.db")
+    ledger_of(program, path)
+    return functools.partial(sqlite, path, may_fail=True)
 
 
-def base(table):
-    """A row that the table takes."""
-    return {name: column[1][0] for name, column in TABLES[table][1].items()}
+def takes(ask, table, rows):
+    """Which of these lists of rows, each put alone, the table takes whole."""
+    names = ", ".join(TABLES[table][1])
+    puts = [[f"INSERT INTO {table} ({names}) VALUES ({', '.join(row)});" for row in some] for some in rows]
+    script = "\n".join(f"BEGIN; DELETE FROM {table};\n" + "\n".join(put) + f"\nSELECT count(*) = {len(put)} FROM {table}; ROLLBACK;" for put in puts)
+    told = ask(script)
+    assert len(told) == len(rows)
+    return [it == "1" for it in told]
 
 
-def with_value(table, name, value):
-    """The same row with another value in one column."""
-    return list((base(table) | {name: value}).values())
+def judges(ask, table, wanted):
+    """Each row, by its column and value, is accepted or refused as expected."""
+    told = takes(ask, table, [[row_of(table, **{name: value})] for name, value, _ in wanted])
+    assert [(*it[:2], taken) for it, taken in zip(wanted, told)] == wanted
+
+
+def row_of(table, **other):
+    """A row that the table takes, or one with another value."""
+    return list(({name: column.takes[0] for name, column in TABLES[table][1].items()} | other).values())
 
 
 each_table = pytest.mark.parametrize("table", TABLES)
 
 
 @each_table
-def test_table(file, table):
+def test_table(ask, table):
     """Its columns, the kinds of their values, its key, and which columns may be NULL."""
     key, columns = TABLES[table]
     places = {name: key.index(name) + 1 if name in key else 0 for name in columns}
-    wanted = [f"{at}|{name}|{column[0]}|{0 if may_be_null(column) else 1}||{places[name]}" for at, (name, column) in enumerate(columns.items())]
-    assert file.ask(f"PRAGMA table_info({table});") == wanted
+    wanted = [f"{at}|{name}|{column.kind}|{int(not column.may_be_null)}||{places[name]}" for at, (name, column) in enumerate(columns.items())]
+    assert ask(f"PRAGMA table_info({table});") == wanted
 
 
-def test_tables(file):
+def test_tables(ask):
     """There are these tables and indexes, and all tables are STRICT."""
-    assert file.ask("SELECT name FROM pragma_table_list WHERE schema = 'main' AND strict = 1 ORDER BY name;") == sorted(TABLES)
-    assert file.ask("SELECT name FROM sqlite_master WHERE name NOT LIKE 'sqlite!_%' ESCAPE '!' ORDER BY name;") == sorted([*TABLES, *INDEXES])
-    for index, (table, columns) in INDEXES.items():
-        told = file.ask(f"SELECT tbl_name FROM sqlite_master WHERE name = '{index}'; SELECT name FROM pragma_index_info('{index}') ORDER BY seqno;")
-        assert told == [table, *columns]
+    assert ask("SELECT name FROM pragma_table_list WHERE schema = 'main' AND strict = 1 ORDER BY name;") == sorted(TABLES)
+    assert ask("SELECT name FROM sqlite_master WHERE name NOT LIKE 'sqlite!_%' ESCAPE '!' ORDER BY name;") == sorted([*TABLES, *INDEXES])
+    for index, wanted in INDEXES.items():
+        told = ask(f"SELECT tbl_name FROM sqlite_master WHERE name = '{index}'; SELECT name FROM pragma_index_info('{index}') ORDER BY seqno;")
+        assert told == wanted
 
 
 @each_table
-def test_bounds(file, table):
+def test_bounds(ask, table):
     """A column accepts the least and the most that its record has, and each word. It refuses one below, one above, another word, and, if need be, NULL."""
     key, columns = TABLES[table]
     wanted = []
     for name, column in columns.items():
-        wanted += [(name, value, True) for value in column[1]] + [(name, value, False) for value in column[2]]
+        wanted += [(name, value, True) for value in column.takes] + [(name, value, False) for value in column.refuses]
         # SQLite chooses a rowid for NULL, so the table accepts it.
-        if may_be_null(column) or not (is_rowid(table) and name in key):
-            wanted.append((name, "NULL", may_be_null(column)))
-    file.judges(table, wanted)
+        if column.may_be_null or not (is_rowid(table) and name in key):
+            wanted.append((name, "NULL", column.may_be_null))
+    judges(ask, table, wanted)
 
 
 @each_table
-def test_kinds(file, table):
+def test_kinds(ask, table):
     """No column accepts a value of another kind."""
-    file.judges(table, [(name, value, False) for name, column in TABLES[table][1].items() for value in KINDS[column[0]]])
+    judges(ask, table, [(name, value, False) for name, column in TABLES[table][1].items() for value in OTHERS[column.kind]])
 
 
 @each_table
-def test_key(file, table):
+def test_key(ask, table):
     """No two rows have the same key. A key that is a number is the rowid."""
     key, columns = TABLES[table]
-    one = list(base(table).values())
-    others = [with_value(table, name, columns[name][1][1]) for name in key]
-    assert file.takes(table, [[one, one], *([one, other] for other in others)]) == [False] + [True] * len(key)
+    one, others = row_of(table), [row_of(table, **{name: columns[name].takes[1]}) for name in key]
+    assert takes(ask, table, [[one, one], *([one, other] for other in others)]) == [False] + [True] * len(key)
     if is_rowid(table):
-        same = file.ask(f"BEGIN; INSERT OR REPLACE INTO {table} VALUES ({', '.join(one)}); SELECT min(rowid = {key[0]}) FROM {table}; ROLLBACK;")
+        same = ask(f"BEGIN; INSERT OR REPLACE INTO {table} VALUES ({', '.join(one)}); SELECT min(rowid = {key[0]}) FROM {table}; ROLLBACK;")
         assert same == ["1"]
 
 
@@ -230,9 +150,9 @@ def step_of(table, test, columns):
 
 
 @pytest.mark.parametrize("query", asked())
-def test_query(file, query):
+def test_query(ask, query):
     """`EXPLAIN QUERY PLAN` uses the key or the index that is listed here."""
-    steps = [line.lstrip(" |`-") for line in file.ask(f"EXPLAIN QUERY PLAN {query};") if line != "QUERY PLAN"]
+    steps = [line.lstrip(" |`-") for line in ask(f"EXPLAIN QUERY PLAN {query};") if line != "QUERY PLAN"]
     plain = re.fullmatch(r"(?:SELECT (.*)|DELETE) FROM (\w+) WHERE (.*?)(?: ORDER BY .*)?", query)
     first = re.fullmatch(r"SELECT .* FROM (\w+) ORDER BY (\w+) LIMIT \?1", query)
     if "JOIN" in query:
@@ -267,19 +187,19 @@ def sections():
     return found
 
 
-def test_dictionary(file):
+def test_dictionary():
     """docs/TABLES.md has each table of the file."""
     assert sections().keys() == TABLES.keys()
 
 
 @each_table
-def test_dictionary_of(file, table):
+def test_dictionary_of(ask, table):
     """docs/TABLES.md has each column in order. Type, place in the key, whether it may be NULL, and the words of a column are those of the file."""
-    rows, columns = sections()[table], [line.split("|") for line in file.ask(f"PRAGMA table_info({table});")]
+    rows, columns = sections()[table], [line.split("|") for line in ask(f"PRAGMA table_info({table});")]
     wanted = [(name, kind, key if key != "0" else "", needed == "0") for _, name, kind, needed, _, key in columns]
     assert [(name, kind, key, unit.endswith("or empty")) for name, kind, key, unit, _ in rows] == wanted
     assert all(unit and meaning for *_, unit, meaning in rows)
-    made = "\n".join(file.ask(f"SELECT sql FROM sqlite_master WHERE name = '{table}';"))
+    made = "\n".join(ask(f"SELECT sql FROM sqlite_master WHERE name = '{table}';"))
     for name, _, _, unit, meaning in rows:
         words = re.search(rf"\({name} IN \(([^)]*)\)", made)
         assert bool(words) == unit.startswith("word")

@@ -1,9 +1,9 @@
 """Files of earlier programs open to their own content, in version 2. Files that can't, or that are no version 2 as they claim, are refused and stay unchanged.
 
 The files are those of tests/version_1, the first of them as the program itself left it (version_1.db.xz), and an older one of crates/tests_of_stores, which
-has no table of late withdrawals. Some have tables of other software beside them. Each row of each table is unchanged, except for notices: they are in
-`notices_2`, with no performance security required. Queries are answered as tools/audit computes it from the rows. If PROCURE_1 names a program of version 1,
-it must refuse a file that ours migrated.
+has no table of late withdrawals. Some have tables of other software beside them (beside.sql). Each row of each table is unchanged, except for notices: they are
+in `notices_2`, with no performance security required. Queries are answered as tools/audit computes it from the rows. If PROCURE_1 names a program of version
+1, it must refuse a file that ours migrated.
 """
 import json
 import lzma
@@ -22,6 +22,7 @@ from office_kit.audit.office import Office
 from office_kit.client import Client, Port, data_of
 from office_kit.common import ROOT
 from office_kit.store import pages
+from office_kit.store.earlier import in_version_2, made, statements_in, text_of
 from office_kit.store.files import REFUSED, VERSION_1, ledger_of, printed, rows_of, told
 from office_kit.store.life import Life, key_of, offer, part
 from office_kit.store.served import Serving
@@ -30,47 +31,13 @@ pytestmark = [pytest.mark.time, pytest.mark.budget(90)]
 STORES = Path(ROOT, "crates", "tests_of_stores", "src")
 TEXT = re.compile(r'pub const (\w+): &str =\s*(?:r##"(.*?)"##|("(?:[^"\\]|\\.)*"));', re.S)
 EARLIER = os.environ.get("PROCURE_1")
-# Tables of others, whose foreign keys lead to one another and to tables that a migration leaves as they are; an index, a view and a trigger of theirs.
-OTHERS = """CREATE TABLE audits (audit INTEGER PRIMARY KEY, title TEXT NOT NULL);
-CREATE TABLE findings (audit INTEGER NOT NULL REFERENCES audits ON DELETE CASCADE, finding TEXT NOT NULL);
-CREATE INDEX findings_of_audit ON findings (audit);
-INSERT INTO audits VALUES (1, 'first'), (2, 'second');
-INSERT INTO findings VALUES (1, 'none'), (2, 'late'), (2, 'paid twice');
-CREATE TABLE owners (line TEXT NOT NULL REFERENCES lines ON DELETE CASCADE, owner TEXT NOT NULL);
-INSERT INTO owners SELECT line, 'Ada' FROM lines;
-CREATE VIEW late AS SELECT audit FROM findings WHERE finding = 'late';
-CREATE TABLE notes (text TEXT NOT NULL);
-INSERT INTO notes VALUES ('a');
-CREATE TRIGGER noted AFTER INSERT ON notes BEGIN UPDATE notes SET text = 'seen'; END;
-"""
-# Obstacles to version 2.
-IN_THE_WAY = {
-    "a foreign key to the notices": "CREATE TABLE remarks (notice TEXT NOT NULL REFERENCES notices, remark TEXT NOT NULL);"
-                                    "INSERT INTO remarks SELECT notice, 'seen' FROM notices;",
-    "rows that would go with the notices": "CREATE TABLE remarks (notice TEXT NOT NULL REFERENCES Notices ON DELETE CASCADE, remark TEXT NOT NULL);"
-                                           "INSERT INTO remarks SELECT notice, 'seen' FROM notices;",
-    "a column that would be emptied": "CREATE TABLE remarks (notice TEXT REFERENCES notices ON DELETE SET NULL, remark TEXT NOT NULL);"
-                                      "INSERT INTO remarks SELECT notice, 'seen' FROM notices;",
-    "rows that would go with the version": "CREATE TABLE remarks (version INTEGER REFERENCES office ON DELETE CASCADE); INSERT INTO remarks VALUES (1);",
-    "a view of the notices": "CREATE VIEW titles AS SELECT title FROM main.[Notices];",
-    "a trigger on the lots": "CREATE TRIGGER seen AFTER UPDATE ON lots BEGIN SELECT 1; END;",
-    "no table of securities": "DROP TABLE securities;",
-    "a column more in the seals": "ALTER TABLE seals ADD COLUMN place TEXT;",
-    "a table of the name performance": "CREATE TABLE performance (play TEXT NOT NULL); INSERT INTO performance VALUES ('Hamlet');",
-    "a view of the name notices_2": "CREATE VIEW notices_2 AS SELECT notice FROM notices;",
-    "an index of the name late_rules": "CREATE TABLE rules (rule TEXT NOT NULL); CREATE INDEX late_rules ON rules (rule);",
-    "a notice in a state that is none": "PRAGMA ignore_check_constraints = ON; UPDATE notices SET state = 'closed';",
-    "a clock past its last moment": "PRAGMA ignore_check_constraints = ON; UPDATE office SET moment = 4102444800;",
-}
+# Tables of others, and obstacles to version 2.
+BESIDE = statements_in("beside.sql")
+OTHERS, *IN_THE_WAY = BESIDE
 
 
 def texts_of(file):
-    """The texts of a file of constants, by their names."""
     return {name: raw or json.loads(text) for name, raw, text in TEXT.findall((STORES / file).read_text(encoding="utf-8"))}
-
-
-def text_of(name):
-    return (VERSION_1 / name).read_text(encoding="utf-8")
 
 
 def earliest(more=""):
@@ -79,29 +46,12 @@ def earliest(more=""):
     return texts["EARLIER_TABLES"] + texts["EARLIER_ROWS"] + texts["EARLIER_LOTS"] + more, texts["EARLIER_LEDGER"]
 
 
-# The files: the statements that make each, or its bytes, and its ledger.
+# The files: the statements that make each, and its ledger.
 KEPT = {
-    "before late withdrawals": earliest,
-    "before late withdrawals, beside tables of others": lambda: earliest(OTHERS),
-    **{path.stem: lambda name=path.stem: (text_of(f"{name}.sql"), text_of(f"{name}.ledger")) for path in sorted(VERSION_1.glob("*.sql"))},
-    "version_1.db.xz": lambda: (lzma.decompress((VERSION_1 / "version_1.db.xz").read_bytes()), text_of("running.ledger")),
+    "before late withdrawals": earliest(),
+    "before late withdrawals, beside tables of others": earliest(BESIDE[OTHERS]),
+    **{path.stem: (text_of(path.name), text_of(f"{path.stem}.ledger")) for path in sorted(VERSION_1.glob("*.sql"))},
 }
-
-
-def made(path, content, size=pages.FORMER):
-    """Makes a file of statements, in pages of this size, or of bytes."""
-    if isinstance(content, bytes):
-        path.write_bytes(content)
-    else:
-        with closing(sqlite3.connect(path)) as base:
-            base.executescript(f"PRAGMA page_size = {size}; PRAGMA journal_mode = WAL; {content}")
-    return str(path)
-
-
-def dump(path):
-    """The statements that make all of a file."""
-    with closing(sqlite3.connect(path)) as base:
-        return list(base.iterdump())
 
 
 @pytest.mark.parametrize("name", ["running", "ten"])
@@ -115,17 +65,17 @@ def test_copies(name, tmp_path):
 
 
 def line_of(row):
-    """The line that is printed of a notice of the list."""
     names = ("notice", "state", "published", "deadline", "opened", "amendments", "releases", "title")
     return "\t".join("-" if row[name] is None else str(row[name]) for name in names) + "\n"
 
 
-def try_looks(program, path, folder):
+def try_looks(program, path):
     """The list of notices, and the terms and evaluation of each, are answered and printed as tools/audit makes them of the rows."""
-    audited = Office(path, str(folder))
+    folder = os.path.dirname(path)
+    audited = Office(path, folder)
     notices, rows = audited.notices(), audit_looks.listed_of(audited)
     evaluations = {it: audit_looks.evaluation_of(audited, it) for it in notices}
-    with Serving(program, str(folder)) as serve:
+    with Serving(program, folder) as serve:
         looks = Client(Port(serve(path, stdout=subprocess.DEVNULL).port, strict=False), key_of)
         assert looks.notices().value() == {"next": None, "notices": [rows[it] for it in notices]}
         for notice in notices:
@@ -137,20 +87,26 @@ def try_looks(program, path, folder):
         assert told(printed(program, path, "evaluation", notice)) == ((0, text, "") if text else (1, "", "procure: NotOpened\n"))
 
 
-# (A file that is kept as bytes has its own page size.)
-@pytest.mark.parametrize("name, size", [(name, size) for name in KEPT for size in pages.SIZES if size == pages.FORMER or not name.endswith(".xz")])
-def test_opened(program, name, size, tmp_path):
-    """Each file is opened twice. The first time a line says that it was migrated. Then it is queried."""
-    content, ledger = KEPT[name]()
-    path = made(tmp_path / "office.db", content, size)
-    before = rows_of(path)
-    (_, *clock), = before["office"]
-    later = {"late_rules": [], "performance": [], **before, "notices": [], "notices_2": [(*row, 0) for row in before["notices"]], "office": [(2, *clock)]}
+def try_opened(program, path, ledger, size):
+    """A file is opened twice. The first time a line says that it was migrated. Then it is queried."""
+    later = in_version_2(rows_of(path))
     for line in (f"procure: an office of version 1 in {path} was migrated to version 2\n", ""):
         assert told(printed(program, path)) == (0, ledger, line)
         assert rows_of(path) == later
-    try_looks(program, path, tmp_path)
+    try_looks(program, path)
     pages.check_size(path, size)
+
+
+@pytest.mark.parametrize("name", KEPT)
+def test_opened(program, name, size, tmp_path):
+    statements, ledger = KEPT[name]
+    try_opened(program, made(tmp_path / "office.db", statements, size), ledger, size)
+
+
+def test_opened_as_the_program_left_it(program, tmp_path):
+    path = tmp_path / "office.db"
+    path.write_bytes(lzma.decompress((VERSION_1 / "version_1.db.xz").read_bytes()))
+    try_opened(program, str(path), text_of("running.ledger"), pages.FORMER)
 
 
 class Migrated(Life):
@@ -179,7 +135,6 @@ class Migrated(Life):
         assert [seen[name] for name in ("how", "outstanding", "paid", "released", "signed")] == [None, 450, 300, 0, 700]
 
     def settle(self):
-        """Queries the office, and ends its contract."""
         self.has_line(free=250, contracted=450, paid=300)
         self.has_looks()
         for who in ("clerk", "T1"):
@@ -220,12 +175,21 @@ def test_served(program, size, tmp_path):
     pages.check_size(path, size)
 
 
-@pytest.mark.parametrize("what", IN_THE_WAY)
-def test_refused(program, what, size, tmp_path):
-    path = made(tmp_path / "office.db", earliest(IN_THE_WAY[what])[0], size)
+def dump(path):
+    with closing(sqlite3.connect(path)) as base:
+        return list(base.iterdump())
+
+
+def is_refused(program, path):
+    """The program refuses a file, which stays unchanged."""
     before = dump(path)
     assert told(printed(program, path)) == REFUSED
     assert dump(path) == before
+
+
+@pytest.mark.parametrize("what", IN_THE_WAY)
+def test_refused(program, what, size, tmp_path):
+    is_refused(program, made(tmp_path / "office.db", earliest(BESIDE[what])[0], size))
 
 
 @pytest.mark.parametrize("table", ["late_rules", "notices_2", "performance"])
@@ -235,14 +199,12 @@ def test_version_2_without_a_table(program, table, size, tmp_path):
     ledger_of(program, path)
     with closing(sqlite3.connect(path)) as base:
         base.executescript(f"DROP TABLE {table};")
-    before = dump(path)
-    assert told(printed(program, path)) == REFUSED
-    assert dump(path) == before
+    is_refused(program, path)
 
 
 if EARLIER:
     def test_an_earlier_program(program, tmp_path):
         path = made(tmp_path / "office.db", earliest()[0])
-        ledger, before = ledger_of(program, path), dump(path)
-        assert told(printed(EARLIER, path)) == REFUSED
-        assert dump(path) == before and ledger_of(program, path) == ledger
+        ledger = ledger_of(program, path)
+        is_refused(EARLIER, path)
+        assert ledger_of(program, path) == ledger

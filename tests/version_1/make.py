@@ -13,21 +13,17 @@ moved into it and compressed, is version_1.db.xz, beside this script.
 Exit status: 0 both were made, 1 a request was refused, 2 wrong arguments or no program, 3 sqlite3 is missing.
 """
 import lzma
-import os
-import sqlite3
 import subprocess
 import tempfile
+from pathlib import Path
 
 from office_kit.client import Port, budget, lot, tender
-from office_kit.common import add_program, free_port, need, options_of, running, serve_words
+from office_kit.common import add_program, need, options_of
 from office_kit.store.life import Life, offer, part
-
-CONNECTIONS = 10_000
+from office_kit.store.served import server
 
 
 class Running(Life):
-    """A contract that runs."""
-
     def before_the_deadline(self):
         self.import_budget("B1", budget("1000,add,1000,Roads"))
         self.enrol("T1", "T2")
@@ -96,25 +92,21 @@ class Ten(Life):
 
 def make(kind, program, folder):
     """Lets the program make a file, and leaves its text and its ledger in the folder."""
-    name, port = kind.__name__.lower(), free_port()
     with tempfile.TemporaryDirectory() as place:
-        file = os.path.join(place, "office.db")
-        with running(serve_words(program, file, port, CONNECTIONS)):
+        file = Path(place, "office.db")
+        with server(program, file) as (_, port):
             life = kind(Port(port))
             life.before_the_deadline()
             life.after_the_deadline()
             ledger = life.ledger().body
-        text = subprocess.run(["sqlite3", file, ".dump"], capture_output=True, check=True).stdout
-        base = sqlite3.connect(file)
-        base.execute("PRAGMA wal_checkpoint(TRUNCATE)")
-        base.close()
-        with open(file, "rb") as whole:
-            packed = lzma.compress(whole.read(), preset=9)
-    made = {f"{name}.sql": text, f"{name}.ledger": ledger, **({"version_1.db.xz": packed} if kind is Running else {})}
-    for file, content in made.items():
-        with open(os.path.join(folder, file), "wb") as out:
-            out.write(content)
-    print(", ".join(f"{file}: {len(content)} bytes" for file, content in made.items()), flush=True)
+        # (As sqlite3 ends it moves the log into the file.)
+        text, name = subprocess.run(["sqlite3", file, ".dump"], capture_output=True, check=True).stdout, kind.__name__.lower()
+        made = {f"{name}.sql": text, f"{name}.ledger": ledger}
+        if kind is Running:
+            made["version_1.db.xz"] = lzma.compress(file.read_bytes(), preset=9)
+    for left, content in made.items():
+        Path(folder, left).write_bytes(content)
+    print(", ".join(f"{left}: {len(content)} bytes" for left, content in made.items()), flush=True)
 
 
 def main():

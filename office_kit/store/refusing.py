@@ -1,0 +1,31 @@
+"""The parts of tests that refuse memory: the library that does it (refusing.c), and plays of the transcripts."""
+import re
+from pathlib import Path
+
+from office_kit.common import made_shim
+from office_kit.gate.transcripts import topics
+from office_kit.store.shims import ALLOCATORS
+
+
+def refusing(folder: str) -> str:
+    """The library, made in a folder."""
+    return made_shim(Path(__file__).with_suffix(".c").read_text(encoding="utf-8") + ALLOCATORS, folder)
+
+
+def counted(errors: str) -> tuple[int, int]:
+    """The allocations that the library counted, and how many of them it refused, by a program's standard error."""
+    counts = re.findall(r"^(\d+) made, (\d+) refused$", errors, re.M)
+    if not counts:
+        raise AssertionError(f"the library counted nothing: {errors.strip()}")
+    return int(counts[-1][0]), int(counts[-1][1])
+
+
+def plays() -> dict[tuple[str, str], list[str]]:
+    """The blocks of each play of the transcripts, by its file and its title."""
+    pieces, found = dict[str, list[str]](), {}
+    for topic in topics():
+        pieces.update(topic.pieces)
+        for kind, title, parts in topic.played:
+            if kind == "play":
+                found[topic.name, title] = [block for name in parts[0] for block in pieces[name]]
+    return found
