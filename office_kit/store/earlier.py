@@ -6,7 +6,7 @@ from typing import Any
 
 from office_kit.common import ROOT
 from office_kit.store import pages
-from office_kit.store.files import VERSION_1
+from office_kit.store.files import VERSION_1, scripts_of
 
 Rows = dict[str, list[tuple[Any, ...]]]
 
@@ -16,9 +16,8 @@ def text_of(name: str) -> str:
 
 
 def statements_in(name: str) -> dict[str, str]:
-    """The statements in a file of tests/store, by the comments above them. Its first comment is about the whole file."""
-    _, *parts = Path(ROOT, "tests", "store", name).read_text(encoding="utf-8").split("\n\n-- ")
-    return {title: statements for title, _, statements in (part.partition("\n") for part in parts)}
+    """The statements in a file of tests/store, by the first lines of the comments before them."""
+    return {said[0]: script for said, script in scripts_of(Path(ROOT, "tests", "store", name))}
 
 
 def made(path: Path, statements: str, size: int = pages.FORMER) -> str:
