@@ -1,6 +1,7 @@
 """The portal's list (web/common/filters.js) has the procurements, states and order that a plain implementation here finds, for lists that hypothesis makes.
 
-The lists have up to five notices, tables of the mirror that are older, newer or missing, and questions in all filters. Changed rules are found.
+The lists have up to five notices, tables of the mirror that are older, newer or missing, and questions in all filters. Changed rules are found. Examples show
+what both are for: words without accents, `ue` for `ü`, what is bought, budget lines, three orders, and numbers in other letters.
 """
 import itertools
 import random
@@ -15,19 +16,16 @@ from office_kit.api.tenders import CHANCE
 from office_kit.desks import modules
 
 pytestmark = pytest.mark.needs("node")
-SCRIPT = """
-const filters = await import(`${process.argv[1]}/common/filters.js`);
-const shown = ({ notice, state, year, lines, firms, winners }) => [notice, state, year, [...lines].sort(), [...firms].sort(), [...winners].sort()];
-const answer = ({ list, data, now, address, number }) => {
-  const asked = filters.filtersOf(address);
-  const found = filters.chosen(filters.entriesOf(list, data, Date.parse(now)), asked);
-  const again = filters.filtersOf(filters.addressOf(asked));
-  return { asked, again, found: filters.ordered(found, asked.order).map(shown), number: filters.noticeOf(list, number) };
-};
-"""
+ANSWER = """({ list, data, now, address, number }) => {
+  const shown = ({ notice, state, year, lines, firms, winners }) => [notice, state, year, [...lines].sort(), [...firms].sort(), [...winners].sort()];
+  const asked = filtersOf(address);
+  const found = chosen(entriesOf(list, data, Date.parse(now)), asked);
+  return { asked, again: filtersOf(addressOf(asked)), found: ordered(found, asked.order).map(shown), number: noticeOf(list, number) };
+}"""
 NAMES, ORDERS = ("words", "state", "year", "line", "firm", "from", "to", "order"), ("deadline", "published", "amount")
 NOW = "2027-01-15T08:00:00Z"
-MOMENTS = ("2026-03-01T00:00:00Z", "2026-12-31T23:59:59Z", NOW, "2027-01-15T08:00:01Z", "2027-03-01T00:00:00Z")
+PAST, LATER = "2026-03-01T00:00:00Z", "2027-03-01T00:00:00Z"
+MOMENTS = (PAST, "2026-12-31T23:59:59Z", NOW, "2027-01-15T08:00:01Z", LATER)
 
 
 # ---- The plain implementation.
@@ -166,19 +164,58 @@ def made(chance):
             "number": chance.choice(("N1", "n1", " n2 ", "ab", "", "N9"))}
 
 
-CASES = CHANCE.map(made)
+# ---- Examples.
+
+def row(notice, published, deadline, state="receiving", title="Road works"):
+    return {"notice": notice, "published": f"{published}T00:00:00Z", "deadline": deadline, "state": state, "title": title, "releases": 1}
+
+
+LISTED = [row("N1", "2026-01-01", PAST), row("n2", "2026-02-01", LATER, title="Straßenlampen"), row("N2", "2025-03-01", LATER),
+          row("N4", "2026-04-01", PAST, "opened", "Café"), row("N5", "2026-04-01", PAST, "cancelled")]
+TABLES = {
+    "notices": [{"notice": "N4", "status": "complete", "running": 1, "releases": 1, "estimate": 500, "buyer": "City"},
+                {"notice": "N1", "status": "active", "running": 0, "releases": 1, "estimate": 1500, "buyer": "City"}],
+    "lots": [{"notice": "N4", "line": "1000", "title": "Chairs", "winner_name": "Müller"}, {"notice": "N1", "line": "2000", "title": "Stone"}],
+    "items": [{"notice": "N1", "lot": "L1", "title": "Clay tiles"}, {"notice": "N9", "lot": "L1", "title": "Clay"}],
+    "budget": [{"line": "1000", "title": "Schulmöbel"}, {"line": "2000", "title": "Roofs"}],
+    "tenders": [{"notice": "N4", "tenderer": "T1", "name": "Müller & Söhne"}, {"notice": "N5", "tenderer": "T2", "name": "Mueller Bau"}]}
+# A question in the address, and the notices that it finds there.
+EXAMPLES = {
+    "": "n2 N2 N4 N5 N1", "words=strassen": "n2", "words=strasenlampen": "", "words=cafe+chairs": "N4", "words=cafe+stone": "", "words=muller": "N4",
+    "words=mueller": "N4 N5", "words=M%C3%BCller": "N4 N5", "words=soehne": "N4", "words=clay": "N1", "words=TILES+n1": "N1", "words=2000": "N1",
+    "words=schulmoebel": "N4", "words=schulmobel": "N4", "words=roofs+stone": "N1", "words=n4": "N4", "order=published": "n2 N2 N4 N5 N1",
+    "order=amount": "n2 N2 N1 N4 N5", "order=constructor": "n2 N2 N4 N5 N1", "firm=mueller": "N4 N5", "firm=T1": "N4", "firm=sohne": "N4",
+    "state=open": "n2 N2", "state=waiting": "N1", "state=running": "N4", "state=cancelled": "N5", "year=2025": "N2", "line=1000": "N4", "from=501": "N1",
+    "to=500": "N4", "from=400&to=600": "N4"}
+SOME = [row("A", "2026-01-01", "2027-05-01T00:00:00Z"), row("B", "2025-01-01", "2027-02-01T00:00:00Z"), row("C", "2026-01-03", LATER),
+        row("D", "2026-01-05", PAST), row("E", "2026-01-01", "2026-06-01T00:00:00Z", "opened")]
+QUESTIONS = [*((LISTED, TABLES, *it) for it in EXAMPLES.items()), (LISTED, None, "words=road", "N2 N5 N1"),
+             (SOME, None, "", "B C A E D"), (SOME, None, "order=published", "C A B D E"), (SOME, None, "order=deadline", "B C A E D")]
 
 
 @pytest.fixture(scope="module")
 def node():
-    with modules.Node(SCRIPT) as node:
+    with modules.Node("common/filters") as node:
         yield node
 
 
+@pytest.mark.parametrize("listed, data, address, found", QUESTIONS)
+def test_example(node, listed, data, address, found):
+    told = node.ask(ANSWER, {"list": listed, "data": data, "now": NOW, "address": address, "number": ""})
+    assert " ".join(notice for notice, *_ in told["found"]) == found
+
+
+def test_texts_of_questions(node):
+    assert node.ask("(text) => addressOf(filtersOf(text))", "words=a+b&state=open&x=1") == "words=a+b&state=open"
+    assert [node.ask("noticeOf", LISTED, text) for text in ("n1", "N2", "n2", " N4 ", "N9", "")] == ["N1", "N2", "n2", "N4", None, None]
+
+
+# ---- Lists that are made.
+
 @settings(max_examples=500, deadline=None, suppress_health_check=HealthCheck.all())
-@given(CASES)
+@given(CHANCE.map(made))
 def test_list(node, case):
-    assert node.ask(case) == expected(case)
+    assert node.ask(ANSWER, case) == expected(case)
 
 
 # Rules that are changed: the text in the module, and the changed text.
@@ -204,11 +241,11 @@ def answers():
 
 def test_many_lists(node, answers):
     for case, right in answers:
-        assert node.ask(case) == right
+        assert node.ask(ANSWER, case) == right
 
 
 @pytest.mark.parametrize("old, new", CHANGED, ids=[old for old, _ in CHANGED])
 def test_changed_rule(tmp_path, answers, old, new):
     """A list shows the difference."""
-    with modules.Node(SCRIPT, modules.copy_of(str(tmp_path), ("common/filters.js", old, new))) as node:
-        assert any(node.ask(case) != right for case, right in answers)
+    with modules.Node("common/filters", modules.copy_of(str(tmp_path), ("common/filters.js", old, new))) as node:
+        assert any(node.ask(ANSWER, case) != right for case, right in answers)
