@@ -3,11 +3,11 @@
 The files are those of test_check_tender.py, sheets that are written for known prices in many ways, and files whose meaning is unsure. `papers.js` must read the
 prices that the program reads, and `faults.js` find the lines that tools/check_tender finds. `convert.js` must leave a file that the office reads as it is. A
 converted file must be read by the program without a correction, and have a change to show. A refused one must have a fault at one of its lines. Each fault and
-change has a sentence in both languages. Then rules of the modules are changed, one at a time: these checks must find each change.
+change has a sentence. tender_files.tsv has rules of the modules that are changed, one at a time: the change, the module, the text, and the text that replaces
+it. These checks must find each change.
 """
 import base64
 import collections
-import re
 from typing import NamedTuple
 
 import pytest
@@ -17,16 +17,9 @@ from office_kit.api.tenders import KINDS, Case
 from office_kit.desks import modules
 
 pytestmark = [pytest.mark.needs("node"), pytest.mark.budget(120)]
-HARNESS = """
-import { pathToFileURL } from "node:url";
-const of = async (name) => import(pathToFileURL(`${process.argv[1]}/${name}.js`));
-let text = "";
-for await (const part of process.stdin) text += part;
-const { kinds, files } = JSON.parse(text);
-const [{ readingOf }, { faultsOf }, { converted }] = [await of("tender/papers"), await of("tender/faults"), await of("tender/convert")];
-const told = files.map(({ kind, data }) => {
+READS = """(items, data) => {
   try {
-    const [bytes, items] = [new Uint8Array(Buffer.from(data, "base64")), kinds[kind]];
+    const bytes = new Uint8Array(Buffer.from(data, "base64"));
     const { kind: word, stated, price, corrections, rows } = readingOf(bytes, items);
     const made = converted(bytes, items, "EUR");
     return { words: word === "priced" ? `priced ${stated} ${price} ${corrections}` : word,
@@ -35,11 +28,7 @@ const told = files.map(({ kind, data }) => {
   } catch (fault) {
     return { words: String(fault.stack), lines: [], faults: [], changes: [], kind: "thrown", made: "" };
   }
-});
-const books = [];
-for (const name of ["common/en", "common/de", "tender/en", "tender/de"]) books.push((await of(name)).default);
-console.log(JSON.stringify({ told, books }));
-"""
+}"""
 # The outcomes of the files of each form of docs/TENDERER-API.md, a letter a file: `a` stays as it is, `c` converted, `r` refused.
 OUTCOMES = {
     "as above": "a", "line ends of Windows (CR LF) or of old Macs (CR)": "aa", "a byte order mark at the start, as in Excel's `CSV UTF-8`": "a",
@@ -80,49 +69,7 @@ FIRMS = [
     (0, "item;quantity;unit;total\nI1;3;400;1.200\nI2;10;12;120\n", [400, 12]),
     (0, "item;quantity;unit;total\nI1;3;400;1.201\nI2;10;12;120\n", [(2, "figure")]),
 ]
-# The rules that are changed: the module, the text in it, and the changed text.
-CHANGED = {
-    "semicolons are taken for commas": ("common/csv.js", "sign === separator", "sign === separator || sign === ';'"),
-    "a quotation mark within a field opens one": ("common/csv.js", "sign === '\"' && state !== \"inside\"", "sign === '\"'"),
-    "CR ends no line": ("common/csv.js", "sign !== \"\\r\" && sign !== \"\\n\"", "sign !== \"\\n\""),
-    "an empty line is a record": ("common/csv.js", "} else if (state !== \"before\") {", "} else {"),
-    "a byte order mark stays": ("common/csv.js", "? binary.slice(MARK.length) : binary", "? binary : binary"),
-    "spaces beside numbers are dropped": ("common/csv.js", "return /^[0-9]{1,16}$/.test(field)", "field = field.trim(); return /^[0-9]{1,16}$/.test(field)"),
-    "17 digits are taken": ("common/csv.js", "{1,16}", "{1,17}"),
-    "numbers above 10^15 are taken": ("common/csv.js", "MOST_NUMBER = 1e15", "MOST_NUMBER = 1e16"),
-    "a fifth field of an item is dropped": ("tender/papers.js", "return fields.length !== HEAD.length ||", "return fields.length < HEAD.length ||"),
-    "the head may have capitals": ("tender/papers.js", "areSame(fields, HEAD)", "areSame(fields.map((it) => it.toLowerCase()), HEAD)"),
-    "`Total` is taken": ("tender/papers.js", "areSame(fields.slice(0, 3), SUM)", "areSame(fields.slice(0, 3).map((it) => it.toUpperCase()), SUM)"),
-    "the quantity may stand behind `TOTAL`": ("tender/papers.js", "areSame(fields.slice(0, 3), SUM)", "fields[0] === SUM[0]"),
-    "no sum is asked for": ("tender/papers.js", " || stated === null", ""),
-    "any quantity is taken": ("tender/papers.js", " && quantity === items[at].quantity", ""),
-    "a unit price of 10^9 is too great": ("tender/papers.js", "unit <= MOST_UNIT", "unit < MOST_UNIT"),
-    "a price of 10^12 is too great": ("tender/papers.js", "<= BigInt(MOST_PRICE)", "< BigInt(MOST_PRICE)"),
-    "the stated sum prevails": ("tender/papers.js", "const price = Number(priceOf(rows))", "const price = stated"),
-    "a wrong sum is no correction": ("tender/papers.js", "(stated === price ? 0 : 1)", "0"),
-    "32,768 bytes are too many": ("tender/papers.js", "bytes.length > MOST_BYTES", "bytes.length >= MOST_BYTES"),
-    "an empty file is unreadable": ("tender/papers.js", "bytes.length < 1 || ", ""),
-    "a fault is told a line too late": ("tender/faults.js", "return { line, name, values };", "return { line: line + 1, name, values };"),
-    "`1.500` is taken for 1": ("tender/figures.js", "return { why: \"ambiguous\", grouped: Number(front + behind) };", "return whole(front);"),
-    "`1.500` is taken for 1500": ("tender/figures.js", "isRight(got.grouped)", "true"),
-    "the notice's quantity is no help": ("tender/convert.js", "quantity: (value) => value === quantity", "quantity: () => false"),
-    "the total is no help": ("tender/convert.js", "unit: (value) => value * quantity === total.value", "unit: () => false"),
-    "the product is no help": ("tender/convert.js", "total: (value, right) => value === right", "total: () => false"),
-    "VAT is told as an unknown item": ("tender/convert.js", "return tax ?", "return false ?"),
-    "any word that begins like a tax is one": ("tender/convert.js", "(?![\\p{L}])/u", "/u"),
-    "the first of two unit prices is taken": ("tender/convert.js", "doubled.length > 0", "false"),
-    "cents are told without a cure": ("tender/convert.js", "got.why === \"part\" ? \"cents\"", "false ? \"cents\""),
-    "cents are dropped": ("tender/figures.js", "/^0+$/.test(behind) ?", "true ?"),
-    "another quantity is passed over": ("tender/convert.js", "quantity !== null && quantity !== item.quantity", "false"),
-    "what stands behind the sum is passed over": ("tender/convert.js", "...(sum ? body.slice(at + 1)", "...(false ? body.slice(at + 1)"),
-    "a column of any name is left out": ("tender/convert.js", "speaks.length > 0", "false"),
-    "an item that comes twice counts once": ("tender/convert.js", "faults.push(...again.map(", "void (again.map("),
-    "a changed order isn't told": ("tender/convert.js", "isInOrder ? []", "true ? []"),
-    "a changed figure isn't told": ("tender/convert.js", "if (got.changed) {", "if (false) {"),
-    "the office's own files are made anew": ("tender/convert.js", "reading.kind === \"priced\"", "false"),
-}
-
-
+CHANGED = {name: change for name, *change in modules.changes_of("tender_files")}
 HEADS = {"english": [["Item", "Quantity", "Unit price", "Total"], ["Pos.", "Menge", "Einzelpreis", "Gesamtpreis"]],
          "german": [["item", "quantity", "unit", "total"], ["Item", "Quantity", "Unit price", "Total"], ["Pos.", "Menge", "Einzelpreis", "Gesamtpreis"]]}
 
@@ -174,11 +121,9 @@ class Files:
         return File(case, words, sorted(fault.line for fault in faults), units)
 
     def answers(self, web, files):
-        """Each file with its answer, and the texts."""
-        kinds = [[{"id": item, "quantity": quantity, "title": "x"} for item, quantity in kind] for kind in KINDS]
-        given = [{"kind": file.case.kind, "data": base64.b64encode(file.case.data).decode()} for file in files]
-        told = modules.asked(HARNESS, web, {"kinds": kinds, "files": given})
-        return list(zip(files, told["told"])), told["books"]
+        """Each file with the answer of the modules in this folder."""
+        with modules.Node("tender/papers tender/faults tender/convert", web) as node:
+            return [(it, node.ask(READS, tenders.lot_of(it.case.kind)["items"], base64.b64encode(it.case.data).decode())) for it in files]
 
     def check(self, file, told):
         """The desk reads the file as the program and finds the tool's faults; it leaves, converts or refuses it as it must."""
@@ -235,50 +180,45 @@ def files(program, tmp_path_factory, request):
 
 
 @pytest.fixture(scope="module")
-def told(files, tmp_path_factory):
-    """The answers of the modules as they are, and the texts."""
-    return files.answers(modules.copy_of(str(tmp_path_factory.mktemp("own"))), files.all)
+def told(files):
+    """The answers of the modules as they are."""
+    return files.answers(modules.WEB, files.all)
 
 
 def test_files(files, told):
-    for answer in told[0]:
+    for answer in told:
         files.check(*answer)
 
 
 @pytest.mark.parametrize("name", tenders.FORMS)
 def test_form(told, name):
-    check_outcome(told[0], name)
+    check_outcome(told, name)
 
 
 def test_unsure_files(told):
-    check_unsure(told[0])
+    check_unsure(told)
 
 
 def test_files_of_firms(told):
-    check_firms(told[0])
+    check_firms(told)
 
 
 def test_sheets(told):
     """A third of the sheets or more are converted."""
-    kinds = collections.Counter(it["kind"] for file, it in told[0] if file.units)
+    kinds = collections.Counter(it["kind"] for file, it in told if file.units)
     assert kinds["converted"] >= sum(kinds.values()) // 3, kinds
 
 
 def test_texts(told):
-    """Both languages have the same names with the same values, and each fault and change that came has a sentence."""
-    answers, books = told
-    for english, german in (books[:2], books[2:]):
-        assert set(english) == set(german)
-        for name, text in english.items():
-            pair = [sorted(set(re.findall(r"\{(\w+)\}", it if isinstance(it, str) else " ".join(it)))) for it in (text, german[name])]
-            assert pair[0] == pair[1] and isinstance(text, list) == isinstance(german[name], list), name
-            assert all(text) and all(german[name]), name
-    assert {f"{kind}.{name}" for _, it in answers for kind in ("fault", "change") for _, name in it[kind + "s"]} <= set(books[2])
+    """Each fault and change that came has a sentence. (test_page_rules.py compares the languages.)"""
+    came = {f"{kind}.{name}" for _, it in told for kind in ("fault", "change") for _, name in it[kind + "s"]}
+    with modules.Node("") as node:
+        assert came <= set(node.ask("async () => Object.keys((await import(`${web}/tender/en.js`)).default)"))
 
 
 @pytest.mark.parametrize("change", CHANGED.values(), ids=CHANGED)
 def test_changed_rule(files, tmp_path, change):
-    answers, _ = files.answers(modules.copy_of(str(tmp_path), change), files.few)
+    answers = files.answers(modules.copy_of(str(tmp_path), change), files.few)
     with pytest.raises(AssertionError):
         for answer in answers:
             files.check(*answer)
