@@ -3,12 +3,15 @@ before its opening. N5 is cancelled after an award by points; of N6 one lot is u
 
 Everything is asked through the front, with the callers' keys. It takes five seconds, mostly waiting for a deadline.
 """
+import os
+import subprocess
 import time
 from collections.abc import Mapping
 from typing import Any
 
 from office_kit.client import AHEAD, Answer, Asking, Client, budget, lot, notice, tender, text_of, wait_until
-from office_kit.common import fail
+from office_kit.common import HOST, ROOT, fail
+from office_kit.front.nginx import Front
 
 TITLES = ["Roads and bridges", "Schools", 'Parks & "green" <b>corners</b>', "Libraries", "Street lighting", "Fire service", "Waste collection", "Playgrounds",
           "Sports halls", "Swimming pools", "Cemeteries", "Town hall", "Museums", "Music school", "Markets", "Trams", "Cycle paths", "Water mains", "Sewers",
@@ -29,6 +32,17 @@ def key_of(tenderer: str) -> str:
     return f"key of {tenderer}"
 
 
+def mirror(office: str, folder: str, *options: str, **environment: str) -> None:
+    """The mirror of an office, in a folder."""
+    ran = subprocess.run([f"{ROOT}/tools/mirror", office, folder, *options], env={**os.environ, **environment}, capture_output=True, text=True)
+    assert ran.returncode == 0, ran.stderr
+
+
+def mirror_beside(front: Front) -> None:
+    """The mirror beside an office, as its timer runs it."""
+    mirror(f"http://{HOST}:{front.office}", f"{front.folder}/mirror/data", "--base", front.address().rstrip("/"))
+
+
 class Procurements(Client[Answer]):
     """Requests through the front, each of which must be accepted."""
 
@@ -45,12 +59,6 @@ class Procurements(Client[Answer]):
         if receipt["state"] != "sealed":
             fail("the deadline came before all tenders were in: the machine is too busy")
         return int(receipt["receipt"])
-
-    def award_of(self, name: str, lot_name: str) -> int:
-        return int(self.award(name, lot_name)["award"])
-
-    def contract_of(self, award: int) -> int:
-        return int(self.sign(award)["contract"])
 
     def before_the_deadline(self) -> None:
         """The budget, the tenderers, all notices and tenders; one is cancelled, and one stays open for a day."""
@@ -97,14 +105,15 @@ class Procurements(Client[Answer]):
         self.examine(self.unfit, responsive=False)
         self.examine(self.good, quality=30)
         self.examine(self.fair, quality=5)
-        north = self.award_of("N1", "L1")
+        north = self.award("N1", "L1")["award"]
         self.award("N1", "L2")
-        self.is_paid(self.contract_of(north))
-        self.fail(self.award_of("N2", "L1"))
+        self.is_paid(self.sign(north)["contract"])
+        self.fail(self.award("N2", "L1")["award"])
         self.award("N2", "L1")
         self.award("N5", "L1")
         self.cancel("N5", "The ground is wet")
-        self.pay(self.contract_of(self.award_of("N6", "L2")), "P1", 5_000)
+        poles = self.award("N6", "L2")["award"]
+        self.pay(self.sign(poles)["contract"], "P1", 5_000)
 
     def is_paid(self, contract: int) -> None:
         """A contract is raised, cut, paid twice, and ended with something left."""
