@@ -23,29 +23,23 @@ def key(scene: Scene) -> None:
     assert "1 to 32 letters" in desk.page.text(), "a missing name"
     for name, text in (("tenderer", "T9"), ("name", 'Gamma "Bau" & Söhne'), ("address", "Mill Lane 3")):
         desk.fill(f"key-{name}", text)
-    desk.press("Make a key")
-    desk.says("Now drop the file T9.key")
+    desk.press("Make a key", "Now drop the file T9.key")
     lines = desk.saved("T9.key").decode().split("\n")
     made = lines[1].removeprefix("Office-Key: ")
     assert lines == ["Office-Caller: T9", f"Office-Key: {made}", ""] and len(made) == 64
     sheet = desk.page.run("document.querySelector('.sheet').innerText")
     assert digest_of(made.encode()) in sheet.replace(" ", "") and made not in sheet and "Mill Lane 3" in sheet
-    desk.page.choose("key-file", scene.path("T9.key"))
-    desk.says("its file was saved")
-    desk.press("Ask whether")
-    desk.says("The name and the key don't belong together. Check both.")
+    desk.choose("key-file", scene.path("T9.key"), "its file was saved")
+    desk.press("Ask whether", "The name and the key don't belong together. Check both.")
     desk.press("Save the sheet as a file for the clerk")
     told = json.loads(desk.saved("registration-T9.json"))
     assert told["key"] == digest_of(made.encode())
     scene.client.clerk("/tenderers/T9", {name: told[name] for name in ("name", "address", "key")})
-    desk.press("Ask whether")
-    desk.says("The office knows T9 by this key.")
+    desk.press("Ask whether", "The office knows T9 by this key.")
     assert desk.can_press("Prepare a tender")
     scene.put("none.key", b"Office-Key: x\n")
-    desk.press("Forget the key")
-    desk.says("This tab holds no key.")
-    desk.page.choose("key-file", scene.path("none.key"))
-    desk.says("This file contains no key.")
+    desk.press("Forget the key", "This tab holds no key.")
+    desk.choose("key-file", scene.path("none.key"), "This file contains no key.")
     keeps_nothing(scene, desk.page)
 
 
@@ -82,8 +76,7 @@ def finds_notice(desk: Desk) -> None:
     desk.says("are open for tenders")
     assert [text for text in ("Road repair", "Things of all kinds", "closes in") if text not in desk.page.text()] == []
     desk.fill("offer-notice", "N 9")
-    desk.press("Show")
-    desk.says("Nothing matches these words.")
+    desk.press("Show", "Nothing matches these words.")
     desk.fill("offer-notice", "road")
     assert "Things of all kinds" not in desk.page.text() and "1 found" in desk.page.text()
     desk.fill("offer-notice", "n1")
@@ -119,17 +112,12 @@ def names_all(desk: Desk) -> None:
 def belongs(scene: Scene, desk: Desk, receipt: int) -> None:
     """The file and its receipt belong together, another file doesn't, and the office has the same."""
     desk.at("check", "Do a file")
-    desk.page.choose("check-file", scene.path(f"N1-L1-receipt-{receipt}.csv"))
-    desk.says("63 bytes")
-    desk.page.choose("check-receipt", scene.path(f"receipt-{receipt}.json"))
-    desk.says("They belong together.")
-    desk.press("Ask the office")
-    desk.says("The office has the same tender.")
-    desk.page.choose("check-file", scene.put("other.csv", RIGHT + b"\n"))
-    desk.says("They don't belong together.")
+    desk.choose("check-file", scene.path(f"N1-L1-receipt-{receipt}.csv"), "63 bytes")
+    desk.choose("check-receipt", scene.path(f"receipt-{receipt}.json"), "They belong together.")
+    desk.press("Ask the office", "The office has the same tender.")
+    desk.choose("check-file", scene.put("other.csv", RIGHT + b"\n"), "They don't belong together.")
     assert not desk.has("good", "belong") and "another length" in desk.page.text()
-    desk.page.choose("check-receipt", scene.put("none.json", b"[1]"))
-    desk.says("This file contains no receipt.")
+    desk.choose("check-receipt", scene.put("none.json", b"[1]"), "This file contains no receipt.")
 
 
 def after_reload(scene: Scene) -> None:
@@ -140,8 +128,7 @@ def after_reload(scene: Scene) -> None:
     assert texts_of(desk.page, "main .button") == ["My tenders", "Prepare a tender"]
     desk.press("My tenders")
     desk.shows("My tenders", "tenders")
-    desk.page.choose("key-file", scene.path("T1.key"))
-    desk.says("Change or withdraw ")
+    desk.choose("key-file", scene.path("T1.key"), "Change or withdraw ")
     other = Desk(scene)
     other.at("key", "Key")
     assert texts_of(other.page, "main h2")[:2] == ["Use your key", "Make a key"]
@@ -158,15 +145,13 @@ def files(scene: Scene) -> None:
     desk = Desk(scene, "T1")
     desk.at("offer/N1/L2", "Tender for")
     desk.press("Use a file")
-    desk.page.choose("offer-file", scene.put("bad.csv", b"item;quantity;unit;total\nI1;1;1.500;1.500\nI7;1;5;5\nTOTAL;;;1505\n"))
-    desk.says("bad.csv can't be used")
+    desk.choose("offer-file", scene.put("bad.csv", b"item;quantity;unit;total\nI1;1;1.500;1.500\nI7;1;5;5\nTOTAL;;;1505\n"), "bad.csv can't be used")
     assert desk.has("bad", "could mean two things") and desk.has("bad", "no item “I7”"), desk.page.text()
     assert not desk.can_press("Check before submitting")
     desk.at("send", "Check before submitting")
     assert desk.has("bad", "Prices are missing or wrong.") and not desk.can_press("Submit")
     desk.at("offer/N1/L2", "Tender for")
-    desk.page.choose("offer-file", scene.put("sheet.csv", SHEET.encode("cp1252")))
-    desk.says("was converted to the form that the office reads: 1,500 EUR")
+    desk.choose("offer-file", scene.put("sheet.csv", SHEET.encode("cp1252")), "was converted to the form that the office reads: 1,500 EUR")
     for text in ("Commas replaced the semicolons", "L2/I1 was replaced by I1", "1.500,00 € was read as 1,500", "The column Bezeichnung was removed",
                  "instead of “=C2*D2”"):
         assert desk.has("look", text), text
@@ -176,8 +161,7 @@ def files(scene: Scene) -> None:
         document.querySelector('.drop').dispatchEvent(new DragEvent('drop', {{ dataTransfer: data, bubbles: true, cancelable: true }}));
     }})()""")
     desk.says("own.csv can be submitted unchanged: 1,500 EUR")
-    desk.page.choose("offer-file", scene.path("sheet.csv"))
-    desk.says("sheet.csv was converted")
+    desk.choose("offer-file", scene.path("sheet.csv"), "sheet.csv was converted")
     desk.review()
     assert scene.client.tender("T1", desk.submit())["digest"] == digest_of(MADE)
     is_quiet(desk.page)
@@ -191,8 +175,7 @@ def changes(scene: Scene) -> None:
     desk.page.wait(f"[...document.querySelectorAll('main tbody a')].some((at) => at.textContent === 'Change or withdraw {old}')")
     desk.at(f"tender/{old}", f"Tender with receipt {old}")
     desk.says("G5")
-    desk.press("Change the tender")
-    desk.says(f"take the file that you saved with receipt {old}, for example N1-L1-receipt-{old}.csv")
+    desk.press("Change the tender", f"take the file that you saved with receipt {old}, for example N1-L1-receipt-{old}.csv")
     desk.prices("N1", "L1", 140, 12)
     desk.press("Check before submitting")
     desk.press(f"Replace the tender with receipt {old}")
@@ -200,8 +183,7 @@ def changes(scene: Scene) -> None:
     assert desk.has("good", f"the tender with receipt {old}, which no longer counts") and "G5, 55 EUR" in desk.page.text(), desk.page.text()
     assert [scene.client.tender("T2", receipt)["state"] for receipt in (old, new)] == ["withdrawn", "sealed"]
     desk.at(f"tender/{new}", f"Tender with receipt {new}")
-    desk.press("Change the tender")
-    desk.says("The prices that you submitted from this tab are filled in.")
+    desk.press("Change the tender", "The prices that you submitted from this tab are filled in.")
     assert [desk.page.run(f"document.getElementById('unit-{at}').value") for at in (0, 1)] == ["140", "12"]
     withdraws(scene, desk, old, new)
     desk.at("tenders", "My tenders")
@@ -216,28 +198,22 @@ def withdraws(scene: Scene, desk: Desk, old: int, new: int) -> None:
     desk.at(f"tender/{new}", f"Tender with receipt {new}")
     assert desk.has("look", "Nothing: the security of 55 EUR (G5) is returned."), desk.page.text()
     assert desk.has("look", "After the deadline this notice allows no withdrawal.") and not desk.can_press("Withdraw the tender")
-    is_close(scene, desk, new)
-    desk.tick("withdraw-sure")
-    # (The deadline comes while the view is shown.)
-    desk.page.run("void (Date.now = ((now) => () => now() + 172_800_000)(Date.now.bind(Date)))")
-    desk.press("Withdraw the tender")
-    desk.says("because the cost may have changed")
-    assert scene.client.tender("T2", new)["state"] == "sealed"
-    desk.withdraw()
-    desk.says("The tender is withdrawn.")
-    assert (scene.client.tender("T2", new)["state"], scene.client.security("T2", old)["state"]) == ("withdrawn", "returned")
-
-
-def is_close(scene: Scene, desk: Desk, receipt: int) -> None:
-    """Shortly before the deadline, the page says what a late withdrawal would cost."""
+    # Shortly before the deadline, the page says what a late withdrawal would cost.
     terms = {**json.loads(scene.front.ask("GET", "/notices/N1/terms").body), "late_withdrawal": "forfeits", "deadline": text_of(time.time() + 40)}
     desk.page.answer_for({"/notices/N1/terms": (200, json.dumps(terms).encode())})
     desk.at("check", "Do a file")
-    desk.at(f"tender/{receipt}", "Tender with")
+    desk.at(f"tender/{new}", "Tender with")
     assert desk.has("bad", "If it comes late, the security of 55 EUR (G5) is forfeited"), desk.page.text()
     desk.page.ask("Fetch.disable")
     desk.at("check", "Do a file")
-    desk.at(f"tender/{receipt}", "Tender with")
+    desk.at(f"tender/{new}", "Tender with")
+    desk.tick("withdraw-sure")
+    # (The deadline comes while the view is shown.)
+    desk.page.run("void (Date.now = ((now) => () => now() + 172_800_000)(Date.now.bind(Date)))")
+    desk.press("Withdraw the tender", "because the cost may have changed")
+    assert scene.client.tender("T2", new)["state"] == "sealed"
+    desk.withdraw("The tender is withdrawn.")
+    assert (scene.client.tender("T2", new)["state"], scene.client.security("T2", old)["state"]) == ("withdrawn", "returned")
 
 
 def lost(scene: Scene) -> None:
@@ -247,8 +223,7 @@ def lost(scene: Scene) -> None:
         desk.prices("N4", lot_name, 150, 12)
         desk.review()
         desk.page.answer_for({f"/notices/N4/lots/{lot_name}/tenders": None})
-        desk.press("Submit the tender")
-        desk.says("The office may or may not have done this.")
+        desk.press("Submit the tender", "The office may or may not have done this.")
         if is_done:
             scene.client.present("T1", "N4", lot_name, RIGHT)
         desk.page.answer_for({})
@@ -261,18 +236,16 @@ def lost(scene: Scene) -> None:
         assert scene.client.tender("T1", receipt)["digest"] == digest_of(RIGHT)
     desk.at(f"tender/{receipt}", "Tender with")
     desk.page.answer_for({f"/tenders/{receipt}/withdraw": None})
-    desk.withdraw()
-    desk.says("The office may or may not have done this.")
+    desk.withdraw("The office may or may not have done this.")
     desk.page.answer_for({})
-    desk.press("Ask the office")
-    desk.says("So far the tender isn't withdrawn.")
+    desk.press("Ask the office", "So far the tender isn't withdrawn.")
     scene.client.withdraw("T1", receipt)
-    desk.press("Ask the office")
-    desk.says("The tender is withdrawn.")
+    desk.press("Ask the office", "The tender is withdrawn.")
 
 
 def stopped(scene: Scene) -> None:
-    """The office is killed while a tender is sent. The page says so. Once the office serves again, the page asks it and sends the tender."""
+    """The office is killed while a tender is sent. The page says so. Once the office serves again, the page asks it and sends the tender. While a withdrawal is
+    sent, the button says so and can't be pressed. The new state is shown as soon as the office answers."""
     desk = Desk(scene, "T1")
     desk.prices("N4", "L4", 150, 12)
     desk.review()
@@ -282,27 +255,18 @@ def stopped(scene: Scene) -> None:
     desk.page.expect("the tender is on its way", lambda: desk.has("look", going) and not desk.can_press(going))
     scene.stop()
     desk.says("The office may or may not have done this.")
-    desk.press("Ask the office")
-    desk.says("The office can't be reached now.")
+    desk.press("Ask the office", "The office can't be reached now.")
     scene.start()
-    desk.press("Ask the office")
-    desk.says("So far the office hasn't received it.")
+    desk.press("Ask the office", "So far the office hasn't received it.")
     scene.office.send_signal(signal.SIGSTOP)
-    desk.press("Submit the tender")
-    desk.says(going)
+    desk.press("Submit the tender", going)
     assert "So far" not in desk.page.text() and not desk.can_press(going)
     scene.office.send_signal(signal.SIGCONT)
     receipt = desk.receipt()
     assert scene.client.tender("T1", receipt)["state"] == "sealed"
-    withdrawal_is_told(scene, desk, receipt)
-
-
-def withdrawal_is_told(scene: Scene, desk: Desk, receipt: int) -> None:
-    """While a withdrawal is sent, the button says so and can't be pressed. The new state is shown as soon as the office answers."""
     desk.at(f"tender/{receipt}", "Tender with")
     scene.office.send_signal(signal.SIGSTOP)
-    desk.withdraw()
-    desk.says("The withdrawal is being sent …")
+    desk.withdraw("The withdrawal is being sent …")
     assert not desk.can_press("The withdrawal is being sent …") and not desk.can_press("Withdraw the tender")
     scene.office.send_signal(signal.SIGCONT)
     begun = time.monotonic()
@@ -347,8 +311,7 @@ def late(scene: Scene) -> None:
     assert beta.has("bad", "The tender stays as it is and binds you.") and not beta.can_press("Replace the tender"), beta.page.text()
     beta.at("tender/1", "Tender with receipt 1")
     assert beta.has("bad", "the security of 60 EUR (G2) is forfeited") and not beta.can_press("Withdraw the tender"), beta.page.text()
-    beta.withdraw()
-    beta.says("withdrawn late")
+    beta.withdraw("withdrawn late")
     assert scene.client.security("T2", 1)["state"] == "forfeited"
     beta.at("tender/2", "Tender with receipt 2")
     assert beta.has("bad", "this notice allows no withdrawal") and not beta.can_press("Withdraw the tender")

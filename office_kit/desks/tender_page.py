@@ -49,11 +49,17 @@ class Desk:
         """Whether something of a kind (`good`, `look`, `bad`) says something."""
         return bool(self.page.run(f"[...document.querySelectorAll('.{kind}')].some((at) => at.checkVisibility() && at.innerText.includes({json.dumps(text)}))"))
 
-    def press(self, text: str) -> None:
-        """Presses the button or link of the view that says so."""
+    def press(self, text: str, then: str = "") -> None:
+        """Presses the button or link of the view that says so, and waits until the view says something."""
         found = f"[...document.querySelectorAll('main button, main a')].find((at) => at.checkVisibility() && at.textContent.includes({json.dumps(text)}))"
         self.page.wait(f"{found} && !{found}.disabled")
         self.page.run(f"{found}.click()")
+        self.says(then)
+
+    def choose(self, field: str, path: str, then: str = "") -> None:
+        """Chooses a file in a field, and waits until the view says something."""
+        self.page.choose(field, path)
+        self.says(then)
 
     def can_press(self, text: str) -> bool:
         return bool(self.page.run(f"[...document.querySelectorAll('main button, main a')].some((at) => at.checkVisibility() && !at.disabled && "
@@ -86,9 +92,9 @@ class Desk:
         self.shows("Receipt ")
         return int(self.page.run("document.querySelector('main h1').textContent.split(' ')[1]"))
 
-    def withdraw(self) -> None:
+    def withdraw(self, then: str) -> None:
         self.tick("withdraw-sure")
-        self.press("Withdraw the tender")
+        self.press("Withdraw the tender", then)
 
     def prices(self, notice: str, lot: str, *units: int) -> None:
         """Types prices for a lot."""

@@ -131,8 +131,7 @@ def printed(scene: Scene) -> None:
     desk.at("key", "Key")
     for name in ("tenderer", "name", "address"):
         desk.fill(f"key-{name}", "T8")
-    desk.press("Make a key")
-    desk.says("Now drop the file T8.key")
+    desk.press("Make a key", "Now drop the file T8.key")
     looked_at(scene, desk, "registration", "en")
     seen = on_paper(scene, desk, "registration")
     assert "SHA-256 of the key" in seen and "signature" in seen
@@ -216,8 +215,7 @@ def cannot_send(scene: Scene, desk: Desk) -> None:
     """A file without a price can't be sent."""
     desk.at("offer/N1/L2", "Tender for")
     desk.press("Use a file")
-    desk.page.choose("offer-file", scene.put("bad.csv", b"item,quantity,unit,total\nI1,2,5,10\nTOTAL,,,10\n"))
-    desk.says("bad.csv")
+    desk.choose("offer-file", scene.put("bad.csv", b"item,quantity,unit,total\nI1,2,5,10\nTOTAL,,,10\n"), "bad.csv")
     assert not desk.can_press("Check before submitting") and desk.has("bad", "can't be used")
 
 
