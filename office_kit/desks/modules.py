@@ -3,14 +3,13 @@ import json
 import os
 import shutil
 import subprocess
+from collections.abc import Sequence
 from pathlib import Path
 from typing import Any
 
 from office_kit.common import ROOT, need
 
 WEB = os.path.join(ROOT, "web")
-# A changed text: its module, the text, and the text that replaces it.
-Change = tuple[str, str, str]
 # Makes all exports of some modules global. Then each line of the input is a function's source and the values for it. Maps and sets are answered as lists.
 LOOP = """
 const [web, ...names] = process.argv.slice(1);
@@ -23,8 +22,8 @@ for await (const line of (await import("node:readline")).createInterface({ input
 """
 
 
-def copy_of(folder: str, *changes: Change) -> str:
-    """A copy of the modules in a new folder below this one, with these texts changed."""
+def copy_of(folder: str, *changes: Sequence[str]) -> str:
+    """A copy of the modules in a new folder below this one, with changes: a module, a text, and the text that replaces it."""
     place = Path(folder, "web")
     shutil.copytree(WEB, place)
     # (Modules of node: a package of its own says so.)

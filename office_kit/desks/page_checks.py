@@ -34,49 +34,12 @@ TRIES = 20
 MOVING = [(re.compile(r"\d{1,2} [A-Z][a-z]+ \d{4},? (at )?\d\d:\d\d:\d\d UTC \(here: [^)]*\)"), "MOMENT"), (re.compile(r"\d{1,2} [A-Z][a-z]+ \d{4}"), "DAY"),
           (re.compile(r"closes in [^\n]*"), "closes in CLOCK"), (re.compile(r"^20\d\d(?=$|:)", re.M), "YEAR")]
 ZONE = "Europe/Berlin"
-# Texts whose contrast is below 4.5 to 1 (WCAG 2.2, 1.4.3), and edges of bars and fields below 3 to 1 (1.4.11).
-PALE = """(() => {
-  const parts = (text) => text.match(/[\\d.]+/g).map(Number);
-  const channel = (value) => value <= 10.31475 ? value / 3294.6 : ((value / 255 + 0.055) / 1.055) ** 2.4;
-  const light = ([r, g, b]) => 0.2126 * channel(r) + 0.7152 * channel(g) + 0.0722 * channel(b);
-  const grounds = new Map();
-  const seek = (at) => {
-    const own = parts(getComputedStyle(at).backgroundColor);
-    return own[3] === 0 ? (at.parentElement ? ground(at.parentElement) : [255, 255, 255]) : own;
-  };
-  const ground = (at) => grounds.get(at) ?? grounds.set(at, seek(at)).get(at);
-  const ratio = (one, other) => { const [low, high] = [light(one), light(other)].sort((a, b) => a - b); return (high + 0.05) / (low + 0.05); };
-  const found = [];
-  for (const at of document.querySelectorAll("body *")) {
-    const style = getComputedStyle(at);
-    const own = [...at.childNodes].some((node) => node.nodeType === Node.TEXT_NODE && node.data.trim()) || at.tagName === "INPUT";
-    if (at.checkVisibility() && own && ratio(parts(style.color), ground(at)) < 4.5) found.push(`text: ${at.textContent}`);
-    if (at.matches(".bar, .swatch, input") && ratio(parts(style.borderTopColor), ground(at.parentElement)) < 3) found.push(`edge: ${at.outerHTML}`);
-  }
-  return found;
-})()"""
+IN_PAGE = Path(__file__).with_name("in_page.js").read_text()
 
-# The texts with a mark that turns the direction of the letters after it, if no mark ends it.
-TURNING = """(() => {
-  const texts = document.createTreeWalker(document.body, NodeFilter.SHOW_TEXT), found = [];
-  while (texts.nextNode()) {
-    if (texts.currentNode.data.includes("\u202e") && !texts.currentNode.parentElement.closest("bdi")) found.push(texts.currentNode.data);
-  }
-  return found;
-})()"""
 
-# The patterns that distinguish the parts of bars without their colours: kind, picture and whether the part is filled, each once.
-PATTERNS = """[...new Set([...document.querySelectorAll(".part, .swatch")].map((at) => {
-  const style = getComputedStyle(at), empty = getComputedStyle(document.documentElement).backgroundColor;
-  return `${at.classList[1]} ${style.backgroundImage.split("(")[0]} ${style.backgroundColor === empty}`;
-}))].sort()"""
-
-# The element that has the focus: its name, and whether it is seen there, to so many pixels, with an outline around it.
-FOCUSED = """((slack) => {
-  const at = document.activeElement, box = at.getBoundingClientRect(), style = getComputedStyle(at);
-  const isWithin = box.left >= -slack && box.top >= -slack && box.right <= innerWidth + slack && box.bottom <= innerHeight + slack;
-  return [at.id || at.textContent, isWithin && style.outlineStyle === "solid" && parseFloat(style.outlineWidth) >= 2];
-})"""
+def asked(page: Page, question: str) -> Any:
+    """The answer of a function of in_page.js."""
+    return page.run(f"{IN_PAGE.rstrip()}.{question}")
 
 
 def page_of(scene: Scene, place: str, width: int = 1280) -> Page:
@@ -139,7 +102,7 @@ def has_its_own(name: str, page: Page) -> None:
 
 
 def has_contrast(name: str, page: Page) -> None:
-    assert page.run(PALE) == [], name
+    assert asked(page, "pale()") == [], name
 
 
 def is_within(name: str, width: int, page: Page) -> None:
@@ -167,7 +130,7 @@ def tells_all(name: str, page: Page) -> None:
     assert (roles.count("status"), roles.count("search")) == (1, int(name == "list")), name
     bars = [text for role, text in told if role == "image"]
     assert len(bars) == page.run("document.querySelectorAll('.bar').length") and all(re.search(r"\d", text) for text in bars), (name, bars)
-    patterns = [pattern.split(" ", 1) for pattern in page.run(PATTERNS)]
+    patterns = [pattern.split(" ", 1) for pattern in asked(page, "patterns()")]
     assert len(patterns) == len({kind for kind, _ in patterns}) == len({how for _, how in patterns}), (name, patterns)
 
 
@@ -191,7 +154,7 @@ def is_quiet(page: Page) -> None:
 
 def focused(page: Page, slack: int = 0) -> Any:
     """The element that has the focus: its name, and whether it is seen."""
-    return page.run(f"{FOCUSED}({slack})")
+    return asked(page, f"focused({slack})")
 
 
 def tab(page: Page, count: int) -> list[Any]:
@@ -335,7 +298,7 @@ def long_texts(scene: Scene) -> None:
             page.answer()
             is_within(name, width, page)
         page.picture(os.path.join(scene.pictures, f"{name}-wide-light.png"))
-        assert page.run(TURNING) == [], name
+        assert asked(page, "turning()") == [], name
     is_quiet(page)
 
 

@@ -1,7 +1,8 @@
 """The portal's list (web/common/filters.js) has the procurements, states and order that a plain implementation here finds, for lists that hypothesis makes.
 
-The lists have up to five notices, tables of the mirror that are older, newer or missing, and questions in all filters. Changed rules are found. Examples show
-what both are for: words without accents, `ue` for `ü`, what is bought, budget lines, three orders, and numbers in other letters.
+The lists have up to five notices, tables of the mirror that are older, newer or missing, and questions in all filters. Examples show what both are for: words
+without accents, `ue` for `ü`, what is bought, budget lines, three orders, and numbers in other letters. filters.tsv has rules that are changed, one at a time:
+the module, the text, and the text that replaces it. A list must show each change.
 """
 import itertools
 import random
@@ -218,21 +219,6 @@ def test_list(node, case):
     assert node.ask(ANSWER, case) == expected(case)
 
 
-# Rules that are changed: the text in the module, and the changed text.
-CHANGED = [
-    ("words.every(", "words.some("), ('replace(/[äöü]/gi, "$&e")', 'replace(/x/, "")'), ("[plain(word), spelled(word)]", "[plain(word)]"),
-    ('replaceAll("ß", "ss")', "normalize()"), ("more.get(notice)?.words.push(title)", "void title"), ('titles.get(line) ?? ""', '""'),
-    ('(one.state === "open" ? 1 : -1)', "1"), ('ORDERS.includes(found.order) ? found.order : ""', '"amount"'), ("one.lines.has(filters.line)", "true"),
-    ("estimate <= Number(to || Infinity)", "true"), ("estimate >= Number(from || 0)", "estimate > Number(from || 0)"),
-    ('Number(other.state === "open") - Number(one.state === "open") ||', ""),
-    ('isAwarded && known?.releases === row.releases ? "awarded" : "opened"', '"opened"'),
-    ("isAwarded && known?.releases === row.releases", "isAwarded"), ("isOlder ? new Set() : winners", "winners"), ("now <= Date.parse", "now < Date.parse"),
-    ('status !== "active" || Boolean(winner)', "Boolean(winner)"), ("known.running > 0", "true"), ("one.notice < other.notice ? -1 : 1", "1"),
-    ("id === firm || ", ""), ("isAsked(searchable(name))", "name === firm"), ('[one.year, ""].includes(filters.year)', "one.year >= filters.year"),
-    ("same.length === 1", "same.length"), ('told.get(name) ?? "").trim()', 'told.get(name) ?? "")'),
-]
-
-
 @pytest.fixture(scope="module")
 def answers():
     """Many cases, each with the expected answer. (Not by hypothesis, which prefers small ones.)"""
@@ -244,8 +230,8 @@ def test_many_lists(node, answers):
         assert node.ask(ANSWER, case) == right
 
 
-@pytest.mark.parametrize("old, new", CHANGED, ids=[old for old, _ in CHANGED])
-def test_changed_rule(tmp_path, answers, old, new):
+@pytest.mark.parametrize("change", modules.changes_of("filters"), ids=lambda change: change[1])
+def test_changed_rule(tmp_path, answers, change):
     """A list shows the difference."""
-    with modules.Node("common/filters", modules.copy_of(str(tmp_path), ("common/filters.js", old, new))) as node:
+    with modules.Node("common/filters", modules.copy_of(str(tmp_path), change)) as node:
         assert any(node.ask(ANSWER, case) != right for case, right in answers)
