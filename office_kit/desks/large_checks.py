@@ -7,7 +7,7 @@ from collections.abc import Callable, Iterator
 from office_kit.client import AHEAD, Answer, Client, Port, tender
 from office_kit.desks import clerk_large
 from office_kit.desks.browser import Browser, Page
-from office_kit.desks.page_checks import FOUND, is_quiet, texts_of
+from office_kit.desks.page_checks import FOUND, is_quiet, page_of, texts_of
 from office_kit.desks.page_office import mirror_beside
 from office_kit.desks.tender_office import Scene, staged
 from office_kit.desks.tender_page import Desk
@@ -35,7 +35,7 @@ def large_office(program: str, browser: Browser, pictures: str) -> Iterator[Scen
         yield made
 
 
-def timed(page: Page, place: str, wanted: str, again: str = "") -> None:
+def timed(page: Page, place: str, wanted: str, again: str = "about") -> None:
     """A view is drawn in time. What the reader came for, an expression that finds an element, is there and isn't far down. If a busy machine was slow once, a
     view that works as much each time is drawn a second time, after the view `again`."""
     seconds = drawn(page, place)
@@ -70,16 +70,6 @@ def folds_its_menu(page: Page, language: str, other: str) -> None:
 
 # The portal.
 
-def in_time(page: Page, place: str, wanted: str) -> None:
-    timed(page, place, wanted, again="about")
-
-
-def portal_page(large: Scene) -> Page:
-    page = Page(large.browser, DESKTOP)
-    page.go(large.front.address("#about"))
-    return page
-
-
 # Views, each with the element for which its reader came.
 VIEWS = {"ledger": "document.getElementById('by-line')", "line/2003": with_text("h2", "What this budget line"),
          "firms": "document.getElementById('by-name')", "firm/F1": with_text("table", "20 tenders"), "figures": with_text("h2", "Tenders for each lot"),
@@ -87,23 +77,23 @@ VIEWS = {"ledger": "document.getElementById('by-line')", "line/2003": with_text(
 
 
 def portal(large: Scene) -> None:
-    page = portal_page(large)
+    page = page_of(large, "#about", DESKTOP)
     portal_list(page)
     portal_search(page)
     for place, wanted in VIEWS.items():
-        in_time(page, place, wanted)
+        timed(page, place, wanted)
     portal_lot(page)
     is_quiet(page)
     for language in MOST_HEAD:
         phone = Page(large.browser, PHONE, 844)
         phone.go(large.front.address(f"?language={language}#about"))
-        in_time(phone, "list", "document.querySelector('.jumps button:last-child')")
+        timed(phone, "list", "document.querySelector('.jumps button:last-child')")
         folds_its_menu(phone, language, "ledger")
 
 
 def portal_list(page: Page) -> None:
     """The nearest deadline comes first. A button leads to those that are no longer open."""
-    in_time(page, "list", with_text("h2", "No longer open for tenders (201)"))
+    timed(page, "list", with_text("h2", "No longer open for tenders (201)"))
     assert [title.rsplit(", ", 1)[1] for title in texts_of(page, FOUND)[:7]] == [f"purchase {number}" for number in range(NEXT, NEXT + 7)]
     page.run(f"{with_text('.jumps button', 'No longer open')}.click()")
     page.wait("document.activeElement.tagName === 'H2' && Math.abs(document.activeElement.getBoundingClientRect().top) < 5")
@@ -112,14 +102,14 @@ def portal_list(page: Page) -> None:
 def portal_search(page: Page) -> None:
     """What is bought and what pays for it are found, in each order."""
     for words, wanted in {"slate": range(3, 401, 7), "2117": (117, 242, 367), "upkeep district 117": (117, 242, 367), "gravel": (2,)}.items():
-        in_time(page, f"list?words={words.replace(' ', '+')}", "document.querySelector('.count')")
+        timed(page, f"list?words={words.replace(' ', '+')}", "document.querySelector('.count')")
         assert texts_of(page, ".count")[0] == f"{len(wanted)} of 400 procurements", words
         assert {int(title.rsplit(" ", 1)[1]) for title in texts_of(page, FOUND)} <= set(wanted), words
     for order, number in {"deadline": NEXT, "amount": 390}.items():
-        in_time(page, f"list?order={order}", "document.querySelector('.entry-of-list')")
+        timed(page, f"list?order={order}", "document.querySelector('.entry-of-list')")
         assert texts_of(page, FOUND)[0].endswith(f", purchase {number}"), order
     # (Several were published in the last second.)
-    in_time(page, "list?order=published&state=open", "document.querySelector('.entry-of-list')")
+    timed(page, "list?order=published&state=open", "document.querySelector('.entry-of-list')")
     moments = {row["title"]: row["published"] for row in page.run("import('/common/office.js').then(({ notices }) => notices())")}
     shown = [moments[title] for title in texts_of(page, FOUND)]
     assert shown == sorted(shown, reverse=True) and shown[0] == max(moments.values())
@@ -128,7 +118,7 @@ def portal_search(page: Page) -> None:
 def portal_lot(page: Page) -> None:
     """A lot has an address: it is unfolded and in view. A wrong address is one sentence."""
     for place, name in (("notice/n002/l2", "lot-L2"), ("notice/N390/L4", "lot-L4")):
-        in_time(page, place, f"document.getElementById('{name}')")
+        timed(page, place, f"document.getElementById('{name}')")
         seen = page.run("[document.activeElement.id, document.activeElement.getBoundingClientRect().top, document.activeElement.innerText]")
         assert seen[0] == name and seen[1] < 400 and "Tender security" in seen[2]
     assert not page.run("document.querySelector('#lot-L3 details').open"), "other lots are unfolded"
@@ -140,7 +130,7 @@ def is_one_sentence(page: Page) -> None:
     wrong = {"notice/N002/L9": "There is no such lot.", "notice/": "This is not a valid number.", "notice/a%20b/L1": "This is not a valid number.",
              "notice/NONE/L1": "There is no notice with this number."}
     for place, sentence in wrong.items():
-        in_time(page, place, "document.querySelector('main .bad')")
+        timed(page, place, "document.querySelector('main .bad')")
         said = page.run("[...document.querySelectorAll('main :is(.bad, .fault)')].map((at) => at.innerText)")
         assert len(said) == 1 and said[0].startswith(sentence), place
     is_quiet(page)
@@ -154,18 +144,18 @@ AWAY = {"list": "400 procurements", "notice/N005": "Under contract, paid in part
 def away(large: Scene) -> None:
     """While the office is away, the portal shows what the mirror has, and of which moment it is. A button asks the office again."""
     large.stop()
-    page = portal_page(large)
+    page = page_of(large, "#about", DESKTOP)
     moment = json.loads(large.front.ask("GET", "/data/mirror.json").body)["moment"]
     for place, text in AWAY.items():
-        in_time(page, place, "document.querySelector('main h1')")
+        timed(page, place, "document.querySelector('main h1')")
         assert text in page.text(), place
         # (Views of the tables alone are the same as always, and nginx keeps the ledger for a minute.)
         if place not in ("firms", "figures", "ledger"):
             told = page.run("[document.querySelector('.look')?.innerText, document.querySelector('.look time')?.getAttribute('datetime')]")
             assert str(told[0]).startswith("The office isn't answering at the moment.") and told[1] == moment, place
-    in_time(page, "notice/NONE", "document.querySelector('main .bad')")
+    timed(page, "notice/NONE", "document.querySelector('main .bad')")
     assert page.text().startswith("Not shown\nThe office isn't answering") and "Try again" in page.text()
-    in_time(page, "list", "document.querySelector('.entry-of-list')")
+    timed(page, "list", "document.querySelector('.entry-of-list')")
     large.start()
     page.run(f"{with_text('button', 'Try again')}.click()")
     page.wait("document.querySelector('.count') && !document.querySelector('main .look')")
@@ -185,7 +175,7 @@ def tenderer(large: Scene) -> None:
     assert [line for line in logged if "/tenders" in line and " 429 " in line] == [], "queries came too fast"
     for language in MOST_HEAD:
         phone = Desk(large, FIRM, width=PHONE, language=language)
-        timed(phone.page, "offer", "document.querySelector('main li')")
+        timed(phone.page, "offer", "document.querySelector('main li')", again="")
         folds_its_menu(phone.page, language, "check")
 
 
@@ -205,21 +195,21 @@ def own_tenders(desk: Desk, far: int, near: int) -> None:
     desk.press(f"Change or withdraw {near}")
     desk.shows("Tender with receipt")
     desk.withdraw("The tender is withdrawn.")
-    timed(desk.page, "tenders", with_text("a", f"Change or withdraw {far}"))
+    timed(desk.page, "tenders", with_text("a", f"Change or withdraw {far}"), again="")
     desk.fill("tenders-receipt", str(near))
     desk.page.press("Enter")
     desk.shows(f"Tender with receipt {near}")
 
 
 def next_first(desk: Desk, near: int) -> None:
-    timed(desk.page, "tenders", "document.querySelector('main tbody a')")
+    timed(desk.page, "tenders", "document.querySelector('main tbody a')", again="")
     assert texts_of(desk.page, "main tbody a")[0] == f"Change or withdraw {near}"
 
 
 def open_notices(desk: Desk) -> None:
     """Open notices are listed by the nearest deadline, and found by number or by what is bought."""
     heads = "[...document.querySelectorAll('main li h2')].map((at) => at.textContent)"
-    timed(desk.page, "offer", "document.querySelector('main li')")
+    timed(desk.page, "offer", "document.querySelector('main li')", again="")
     assert desk.page.run(heads)[0].endswith(f"purchase {NEXT}")
     desk.fill("offer-notice", "slate desks")
     desk.page.wait(f"{heads}.length > 0 && {heads}.every((it) => it.startsWith('School desks') && Number(it.split(' ').at(-1)) % 7 === 3)")

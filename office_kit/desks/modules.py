@@ -10,10 +10,11 @@ from typing import Any
 from office_kit.common import ROOT, need
 
 WEB = os.path.join(ROOT, "web")
+TESTS = Path(ROOT, "tests", "desks")
 # Makes all exports of some modules global. Then each line of the input is a function's source and the values for it. Maps and sets are answered as lists.
 LOOP = """
-const [web, ...names] = process.argv.slice(1);
-for (const name of names) Object.assign(globalThis, await import(`${web}/${name}.js`));
+const [web, ...modules] = process.argv.slice(1);
+for (const path of modules) Object.assign(globalThis, await import(path));
 const plain = (value) => value instanceof Map || value instanceof Set ? [...value].map(plain) : value;
 for await (const line of (await import("node:readline")).createInterface({ input: process.stdin })) {
   const [script, ...values] = JSON.parse(line);
@@ -37,7 +38,7 @@ def copy_of(folder: str, *changes: Sequence[str]) -> str:
 
 def changes_of(name: str) -> list[list[str]]:
     """The rows of a table of changes beside the tests, tests/desks/NAME.tsv. A line end in a text is written as `⏎`."""
-    lines = Path(ROOT, "tests", "desks", f"{name}.tsv").read_text(encoding="utf-8").splitlines()
+    lines = (TESTS / f"{name}.tsv").read_text(encoding="utf-8").splitlines()
     return [line.replace("⏎", "\n").split("\t") for line in lines]
 
 
@@ -53,11 +54,12 @@ def asked(script: str, web: str, given: Any) -> Any:
 
 
 class Node:
-    """Node.js with the modules of these names, in one text. It ends with its `with`."""
+    """Node.js with the modules of these names, and with the script of a test beside them, tests/desks/SCRIPT.mjs. It ends with its `with`."""
 
-    def __init__(self, names: str, web: str = WEB, **environment: str) -> None:
+    def __init__(self, script: str, names: str, web: str = WEB, **environment: str) -> None:
         self.web = web
-        self.process = subprocess.Popen(node_words(LOOP, web, *names.split()), stdin=subprocess.PIPE, stdout=subprocess.PIPE, text=True,
+        paths = [f"{web}/{name}.js" for name in names.split()] + [str(TESTS / f"{script}.mjs")]
+        self.process = subprocess.Popen(node_words(LOOP, web, *paths), stdin=subprocess.PIPE, stdout=subprocess.PIPE, text=True,
                                         env={**os.environ, **environment})
 
     def __enter__(self) -> "Node":
@@ -67,7 +69,7 @@ class Node:
         self.process.communicate()
 
     def ask(self, script: str, *values: Any) -> Any:
-        """What a function of JavaScript returns for these values: an exported one by its name, or one that the script defines."""
+        """What a function of JavaScript returns for these values: an exported one by its name, or one by its source."""
         assert self.process.stdin and self.process.stdout
         try:
             print(json.dumps([script, *values]), file=self.process.stdin, flush=True)

@@ -110,9 +110,8 @@ def is_within(name: str, width: int, page: Page) -> None:
     assert page.run("document.documentElement.scrollWidth") <= width, name
 
 
-def is_read_out(name: str, page: Page) -> list[tuple[str, str]]:
-    """A screen reader finds landmarks, one heading of the first level and no level left out. Each thing has a name, each table headers. Returns the roles and
-    names."""
+def is_read_out(name: str, page: Page) -> list[tuple[str, str, dict[str, Any]]]:
+    """A screen reader finds landmarks, one heading of the first level and no level left out. Each thing has a name, each table headers. Returns it all."""
     tree = page.tree()
     roles = [role for role, _, _ in tree]
     assert [roles.count(role) for role in LANDMARKS] == [1] * len(LANDMARKS), name
@@ -120,33 +119,34 @@ def is_read_out(name: str, page: Page) -> list[tuple[str, str]]:
     assert levels[0] == 1 and levels.count(1) == 1 and all(below <= level + 1 for level, below in zip(levels, levels[1:])), (name, levels)
     assert [role for role, text, _ in tree if not text and role in NAMED] == [], f"{name}: without a name"
     assert "table" not in roles or {"columnheader", "rowheader"} <= set(roles), name
-    return [(role, text) for role, text, _ in tree]
+    return tree
 
 
 def tells_all(name: str, page: Page) -> None:
     """The portal is read out. The list has a search. Each bar has a text, and no bar is distinguished by its colour alone."""
-    told = is_read_out(name, page)
-    roles = [role for role, _ in told]
+    tree = is_read_out(name, page)
+    roles = [role for role, _, _ in tree]
     assert (roles.count("status"), roles.count("search")) == (1, int(name == "list")), name
-    bars = [text for role, text in told if role == "image"]
+    bars = [text for role, text, _ in tree if role == "image"]
     assert len(bars) == page.run("document.querySelectorAll('.bar').length") and all(re.search(r"\d", text) for text in bars), (name, bars)
     patterns = [pattern.split(" ", 1) for pattern in asked(page, "patterns()")]
     assert len(patterns) == len({kind for kind, _ in patterns}) == len({how for _, how in patterns}), (name, patterns)
 
 
 def keeps_nothing(scene: Scene, page: Page) -> None:
-    """The page sets no cookie, stores nothing and asks no other server. The console has no errors, except the browser's own lines about refusals. The policy is
-    not broken."""
+    """The page sets no cookie, stores nothing and asks no other server. The console has no errors, and the policy is not broken."""
     assert page.ask("Network.getAllCookies")["cookies"] == []
     assert page.run("localStorage.length + sessionStorage.length === 0 && indexedDB.databases().then((all) => all.length === 0)"), "something is stored"
     # (The browser asks no server for the parts of its own fields.)
-    asked = {url for event in page.events("Network.requestWillBeSent") if not (url := event["request"]["url"]).startswith(("about:", "data:"))}
-    assert asked and [url for url in asked if not url.startswith(scene.front.address())] == []
+    urls = {event["request"]["url"] for event in page.events("Network.requestWillBeSent")}
+    assert [url for url in urls if not url.startswith((scene.front.address(), "about:", "data:"))] == []
+    assert any(url.startswith(scene.front.address()) for url in urls)
     is_quiet(page)
 
 
 def is_quiet(page: Page) -> None:
-    """The console has no faults. (The test itself moves a script to another place, and newer browsers report that.)"""
+    """The console has no faults, except the browser's own lines about refusals. (The test itself moves a script to another place, and newer browsers report
+    that.)"""
     faults = page.events("Runtime.exceptionThrown", "Runtime.consoleAPICalled", "Audits.issueAdded")
     assert [event for event in faults if "NavigationEntryMarkedSkippable" not in str(event)] == []
     assert [event for event in page.events("Log.entryAdded") if event["entry"]["source"] != "network"] == []

@@ -17,12 +17,6 @@ from office_kit.api.tenders import CHANCE
 from office_kit.desks import modules
 
 pytestmark = pytest.mark.needs("node")
-ANSWER = """({ list, data, now, address, number }) => {
-  const shown = ({ notice, state, year, lines, firms, winners }) => [notice, state, year, [...lines].sort(), [...firms].sort(), [...winners].sort()];
-  const asked = filtersOf(address);
-  const found = chosen(entriesOf(list, data, Date.parse(now)), asked);
-  return { asked, again: filtersOf(addressOf(asked)), found: ordered(found, asked.order).map(shown), number: noticeOf(list, number) };
-}"""
 NAMES, ORDERS = ("words", "state", "year", "line", "firm", "from", "to", "order"), ("deadline", "published", "amount")
 NOW = "2027-01-15T08:00:00Z"
 PAST, LATER = "2026-03-01T00:00:00Z", "2027-03-01T00:00:00Z"
@@ -196,18 +190,18 @@ QUESTIONS = [*((LISTED, TABLES, *it) for it in EXAMPLES.items()), (LISTED, None,
 
 @pytest.fixture(scope="module")
 def node():
-    with modules.Node("common/filters") as node:
+    with modules.Node("filters", "common/filters") as node:
         yield node
 
 
 @pytest.mark.parametrize("listed, data, address, found", QUESTIONS)
 def test_example(node, listed, data, address, found):
-    told = node.ask(ANSWER, {"list": listed, "data": data, "now": NOW, "address": address, "number": ""})
+    told = node.ask("answerTo", {"list": listed, "data": data, "now": NOW, "address": address, "number": ""})
     assert " ".join(notice for notice, *_ in told["found"]) == found
 
 
 def test_texts_of_questions(node):
-    assert node.ask("(text) => addressOf(filtersOf(text))", "words=a+b&state=open&x=1") == "words=a+b&state=open"
+    assert node.ask("written", "words=a+b&state=open&x=1") == "words=a+b&state=open"
     assert [node.ask("noticeOf", LISTED, text) for text in ("n1", "N2", "n2", " N4 ", "N9", "")] == ["N1", "N2", "n2", "N4", None, None]
 
 
@@ -216,7 +210,7 @@ def test_texts_of_questions(node):
 @settings(max_examples=500, deadline=None, suppress_health_check=HealthCheck.all())
 @given(CHANCE.map(made))
 def test_list(node, case):
-    assert node.ask(ANSWER, case) == expected(case)
+    assert node.ask("answerTo", case) == expected(case)
 
 
 @pytest.fixture(scope="module")
@@ -227,11 +221,11 @@ def answers():
 
 def test_many_lists(node, answers):
     for case, right in answers:
-        assert node.ask(ANSWER, case) == right
+        assert node.ask("answerTo", case) == right
 
 
 @pytest.mark.parametrize("change", modules.changes_of("filters"), ids=lambda change: change[1])
 def test_changed_rule(tmp_path, answers, change):
     """A list shows the difference."""
-    with modules.Node("common/filters", modules.copy_of(str(tmp_path), change)) as node:
-        assert any(node.ask(ANSWER, case) != right for case, right in answers)
+    with modules.Node("filters", "common/filters", modules.copy_of(str(tmp_path), change)) as node:
+        assert any(node.ask("answerTo", case) != right for case, right in answers)

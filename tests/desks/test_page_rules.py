@@ -16,10 +16,7 @@ from office_kit.mirror.tables import table
 
 pytestmark = pytest.mark.needs("node")
 NAMES = "common/findings common/data common/money common/texts tender/search tender/session clerk/budget clerk/convert clerk/notice clerk/values clerk/stage"
-# The most bytes that each page may load at once; the most bytes of all modules with the texts of one language, by gzip; the most lines of a module. They were
-# 130,000, 135,000 and 165,000, and 165,000 by gzip. Since then the portal can show the mirror's data, and orders its list. The tenderer's desk searches a large
-# office, follows own tenders up to their opening, and says what to do with a refused file. The clerk's desk shares the modules for this, and shows a
-# role what it may do.
+# The most bytes that each page may load at once; the most bytes of all modules with the texts of one language, by gzip; the most lines of a module.
 MOST_BYTES, MOST_ZIPPED, MOST_LINES = {"page.js": 140_000, "tender/main.js": 145_000, "clerk/desk.js": 172_000}, 182_000, 300
 NOW, PAST, NEAR, LATER = 1_800_000_000_000, "2026-03-01T00:00:00Z", "2027-02-01T00:00:00Z", "2027-03-01T00:00:00Z"
 HEAD = "EVALUATION\tN1\n"
@@ -88,10 +85,7 @@ def texts(node):
         assert [name for book in where for name, text in books[book][tag].items() if re.search(pattern, str(text))] == [], pattern
     for name in WINDOWS:
         assert {"lot", "name"} <= set(values_of(books["clerk"]["en"][name])[1]), name
-    answers(node, """async (tag, seconds) => {
-      await chooseLanguage(tag);
-      return say("clock.left", { span: span(seconds) });
-    }""", ("de", 89 * 86_400, "endet in 89 Tagen"), ("de", 86_401, "endet in 1 Tag"), ("en", 89 * 86_400, "closes in 89 days"))
+    answers(node, "leftUntil", ("de", 89 * 86_400, "endet in 89 Tagen"), ("de", 86_401, "endet in 1 Tag"), ("en", 89 * 86_400, "closes in 89 days"))
 
 
 def text_lines(path):
@@ -178,10 +172,7 @@ def outcomes(node):
     """The pages show the outcome of each tender of a lot and of its security, from the rows of the evaluation, also while some are hidden."""
     tenders = [{"receipt": at, "reading": "priced", "corrected": price} for at, price in ((1, 100), (2, 90), (3, 100))]
     tenders.append({"receipt": 4, "reading": "unreadable"})
-    answers(node, """(tenders, text, byPoints, status, forfeits, isWhole) => {
-      const shown = evaluationOf(text, isWhole).get("L1");
-      return tenders.map((one) => [...outcomeOf(one, shown, byPoints), securityOf(one, shown, status, forfeits)]);
-    }""", *((tenders, f"{HEAD}{text}END\n", *row) for text, *row in OUTCOMES))
+    answers(node, "outcomesOf", *((tenders, f"{HEAD}{text}END\n", *row) for text, *row in OUTCOMES))
 
 
 def evaluation(chance):
@@ -204,7 +195,7 @@ def points(node):
     """For some hundred evaluations by points, the price's part, the quality and the sum are those of the rule, computed here again."""
     chance = random.Random(7)
     for text, lowest, wanted in (evaluation(chance) for _ in range(200)):
-        [[least, told]] = node.ask("(text) => [...evaluationOf(text)].map(([, lot]) => [lowestOf(lot), [...lot.tenders.values()].map(pointsOf)])", text)
+        [[least, told]] = node.ask("pointsIn", text)
         assert least == lowest and [it and (round(it["price"] * 1000), it["quality"]) for it in told] == wanted, text
         assert all(it is None or abs(it["price"] + it["quality"] - it["sum"]) < 1e-6 for it in told), text
 
@@ -217,22 +208,10 @@ def plans(node):
     tenders = [{"notice": "OLD", "lot": "L2", "receipt": "7", "tenderer": "T1"}, {"notice": "OLD", "lot": "L1", "receipt": "8", "tenderer": "T2"},
                {"notice": "NOT", "lot": "L1", "receipt": "9", "tenderer": "T1"}]
     data = {"notices": [{"notice": "OLD", "state": "opened"}, {"notice": "NEW", "state": "receiving"}], "tenders": tenders}
-    answers(node, """(list, data, caller, now) => {
-      const { order, opened, rest } = planOf(list, data, caller, now);
-      return [order.map(({ notice }) => notice), opened.map(({ notice, lot, receipt }) => [notice, lot, receipt]), rest.map(({ notice }) => notice)];
-    }""", (listed, data, "T1", NOW, [["NEAR", "FAR", "LAST", "FIRST", "NEW"], [["OLD", "L2", 7]], ["GONE", "OLD"]]),
+    answers(node, "searchPlan", (listed, data, "T1", NOW, [["NEAR", "FAR", "LAST", "FIRST", "NEW"], [["OLD", "L2", 7]], ["GONE", "OLD"]]),
             (listed, None, "T1", NOW, [["NEAR", "FAR", "LAST", "FIRST", "NEW", "OLD"], [], ["GONE"]]))
     own = [{"notice": name, "receipt": at, "state": state} for at, (name, state) in enumerate([("OLD", "sealed"), ("GONE", "withdrawn"), ("NEAR", "opened")])]
-    answers(node, """async (plan, tenders) => {
-      const asked = [];
-      globalThis.fetch = async (path) => {
-        asked.push(path);
-        return new Response('{"tenders":[]}');
-      };
-      Object.assign(session, { caller: { caller: "T1", key: "k" }, tenders });
-      await lookFirst(plan);
-      return asked;
-    }""", ({"order": listed[1:2], "rest": [listed[5], listed[6]]}, own, ["/notices/NEAR/tenders", "/notices/OLD/tenders"]))
+    answers(node, "askedAgain", ({"order": listed[1:2], "rest": [listed[5], listed[6]]}, own, ["/notices/NEAR/tenders", "/notices/OLD/tenders"]))
 
 
 def tables(node):
@@ -268,14 +247,6 @@ STAGES = [
 ]
 # Notices without an evaluation: a state, that of the lot, the moment, and the group.
 GROUPS = [("receiving", "undecided", -7 * DAY, "waiting"), ("receiving", "undecided", 1 - 7 * DAY, "week"), ("opened", "awarded", DAY, "waiting")]
-# The step and the tasks of a notice that is seen, the reserved amounts, and its groups.
-STAGE = """(seen, now) => {
-  const stage = stageOf({ ...seen, evaluation: seen.evaluation && evaluationOf(seen.evaluation, true) }, now);
-  const told = ({ code, lot, count, until, since }) => [code, lot, count, until ?? since].filter((it) => it !== undefined);
-  const isOf = (role) => (task) => rolesOf(task).length === 0 || rolesOf(task).includes(role);
-  const groups = [groupOf(stage, now), ...["notices", "contracts"].map((role) => groupOf(stage, now, isOf(role)))];
-  return { tasks: [stepOf(stage), ...tasksOf(stage, now).map(told)], groups: groups.join(" "), reserved: stage.lots.map((lot) => lot.reserved) };
-}"""
 
 
 def award(lot, status, price):
@@ -299,24 +270,23 @@ def stages(node):
     """The next task that the clerk's desk shows for a notice, by role. The time is left to the second, the most urgent task comes first. The money that a lot
     reserves."""
     for state, states, text, after, tasks, groups in STAGES:
-        told = node.ask(STAGE, seen_of(state, states, text), DEADLINE + after)
+        told = node.ask("stageSeen", seen_of(state, states, text), DEADLINE + after)
         assert (told["tasks"], told["groups"]) == (tasks, groups), (state, states, text, after)
     for state, lot, after, group in GROUPS:
-        assert node.ask(STAGE, seen_of(state, [lot]), DEADLINE + after)["groups"].split()[0] == group, (state, after)
+        assert node.ask("stageSeen", seen_of(state, [lot]), DEADLINE + after)["groups"].split()[0] == group, (state, after)
     # A lot has the estimate reserved, and after an award that ended its price.
     seen = seen_of("opened", ["undecided", "undecided"])
     seen["compiled"]["awards"] = [award(1, "cancelled", 3), award(1, "cancelled", 4)]
-    assert node.ask(STAGE, seen, 0)["reserved"] == [4, 5]
+    assert node.ask("stageSeen", seen, 0)["reserved"] == [4, 5]
     # Without a standstill none has ended.
     seen = seen_of("opened", ["awarded"], standstill=0)
-    assert node.ask(STAGE, seen, DEADLINE + 5)["tasks"] == ["signing", ["unsigned", "L1", DEADLINE], ["binds", BINDS]]
+    assert node.ask("stageSeen", seen, DEADLINE + 5)["tasks"] == ["signing", ["unsigned", "L1", DEADLINE], ["binds", BINDS]]
     entries = [{"notice": "runs", "seen": seen_of("opened", ["contracted"])}, {"notice": "binds", "seen": seen_of("opened", ["undecided"])},
                {"notice": "late", "state": "open", "deadline": "2026-07-01T00:00:00Z"},
                {"notice": "stands still", "seen": seen_of("opened", ["awarded", "undecided"])},
                {"notice": "soon", "state": "open", "deadline": "2026-03-02T00:02:00Z"},
                {"notice": "past", "state": "waiting", "deadline": "2026-02-28T00:00:00Z"}]
-    answers(node, """(entries, now) => inOrder(entries.map(({ seen, ...entry }) => ({ ...entry, stage: seen && stageOf(seen, now) })), now)
-      .map(({ notice }) => notice)""", (entries, DEADLINE + DAY, ["past", "soon", "stands still", "binds", "late", "runs"]))
+    answers(node, "noticesInOrder", (entries, DEADLINE + DAY, ["past", "soon", "stands still", "binds", "late", "runs"]))
 
 
 # ---- Budget files and drafts.
@@ -353,11 +323,7 @@ def budgets(node):
     turned = f'{BUDGET}\n2000,add,50,"Parks, and trees"\r\n1000,add,2500,Roads\r\n'
     known = [{"line": "1000", "appropriation": 2500, "free": 0}, {"line": "2000", "appropriation": 60, "free": 60}]
     entry = {"path": "/budget/B1", "status": 200, "found": None, "body": file}
-    answers(node, """(file, lines, entries) => {
-      const { rows } = readBudget(new TextEncoder().encode(file));
-      const { names, lines: doubled } = repeatsOf(rows, changesOf(rows, new Map(lines.map((one) => [one.line, one]))).changes, entries);
-      return [names, doubled];
-    }""", (file, known, [entry], [["B1"], ["1000"]]), (turned, known, [entry], [["B1"], ["1000"]]), (file, [], [], [[], []]),
+    answers(node, "repeatsIn", (file, known, [entry], [["B1"], ["1000"]]), (turned, known, [entry], [["B1"], ["1000"]]), (file, [], [], [[], []]),
             (file, [], [{**entry, "status": 409}], [[], []]), (file, [], [{**entry, "status": None, "found": "done"}], [["B1"], []]),
             (file, [], [{**entry, "path": "/notices/B1"}, {**entry, "body": None}], [[], []]),
             (f"{BUDGET}\n1000,add,2501,Roads\n", known, [entry], [[], []]),
@@ -366,10 +332,7 @@ def budgets(node):
 
 def converts(node):
     """A spreadsheet's budget file is converted to the office's form with each change listed, and nothing is guessed."""
-    answers(node, """(file) => {
-      const found = converted(Uint8Array.from(file), new Map([["2000", "Parks"]]));
-      return found && [new TextDecoder().decode(found.bytes), found.lines, found.changes.map(({ line, name, told }) => [line, name, told])];
-    }""", *((list(file if isinstance(file, bytes) else file.encode()), wanted) for file, wanted in CONVERTED))
+    answers(node, "convertedFrom", *((list(file if isinstance(file, bytes) else file.encode()), wanted) for file, wanted in CONVERTED))
 
 
 def drafts(node):
@@ -381,11 +344,9 @@ def drafts(node):
     answers(node, "draftIn", (full, full), (empty, empty), (odd, {**empty, "lots": [lot, lot]}), ({}, None), (None, None))
     answers(node, "oddHour", *HOURS)
     lot = {"id": "L1", "title": "x", "line": "1", "security": "0", "items": [{"id": "I1", "title": "a", "quantity": "100"}]}
-    warned = """(more, text, now) => warningsOf({ ...newDraft(), ...more, deadline: text && localMilliseconds(text), typed: text }, now)
-      .map(({ code, value }) => code === "cents" ? `${code} ${value}` : code)"""
-    answers(node, warned, *(({"lots": [{**lot, "estimate": estimate}]}, "2027-03-30T10:00", NOW, wanted)
-                            for estimate, wanted in (("1999", ["cents L1/I1"]), ("2000", []), ("", []))),
-            ({}, "2027-03-28T02:30", NOW, ["hour", "hour.missing"]))
+    for estimate, wanted in (("1999", ["cents L1/I1"]), ("2000", []), ("", [])):
+        answers(node, "warningsAbout", ({"lots": [{**lot, "estimate": estimate}]}, "2027-03-30T10:00", NOW, wanted))
+    answers(node, "warningsAbout", ({}, "2027-03-28T02:30", NOW, ["hour", "hour.missing"]))
 
 
 # ---- What the pages load.
@@ -425,7 +386,7 @@ WRONG = modules.changes_of("page_rules")
 
 def holds(name, web):
     """(The clerk's clock is Berlin's.)"""
-    with modules.Node(NAMES, web, TZ="Europe/Berlin") as node:
+    with modules.Node("page_rules", NAMES, web, TZ="Europe/Berlin") as node:
         CHECKS[name](node)
 
 

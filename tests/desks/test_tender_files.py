@@ -17,18 +17,7 @@ from office_kit.api.tenders import KINDS, Case
 from office_kit.desks import modules
 
 pytestmark = [pytest.mark.needs("node"), pytest.mark.budget(120)]
-READS = """(items, data) => {
-  try {
-    const bytes = new Uint8Array(Buffer.from(data, "base64"));
-    const { kind: word, stated, price, corrections, rows } = readingOf(bytes, items);
-    const made = converted(bytes, items, "EUR");
-    return { words: word === "priced" ? `priced ${stated} ${price} ${corrections}` : word,
-      lines: faultsOf(bytes, items, { kind: word, rows }).map(({ line }) => line), faults: made.faults.map(({ line, name }) => [line, name]),
-      changes: made.changes.map(({ line, name }) => [line, name]), kind: made.kind, made: Buffer.from(made.bytes ?? []).toString("base64") };
-  } catch (fault) {
-    return { words: String(fault.stack), lines: [], faults: [], changes: [], kind: "thrown", made: "" };
-  }
-}"""
+NAMES = "tender/papers tender/faults tender/convert"
 # The outcomes of the files of each form of docs/TENDERER-API.md, a letter a file: `a` stays as it is, `c` converted, `r` refused.
 OUTCOMES = {
     "as above": "a", "line ends of Windows (CR LF) or of old Macs (CR)": "aa", "a byte order mark at the start, as in Excel's `CSV UTF-8`": "a",
@@ -122,8 +111,8 @@ class Files:
 
     def answers(self, web, files):
         """Each file with the answer of the modules in this folder."""
-        with modules.Node("tender/papers tender/faults tender/convert", web) as node:
-            return [(it, node.ask(READS, tenders.lot_of(it.case.kind)["items"], base64.b64encode(it.case.data).decode())) for it in files]
+        with modules.Node("tender_files", NAMES, web) as node:
+            return [(it, node.ask("readBy", tenders.lot_of(it.case.kind)["items"], base64.b64encode(it.case.data).decode())) for it in files]
 
     def check(self, file, told):
         """The desk reads the file as the program and finds the tool's faults; it leaves, converts or refuses it as it must."""
@@ -212,7 +201,7 @@ def test_sheets(told):
 def test_texts(told):
     """Each fault and change that came has a sentence. (test_page_rules.py compares the languages.)"""
     came = {f"{kind}.{name}" for _, it in told for kind in ("fault", "change") for _, name in it[kind + "s"]}
-    with modules.Node("") as node:
+    with modules.Node("tender_files", NAMES) as node:
         assert came <= set(node.ask("async () => Object.keys((await import(`${web}/tender/en.js`)).default)"))
 
 
