@@ -36,8 +36,8 @@ def copy_of(folder: str, *changes: Sequence[str]) -> str:
     return str(place)
 
 
-def changes_of(name: str) -> list[list[str]]:
-    """The rows of a table of changes beside the tests, tests/desks/NAME.tsv. A line end in a text is written as `⏎`."""
+def rows_of(name: str) -> list[list[str]]:
+    """The rows of a table beside the tests, tests/desks/NAME.tsv. A line end in a text is written as `⏎`."""
     lines = (TESTS / f"{name}.tsv").read_text(encoding="utf-8").splitlines()
     return [line.replace("⏎", "\n").split("\t") for line in lines]
 

@@ -174,17 +174,10 @@ TABLES = {
     "items": [{"notice": "N1", "lot": "L1", "title": "Clay tiles"}, {"notice": "N9", "lot": "L1", "title": "Clay"}],
     "budget": [{"line": "1000", "title": "Schulmöbel"}, {"line": "2000", "title": "Roofs"}],
     "tenders": [{"notice": "N4", "tenderer": "T1", "name": "Müller & Söhne"}, {"notice": "N5", "tenderer": "T2", "name": "Mueller Bau"}]}
-# A question in the address, and the notices that it finds there.
-EXAMPLES = {
-    "": "n2 N2 N4 N5 N1", "words=strassen": "n2", "words=strasenlampen": "", "words=cafe+chairs": "N4", "words=cafe+stone": "", "words=muller": "N4",
-    "words=mueller": "N4 N5", "words=M%C3%BCller": "N4 N5", "words=soehne": "N4", "words=clay": "N1", "words=TILES+n1": "N1", "words=2000": "N1",
-    "words=schulmoebel": "N4", "words=schulmobel": "N4", "words=roofs+stone": "N1", "words=n4": "N4", "order=published": "n2 N2 N4 N5 N1",
-    "order=amount": "n2 N2 N1 N4 N5", "order=constructor": "n2 N2 N4 N5 N1", "firm=mueller": "N4 N5", "firm=T1": "N4", "firm=sohne": "N4",
-    "state=open": "n2 N2", "state=waiting": "N1", "state=running": "N4", "state=cancelled": "N5", "year=2025": "N2", "line=1000": "N4", "from=501": "N1",
-    "to=500": "N4", "from=400&to=600": "N4"}
 SOME = [row("A", "2026-01-01", "2027-05-01T00:00:00Z"), row("B", "2025-01-01", "2027-02-01T00:00:00Z"), row("C", "2026-01-03", LATER),
         row("D", "2026-01-05", PAST), row("E", "2026-01-01", "2026-06-01T00:00:00Z", "opened")]
-QUESTIONS = [*((LISTED, TABLES, *it) for it in EXAMPLES.items()), (LISTED, None, "words=road", "N2 N5 N1"),
+# A list, its tables, a question in the address, and the notices that it finds.
+QUESTIONS = [*((LISTED, TABLES, *it) for it in modules.rows_of("filter_examples")), (LISTED, None, "words=road", "N2 N5 N1"),
              (SOME, None, "", "B C A E D"), (SOME, None, "order=published", "C A B D E"), (SOME, None, "order=deadline", "B C A E D")]
 
 
@@ -224,7 +217,7 @@ def test_many_lists(node, answers):
         assert node.ask("answerTo", case) == right
 
 
-@pytest.mark.parametrize("change", modules.changes_of("filters"), ids=lambda change: change[1])
+@pytest.mark.parametrize("change", modules.rows_of("filters"), ids=lambda change: change[1])
 def test_changed_rule(tmp_path, answers, change):
     """A list shows the difference."""
     with modules.Node("filters", "common/filters", modules.copy_of(str(tmp_path), change)) as node:

@@ -381,7 +381,7 @@ def sizes(node):
 
 
 CHECKS = {check.__name__: check for check in (texts, lines, states, outcomes, points, plans, tables, stages, budgets, converts, drafts, sizes)}
-WRONG = modules.changes_of("page_rules")
+WRONG = modules.rows_of("page_rules")
 
 
 def holds(name, web):

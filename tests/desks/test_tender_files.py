@@ -19,18 +19,7 @@ from office_kit.desks import modules
 pytestmark = [pytest.mark.needs("node"), pytest.mark.budget(120)]
 NAMES = "tender/papers tender/faults tender/convert"
 # The outcomes of the files of each form of docs/TENDERER-API.md, a letter a file: `a` stays as it is, `c` converted, `r` refused.
-OUTCOMES = {
-    "as above": "a", "line ends of Windows (CR LF) or of old Macs (CR)": "aa", "a byte order mark at the start, as in Excel's `CSV UTF-8`": "a",
-    "all fields in quotation marks": "a", "empty lines, or no line end after the last line": "aa", "leading zeros": "a", "a wrong product": "a",
-    "a wrong sum": "a", "semicolons, tabs or vertical bars between the fields": "ccc", "cents": "rccr", "a quantity of `3.0`": "c",
-    "digits in groups": "rrrccc", "an exponent, as spreadsheets write large numbers": "rr", "a currency": "ccc", "a space beside a number": "cc",
-    "a total left empty, or a formula": "ccr", "capitals in the header": "cc", "a header in other words, or none": "cc", "a line above the header": "cc",
-    "an empty column": "c", "a column of titles": "c", "lines of only commas or spaces": "ccc", "a line after the sum": "rr", "no `TOTAL`": "cr",
-    "`Total`, or a quantity in its line": "cc", "UTF-16, as in Excel's `Unicode text`": "cr", "a PDF, a workbook, a page": "rrr",
-    "the lot before the item": "c", "an item in other letters, or with a space": "cc", "another order": "c",
-    "a missing item, an extra item, or an item twice": "rrr", "several lots in one file": "r", "another quantity": "r", "a unit price above 10^9": "r",
-    "an empty file": "r", "more than 32,768 bytes": "c",
-}
+OUTCOMES = dict(modules.rows_of("tender_forms"))
 # Files that change an offer's meaning, or could, and so must be refused: of the lot of docs/TENDERER-API.md.
 UNSURE = [
     "item;quantity;unit;total\nI1;3;1.500;4.500\nI2;10;12;120\n", "item,quantity,unit,total,discount\nI1,3,150,450,5%\nI2,10,12,120,\n",
@@ -58,7 +47,7 @@ FIRMS = [
     (0, "item;quantity;unit;total\nI1;3;400;1.200\nI2;10;12;120\n", [400, 12]),
     (0, "item;quantity;unit;total\nI1;3;400;1.201\nI2;10;12;120\n", [(2, "figure")]),
 ]
-CHANGED = {name: change for name, *change in modules.changes_of("tender_files")}
+CHANGED = {name: change for name, *change in modules.rows_of("tender_files")}
 HEADS = {"english": [["Item", "Quantity", "Unit price", "Total"], ["Pos.", "Menge", "Einzelpreis", "Gesamtpreis"]],
          "german": [["item", "quantity", "unit", "total"], ["Item", "Quantity", "Unit price", "Total"], ["Pos.", "Menge", "Einzelpreis", "Gesamtpreis"]]}
 
