@@ -313,6 +313,9 @@ def without_scripts(scene: Scene, place: str = "", *texts: str) -> None:
 
 def injected(scene: Scene) -> None:
     """If the page had a fault, an attacker could still do little: no markup is made of texts, no script in the page runs, no other server is asked."""
+    def breaches() -> list[Any]:
+        told = [event["issue"]["details"].get("contentSecurityPolicyIssueDetails", {}) for event in page.events("Audits.issueAdded")]
+        return [details.get("violatedDirective") for details in told]
     page = page_of(scene, "")
     elsewhere = f"https://{OUTSIDE}:{scene.front.port}/ledger"
     styled = "Object.assign(document.createElement('style'), {onload: yes, onerror: no, textContent: '*{}'})"
@@ -322,14 +325,8 @@ def injected(scene: Scene) -> None:
              f"await new Promise((yes, no) => Object.assign(new Image(), {{onload: yes, onerror: no}}).src = '{elsewhere}')": "img-src"}
     for harm, directive in harms.items():
         assert page.run(f"(async () => {{ {harm}; }})().then(() => false, () => true)"), f"{harm} is done"
-        page.expect(f"{harm} is refused by {directive}", lambda: directive in breaches(page))
+        page.expect(f"{harm} is refused by {directive}", lambda: directive in breaches())
     assert page.run("typeof hurt === 'undefined' && document.scripts.length === 1"), "a script of a text ran"
-
-
-def breaches(page: Page) -> list[Any]:
-    """The directives of the policy that were broken, as the browser reports them."""
-    told = [event["issue"]["details"].get("contentSecurityPolicyIssueDetails", {}) for event in page.events("Audits.issueAdded")]
-    return [details.get("violatedDirective") for details in told]
 
 
 def office_away(scene: Scene) -> None:

@@ -66,21 +66,6 @@ class Procurements(Client[Answer]):
         self.import_budget("B1", budget(*(f'{name},add,{12_000_000 // number},"{title}"' for number, (name, title) in enumerate(titles, 1))))
         for name, (firm, address) in TENDERERS.items():
             self.register(name, firm, address)
-        self.announce_all()
-        self.cheap = self.submit("T1", "N1", "L1", tender((3000, 150), (250, 80), wrong=700), SECURITY, 5000)
-        self.dear = self.submit("T2", "N1", "L1", tender((3000, 160), (250, 90)), SECURITY, 5000)
-        self.fails, self.wins, self.unfit = [self.submit(name, "N2", "L1", tender((400, unit))) for name, unit in (("T1", 190), ("T2", 205), ("T3", 150))]
-        self.submit("T4", "N2", "L1", "I offer nothing")
-        self.submit("T1", "N3", "L1", tender((1, 2_300_000)))
-        self.submit("T2", "N4", "L1", tender((1500, 20)))
-        self.good, self.fair = [self.submit(name, "N5", "L1", tender((6, unit))) for name, unit in (("T3", 900), ("T4", 800))]
-        self.submit("T1", "N5", "L2", tender((12, 300)))
-        self.submit("T2", "N6", "L1", tender((40, 700)))
-        self.submit("T4", "N6", "L1", tender((39, 600)))
-        self.poles, self.same = [self.submit(name, "N6", "L2", tender((40, 500))) for name in ("T4", "T2")]
-        self.cancel("N4", "The library <i>got</i> them as a gift")
-
-    def announce_all(self) -> None:
         by_points = {"criteria": "points", "price_weight": 60}
         self.announce("N1", "Road repair in the north", self.deadline - 1,
                       lot("L1", "1100", 600_000, 5000, PAVING, KERBS, title='North <b>&amp;</b> "East"'),
@@ -94,6 +79,18 @@ class Procurements(Client[Answer]):
                       lot("L2", "1800", 4_000, 0, ("Benches", 12), title="Benches"), **by_points)
         self.announce("N6", "Street lamps", self.deadline, lot("L1", "1500", 30_000, 0, ("Lamps", 40), title="Lamps"),
                       lot("L2", "1500", 19_000, 0, ("Poles", 40), title="Poles"))
+        self.cheap = self.submit("T1", "N1", "L1", tender((3000, 150), (250, 80), wrong=700), SECURITY, 5000)
+        self.dear = self.submit("T2", "N1", "L1", tender((3000, 160), (250, 90)), SECURITY, 5000)
+        self.fails, self.wins, self.unfit = [self.submit(name, "N2", "L1", tender((400, unit))) for name, unit in (("T1", 190), ("T2", 205), ("T3", 150))]
+        self.submit("T4", "N2", "L1", "I offer nothing")
+        self.submit("T1", "N3", "L1", tender((1, 2_300_000)))
+        self.submit("T2", "N4", "L1", tender((1500, 20)))
+        self.good, self.fair = [self.submit(name, "N5", "L1", tender((6, unit))) for name, unit in (("T3", 900), ("T4", 800))]
+        self.submit("T1", "N5", "L2", tender((12, 300)))
+        self.submit("T2", "N6", "L1", tender((40, 700)))
+        self.submit("T4", "N6", "L1", tender((39, 600)))
+        self.poles, self.same = [self.submit(name, "N6", "L2", tender((40, 500))) for name in ("T4", "T2")]
+        self.cancel("N4", "The library <i>got</i> them as a gift")
 
     def after_the_deadline(self) -> None:
         """The openings, and the further steps of the opened notices."""
@@ -107,18 +104,16 @@ class Procurements(Client[Answer]):
         self.examine(self.fair, quality=5)
         north = self.award("N1", "L1")["award"]
         self.award("N1", "L2")
-        self.is_paid(self.sign(north)["contract"])
+        # A contract is raised, cut, paid twice, and ended with something left.
+        contract = self.sign(north)["contract"]
+        self.amend_contract(contract, "A1", "raise", 12_000, "Kerbs at the <b>bus stop</b>")
+        self.amend_contract(contract, "A2", "cut", 2_000, "Less paving")
+        self.pay(contract, "P1", 300_000)
+        self.pay(contract, "P2", 150_000)
+        self.end(contract)
         self.fail(self.award("N2", "L1")["award"])
         self.award("N2", "L1")
         self.award("N5", "L1")
         self.cancel("N5", "The ground is wet")
         poles = self.award("N6", "L2")["award"]
         self.pay(self.sign(poles)["contract"], "P1", 5_000)
-
-    def is_paid(self, contract: int) -> None:
-        """A contract is raised, cut, paid twice, and ended with something left."""
-        for entry, kind, amount, why in (("A1", "raise", 12_000, "Kerbs at the <b>bus stop</b>"), ("A2", "cut", 2_000, "Less paving")):
-            self.amend_contract(contract, entry, kind, amount, why)
-        for entry, amount in (("P1", 300_000), ("P2", 150_000)):
-            self.pay(contract, entry, amount)
-        self.end(contract)

@@ -14,7 +14,6 @@ from office_kit.mirror.tables import table
 WIDEST = 1920
 # The notices of an office that has run for some years, and the seconds of the page's own work within which they are shown.
 MANY, LONGEST = 500, 1.0
-NAMES = [f"M{number:04}" for number in range(MANY)]
 # The first of the seconds in which they were published.
 PUBLISHED = 1_767_225_600
 # The paths below /data/ that the test asks for, each with its type.
@@ -136,33 +135,28 @@ def search(scene: Scene) -> None:
     is_quiet(page)
 
 
-def answers_of_many() -> dict[str, tuple[int, bytes]]:
-    """The list of many notices, of which one in ten takes tenders, and the tables of a mirror that knows of three lots of each and five firms."""
+def many(scene: Scene) -> None:
+    """Five hundred notices are shown within a second of the page's work, those that take tenders above, and searched as one types. Tables have three
+    lots of each and five firms. (The page gets all as answers. large_checks.py has an office with 400 notices.)"""
+    names = [f"M{number:04}" for number in range(MANY)]
     listed = [{"amendments": 0, "deadline": "2099-12-31T23:59:59Z" if name.endswith("0") else "2026-01-02T00:00:00Z", "notice": name, "opened": None,
-               "published": text_of(PUBLISHED + at), "releases": 1, "state": "receiving", "title": f"Purchase {name} of the city"}
-              for at, name in enumerate(NAMES)]
+               "published": text_of(PUBLISHED + at), "releases": 1, "state": "receiving", "title": f"Purchase {name}"} for at, name in enumerate(names)]
     shape = {"state": "receiving", "status": "active", "releases": 1, "running": 0, "currency": "EUR", "buyer": "City", "published": "2026-01-01T00:00:00Z"}
     tables: dict[str, list[dict[str, Any]]] = {
-        "notices": [{**shape, "notice": name, "title": name, "estimate": 1000 + at} for at, name in enumerate(NAMES)],
-        "lots": [{"notice": name, "lot": f"L{lot}", "title": "A lot", "line": "1100", "estimate": 500} for name in NAMES for lot in range(3)],
-        "tenders": [{"notice": name, "lot": "L1", "tenderer": f"T{firm}", "name": f"Firm {firm}"} for name in NAMES for firm in range(5)],
+        "notices": [{**shape, "notice": name, "title": name, "estimate": 1000 + at} for at, name in enumerate(names)],
+        "lots": [{"notice": name, "lot": f"L{lot}", "title": "A lot", "line": "1100", "estimate": 500} for name in names for lot in range(3)],
+        "tenders": [{"notice": name, "lot": "L1", "tenderer": f"T{firm}", "name": f"Firm {firm}"} for name in names for firm in range(5)],
         "budget": [{"line": "1100", "title": "Roads"}]}
     answers = {f"/data/{name}.csv": (200, table(name, rows).encode()) for name, rows in tables.items()}
-    return {**answers, "/notices": (200, json.dumps({"next": None, "notices": listed}).encode())}
-
-
-def many(scene: Scene) -> None:
-    """Five hundred notices are shown within a second of the page's work, those that take tenders above, and searched as one types. (The page gets them in one
-    answer. large_checks.py has an office with 400.)"""
     page = Page(scene.browser, 1280)
     page.ask("Performance.enable", timeDomain="threadTicks")
-    page.answer_for(answers_of_many())
+    page.answer_for({**answers, "/notices": (200, json.dumps({"next": None, "notices": listed}).encode())})
     page.go(scene.front.address("#list?order=published"))
     took = {it["name"]: it["value"] for it in page.ask("Performance.getMetrics")["metrics"]}["TaskDuration"]
     assert took < LONGEST, "seconds"
     assert texts_of(page, ".count")[0] == f"{MANY} procurements"
     page.run("document.querySelector('.more').click()")
-    wanted = [f"Purchase {name} of the city" for name in reversed(NAMES) if name.endswith("0")]
+    wanted = [f"Purchase {name}" for name in reversed(names) if name.endswith("0")]
     assert texts_of(page, FOUND)[:MANY // 10] == wanted, "open ones come first, and newest first"
     type_words(page, "m012")
     assert len(texts_of(page, FOUND)) == 10

@@ -74,7 +74,10 @@ def shapes(scene: Scene) -> None:
             goes(desk, place.format(sealed))
             looked_at(scene, desk, name, language)
             if name == "send":
-                is_sent(scene, desk, language)
+                # The page shows the receipt; or the refusal, if a tender exists already.
+                desk.press("Submit the tender" if language == "en" else "Angebot abgeben")
+                desk.page.wait("document.querySelector('main .good, main .bad')")
+                looked_at(scene, desk, "receipt" if language == "en" else "already", language)
             if name == "list":
                 # After sending, the view is again that of the offer for N1.
                 goes(desk, "offer/N1/L1")
@@ -91,13 +94,6 @@ def goes(desk: Desk, place: str, field: str = "who") -> None:
     desk.page.run(f"location.hash = {json.dumps('#' + place)}")
     desk.page.run("new Promise((done) => { setTimeout(done, 0); })")
     desk.page.wait(f"document.querySelector('main').getAttribute('aria-busy') === 'false' && document.getElementById('{field}')")
-
-
-def is_sent(scene: Scene, desk: Desk, language: str) -> None:
-    """The page shows the receipt; or the refusal, if a tender exists already."""
-    desk.press("Submit the tender" if language == "en" else "Angebot abgeben")
-    desk.page.wait("document.querySelector('main .good, main .bad')")
-    looked_at(scene, desk, "receipt" if language == "en" else "already", language)
 
 
 def with_file(scene: Scene, desk: Desk, language: str) -> None:
