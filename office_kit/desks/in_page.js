@@ -1,4 +1,4 @@
-// What page_checks.py asks a page for. Each function runs within it.
+// Functions that page_checks.py runs within a page.
 ({
   /** Texts whose contrast is below 4.5 to 1 (WCAG 2.2, 1.4.3), and edges of bars and fields below 3 to 1 (1.4.11). */
   pale() {

@@ -136,7 +136,7 @@ def is_one_sentence(page: Page) -> None:
     is_quiet(page)
 
 
-# What the portal shows while the office is away.
+# Texts that the portal shows while the office is away.
 AWAY = {"list": "400 procurements", "notice/N005": "Under contract, paid in part", "notice/N001": "24 tenders for lot L1", "notice/N300": "Tenders sealed",
         "ledger": "All 125 budget lines", "line/2003": "Upkeep of district 3", "firms": "Firm 24 Ltd", "figures": "Tenders for each lot"}
 

@@ -69,7 +69,7 @@ class Node:
         self.process.communicate()
 
     def ask(self, script: str, *values: Any) -> Any:
-        """What a function of JavaScript returns for these values: an exported one by its name, or one by its source."""
+        """The answer of a function of JavaScript to these values: an exported one by its name, or one by its source."""
         assert self.process.stdin and self.process.stdout
         try:
             print(json.dumps([script, *values]), file=self.process.stdin, flush=True)

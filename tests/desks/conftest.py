@@ -1,4 +1,4 @@
-"""What tests of the portal and of the tenderer's desk share: an office of 400 notices and its mirror, which take half a minute."""
+"""The office of 400 notices and its mirror, for tests of the portal and of the tenderer's desk. It takes half a minute."""
 import pytest
 
 from office_kit.desks import large_checks

@@ -1,6 +1,6 @@
 """The modules of the screens (web/) without a browser, in Node.js: states, points, the mirror's tables, the clerk's next tasks, budget files, and texts.
 
-Each check is a function, whose comment says what it is about. page_rules.tsv has rules that are made wrong in a module, one at a time: the check, the module,
+Each check is a function, whose comment says what it is about. In page_rules.tsv are rules that are made wrong, one at a time. A row has the check, the module,
 the text, and the text that replaces it. Then the check must fail.
 """
 import gzip
@@ -145,7 +145,7 @@ def states(node):
             ({"worth": None, "paid": None, "status": "active", "contract_status": ""}, None))
 
 
-# An evaluation, by points or not, the lot's status, whether a late withdrawal forfeits, whether the clerk is shown it; and the words about tenders 1 to 4
+# An evaluation, by points or not, the lot's status, whether a late withdrawal forfeits, whether the clerk is shown it. Then the words about tenders 1 to 4
 # (prices 100, 90, 100, unreadable).
 OUTCOMES = [
     ("lot\tL1\tundecided\n", False, "active", False, False, [["running", "waits", "held"]] * 3 + [["stopped", "unreadable", "held"]]),
@@ -227,7 +227,7 @@ DAY, DEADLINE = 86_400_000, 1_772_323_200_000
 BINDS, STILL = DEADLINE + 90 * DAY, DEADLINE + 10 * DAY
 WAITING, FOUND = "tender\t1\tA\tpriced\t5\t-\t-\t-\t-\n", "tender\t1\tA\tpriced\t5\tresponsive\t-\t-\tadmissible\n"
 # A notice's state, the states of its lots (has the winner signed, did the contract end), the evaluation of its first lot, and the moment after the deadline.
-# Then the step that the desk shows, and the tasks; and the group of the notice in the list of a clerk, of one with the role `notices` alone, and of one
+# Then the step that the desk shows, and the tasks. Then the group of the notice in the list of a clerk, of one with the role `notices` alone, and of one
 # with `contracts`. (The tasks of other roles don't count there, except for dates.)
 STAGES = [
     ("receiving", ["undecided"], None, -1, ["tenders", ["wait", DEADLINE]], "week week week"),

@@ -3,8 +3,8 @@
 The files are those of test_check_tender.py, sheets that are written for known prices in many ways, and files whose meaning is unsure. `papers.js` must read the
 prices that the program reads, and `faults.js` find the lines that tools/check_tender finds. `convert.js` must leave a file that the office reads as it is. A
 converted file must be read by the program without a correction, and have a change to show. A refused one must have a fault at one of its lines. Each fault and
-change has a sentence. tender_files.tsv has rules of the modules that are changed, one at a time: the change, the module, the text, and the text that replaces
-it. These checks must find each change.
+change has a sentence. In tender_files.tsv are rules that are changed, one at a time. A row has the change, the module, the text, and the text that replaces it.
+These checks must find each change. tender_forms.tsv has what becomes of the files of each form.
 """
 import base64
 import collections
