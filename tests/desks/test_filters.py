@@ -1,7 +1,7 @@
 """The portal's list (web/common/filters.js) has the procurements, states and order that a plain implementation here finds, for lists that hypothesis makes.
 
-The lists have up to five notices, tables of the mirror that are older, newer or missing, and questions in all filters. Examples (filter_examples.tsv) have words
-without accents, `ue` for `ü`, budget lines, orders, and numbers in other letters. In filters.tsv are rules that are changed, one at a time. A row has the
+The lists have up to five notices, tables of the mirror that are older, newer or missing, and questions in all filters. Examples (filter_examples.tsv) have
+words without accents, `ue` for `ü`, budget lines, orders, and numbers in other letters. In filters.tsv are rules that are changed, one at a time. A row has the
 module, the text, and the text that replaces it. A list must show each change.
 """
 import itertools
