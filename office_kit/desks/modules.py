@@ -3,6 +3,7 @@ import json
 import os
 import shutil
 import subprocess
+import tomllib
 from collections.abc import Sequence
 from pathlib import Path
 from typing import Any
@@ -36,10 +37,9 @@ def copy_of(folder: str, *changes: Sequence[str]) -> str:
     return str(place)
 
 
-def rows_of(name: str) -> list[list[str]]:
-    """The rows of a table beside the tests, tests/desks/NAME.tsv. A line end in a text is written as `⏎`."""
-    lines = (TESTS / f"{name}.tsv").read_text(encoding="utf-8").splitlines()
-    return [line.replace("⏎", "\n").split("\t") for line in lines]
+def data_of(name: str) -> dict[str, Any]:
+    """The values of a file beside the tests, tests/desks/NAME.toml."""
+    return tomllib.loads((TESTS / f"{name}.toml").read_text(encoding="utf-8"))
 
 
 def node_words(script: str, *words: str) -> list[str]:

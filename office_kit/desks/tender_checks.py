@@ -72,8 +72,7 @@ def offer(scene: Scene) -> None:
 
 def finds_notice(desk: Desk) -> None:
     """The desk lists open notices, finds one by its number, and reports unit prices that are out of range."""
-    desk.at("offer", "Prepare a tender")
-    desk.says("are open for tenders")
+    desk.at("offer", "Prepare a tender", "are open for tenders")
     assert [text for text in ("Road repair", "Things of all kinds", "closes in") if text not in desk.page.text()] == []
     desk.fill("offer-notice", "N 9")
     desk.press("Show", "Nothing matches these words.")
@@ -123,8 +122,7 @@ def belongs(scene: Scene, desk: Desk, receipt: int) -> None:
 def after_reload(scene: Scene) -> None:
     """A tab that was loaded again says where a submitted tender is, and leads there first. Without a key the place for its file is on the same screen."""
     desk = Desk(scene)
-    desk.at("send", "Check before submitting")
-    desk.says("If you have submitted one, you find it with its receipt in “My tenders”.")
+    desk.at("send", "Check before submitting", "If you have submitted one, you find it with its receipt in “My tenders”.")
     assert texts_of(desk.page, "main .button") == ["My tenders", "Prepare a tender"]
     desk.press("My tenders")
     desk.shows("My tenders", "tenders")
@@ -173,8 +171,7 @@ def changes(scene: Scene) -> None:
     desk = Desk(scene, "T2")
     desk.at("tenders", "My tenders")
     desk.page.wait(f"[...document.querySelectorAll('main tbody a')].some((at) => at.textContent === 'Change or withdraw {old}')")
-    desk.at(f"tender/{old}", f"Tender with receipt {old}")
-    desk.says("G5")
+    desk.at(f"tender/{old}", f"Tender with receipt {old}", "G5")
     desk.press("Change the tender", f"take the file that you saved with receipt {old}, for example N1-L1-receipt-{old}.csv")
     desk.prices("N1", "L1", 140, 12)
     desk.press("Check before submitting")
@@ -186,8 +183,7 @@ def changes(scene: Scene) -> None:
     desk.press("Change the tender", "The prices that you submitted from this tab are filled in.")
     assert [desk.page.run(f"document.getElementById('unit-{at}').value") for at in (0, 1)] == ["140", "12"]
     withdraws(scene, desk, old, new)
-    desk.at("tenders", "My tenders")
-    desk.says(f"replaced by {new}")
+    desk.at("tenders", "My tenders", f"replaced by {new}")
     assert desk.page.run("document.querySelectorAll('tbody tr').length") >= 4
     desk.says("All notices that aren't opened yet are searched.")
     is_quiet(desk.page)

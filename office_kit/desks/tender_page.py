@@ -29,10 +29,11 @@ class Desk:
         self.page.choose("key-file", self.scene.path(f"{who}.key"))
         self.page.wait(f"document.getElementById('who').textContent.includes('{who}')")
 
-    def at(self, place: str, head: str) -> None:
-        """Goes to a place, until a view with this heading is shown."""
+    def at(self, place: str, head: str, then: str = "") -> None:
+        """Goes to a place, until a view with this heading is shown that says something."""
         self.page.run(f"location.hash = {json.dumps('#' + place)}")
         self.shows(head, place)
+        self.says(then)
 
     def shows(self, head: str, place: str | None = None) -> None:
         """Waits for a view with this heading."""

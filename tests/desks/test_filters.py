@@ -1,8 +1,7 @@
 """The portal's list (web/common/filters.js) has the procurements, states and order that a plain implementation here finds, for lists that hypothesis makes.
 
-The lists have up to five notices, tables of the mirror that are older, newer or missing, and questions in all filters. Examples (filter_examples.tsv) have
-words without accents, `ue` for `ü`, budget lines, orders, and numbers in other letters. In filters.tsv are rules that are changed, one at a time. A row has the
-module, the text, and the text that replaces it. A list must show each change.
+The lists have up to five notices, tables of the mirror that are older, newer or missing, and questions in all filters. In filters.toml are examples: words
+without accents, `ue` for `ü`, budget lines, orders. It also has rules that are changed, one at a time. A list must show each change.
 """
 import itertools
 import random
@@ -17,6 +16,7 @@ from office_kit.api.tenders import CHANCE
 from office_kit.desks import modules
 
 pytestmark = pytest.mark.needs("node")
+DATA = modules.data_of("filters")
 NAMES, ORDERS = ("words", "state", "year", "line", "firm", "from", "to", "order"), ("deadline", "published", "amount")
 NOW = "2027-01-15T08:00:00Z"
 PAST, LATER = "2026-03-01T00:00:00Z", "2027-03-01T00:00:00Z"
@@ -177,7 +177,7 @@ TABLES = {
 SOME = [row("A", "2026-01-01", "2027-05-01T00:00:00Z"), row("B", "2025-01-01", "2027-02-01T00:00:00Z"), row("C", "2026-01-03", LATER),
         row("D", "2026-01-05", PAST), row("E", "2026-01-01", "2026-06-01T00:00:00Z", "opened")]
 # A list, its tables, a question in the address, and the notices that it finds.
-QUESTIONS = [*((LISTED, TABLES, *it) for it in modules.rows_of("filter_examples")), (LISTED, None, "words=road", "N2 N5 N1"),
+QUESTIONS = [*((LISTED, TABLES, *it) for it in DATA["examples"].items()), (LISTED, None, "words=road", "N2 N5 N1"),
              (SOME, None, "", "B C A E D"), (SOME, None, "order=published", "C A B D E"), (SOME, None, "order=deadline", "B C A E D")]
 
 
@@ -217,8 +217,8 @@ def test_many_lists(node, answers):
         assert node.ask("answerTo", case) == right
 
 
-@pytest.mark.parametrize("change", modules.rows_of("filters"), ids=lambda change: change[1])
-def test_changed_rule(tmp_path, answers, change):
+@pytest.mark.parametrize("old, new", DATA["changed"], ids=[old for old, _ in DATA["changed"]])
+def test_changed_rule(tmp_path, answers, old, new):
     """A list shows the difference."""
-    with modules.Node("filters", "common/filters", modules.copy_of(str(tmp_path), change)) as node:
+    with modules.Node("filters", "common/filters", modules.copy_of(str(tmp_path), ("common/filters.js", old, new))) as node:
         assert any(node.ask("answerTo", case) != right for case, right in answers)

@@ -1,7 +1,7 @@
 """The modules of the screens (web/) without a browser, in Node.js: states, points, the mirror's tables, the clerk's next tasks, budget files, and texts.
 
-Each check is a function, whose comment says what it is about. In page_rules.tsv are rules that are made wrong, one at a time. A row has the check, the module,
-the text, and the text that replaces it. Then the check must fail.
+Each check is a function, whose comment says what it is about. In page_rules.toml are evaluations, budget files, and rules that are made wrong, one at a time:
+then the check must fail.
 """
 import gzip
 import os
@@ -20,6 +20,7 @@ NAMES = "common/findings common/data common/money common/texts tender/search ten
 MOST_BYTES, MOST_ZIPPED, MOST_LINES = {"page.js": 140_000, "tender/main.js": 145_000, "clerk/desk.js": 172_000}, 182_000, 300
 NOW, PAST, NEAR, LATER = 1_800_000_000_000, "2026-03-01T00:00:00Z", "2027-02-01T00:00:00Z", "2027-03-01T00:00:00Z"
 HEAD = "EVALUATION\tN1\n"
+DATA = modules.data_of("page_rules")
 
 
 def answers(node, script, *rows):
@@ -145,34 +146,13 @@ def states(node):
             ({"worth": None, "paid": None, "status": "active", "contract_status": ""}, None))
 
 
-# An evaluation, by points or not, the lot's status, whether a late withdrawal forfeits, whether the clerk is shown it. Then the words about tenders 1 to 4
-# (prices 100, 90, 100, unreadable).
-OUTCOMES = [
-    ("lot\tL1\tundecided\n", False, "active", False, False, [["running", "waits", "held"]] * 3 + [["stopped", "unreadable", "held"]]),
-    ("lot\tL1\tundecided\n", False, "active", True, False, [["running", "waits", "unknown"]] * 3 + [["stopped", "unreadable", "unknown"]]),
-    ("lot\tL1\tcontracted\ntender\t1\tA\tpriced\t100\tresponsive\t-\t-\tadmissible\ntender\t2\tB\tpriced\t90\tunresponsive\t-\t-\t-\n"
-     "tender\t3\tC\tpriced\t100\tresponsive\t-\t-\tadmissible\ntender\t4\tD\tunreadable\naward\t1\t1\t100\tsigned\n", False, "complete", False, False,
-     [["done", "signed", "returned"], ["stopped", "unresponsive", "returned"], ["open", "later", "returned"], ["stopped", "unreadable", "returned"]]),
-    ("lot\tL1\tundecided\ntender\t1\tA\tpriced\t100\tresponsive\t-\t-\tadmissible\ntender\t2\tB\tpriced\t90\tresponsive\t-\t-\tfailed\n"
-     "tender\t3\tC\tpriced\t100\tresponsive\t-\t-\tadmissible\ntender\t4\tD\tunreadable\naward\t1\t2\t90\tfailed\n", False, "active", False, False,
-     [["running", "again", "held"], ["stopped", "passed", "forfeited"], ["running", "again", "held"], ["stopped", "unreadable", "held"]]),
-    ("lot\tL1\tawarded\ntender\t1\tA\tpriced\t100\tresponsive\t5\t50000\tadmissible\ntender\t2\tB\tpriced\t90\tresponsive\t9\t69000\tadmissible\n"
-     "tender\t3\tC\tpriced\t100\tresponsive\t-\t-\tfailed\ntender\t4\tD\tunreadable\naward\t1\t2\t90\tactive\n", True, "active", True, False,
-     [["open", "points", "held"], ["running", "won", "held"], ["stopped", "late", "forfeited"], ["stopped", "unreadable", "unknown"]]),
-    ("lot\tL1\tcancelled\ntender\t1\tA\tpriced\t100\t-\t-\t-\t-\ntender\t2\tB\tpriced\t90\tresponsive\t-\t-\tadmissible\n"
-     "tender\t3\tC\tpriced\t100\tresponsive\t-\t-\tadmissible\ntender\t4\tD\tunreadable\naward\t1\t2\t90\tcancelled\n", False, "cancelled", False, False,
-     [["stopped", "unexamined", "returned"], ["stopped", "awardended", "returned"], ["open", "price", "returned"], ["stopped", "unreadable", "returned"]]),
-    ("lot\tL1\tundecided\ntender\t1\tA\tpriced\t100\t-\t-\t-\t-\ntender\t2\tB\tpriced\t90\tresponsive\t-\t-\tadmissible\n"
-     "tender\t3\tC\tpriced\t100\tunresponsive\t-\t-\t-\ntender\t4\tD\tunreadable\n", False, "active", True, True,
-     [["running", "examined", "held"], ["running", "admissible", "held"], ["stopped", "unresponsive", "held"], ["stopped", "unreadable", "unknown"]]),
-]
-
-
 def outcomes(node):
     """The pages show the outcome of each tender of a lot and of its security, from the rows of the evaluation, also while some are hidden."""
     tenders = [{"receipt": at, "reading": "priced", "corrected": price} for at, price in ((1, 100), (2, 90), (3, 100))]
     tenders.append({"receipt": 4, "reading": "unreadable"})
-    answers(node, "outcomesOf", *((tenders, f"{HEAD}{text}END\n", *row) for text, *row in OUTCOMES))
+    for it in DATA["outcomes"]:
+        told = node.ask("outcomesOf", tenders, f"{HEAD}{it['evaluation']}END\n", *it["given"])
+        assert [" ".join(words) for words in told] == it["wanted"], it["evaluation"]
 
 
 def evaluation(chance):
@@ -292,26 +272,6 @@ def stages(node):
 # ---- Budget files and drafts.
 
 BUDGET = "line,kind,amount,title"
-# A spreadsheet's file, and what it is converted to: the file, the line of each record, and each change by its line. Nothing, if it is left as it is.
-CONVERTED = [
-    (f"{BUDGET}\n1000,add,5,Roads\n", None),
-    ("Haushaltsstelle;Art;Betrag;Bezeichnung\r\n1000;Zugang;230.000,00;Straßen, Wege\r\n"
-     "2000;Kürzung;1 200,- EUR;\r\n;;;\r\nSumme;;231.200,00;\r\n".encode("cp1252"),
-     [f'{BUDGET}\n1000,add,230000,"Straßen, Wege"\n2000,cut,1200,Parks\n', [1, 2, 3],
-      [[1, "coding", "UTF-8"], [1, "separator", ","], [1, "head", BUDGET], [2, "kind", "add"], [2, "amount", "230000"], [3, "kind", "cut"],
-       [3, "amount", "1200"], [3, "title", "Parks"], [4, "blank", None], [5, "sum", None]]]),
-    ("sep=;\r\nBudget 2026;;;;\r\nLine;Kind;Amount (EUR);Title;Year\r\n1000;ADD;€ 1,200.00;Roads;2026\r\n",
-     [f"{BUDGET}\n1000,add,1200,Roads\n", [3, 4],
-      [[1, "separator", ","], [2, "above", None], [3, "head", BUDGET], [3, "column", None], [4, "kind", "add"], [4, "amount", "1200"]]]),
-    ("1000\tadd\t5\tRoads\n", [f"{BUDGET}\n1000,add,5,Roads\n", [1, 1], [[1, "separator", ","], [1, "head", BUDGET]]]),
-    (f"{BUDGET}\n1000,add,1.5,Roads\n", [f"{BUDGET}\n1000,add,1.5,Roads\n", [1, 2], [[1, "beside", None]]]),
-    (f"{BUDGET}\n1000,add,0.500,Roads\n1000,both,-5,Roads\n",
-     [f"{BUDGET}\n1000,add,0.500,Roads\n1000,both,-5,Roads\n", [1, 2, 3], [[1, "beside", None]]]),
-    (f"{BUDGET}\n1000,add,5,Roads,\n", [f"{BUDGET}\n1000,add,5,Roads\n", [1, 2], [[1, "beside", None]]]),
-    ("nothing;of;the;kind\n", None), (b"PK\x03\x04", None), ('line;kind;amount;title\n1000;add;5;"Roads\n', None),
-    ("line;kind;amount;title\n1000;add;5;Straßen\n".encode("utf-16"),
-     [f"{BUDGET}\n1000,add,5,Straßen\n", [1, 2], [[1, "coding", "UTF-8"], [1, "separator", ","]]]),
-]
 # Hours of the clerk's clock, and the hours that it skips or repeats.
 HOURS = [("2027-03-28T02:30", "missing"), ("2027-03-28T01:59", None), ("2027-03-28T03:00", None), ("2027-10-31T02:30", "twice"),
          ("2027-10-31T02:30:00", "twice"), ("2027-10-31T01:59", None), ("2027-10-31T03:00", None), ("2027-06-01T02:30", None), ("", None)]
@@ -332,7 +292,10 @@ def budgets(node):
 
 def converts(node):
     """A spreadsheet's budget file is converted to the office's form with each change listed, and nothing is guessed."""
-    answers(node, "convertedFrom", *((list(file if isinstance(file, bytes) else file.encode()), wanted) for file, wanted in CONVERTED))
+    for it in DATA["converted"]:
+        told = node.ask("convertedFrom", list(it["text"].replace("\n", it.get("end", "\n")).encode(it.get("coding", "utf-8"))))
+        wanted = [it["made"], it["lines"], [[*change, None][:3] for change in it["changes"]]] if "made" in it else None
+        assert told == wanted, it["text"]
 
 
 def drafts(node):
@@ -381,7 +344,7 @@ def sizes(node):
 
 
 CHECKS = {check.__name__: check for check in (texts, lines, states, outcomes, points, plans, tables, stages, budgets, converts, drafts, sizes)}
-WRONG = modules.rows_of("page_rules")
+WRONG = DATA["wrong"]
 
 
 def holds(name, web):

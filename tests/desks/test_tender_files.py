@@ -3,8 +3,7 @@
 The files are those of test_check_tender.py, sheets that are written for known prices in many ways, and files whose meaning is unsure. `papers.js` must read the
 prices that the program reads, and `faults.js` find the lines that tools/check_tender finds. `convert.js` must leave a file that the office reads as it is. A
 converted file must be read by the program without a correction, and have a change to show. A refused one must have a fault at one of its lines. Each fault and
-change has a sentence. In tender_files.tsv are rules that are changed, one at a time. A row has the change, the module, the text, and the text that replaces it.
-These checks must find each change. tender_forms.tsv has what becomes of the files of each form.
+change has a sentence. In tender_files.toml are files, and rules that are changed, one at a time: these checks must find each change.
 """
 import base64
 import collections
@@ -18,36 +17,7 @@ from office_kit.desks import modules
 
 pytestmark = [pytest.mark.needs("node"), pytest.mark.budget(120)]
 NAMES = "tender/papers tender/faults tender/convert"
-# The outcomes of the files of each form of docs/TENDERER-API.md, a letter a file: `a` stays as it is, `c` converted, `r` refused.
-OUTCOMES = dict(modules.rows_of("tender_forms"))
-# Files that change an offer's meaning, or could, and so must be refused: of the lot of docs/TENDERER-API.md.
-UNSURE = [
-    "item;quantity;unit;total\nI1;3;1.500;4.500\nI2;10;12;120\n", "item,quantity,unit,total,discount\nI1,3,150,450,5%\nI2,10,12,120,\n",
-    "item,quantity,unit,total\nI1,3,150,450\nI2,10,12,120\nTOTAL,,,570\ndiscount,,,-20\n", "item,quantity,unit,total\nI1,3,-150,-450\nI2,10,12,120\n",
-    "item,quantity,unit,total\nI1,3,150,450\nI2,10,#REF!,120\n", "item,quantity,unit,total\nI1,3,1.5E+02,450\nI2,10,12,120\n",
-    "item,quantity,unit,total\nI1,3,\"150,5\",451\nI2,10,12,120\n", "item,quantity,unit,total\nI1,3,150,450\nI2,11,12,132\n",
-    "item,quantity,unit,total\nI1,3,150,450\nI2,10,=B2,120\n", "item,quantity,unit,unit price,total\nI1,3,10,150,450\nI2,10,10,12,120\n",
-    "item,quantity,unit,total\nI1,3,150,450\nI2,10,12 or 13,120\n", "I1,3,0.150,450\nI2,10,12,120\n",
-]
-# Files of firms: the lot's kind, the file, and either the faults by line or the unit prices that the desk must find. A refusal names the cure. A figure with
-# two readings is no guess if only one of them agrees with the notice's quantity or with the product.
-FIRMS = [
-    (0, "Gamma Bau;;;\nPos;Menge;EP;GP\nI1;3;150;450\nI2;10;12;120\n;;Netto;570\n;;MwSt 19 %;108,30\n;;Brutto;678,30\n",
-     [(5, "tax"), (6, "tax"), (7, "tax")]),
-    (0, "item,quantity,unit,total\nI1,3,150,450\nI2,10,12,120\nNet sum,,,570\nVAT,,,108\n", [(4, "tax"), (5, "tax")]),
-    (0, "item,quantity,unit,total\nI1,3,150,450\nI2,10,12,120\n,,Network,5\nNetwork,,,5\n", [(4, "nameless"), (5, "unknown")]),
-    (0, "item,title,unit,quantity,price,total\nI1,Paving,m2,3,150,450\nI2,Kerbs,m,10,12,120\n", [(1, "twoUnits")]),
-    (0, "item,pos,quantity,unit,total\nI1,1,3,150,450\nI2,2,10,12,120\n", [(1, "twoColumns")]),
-    (0, "item,quantity,unit,total\nI1,3,58.50,175.50\nI2,10,12,120\n", [(2, "cents")]),
-    (5, "item;quantity;unit;total\n1;1.000;5;5.000\n3;1.000.000;1;1.000.000\n", [5, 1]),
-    (5, "item;quantity;unit;total\n1;1,000;5;5,000\n3;1000000;1;\n", [5, 1]),
-    (5, "item;quantity;unit;total\n1;1.001;5;5005\n3;1000000;1;\n", [(2, "figure")]),
-    (0, "item;quantity;unit;total\nI1;3;1.500;4500\nI2;10;12;120\n", [1500, 12]),
-    (0, "item;quantity;unit;total\nI1;3;1.500;4501\nI2;10;12;120\n", [(2, "figure")]),
-    (0, "item;quantity;unit;total\nI1;3;400;1.200\nI2;10;12;120\n", [400, 12]),
-    (0, "item;quantity;unit;total\nI1;3;400;1.201\nI2;10;12;120\n", [(2, "figure")]),
-]
-CHANGED = {name: change for name, *change in modules.rows_of("tender_files")}
+DATA = modules.data_of("tender_files")
 HEADS = {"english": [["Item", "Quantity", "Unit price", "Total"], ["Pos.", "Menge", "Einzelpreis", "Gesamtpreis"]],
          "german": [["item", "quantity", "unit", "total"], ["Item", "Quantity", "Unit price", "Total"], ["Pos.", "Menge", "Einzelpreis", "Gesamtpreis"]]}
 
@@ -86,8 +56,8 @@ class Files:
 
     def __init__(self, reader, count):
         self.reader, self.tool = reader, tenders.tool()
-        cases = [*tenders.known(), *tenders.samples(tenders.FILES, count), *[Case("unsure", 0, text.encode()) for text in UNSURE],
-                 *[Case("firm", kind, text.encode()) for kind, text, _ in FIRMS]]
+        cases = [*tenders.known(), *tenders.samples(tenders.FILES, count), *[Case("unsure", 0, text.encode()) for text in DATA["unsure"]["files"]],
+                 *[Case("firm", it["kind"], it["file"].encode()) for it in DATA["firms"]]]
         sheets = tenders.samples(tenders.CHANCE.map(sheet), 200)
         self.all = [self.read(case, []) for case in cases] + [self.read(*it) for it in sheets]
         # (Most of the made files are left out when rules are changed, since reading them takes long.)
@@ -138,8 +108,8 @@ def tells_changes(data, made, names):
 
 
 def check_outcome(answers, name):
-    """The files of a form are left, converted or refused as OUTCOMES says."""
-    assert "".join(told["kind"][0] for file, told in answers if file.case.source == name) == OUTCOMES[name]
+    """The files of a form are left, converted or refused as they must be."""
+    assert "".join(told["kind"][0] for file, told in answers if file.case.source == name) == DATA["forms"][name]
 
 
 def check_unsure(answers):
@@ -147,9 +117,9 @@ def check_unsure(answers):
 
 
 def check_firms(answers):
-    """From each file of FIRMS these prices are made, or it is refused with these faults."""
-    for (_, text, wanted), told in zip(FIRMS, (told for file, told in answers if file.case.source == "firm"), strict=True):
-        assert (units_of(base64.b64decode(told["made"])) or sorted(map(tuple, told["faults"]))) == wanted, text
+    """From each file of a firm these prices are made, or it is refused with these faults."""
+    for it, told in zip(DATA["firms"], (told for file, told in answers if file.case.source == "firm"), strict=True):
+        assert (units_of(base64.b64decode(told["made"])) or sorted(told["faults"])) == it["wanted"], it["file"]
 
 
 @pytest.fixture(scope="module", params=[500, pytest.param(5000, marks=[pytest.mark.long, pytest.mark.budget(900)])])
@@ -194,13 +164,13 @@ def test_texts(told):
         assert came <= set(node.ask("async () => Object.keys((await import(`${web}/tender/en.js`)).default)"))
 
 
-@pytest.mark.parametrize("change", CHANGED.values(), ids=CHANGED)
+@pytest.mark.parametrize("change", DATA["changed"].values(), ids=DATA["changed"])
 def test_changed_rule(files, tmp_path, change):
     answers = files.answers(modules.copy_of(str(tmp_path), change), files.few)
     with pytest.raises(AssertionError):
         for answer in answers:
             files.check(*answer)
-        for name in OUTCOMES:
+        for name in DATA["forms"]:
             check_outcome(answers, name)
         check_unsure(answers)
         check_firms(answers)
