@@ -180,8 +180,7 @@ def tenderer(large: Scene) -> None:
 
 
 def own_tenders(desk: Desk, far: int, near: int) -> None:
-    """The tender whose deadline is next is shown first, and opened ones with it. The others appear without a press of a button, and a withdrawal isn't held up
-    by the search."""
+    """The tender whose deadline is next is shown first, and opened ones with it. The others appear without a press, and a withdrawal isn't held up."""
     next_first(desk, near)
     desk.press("Show more (")
     assert len(texts_of(desk.page, "main tbody tr")) == 21

@@ -55,8 +55,7 @@ def texts_of(page: Page, selector: str) -> list[str]:
 
 
 def view(scene: Scene, name: str) -> None:
-    """A view: its text; its headings, names and landmarks; no wider than the window; contrast; pictures. Nothing is kept, and nothing foreign asked. Its text
-    is left with the pictures."""
+    """A view: its text, which is left with its pictures; headings, names and landmarks; contrast; no wider than the window. Nothing is kept."""
     page = page_of(scene, VIEWS[name])
     page.wait("[...document.querySelectorAll('.lines h3')].every((heading) => heading.textContent.includes(':'))")
     Path(scene.pictures, f"{name}.txt").write_text(without_moments(name, page))
@@ -145,8 +144,7 @@ def keeps_nothing(scene: Scene, page: Page) -> None:
 
 
 def is_quiet(page: Page) -> None:
-    """The console has no faults, except the browser's own lines about refusals. (The test itself moves a script to another place, and newer browsers report
-    that.)"""
+    """The console has no faults, except the browser's own about refusals. (The test itself moves a script elsewhere, and newer browsers report that.)"""
     faults = page.events("Runtime.exceptionThrown", "Runtime.consoleAPICalled", "Audits.issueAdded")
     assert [event for event in faults if "NavigationEntryMarkedSkippable" not in str(event)] == []
     assert [event for event in page.events("Log.entryAdded") if event["entry"]["source"] != "network"] == []
@@ -257,8 +255,7 @@ def sentence(page: Page, notice: str, answer: tuple[int, bytes] | None) -> str:
 
 
 def each_refusal(scene: Scene) -> None:
-    """The page shows each refusal of the office as a sentence of its own. It also does so for errors of the front and the net, and for a wrong notice
-    number."""
+    """The page shows each refusal of the office as a sentence of its own, and errors of the front, of the net and of a notice's number as sentences."""
     page = page_of(scene, "")
     told = {answer: sentence(page, f"R{at}", answer) for at, answer in enumerate(refusals())}
     assert len(set(told.values())) == len(told), told

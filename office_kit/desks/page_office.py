@@ -1,7 +1,5 @@
-"""The office of tests/desks/test_portal.py: six notices, with texts that no page may treat as markup. N1 is paid and ended, N2 awarded, N3 open, N4 cancelled
-before its opening. N5 is cancelled after an award by points; of N6 one lot is undecided and one is partly paid.
-
-Everything is asked through the front, with the callers' keys. It takes five seconds, mostly waiting for a deadline.
+"""The office of tests/desks/test_portal.py: six notices (page_office.toml), with texts that no page may treat as markup. N1 is paid and ended, N2 awarded, N3
+open, N4 cancelled before its opening, N5 after an award by points. Of N6 one lot is undecided and one is partly paid. It takes five seconds, mostly waiting.
 """
 import os
 import subprocess

@@ -1,4 +1,4 @@
-"""Checks of tests/desks/test_tender_desk.py: how the desk looks, sounds, prints and is used by keyboard. It also plants faults, and each must be found."""
+"""Checks of tests/desks/test_tender_desk.py: how the desk looks, sounds, prints and is used by keyboard; and faults that other checks must find."""
 import json
 import os
 import time

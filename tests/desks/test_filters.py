@@ -19,8 +19,7 @@ pytestmark = pytest.mark.needs("node")
 DATA = modules.data_of("filters")
 NAMES, ORDERS = ("words", "state", "year", "line", "firm", "from", "to", "order"), ("deadline", "published", "amount")
 NOW = "2027-01-15T08:00:00Z"
-PAST, LATER = "2026-03-01T00:00:00Z", "2027-03-01T00:00:00Z"
-MOMENTS = (PAST, "2026-12-31T23:59:59Z", NOW, "2027-01-15T08:00:01Z", LATER)
+MOMENTS = ("2026-03-01T00:00:00Z", "2026-12-31T23:59:59Z", NOW, "2027-01-15T08:00:01Z", "2027-03-01T00:00:00Z")
 
 
 # ---- The plain implementation.
@@ -161,24 +160,7 @@ def made(chance):
 
 # ---- Examples.
 
-def row(notice, published, deadline, state="receiving", title="Road works"):
-    return {"notice": notice, "published": f"{published}T00:00:00Z", "deadline": deadline, "state": state, "title": title, "releases": 1}
-
-
-LISTED = [row("N1", "2026-01-01", PAST), row("n2", "2026-02-01", LATER, title="Straßenlampen"), row("N2", "2025-03-01", LATER),
-          row("N4", "2026-04-01", PAST, "opened", "Café"), row("N5", "2026-04-01", PAST, "cancelled")]
-TABLES = {
-    "notices": [{"notice": "N4", "status": "complete", "running": 1, "releases": 1, "estimate": 500, "buyer": "City"},
-                {"notice": "N1", "status": "active", "running": 0, "releases": 1, "estimate": 1500, "buyer": "City"}],
-    "lots": [{"notice": "N4", "line": "1000", "title": "Chairs", "winner_name": "Müller"}, {"notice": "N1", "line": "2000", "title": "Stone"}],
-    "items": [{"notice": "N1", "lot": "L1", "title": "Clay tiles"}, {"notice": "N9", "lot": "L1", "title": "Clay"}],
-    "budget": [{"line": "1000", "title": "Schulmöbel"}, {"line": "2000", "title": "Roofs"}],
-    "tenders": [{"notice": "N4", "tenderer": "T1", "name": "Müller & Söhne"}, {"notice": "N5", "tenderer": "T2", "name": "Mueller Bau"}]}
-SOME = [row("A", "2026-01-01", "2027-05-01T00:00:00Z"), row("B", "2025-01-01", "2027-02-01T00:00:00Z"), row("C", "2026-01-03", LATER),
-        row("D", "2026-01-05", PAST), row("E", "2026-01-01", "2026-06-01T00:00:00Z", "opened")]
-# A list, its tables, a question in the address, and the notices that it finds.
-QUESTIONS = [*((LISTED, TABLES, *it) for it in DATA["examples"].items()), (LISTED, None, "words=road", "N2 N5 N1"),
-             (SOME, None, "", "B C A E D"), (SOME, None, "order=published", "C A B D E"), (SOME, None, "order=deadline", "B C A E D")]
+QUESTIONS = [(it["listed"], it.get("tables"), *question) for it in DATA["lists"] for question in it["questions"].items()]
 
 
 @pytest.fixture(scope="module")
@@ -195,7 +177,7 @@ def test_example(node, listed, data, address, found):
 
 def test_texts_of_questions(node):
     assert node.ask("written", "words=a+b&state=open&x=1") == "words=a+b&state=open"
-    assert [node.ask("noticeOf", LISTED, text) for text in ("n1", "N2", "n2", " N4 ", "N9", "")] == ["N1", "N2", "n2", "N4", None, None]
+    assert [node.ask("noticeOf", DATA["lists"][0]["listed"], text) for text in ("n1", "N2", "n2", " N4 ", "N9", "")] == ["N1", "N2", "n2", "N4", None, None]
 
 
 # ---- Lists that are made.

@@ -127,8 +127,7 @@ def contracts_of(told):
 
 
 def states(node):
-    """The state that the pages show for a procurement and for a lot. A contract that ended is never shown as fulfilled, and its remaining value isn't
-    counted. (test_filters.py has the states of the list.)"""
+    """The state that the pages show for a procurement and for a lot. A contract that ended isn't shown as fulfilled, and its remaining value isn't counted."""
     for status, count, deadline, told, *wanted in STATES:
         tender = {"status": status, "lots": [], "tenderPeriod": {"endDate": deadline}, **({} if count is None else {"numberOfTenderers": count})}
         answers(node, "stateOf", ({"tender": tender, "contracts": contracts_of(told)}, NOW, wanted))
@@ -156,8 +155,7 @@ def outcomes(node):
 
 
 def evaluation(chance):
-    """An evaluation by points as the office makes it, and the rule's result: the lowest price, and for each tender the thousandths of its price and its
-    quality."""
+    """An evaluation by points as the office makes it, and the rule's result: the lowest price, and each tender's thousandths for the price, and quality."""
     weight = chance.randint(1, 100)
     prices = [chance.choice([0, chance.randint(1, 10 ** 12), chance.randint(1, 1000)]) for _ in range(5)]
     rows = [(at, price, chance.randint(0, 100 - weight), chance.random() < 0.7) for at, price in enumerate(prices, 1)]
@@ -247,8 +245,7 @@ def seen_of(state, states, text=None, standstill=10):
 
 
 def stages(node):
-    """The next task that the clerk's desk shows for a notice, by role. The time is left to the second, the most urgent task comes first. The money that a lot
-    reserves."""
+    """The next task that the clerk's desk shows for a notice, by role, to the second. The most urgent task comes first. The money that a lot reserves."""
     for state, states, text, after, tasks, groups in STAGES:
         told = node.ask("stageSeen", seen_of(state, states, text), DEADLINE + after)
         assert (told["tasks"], told["groups"]) == (tasks, groups), (state, states, text, after)

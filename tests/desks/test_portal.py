@@ -1,10 +1,8 @@
 """The portal (web/) and the front (deploy/nginx.conf): nginx in front of an office, and a browser without a window.
 
-The office has six notices (office_kit/desks/page_office.py), among them one that is open, one awarded, one paid and ended, and one cancelled. `tools/mirror`
-has written its tables beside it. The front is asked until the deadline comes (office_kit/front/checks.py), and the page after it (page_checks.py and
-portal_checks.py in office_kit/desks/). A comment above each check says what it is about. The text of each view is compared with `page_texts/`, except for
-moments. Faults are planted in a view, and the checks of views and of the keyboard must find each of them. Another office has 400 notices and its mirror
-(large_checks.py). Faults are planted in modules there too, and the office stops.
+The office has six notices and its mirror (office_kit/desks/page_office.py). The front is asked until the deadline comes (office_kit/front/checks.py), and the
+page after it (page_checks.py and portal_checks.py in office_kit/desks/). The text of each view is compared with `page_texts/`, except for moments. Another
+office has 400 notices and its mirror (large_checks.py). Faults are planted in a view, and in modules of the portal. Checks must find each of them.
 
 With `--pictures FOLDER` the folder test_portal below it gets a picture of each view, narrow and wide, light and dark, and the text that was read there.
 """
