@@ -54,6 +54,12 @@ def texts_of(page: Page, selector: str) -> list[str]:
     return list(page.run(f"[...document.querySelectorAll({json.dumps(selector)})].map((at) => at.textContent)"))
 
 
+def fill(page: Page, name: str, text: str) -> None:
+    """Types into a field, in place of its old text."""
+    page.run(f"(() => {{ const at = document.getElementById({json.dumps(name)}); at.focus(); at.select(); }})()")
+    page.type(text)
+
+
 def view(scene: Scene, name: str) -> None:
     """A view: its text, which is left with its pictures; headings, names and landmarks; contrast; no wider than the window. Nothing is kept."""
     page = page_of(scene, VIEWS[name])

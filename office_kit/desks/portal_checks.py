@@ -6,7 +6,7 @@ from typing import Any
 
 from office_kit.client import text_of
 from office_kit.desks.browser import Page
-from office_kit.desks.page_checks import FOUND, NARROWEST, VIEWS, has_contrast, is_quiet, is_within, page_of, printed_to, texts_of
+from office_kit.desks.page_checks import FOUND, NARROWEST, VIEWS, fill, has_contrast, is_quiet, is_within, page_of, printed_to, texts_of
 from office_kit.desks.page_office import SCRIPT, mirror
 from office_kit.desks.scene import Scene
 from office_kit.mirror.tables import table
@@ -91,14 +91,6 @@ def feeds(scene: Scene) -> None:
             assert f"<title>{title}" in feed and f'xml:lang="{language}"' in feed, feed[:200]
 
 
-def type_words(page: Page, words: str, field: str = "by-words") -> None:
-    page.run(f"""(() => {{
-      const at = document.getElementById("{field}");
-      at.value = {json.dumps(words)};
-      at.dispatchEvent(new Event("input", {{ bubbles: true }}));
-    }})()""")
-
-
 # Questions in the address of the list, and the titles that it finds there, or their number.
 QUESTIONS: dict[str, set[str] | int] = {
     "words=kerbs": {"Road repair in the north"}, "words=soehne": 3, "words=footbridge+2400": 0, "words=1800": {"Playgrounds"},
@@ -119,7 +111,7 @@ def search(scene: Scene) -> None:
         found = texts_of(page, FOUND)
         assert wanted == (len(found) if isinstance(wanted, int) else set(found)), address
     page.go(scene.front.address())
-    type_words(page, "poles")
+    fill(page, "by-words", "poles")
     assert page.run("location.hash") == "#list?words=poles" and texts_of(page, FOUND) == ["Street lamps"], "the address keeps what is typed"
     page.go(scene.front.address())
     before = texts_of(page, ".clock")[0]
@@ -128,7 +120,7 @@ def search(scene: Scene) -> None:
     assert texts_of(page, "tbody th a") == ["Gamma O'Neill"]
     page.go(scene.front.address("#ledger"))
     for words, line in (("POOL", "Budget line 2000"), ("3100", "Budget line 3100")):
-        type_words(page, words, "by-line")
+        fill(page, "by-line", words)
         assert texts_of(page, ".lines h3 a") == [line]
     page.go(scene.front.address("#notice/n6"))
     assert page.run("location.hash") == "#notice/N6" and page.text().startswith("Street lamps\n")
@@ -158,7 +150,7 @@ def many(scene: Scene) -> None:
     page.run("document.querySelector('.more').click()")
     wanted = [f"Purchase {name}" for name in reversed(names) if name.endswith("0")]
     assert texts_of(page, FOUND)[:MANY // 10] == wanted, "open ones come first, and newest first"
-    type_words(page, "m012")
+    fill(page, "by-words", "m012")
     assert len(texts_of(page, FOUND)) == 10
     page.picture(os.path.join(scene.pictures, "many.png"))
     is_quiet(page)

@@ -3,6 +3,7 @@ import hashlib
 import json
 from pathlib import Path
 
+from office_kit.desks import page_checks
 from office_kit.desks.browser import Page
 from office_kit.desks.tender_office import Scene
 
@@ -67,9 +68,7 @@ class Desk:
                                   f"at.textContent.includes({json.dumps(text)}))"))
 
     def fill(self, name: str, text: str) -> None:
-        """Types into a field, in place of its old text."""
-        self.page.run(f"(() => {{ const at = document.getElementById({json.dumps(name)}); at.focus(); at.select(); }})()")
-        self.page.type(text)
+        page_checks.fill(self.page, name, text)
 
     def tick(self, name: str) -> None:
         self.page.run(f"document.getElementById({json.dumps(name)}).click()")

@@ -207,14 +207,6 @@ def wants_tick(scene: Scene, desk: Desk) -> None:
     assert not is_free, "it can be withdrawn without a tick"
 
 
-def cannot_send(scene: Scene, desk: Desk) -> None:
-    """A file without a price can't be sent."""
-    desk.at("offer/N1/L2", "Tender for")
-    desk.press("Use a file")
-    desk.choose("offer-file", scene.put("bad.csv", b"item,quantity,unit,total\nI1,2,5,10\nTOTAL,,,10\n"), "bad.csv")
-    assert not desk.can_press("Check before submitting") and desk.has("bad", "can't be used")
-
-
 def stores_nothing(scene: Scene, desk: Desk) -> None:
     keeps_nothing(scene, desk.page)
 
@@ -224,7 +216,6 @@ PLANTS: list[tuple[str, str, str, str, Callable[[Scene, Desk], None]]] = [
     ("receipt", "const isSame = own === others;", "const isSame = true;", "T1", other_digest),
     ("session", "BigInt(value) * BigInt(offer.lot.items[at].quantity)", "BigInt(value)", "T1", sums),
     ("tenders", "press.disabled = true;", "press.disabled = false;", "T2", wants_tick),
-    ("convert", "quantity !== null && quantity !== item.quantity", "false", "T1", cannot_send),
     ("session", "export const session = {", "localStorage.setItem('key', 'x');\nexport const session = {", "T1", stores_nothing),
     ("main", "const MENU = {", "fetch('https://127.0.0.2/').catch(() => 0);\nconst MENU = {", "T1", stores_nothing),
 ]
