@@ -71,8 +71,7 @@ def view(scene: Scene, name: str) -> None:
     for shape, dark in (("narrow", False), ("wide", True), *((("narrow", True), ("wide", False)) if page.browser.pictures else ())):
         in_shape(scene, name, page, shape, dark)
         tells_all(name, page)
-    page.shape(NARROWEST)
-    is_within(name, NARROWEST, page)
+    fits(name, page, NARROWEST)
     keeps_nothing(scene, page)
 
 
@@ -113,6 +112,13 @@ def has_contrast(name: str, page: Page) -> None:
 def is_within(name: str, width: int, page: Page) -> None:
     """Nothing is wider than the window. (A phone's `innerWidth` grows with its content.)"""
     assert page.run("document.documentElement.scrollWidth") <= width, name
+
+
+def fits(name: str, page: Page, *widths: int) -> None:
+    for width in widths:
+        page.shape(width)
+        page.answer()
+        is_within(name, width, page)
 
 
 def is_read_out(name: str, page: Page) -> list[tuple[str, str, dict[str, Any]]]:
@@ -296,10 +302,7 @@ def long_texts(scene: Scene) -> None:
     page.answer_for(answers)
     for name, place in (("long", "#notice/N9"), ("large", "#ledger"), ("many", "#list")):
         page.go(scene.front.address(place))
-        for width in (NARROWEST, *WIDTHS.values()):
-            page.shape(width)
-            page.answer()
-            is_within(name, width, page)
+        fits(name, page, NARROWEST, *WIDTHS.values())
         page.picture(os.path.join(scene.pictures, f"{name}-wide-light.png"))
         assert asked(page, "turning()") == [], name
     is_quiet(page)

@@ -6,7 +6,7 @@ from typing import Any
 
 from office_kit.client import text_of
 from office_kit.desks.browser import Page
-from office_kit.desks.page_checks import FOUND, NARROWEST, VIEWS, fill, has_contrast, is_quiet, is_within, page_of, printed_to, texts_of
+from office_kit.desks.page_checks import FOUND, NARROWEST, VIEWS, fill, fits, has_contrast, is_quiet, is_within, page_of, printed_to, texts_of
 from office_kit.desks.page_office import SCRIPT, mirror
 from office_kit.desks.scene import Scene
 from office_kit.mirror.tables import table
@@ -31,9 +31,7 @@ def german(scene: Scene) -> None:
         page.go(scene.front.address(place))
         assert page.run("document.documentElement.lang") == "de", name
         assert "see." not in page.text(), "it shows names of texts"
-        for width in (NARROWEST, WIDEST):
-            page.shape(width)
-            is_within(name, width, page)
+        fits(name, page, NARROWEST, WIDEST)
         page.picture(os.path.join(scene.pictures, f"{name}-german.png"))
     page.go(scene.front.address())
     page.run("document.querySelector('#languages [lang=en]').click()")
@@ -67,9 +65,7 @@ def open_data(scene: Scene) -> None:
     page.ask("Page.navigate", url=scene.front.address("data/"))
     page.wait("document.readyState === 'complete' && document.querySelector('tbody')")
     assert page.run("document.querySelectorAll('tbody')[0].rows.length") == 6, "each procurement"
-    for width in (NARROWEST, 1280):
-        page.shape(width)
-        is_within("the index", width, page)
+    fits("the index", page, NARROWEST, 1280)
     has_contrast("the index", page)
     page.picture(os.path.join(scene.pictures, "data.png"))
     is_quiet(page)

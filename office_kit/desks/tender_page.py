@@ -45,7 +45,7 @@ class Desk:
 
     def says(self, text: str) -> None:
         """Waits until the view says something."""
-        self.page.wait(f"document.body.innerText.includes({json.dumps(text)})")
+        self.page.wait(f"document.body?.innerText.includes({json.dumps(text)})")
 
     def has(self, kind: str, text: str) -> bool:
         """Whether something of a kind (`good`, `look`, `bad`) says something."""

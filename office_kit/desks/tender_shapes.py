@@ -7,7 +7,7 @@ from collections.abc import Callable
 from office_kit.client import AHEAD, lot, notice, text_of, wait_until
 from office_kit.desks import page_checks
 from office_kit.desks.browser import Page
-from office_kit.desks.page_checks import focused, in_shape, is_quiet, is_read_out, is_within, keeps_nothing, printed_to
+from office_kit.desks.page_checks import fits, focused, in_shape, is_quiet, is_read_out, keeps_nothing, printed_to
 from office_kit.desks.tender_office import ITEMS, Scene
 from office_kit.desks.tender_page import MADE, RIGHT, SHEET, Desk, planted
 
@@ -110,9 +110,7 @@ def with_file(scene: Scene, desk: Desk, language: str) -> None:
 def looked_at(scene: Scene, desk: Desk, name: str, language: str) -> None:
     """One view in all widths, light and dark."""
     called = f"{name}-{language}"
-    for width in WIDTHS:
-        desk.page.shape(width)
-        is_within(called, width, desk.page)
+    fits(called, desk.page, *WIDTHS)
     for shape in ("narrow", "wide"):
         for dark in (False, True):
             in_shape(scene, called, desk.page, shape, dark)
