@@ -47,6 +47,7 @@ class Entry:
         self.row, self.notice = row, row["notice"]
         of = {name: [it for it in rows if it.get("notice") == self.notice] for name, rows in (data or {}).items()}
         self.lots, self.known = of.get("lots", []), (of.get("notices") or [None])[-1]
+        self.lines = sorted({it["line"] for it in self.lots})
         self.firms = {it["tenderer"]: it["name"] for it in of.get("tenders", [])}
         titles = {it["line"]: it["title"] for it in (data or {}).get("budget", [])}
         self.texts = [self.notice, row["title"], self.known["buyer"] if self.known else "", *self.firms.values(), *(it["title"] for it in of.get("items", []))]
@@ -65,7 +66,7 @@ class Entry:
     def matches(self, asked):
         """Whether all filters that an address names find it."""
         return (has_words(asked["words"], self.texts) and asked["state"] in ("", self.state()) and asked["year"] in ("", self.row["published"][:4])
-                and (not asked["line"] or asked["line"] in self.lines()) and self.has_firm(asked["firm"]) and self.is_within(asked["from"], asked["to"]))
+                and (not asked["line"] or asked["line"] in self.lines) and self.has_firm(asked["firm"]) and self.is_within(asked["from"], asked["to"]))
 
     def has_firm(self, firm):
         return not firm or firm in self.firms or any(has_words(firm, [name]) for name in self.firms.values())
@@ -78,13 +79,10 @@ class Entry:
         except ValueError:
             return False
 
-    def lines(self):
-        return sorted({it["line"] for it in self.lots})
-
     def shown(self):
         is_older = self.state() == "opened" and not self.is_current
         winners = sorted({it["winner_name"] for it in self.lots if it["winner_name"] and not is_older})
-        return [self.notice, self.state(), self.row["published"][:4], self.lines(), sorted(map(list, self.firms.items())), winners]
+        return [self.notice, self.state(), self.row["published"][:4], self.lines, sorted(map(list, self.firms.items())), winners]
 
 
 def in_order(entries, order):
