@@ -213,7 +213,7 @@ def stores_nothing(scene: Scene, desk: Desk) -> None:
 PLANTS: list[tuple[str, str, str, str, Callable[[Scene, Desk], None]]] = [
     ("receipt", "const isSame = own === others;", "const isSame = true;", "T1", other_digest),
     ("session", "BigInt(value) * BigInt(offer.lot.items[at].quantity)", "BigInt(value)", "T1", sums),
-    ("tenders", "press.disabled = true;", "press.disabled = false;", "T2", wants_tick),
+    ("tenders", "press.disabled = true;\n  const sure", "press.disabled = false;\n  const sure", "T2", wants_tick),
     ("session", "export const session = {", "localStorage.setItem('key', 'x');\nexport const session = {", "T1", stores_nothing),
     ("main", "const MENU = {", "fetch('https://127.0.0.2/').catch(() => 0);\nconst MENU = {", "T1", stores_nothing),
 ]
