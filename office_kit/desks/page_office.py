@@ -52,8 +52,9 @@ class Procurements(Client[Answer]):
             if "amended" in it:
                 self.amend_notice(it["name"], text_of(self.deadline), it["amended"])
         for it in OFFICE["tenders"]:
+            name, lot_name = it["lot"]
             body = it.get("text") or tender(*it["prices"], wrong=it.get("wrong", 0))
-            receipt = self.present(it["who"], *it["lot"], body, SECURITY if "security" in it else None, it.get("security", 0))
+            receipt = self.present(it["who"], name, lot_name, body, SECURITY if "security" in it else None, it.get("security", 0))
             if receipt["state"] != "sealed":
                 fail("the deadline came before all tenders were in: the machine is too busy")
         self.cancel("N4", "The library <i>got</i> them as a gift")

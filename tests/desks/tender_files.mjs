@@ -1,7 +1,7 @@
 // What test_tender_files.py asks the modules of the tenderer's desk, whose functions are global here.
 
 /** How the desk reads a file, the lines of its faults, and what becomes of it. */
-export function readBy(items, data) {
+export function whatBecomesOf(items, data) {
   try {
     const bytes = new Uint8Array(Buffer.from(data, "base64"));
     const { kind: word, stated, price, corrections, rows } = readingOf(bytes, items);

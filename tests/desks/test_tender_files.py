@@ -71,7 +71,7 @@ class Files:
     def answers(self, web, files):
         """Each file with the answer of the modules in this folder."""
         with modules.Node("tender_files", NAMES, web) as node:
-            return [(it, node.ask("readBy", tenders.lot_of(it.case.kind)["items"], base64.b64encode(it.case.data).decode())) for it in files]
+            return [(it, node.ask("whatBecomesOf", tenders.lot_of(it.case.kind)["items"], base64.b64encode(it.case.data).decode())) for it in files]
 
     def check(self, file, told):
         """The desk reads the file as the program and finds the tool's faults; it leaves, converts or refuses it as it must."""
