@@ -23,6 +23,8 @@ os.environ.setdefault("PYTEST_TIMEOUT", str(math.ceil(600 * SLOW)))
 os.environ.setdefault("PYTHONDONTWRITEBYTECODE", "1")
 os.environ.setdefault("HYPOTHESIS_STORAGE_DIRECTORY", "build/hypothesis")
 
+# (An assert in the checks of the screens says what it compared.)
+pytest.register_assert_rewrite("office_kit.desks")
 from office_kit import needs  # noqa: E402
 from office_kit.common import NO_PROGRAM, PROGRAM, Missing  # noqa: E402
 from office_kit.desks.browser import Browser  # noqa: E402

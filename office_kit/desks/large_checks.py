@@ -2,19 +2,15 @@
 reader came for isn't far down, and everything can be found. Faults that are planted in the views must be found."""
 import contextlib
 import json
-import os
-import subprocess
-import tempfile
 from collections.abc import Callable, Iterator
 
-from office_kit.client import AHEAD, Client, Port, tender
-from office_kit.common import ROOT, check, fail, free_port
-from office_kit.desks import clerk_large, scene
-from office_kit.desks.browser import Page
-from office_kit.desks.page_checks import is_quiet
-from office_kit.desks.tender_office import Scene, serving
+from office_kit.client import AHEAD, Answer, Client, Port, tender
+from office_kit.desks import clerk_large
+from office_kit.desks.browser import Browser, Page
+from office_kit.desks.page_checks import FOUND, is_quiet, page_of, texts_of
+from office_kit.desks.page_office import mirror_beside
+from office_kit.desks.tender_office import Scene, staged
 from office_kit.desks.tender_page import Desk
-from office_kit.front.nginx import Front
 
 # A view is drawn within so many seconds, and what the reader came for isn't further down than so many pixels.
 SECONDS, PIXELS = 2 * max(1.0, AHEAD / 4), 3000
@@ -23,47 +19,32 @@ PHONE, DESKTOP = 390, 1280
 MOST_HEAD = {"en": 150, "de": 170}
 # The firm whose tenders are searched, the notice that closes next, and one that isn't among the first that are searched.
 FIRM, NEXT, FAR = "F3", 202, 245
-FOUND = "[...document.querySelectorAll('.entry-of-list h3')].map((at) => at.textContent)"
+
+
+def client_of(port: int) -> Client[Answer]:
+    return Client(Port(port), clerk_large.key_of)
 
 
 @contextlib.contextmanager
-def large_office(own: scene.Scene) -> Iterator[Scene]:
+def large_office(program: str, browser: Browser, pictures: str) -> Iterator[Scene]:
     """A large office with its front and its mirror; the office can be stopped and started again."""
-    with tempfile.TemporaryDirectory() as folder:
-        port = free_port()
-        file = os.path.join(folder, "office.db")
-        office = serving(own.program, file, port)
-        client = Client(Port(port), clerk_large.key_of)
-        made: Scene | None = None
-        try:
-            clerk_large.fill(client)
-            with Front(folder, port) as front:
-                made = Scene(front, own.browser, office, own.pictures, own.program, file, client, folder)
-                mirror(made)
-                yield made
-        finally:
-            (made.office if made else office).kill()
-            (made.office if made else office).wait()
+    with staged(program, browser, pictures, lambda port: clerk_large.fill(client_of(port))) as made:
+        made.client = client_of(made.front.office)
+        made.put(f"{FIRM}.key", f"Office-Caller: {FIRM}\nOffice-Key: {clerk_large.key_of(FIRM)}\n".encode())
+        mirror_beside(made.front)
+        yield made
 
 
-def mirror(large: Scene) -> None:
-    words = [f"{ROOT}/tools/mirror", f"http://127.0.0.1:{large.front.office}", f"{large.folder}/mirror/data", "--base", large.front.address().rstrip("/")]
-    ran = subprocess.run(words, capture_output=True, text=True)
-    if ran.returncode:
-        fail(f"tools/mirror ended with {ran.returncode}: {ran.stderr}")
-
-
-def timed(page: Page, place: str, wanted: str, again: str = "") -> None:
+def timed(page: Page, place: str, wanted: str, again: str = "about") -> None:
     """A view is drawn in time. What the reader came for, an expression that finds an element, is there and isn't far down. If a busy machine was slow once, a
     view that works as much each time is drawn a second time, after the view `again`."""
     seconds = drawn(page, place)
     if seconds >= SECONDS and again:
         drawn(page, again)
         seconds = drawn(page, place)
-    check(f"{place} is drawn after {seconds:.1f} s", seconds < SECONDS)
+    assert seconds < SECONDS, place
     page.wait(wanted)
-    top = page.run(f"({wanted}).getBoundingClientRect().top + scrollY")
-    check(f"{place}: {wanted} is at {top:.0f} px", top < PIXELS)
+    assert page.run(f"({wanted}).getBoundingClientRect().top + scrollY") < PIXELS, (place, wanted)
 
 
 def drawn(page: Page, place: str) -> float:
@@ -79,9 +60,8 @@ def with_text(selector: str, text: str) -> str:
 
 def folds_its_menu(page: Page, language: str, other: str) -> None:
     """On a phone the head leaves most of the window to the view. The menu is folded, opens, and folds again when another view is chosen."""
-    high = page.run("document.querySelector('main').getBoundingClientRect().top + scrollY")
-    check(f"in {language} the view begins at {high} px", high <= MOST_HEAD[language])
-    check("the menu isn't folded", not page.run("document.querySelector('#pages').checkVisibility()"))
+    assert page.run("document.querySelector('main').getBoundingClientRect().top + scrollY") <= MOST_HEAD[language]
+    assert not page.run("document.querySelector('#pages').checkVisibility()")
     page.run("document.getElementById('menu-name').click()")
     page.wait("document.querySelector('#pages a').checkVisibility()")
     page.run(f"document.querySelector('#pages a[href$={json.dumps('#' + other)}]').click()")
@@ -90,67 +70,59 @@ def folds_its_menu(page: Page, language: str, other: str) -> None:
 
 # The portal.
 
-def in_time(page: Page, place: str, wanted: str) -> None:
-    timed(page, place, wanted, again="about")
+# Views, each with the element for which its reader came.
+VIEWS = {"ledger": "document.getElementById('by-line')", "line/2003": with_text("h2", "What this budget line"),
+         "firms": "document.getElementById('by-name')", "firm/F1": with_text("table", "20 tenders"), "figures": with_text("h2", "Tenders for each lot"),
+         "notice/N001": with_text("caption", "24 tenders for lot L1"), "notice/N300": with_text("a", "Prepare a tender")}
 
 
 def portal(large: Scene) -> None:
-    page = Page(large.browser, DESKTOP)
-    page.go(large.front.address("#about"))
+    page = page_of(large, "#about", DESKTOP)
     portal_list(page)
     portal_search(page)
-    for place, wanted in {"ledger": "document.getElementById('by-line')", "line/2003": with_text("h2", "What this budget line"),
-                          "firms": "document.getElementById('by-name')", "firm/F1": with_text("table", "20 tenders"),
-                          "figures": with_text("h2", "Tenders for each lot"), "notice/N001": with_text("caption", "24 tenders for lot L1"),
-                          "notice/N300": with_text("a", "Prepare a tender")}.items():
-        in_time(page, place, wanted)
+    for place, wanted in VIEWS.items():
+        timed(page, place, wanted)
     portal_lot(page)
     is_quiet(page)
     for language in MOST_HEAD:
         phone = Page(large.browser, PHONE, 844)
         phone.go(large.front.address(f"?language={language}#about"))
-        in_time(phone, "list", "document.querySelector('.jumps button:last-child')")
+        timed(phone, "list", "document.querySelector('.jumps button:last-child')")
         folds_its_menu(phone, language, "ledger")
 
 
 def portal_list(page: Page) -> None:
     """The nearest deadline comes first. A button leads to those that are no longer open."""
-    in_time(page, "list", with_text("h2", "No longer open for tenders (201)"))
-    nearest_first(page)
+    timed(page, "list", with_text("h2", "No longer open for tenders (201)"))
+    assert [title.rsplit(", ", 1)[1] for title in texts_of(page, FOUND)[:7]] == [f"purchase {number}" for number in range(NEXT, NEXT + 7)]
     page.run(f"{with_text('.jumps button', 'No longer open')}.click()")
     page.wait("document.activeElement.tagName === 'H2' && Math.abs(document.activeElement.getBoundingClientRect().top) < 5")
-
-
-def nearest_first(page: Page) -> None:
-    found = page.run(FOUND)[:7]
-    wanted = [f", purchase {number}" for number in range(NEXT, NEXT + 7)]
-    check(f"first are {found}", all(title.endswith(end) for title, end in zip(found, wanted)))
 
 
 def portal_search(page: Page) -> None:
     """What is bought and what pays for it are found, in each order."""
     for words, wanted in {"slate": range(3, 401, 7), "2117": (117, 242, 367), "upkeep district 117": (117, 242, 367), "gravel": (2,)}.items():
-        in_time(page, f"list?words={words.replace(' ', '+')}", "document.querySelector('.count')")
-        told, found = page.run("document.querySelector('.count').textContent"), {int(title.rsplit(" ", 1)[1]) for title in page.run(FOUND)}
-        check(f"{words} finds {told}: {found}", told == f"{len(wanted)} of 400 procurements" and found <= set(wanted))
+        timed(page, f"list?words={words.replace(' ', '+')}", "document.querySelector('.count')")
+        assert texts_of(page, ".count")[0] == f"{len(wanted)} of 400 procurements", words
+        assert {int(title.rsplit(" ", 1)[1]) for title in texts_of(page, FOUND)} <= set(wanted), words
     for order, number in {"deadline": NEXT, "amount": 390}.items():
-        in_time(page, f"list?order={order}", "document.querySelector('.entry-of-list')")
-        check(f"by {order} the first one is {page.run(FOUND)[0]}", page.run(FOUND)[0].endswith(f", purchase {number}"))
+        timed(page, f"list?order={order}", "document.querySelector('.entry-of-list')")
+        assert texts_of(page, FOUND)[0].endswith(f", purchase {number}"), order
     # (Several were published in the last second.)
-    in_time(page, "list?order=published&state=open", "document.querySelector('.entry-of-list')")
+    timed(page, "list?order=published&state=open", "document.querySelector('.entry-of-list')")
     moments = {row["title"]: row["published"] for row in page.run("import('/common/office.js').then(({ notices }) => notices())")}
-    shown = [moments[title] for title in page.run(FOUND)]
-    check(f"by publication the moments are {shown}", shown == sorted(shown, reverse=True) and shown[0] == max(moments.values()))
+    shown = [moments[title] for title in texts_of(page, FOUND)]
+    assert shown == sorted(shown, reverse=True) and shown[0] == max(moments.values())
 
 
 def portal_lot(page: Page) -> None:
     """A lot has an address: it is unfolded and in view. A wrong address is one sentence."""
     for place, name in (("notice/n002/l2", "lot-L2"), ("notice/N390/L4", "lot-L4")):
-        in_time(page, place, f"document.getElementById('{name}')")
+        timed(page, place, f"document.getElementById('{name}')")
         seen = page.run("[document.activeElement.id, document.activeElement.getBoundingClientRect().top, document.activeElement.innerText]")
-        check(f"{place} leads to {seen}", seen[0] == name and seen[1] < 400 and "Tender security" in seen[2])
-    check("other lots are unfolded", not page.run("document.querySelector('#lot-L3 details').open"))
-    check("a lot has no link to its address", page.run("document.querySelector('#lot-L4 a[href$=\"#notice/N390/L4\"]')?.textContent") == "Link to this lot")
+        assert seen[0] == name and seen[1] < 400 and "Tender security" in seen[2]
+    assert not page.run("document.querySelector('#lot-L3 details').open"), "other lots are unfolded"
+    assert texts_of(page, '#lot-L4 a[href$="#notice/N390/L4"]')[:1] == ["Link to this lot"]
     is_one_sentence(page)
 
 
@@ -158,32 +130,32 @@ def is_one_sentence(page: Page) -> None:
     wrong = {"notice/N002/L9": "There is no such lot.", "notice/": "This is not a valid number.", "notice/a%20b/L1": "This is not a valid number.",
              "notice/NONE/L1": "There is no notice with this number."}
     for place, sentence in wrong.items():
-        in_time(page, place, "document.querySelector('main .bad')")
+        timed(page, place, "document.querySelector('main .bad')")
         said = page.run("[...document.querySelectorAll('main :is(.bad, .fault)')].map((at) => at.innerText)")
-        check(f"{place} says {said}", len(said) == 1 and said[0].startswith(sentence))
+        assert len(said) == 1 and said[0].startswith(sentence), place
     is_quiet(page)
+
+
+# Texts that the portal shows while the office is away.
+AWAY = {"list": "400 procurements", "notice/N005": "Under contract, paid in part", "notice/N001": "24 tenders for lot L1", "notice/N300": "Tenders sealed",
+        "ledger": "All 125 budget lines", "line/2003": "Upkeep of district 3", "firms": "Firm 24 Ltd", "figures": "Tenders for each lot"}
 
 
 def away(large: Scene) -> None:
     """While the office is away, the portal shows what the mirror has, and of which moment it is. A button asks the office again."""
     large.stop()
-    page = Page(large.browser, DESKTOP)
-    page.go(large.front.address("#about"))
+    page = page_of(large, "#about", DESKTOP)
     moment = json.loads(large.front.ask("GET", "/data/mirror.json").body)["moment"]
-    for place, text in {"list": "400 procurements", "notice/N005": "Under contract, paid in part", "notice/N001": "24 tenders for lot L1",
-                        "notice/N300": "Tenders sealed", "ledger": "All 125 budget lines", "line/2003": "Upkeep of district 3", "firms": "Firm 24 Ltd",
-                        "figures": "Tenders for each lot"}.items():
-        in_time(page, place, "document.querySelector('main h1')")
-        is_shown = text in page.text()
-        check(f"{place} says {page.text()[:500]!r}", is_shown)
+    for place, text in AWAY.items():
+        timed(page, place, "document.querySelector('main h1')")
+        assert text in page.text(), place
         # (Views of the tables alone are the same as always, and nginx keeps the ledger for a minute.)
         if place not in ("firms", "figures", "ledger"):
             told = page.run("[document.querySelector('.look')?.innerText, document.querySelector('.look time')?.getAttribute('datetime')]")
-            check(f"{place} says of its moment {told}", str(told[0]).startswith("The office isn't answering at the moment.") and told[1] == moment)
-    in_time(page, "notice/NONE", "document.querySelector('main .bad')")
-    said = page.text()
-    check(f"of a notice that the mirror hasn't it says {said!r}", said.startswith("Not shown\nThe office isn't answering") and "Try again" in said)
-    in_time(page, "list", "document.querySelector('.entry-of-list')")
+            assert str(told[0]).startswith("The office isn't answering at the moment.") and told[1] == moment, place
+    timed(page, "notice/NONE", "document.querySelector('main .bad')")
+    assert page.text().startswith("Not shown\nThe office isn't answering") and "Try again" in page.text()
+    timed(page, "list", "document.querySelector('.entry-of-list')")
     large.start()
     page.run(f"{with_text('button', 'Try again')}.click()")
     page.wait("document.querySelector('.count') && !document.querySelector('main .look')")
@@ -193,57 +165,51 @@ def away(large: Scene) -> None:
 # The tenderer's desk.
 
 def tenderer(large: Scene) -> None:
+    """The tender whose deadline is next is shown first and at once, and open notices are found."""
     receipts = [int(large.client.present(FIRM, clerk_large.name_of(number), "L1", tender((100, 30)))["receipt"]) for number in (FAR, NEXT)]
-    large.put(f"{FIRM}.key", f"Office-Caller: {FIRM}\nOffice-Key: {clerk_large.key_of(FIRM)}\n".encode())
     desk = Desk(large, FIRM)
     own_tenders(desk, *receipts)
     open_notices(desk)
     is_quiet(desk.page)
-    refused = [line for line in large.front.logged("access.log").split("\n") if "/tenders" in line and " 429 " in line]
-    check(f"queries came too fast: {refused}", not refused)
+    logged = large.front.logged("access.log").split("\n")
+    assert [line for line in logged if "/tenders" in line and " 429 " in line] == [], "queries came too fast"
     for language in MOST_HEAD:
         phone = Desk(large, FIRM, width=PHONE, language=language)
-        timed(phone.page, "offer", "document.querySelector('main li')")
+        timed(phone.page, "offer", "document.querySelector('main li')", again="")
         folds_its_menu(phone.page, language, "check")
 
 
 def own_tenders(desk: Desk, far: int, near: int) -> None:
-    """The tender whose deadline is next is shown first, and opened ones with it. The others appear without a press of a button, and a withdrawal isn't held up
-    by the search."""
+    """The tender whose deadline is next is shown first, and opened ones with it. The others appear without a press, and a withdrawal isn't held up."""
     next_first(desk, near)
-    rows = "document.querySelectorAll('main tbody tr').length"
     desk.press("Show more (")
-    check(f"{desk.page.run(rows)} tenders are shown", desk.page.run(rows) == 21)
+    assert len(texts_of(desk.page, "main tbody tr")) == 21
     desk.says("of 379 notices are searched. Your tenders appear below.")
     desk.page.run("document.querySelector('main tbody a').focus()")
     desk.page.wait(f"{with_text('a', f'Change or withdraw {far}')}")
-    kept = desk.page.run("document.activeElement.textContent")
-    check(f"the focus moves to {kept!r}", kept == f"Change or withdraw {near}")
+    assert desk.page.run("document.activeElement.textContent") == f"Change or withdraw {near}", "the focus moves"
     desk.press("Show more (")
-    order = desk.page.run("[...document.querySelectorAll('main tbody th')].map((at) => Number(at.textContent))")
-    check(f"the tenders are {order}", order[:2] == [near, far] and order[2:] == sorted(order[2:], reverse=True))
+    order = [int(text) for text in texts_of(desk.page, "main tbody th")]
+    assert order[:2] == [near, far] and order[2:] == sorted(order[2:], reverse=True)
     desk.press(f"Change or withdraw {near}")
     desk.shows("Tender with receipt")
-    desk.tick("withdraw-sure")
-    desk.press("Withdraw the tender")
-    desk.says("The tender is withdrawn.")
-    timed(desk.page, "tenders", with_text("a", f"Change or withdraw {far}"))
+    desk.withdraw("The tender is withdrawn.")
+    timed(desk.page, "tenders", with_text("a", f"Change or withdraw {far}"), again="")
     desk.fill("tenders-receipt", str(near))
     desk.page.press("Enter")
     desk.shows(f"Tender with receipt {near}")
 
 
 def next_first(desk: Desk, near: int) -> None:
-    timed(desk.page, "tenders", "document.querySelector('main tbody a')")
-    first = desk.page.run("document.querySelector('main tbody a').textContent")
-    check(f"the first row leads to {first!r}", first == f"Change or withdraw {near}")
+    timed(desk.page, "tenders", "document.querySelector('main tbody a')", again="")
+    assert texts_of(desk.page, "main tbody a")[0] == f"Change or withdraw {near}"
 
 
 def open_notices(desk: Desk) -> None:
     """Open notices are listed by the nearest deadline, and found by number or by what is bought."""
     heads = "[...document.querySelectorAll('main li h2')].map((at) => at.textContent)"
-    timed(desk.page, "offer", "document.querySelector('main li')")
-    check(f"first are {desk.page.run(heads)[:3]}", desk.page.run(heads)[0].endswith(f"purchase {NEXT}"))
+    timed(desk.page, "offer", "document.querySelector('main li')", again="")
+    assert desk.page.run(heads)[0].endswith(f"purchase {NEXT}")
     desk.fill("offer-notice", "slate desks")
     desk.page.wait(f"{heads}.length > 0 && {heads}.every((it) => it.startsWith('School desks') && Number(it.split(' ').at(-1)) % 7 === 3)")
     desk.fill("offer-notice", "2117")
@@ -255,9 +221,10 @@ def open_notices(desk: Desk) -> None:
     desk.shows("", "offer/N245")
 
 
-# A wait of a planted fault: longer than a view may take.
+# ---- Faults that are planted in a module: its path, the text, the text that replaces it, and the check that must find it.
+
+# A wait that is longer than a view may take.
 LATE = f"new Promise((done) => {{ setTimeout(done, {1000 * SECONDS + 100:.0f}); }})"
-# Faults that are planted in a module of the portal: its path, the text, the text that replaces it, and the check that must find it.
 PLANTS: list[tuple[str, str, str, Callable[[Page], None]]] = [
     ("/common/filters.js", '(one.state === "open" ? 1 : -1)', '(one.state === "open" ? -1 : 1)', portal_list),
     ("/common/filters.js", "more.get(notice)?.words.push(title)", "void title", portal_search), ("/list.js", "FIRST = 12", "FIRST = 100", portal_list),
@@ -265,56 +232,21 @@ PLANTS: list[tuple[str, str, str, Callable[[Page], None]]] = [
     ("/common/office.js", "export async function terms(", "export function terms(", is_one_sentence),
     ("/mirror.js", "await draw();", f"await draw();\n  await {LATE};", portal_list),
 ]
-# The same for the tenderer's desk.
+
+
+def own_receipt(large: Scene) -> int:
+    """The receipt of the firm's tender for the notice that closes next."""
+    name = clerk_large.name_of(NEXT)
+    sealed = [one for one in large.client.own_tenders(FIRM, name)["tenders"] if one["state"] == "sealed"]
+    return int((sealed or [large.client.present(FIRM, name, "L1", tender((100, 30)))])[0]["receipt"])
+
+
+def own_first(desk: Desk) -> None:
+    next_first(desk, own_receipt(desk.scene))
+
+
 PLANTS_OF_DESK: list[tuple[str, str, str, Callable[[Desk], None]]] = [
-    ("/tender/search.js", "of(isOpen, 1)", "of(isOpen, -1)", lambda desk: next_first(desk, receipt_of(desk))),
-    ("/tender/search.js", "FIRST = 12, AT_ONCE = 6", "FIRST = 240, AT_ONCE = 240", lambda desk: next_first(desk, receipt_of(desk))),
+    ("/tender/search.js", "of(isOpen, 1)", "of(isOpen, -1)", own_first),
+    ("/tender/search.js", "FIRST = 12, AT_ONCE = 6", "FIRST = 240, AT_ONCE = 240", own_first),
     ("/tender/open.js", "FIRST = 20", f"FIRST = 20, LATE = await {LATE}", open_notices),
 ]
-
-
-def receipt_of(desk: Desk) -> int:
-    """The receipt of the firm's tender for the notice that closes next."""
-    asked = f"import('/common/office.js').then(({{ ownTenders }}) => ownTenders('{clerk_large.name_of(NEXT)}', " \
-            f"{{ caller: '{FIRM}', key: '{clerk_large.key_of(FIRM)}' }}))"
-    return int(next(one["receipt"] for one in desk.page.run(asked) if one["state"] == "sealed"))
-
-
-def planted(large: Scene, path: str, old: str, new: str) -> Page:
-    """A page of the browser in which one module is changed."""
-    text = large.front.ask("GET", path).body.decode()
-    check(f"{path} has {old!r} {text.count(old)} times", text.count(old) == 1)
-    page = Page(large.browser, DESKTOP)
-    page.answer_for({path: (200, text.replace(old, new).encode())}, "Script")
-    return page
-
-
-def is_found(judge: Callable[[], None]) -> bool:
-    try:
-        judge()
-    except (AssertionError, SystemExit):
-        return True
-    return False
-
-
-def portal_plants(large: Scene) -> None:
-    """Each fault that is planted in the portal is found. (The checks found none without it.)"""
-    missed = []
-    for path, old, new, judge in PLANTS:
-        page = planted(large, path, old, new)
-        page.go(large.front.address("#about"))
-        missed += [] if is_found(lambda: judge(page)) else [f"{path}: {new}"]
-    check(f"these are passed over: {missed}", not missed)
-
-
-def desk_plants(large: Scene) -> None:
-    """The same for the tenderer's desk."""
-    large.client.present(FIRM, clerk_large.name_of(NEXT), "L1", tender((100, 30)))
-    missed = []
-    for path, old, new, judge in PLANTS_OF_DESK:
-        desk = object.__new__(Desk)
-        desk.scene, desk.page = large, planted(large, path, old, new)
-        desk.page.go(large.front.address("tender/?language=en"))
-        desk.give_key(FIRM)
-        missed += [] if is_found(lambda: judge(desk)) else [f"{path}: {new}"]
-    check(f"these are passed over: {missed}", not missed)

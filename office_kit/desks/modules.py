@@ -1,54 +1,66 @@
-"""The modules of the screens (web/), run by node: copies of them with one text changed, and scripts that ask them."""
-import contextlib
+"""The modules of the screens (web/), run by node: copies of them with texts changed, and scripts that ask them."""
 import json
 import os
 import shutil
 import subprocess
+import tomllib
+from collections.abc import Sequence
+from pathlib import Path
 from typing import Any
 
 from office_kit.common import ROOT, need
 
 WEB = os.path.join(ROOT, "web")
-
-
-def copy_of(folder: str, change: tuple[str, str, str] | None = None) -> str:
-    """A copy of the modules in a new folder below this one; with `change`, a module of them has another text."""
-    place = os.path.join(folder, "web")
-    shutil.copytree(WEB, place)
-    with open(os.path.join(folder, "package.json"), "w") as file:
-        # (Modules of node: a package of its own says so.)
-        file.write('{"type":"module"}')
-    if change:
-        name, old, new = change
-        with open(path := os.path.join(place, name), encoding="utf-8") as file:
-            text = file.read()
-        assert text.count(old) == 1, f"{name} has {old!r} {text.count(old)} times"
-        with open(path, "w", encoding="utf-8") as file:
-            file.write(text.replace(old, new))
-    return place
-
-
-def asked(script: str, web: str, given: Any) -> Any:
-    """The answer of a script, which gets the folder of the modules as its argument, and a value by standard input."""
-    done = subprocess.run([need("node", "nodejs"), "--input-type=module", "-e", script, web], input=json.dumps(given), capture_output=True, text=True)
-    assert done.returncode == 0, done.stderr
-    return json.loads(done.stdout)
-
-
-# (The script defines `answer`.)
+TESTS = Path(ROOT, "tests", "desks")
+# Makes all exports of some modules global. Then each line of the input is a function's source and the values for it. Maps and sets are answered as lists.
 LOOP = """
+const [web, ...modules] = process.argv.slice(1);
+for (const path of modules) Object.assign(globalThis, await import(path));
+const plain = (value) => value instanceof Map || value instanceof Set ? [...value].map(plain) : value;
 for await (const line of (await import("node:readline")).createInterface({ input: process.stdin })) {
-  console.log(JSON.stringify(await answer(JSON.parse(line)) ?? null));
+  const [script, ...values] = JSON.parse(line);
+  console.log(JSON.stringify(plain(await eval(script)(...values)) ?? null));
 }
 """
 
 
-class Node:
-    """Node.js with a script that defines `answer`, a function of one value, and gets the folder of the modules as its argument. It ends with its `with`."""
+def copy_of(folder: str, *changes: Sequence[str]) -> str:
+    """A copy of the modules in a new folder below this one, with changes: a module, a text, and the text that replaces it."""
+    place = Path(folder, "web")
+    shutil.copytree(WEB, place)
+    # (Modules of node: a package of its own says so.)
+    Path(folder, "package.json").write_text('{"type":"module"}')
+    for name, old, new in changes:
+        text = (place / name).read_text(encoding="utf-8")
+        assert text.count(old) == 1, f"{name} has {old!r} {text.count(old)} times"
+        (place / name).write_text(text.replace(old, new), encoding="utf-8")
+    return str(place)
 
-    def __init__(self, script: str, web: str = WEB, **environment: str) -> None:
-        self.process = subprocess.Popen([need("node", "nodejs"), "--input-type=module", "-e", script + LOOP, web], stdin=subprocess.PIPE,
-                                        stdout=subprocess.PIPE, text=True, env={**os.environ, **environment})
+
+def data_of(name: str) -> dict[str, Any]:
+    """The values of a file beside the tests, tests/desks/NAME.toml."""
+    return tomllib.loads((TESTS / f"{name}.toml").read_text(encoding="utf-8"))
+
+
+def node_words(script: str, *words: str) -> list[str]:
+    return [need("node", "nodejs"), "--input-type=module", "-e", script, *words]
+
+
+def asked(script: str, web: str, given: Any) -> Any:
+    """The answer of a script, which gets the folder of the modules as its argument, and a value by standard input."""
+    done = subprocess.run(node_words(script, web), input=json.dumps(given), capture_output=True, text=True)
+    assert done.returncode == 0, done.stderr
+    return json.loads(done.stdout)
+
+
+class Node:
+    """Node.js with the modules of these names, and with the script of a test beside them, tests/desks/SCRIPT.mjs. It ends with its `with`."""
+
+    def __init__(self, script: str, names: str, web: str = WEB, **environment: str) -> None:
+        self.web = web
+        paths = [f"{web}/{name}.js" for name in names.split()] + [str(TESTS / f"{script}.mjs")]
+        self.process = subprocess.Popen(node_words(LOOP, web, *paths), stdin=subprocess.PIPE, stdout=subprocess.PIPE, text=True,
+                                        env={**os.environ, **environment})
 
     def __enter__(self) -> "Node":
         return self
@@ -56,13 +68,13 @@ class Node:
     def __exit__(self, *_: object) -> None:
         self.process.communicate()
 
-    def ask(self, value: Any) -> Any:
-        """The answer to a value."""
+    def ask(self, script: str, *values: Any) -> Any:
+        """The answer of a function of JavaScript to these values: an exported one by its name, or one by its source."""
         assert self.process.stdin and self.process.stdout
-        line = ""
-        with contextlib.suppress(BrokenPipeError):
-            self.process.stdin.write(json.dumps(value) + "\n")
-            self.process.stdin.flush()
+        try:
+            print(json.dumps([script, *values]), file=self.process.stdin, flush=True)
             line = self.process.stdout.readline()
+        except BrokenPipeError:
+            line = ""
         assert line, "node ended"
         return json.loads(line)

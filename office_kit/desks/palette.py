@@ -2,39 +2,31 @@
 import collections
 import struct
 import zlib
+from collections.abc import Iterator
 
 MOST = 256
 SIGNATURE = b"\x89PNG\r\n\x1a\n"
 
 
-def chunks_of(data: bytes) -> dict[bytes, bytes]:
-    """The chunks of a PNG by their kinds; those of one kind as one."""
-    found: dict[bytes, bytes] = collections.defaultdict(bytes)
+def chunks_of(data: bytes) -> Iterator[tuple[bytes, bytes]]:
+    """The chunks of a PNG, each with its kind."""
     at = len(SIGNATURE)
     while at < len(data):
         length, kind = struct.unpack(">I4s", data[at:at + 8])
-        found[kind] += data[at + 8:at + 8 + length]
+        yield kind, data[at + 8:at + 8 + length]
         at += 12 + length
-    return found
 
 
-def rows_of(data: bytes, width: int, height: int, depth: int) -> list[bytearray]:
+def rows_of(data: bytes, size: int, depth: int) -> Iterator[bytes]:
     """The rows of pixels, of so many bytes each, as they were before a PNG filtered them."""
-    rows, before, size = [], bytearray(width * depth), width * depth
-    for number in range(height):
-        kind, row = data[number * (size + 1)], bytearray(data[number * (size + 1) + 1:(number + 1) * (size + 1)])
-        unfilter(kind, row, before, depth)
-        rows.append(row)
-        before = row
-    return rows
-
-
-def unfilter(kind: int, row: bytearray, above: bytearray, depth: int) -> None:
-    """Adds to each byte what its filter took away."""
-    for at in range(len(row) if kind else 0):
-        left = row[at - depth] if at >= depth else 0
-        corner = above[at - depth] if at >= depth else 0
-        row[at] = row[at] + (left, above[at], (left + above[at]) // 2, paeth(left, above[at], corner))[kind - 1] & 255
+    above = bytes(size + depth)
+    for begin in range(0, len(data), size + 1):
+        kind, row = data[begin], bytearray(depth) + data[begin + 1:begin + 1 + size]
+        for at in range(depth, len(row) if kind else 0):
+            left, over, corner = row[at - depth], above[at], above[at - depth]
+            row[at] = row[at] + (left, over, (left + over) // 2, paeth(left, over, corner))[kind - 1] & 255
+        yield bytes(row[depth:])
+        above = bytes(row)
 
 
 def paeth(left: int, above: int, corner: int) -> int:
@@ -52,10 +44,11 @@ def chunk(kind: bytes, data: bytes) -> bytes:
 
 def smaller(picture: bytes) -> bytes:
     """A browser's picture, with a palette."""
-    parts = chunks_of(picture)
-    width, height, _, kind = struct.unpack(">IIBB", parts[b"IHDR"][:10])
+    chunks = list(chunks_of(picture))
+    width, height, _, kind = struct.unpack(">IIBB", chunks[0][1][:10])
     depth = {2: 3, 6: 4}[kind]
-    rows = [[bytes(row[at:at + 3]) for at in range(0, len(row), depth)] for row in rows_of(zlib.decompress(parts[b"IDAT"]), width, height, depth)]
+    data = zlib.decompress(b"".join(part for name, part in chunks if name == b"IDAT"))
+    rows = [[row[at:at + 3] for at in range(0, len(row), depth)] for row in rows_of(data, width * depth, depth)]
     counts = collections.Counter(colour for row in rows for colour in row)
     known = [colour for colour, _ in counts.most_common(MOST)]
     number = {colour: at for at, colour in enumerate(known)}

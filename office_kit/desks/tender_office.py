@@ -5,16 +5,15 @@ import contextlib
 import hashlib
 import os
 import subprocess
-import tempfile
 import time
-from collections.abc import Iterator
+from collections.abc import Callable, Iterator
 from dataclasses import dataclass
 
 from office_kit.client import AHEAD, Answer, Client, budget, lot, notice, tender, text_of, Front as Transport
-from office_kit.common import connect, free_port, serve_words
+from office_kit.common import connect, serve_words
 from office_kit.desks import scene
 from office_kit.desks.browser import Browser
-from office_kit.front.nginx import PATIENCE, Front
+from office_kit.front.nginx import PATIENCE
 
 CONNECTIONS = 100_000
 DAY = 86_400
@@ -24,13 +23,6 @@ LONG = [(f"Item number {number} of a long list of things that a city buys", numb
 
 def key_of(tenderer: str) -> str:
     return hashlib.sha256(f"key of {tenderer}".encode()).hexdigest()
-
-
-def serving(program: str, file: str, port: int) -> "subprocess.Popen[bytes]":
-    """The program over a file, once it serves."""
-    process = subprocess.Popen(serve_words(program, file, port, CONNECTIONS))
-    connect(port, PATIENCE).close()
-    return process
 
 
 @dataclass
@@ -44,7 +36,8 @@ class Scene(scene.Scene):
     deadline: float = 0
 
     def start(self) -> None:
-        self.office = serving(self.program, self.file, self.front.office)
+        self.office = subprocess.Popen(serve_words(self.program, self.file, self.front.office, CONNECTIONS))
+        connect(self.front.office, PATIENCE).close()
 
     def stop(self) -> None:
         self.office.kill()
@@ -61,16 +54,15 @@ class Scene(scene.Scene):
 
 
 @contextlib.contextmanager
-def staged(program: str, browser: Browser, pictures: str) -> Iterator[Scene]:
-    """A scene over a new office."""
-    port = free_port()
-    with tempfile.TemporaryDirectory() as folder, Front(folder, port) as front:
-        file, client = os.path.join(folder, "office.db"), Client(Transport(front.address().rstrip("/"), front.context), key_of)
-        made = Scene(front, browser, serving(program, file, port), pictures, program, file, client, folder)
+def staged(program: str, browser: Browser, pictures: str, fill: Callable[[int], object] = lambda port: None) -> Iterator[Scene]:
+    """A scene over a new office, which is filled at its port before the front begins."""
+    with scene.staged(program, browser, pictures, fill) as made:
+        folder, client = made.front.folder, Client(Transport(made.front.address().rstrip("/"), made.front.context), key_of)
+        own = Scene(**vars(made), file=os.path.join(folder, "office.db"), client=client, folder=folder)
         try:
-            yield made
+            yield own
         finally:
-            made.stop()
+            own.stop()
 
 
 def prepare(desk: Scene) -> None:

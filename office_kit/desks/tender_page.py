@@ -1,8 +1,9 @@
 """The tenderer's desk in a page of a browser, as tests use it: places, fields, buttons, files."""
 import hashlib
 import json
-import os
+from pathlib import Path
 
+from office_kit.desks import page_checks
 from office_kit.desks.browser import Page
 from office_kit.desks.tender_office import Scene
 
@@ -16,8 +17,8 @@ MADE = b"item,quantity,unit,total\nI1,1,1500,1500\nTOTAL,,,1500\n"
 class Desk:
     """The desk in a page of its own, with somebody's key or without one."""
 
-    def __init__(self, scene: Scene, who: str | None = None, width: int = 1280, language: str = "en") -> None:
-        self.scene, self.page = scene, Page(scene.browser, width)
+    def __init__(self, scene: Scene, who: str | None = None, width: int = 1280, language: str = "en", page: Page | None = None) -> None:
+        self.scene, self.page = scene, page or Page(scene.browser, width)
         self.page.keep_in(scene.folder)
         self.page.go(scene.front.address(f"tender/?language={language}"))
         if who:
@@ -29,10 +30,11 @@ class Desk:
         self.page.choose("key-file", self.scene.path(f"{who}.key"))
         self.page.wait(f"document.getElementById('who').textContent.includes('{who}')")
 
-    def at(self, place: str, head: str) -> None:
-        """Goes to a place, until a view with this heading is shown."""
+    def at(self, place: str, head: str, then: str = "") -> None:
+        """Goes to a place, until a view with this heading is shown that says something."""
         self.page.run(f"location.hash = {json.dumps('#' + place)}")
         self.shows(head, place)
+        self.says(then)
 
     def shows(self, head: str, place: str | None = None) -> None:
         """Waits for a view with this heading."""
@@ -43,41 +45,56 @@ class Desk:
 
     def says(self, text: str) -> None:
         """Waits until the view says something."""
-        self.page.wait(f"document.body.innerText.includes({json.dumps(text)})")
+        self.page.wait(f"document.body?.innerText.includes({json.dumps(text)})")
 
     def has(self, kind: str, text: str) -> bool:
         """Whether something of a kind (`good`, `look`, `bad`) says something."""
         return bool(self.page.run(f"[...document.querySelectorAll('.{kind}')].some((at) => at.checkVisibility() && at.innerText.includes({json.dumps(text)}))"))
 
-    def press(self, text: str) -> None:
-        """Presses the button or link of the view that says so."""
+    def press(self, text: str, then: str = "") -> None:
+        """Presses the button or link of the view that says so, and waits until the view says something."""
         found = f"[...document.querySelectorAll('main button, main a')].find((at) => at.checkVisibility() && at.textContent.includes({json.dumps(text)}))"
         self.page.wait(f"{found} && !{found}.disabled")
         self.page.run(f"{found}.click()")
+        self.says(then)
+
+    def choose(self, field: str, path: str, then: str = "") -> None:
+        """Chooses a file in a field, and waits until the view says something."""
+        self.page.choose(field, path)
+        self.says(then)
 
     def can_press(self, text: str) -> bool:
         return bool(self.page.run(f"[...document.querySelectorAll('main button, main a')].some((at) => at.checkVisibility() && !at.disabled && "
                                   f"at.textContent.includes({json.dumps(text)}))"))
 
     def fill(self, name: str, text: str) -> None:
-        """Types into a field, in place of its old text."""
-        self.page.run(f"(() => {{ const at = document.getElementById({json.dumps(name)}); at.focus(); at.select(); }})()")
-        self.page.type(text)
+        page_checks.fill(self.page, name, text)
 
     def tick(self, name: str) -> None:
         self.page.run(f"document.getElementById({json.dumps(name)}).click()")
 
     def saved(self, name: str) -> bytes:
         """A file that the desk saved."""
-        path = self.scene.path(name)
-        self.page.expect(f"{name} is saved", lambda: os.path.exists(path) and os.path.getsize(path) > 0)
-        with open(path, "rb") as file:
-            return file.read()
+        path = Path(self.scene.path(name))
+        self.page.expect(f"{name} is saved", lambda: path.exists() and path.stat().st_size > 0)
+        return path.read_bytes()
+
+    def review(self) -> None:
+        self.press("Check before submitting")
+        self.shows("Check before submitting")
+
+    def submit(self) -> int:
+        self.press("Submit the tender")
+        return self.receipt()
 
     def receipt(self) -> int:
         """The receipt that the page shows after a sending."""
         self.shows("Receipt ")
         return int(self.page.run("document.querySelector('main h1').textContent.split(' ')[1]"))
+
+    def withdraw(self, then: str) -> None:
+        self.tick("withdraw-sure")
+        self.press("Withdraw the tender", then)
 
     def prices(self, notice: str, lot: str, *units: int) -> None:
         """Types prices for a lot."""
@@ -85,6 +102,19 @@ class Desk:
         for at, unit in enumerate(units):
             self.fill(f"unit-{at}", str(unit))
 
+    def secure(self, reference: str, amount: int) -> None:
+        self.fill("security-reference", reference)
+        self.fill("security-amount", str(amount))
+
 
 def digest_of(data: bytes) -> str:
     return hashlib.sha256(data).hexdigest()
+
+
+def planted(scene: Scene, path: str, old: str, new: str) -> Page:
+    """A page of the browser in which one module is changed."""
+    text = scene.front.ask("GET", path).body.decode()
+    assert text.count(old) == 1, f"{path} has {old!r} {text.count(old)} times"
+    page = Page(scene.browser, 1280)
+    page.answer_for({path: (200, text.replace(old, new).encode())}, "Script")
+    return page

@@ -1,6 +1,7 @@
 """The portal's list (web/common/filters.js) has the procurements, states and order that a plain implementation here finds, for lists that hypothesis makes.
 
-The lists have up to five notices, tables of the mirror that are older, newer or missing, and questions in all filters. Changed rules are found.
+The lists have up to five notices, tables of the mirror that are older, newer or missing, and questions in all filters. In filters.toml are examples: words
+without accents, `ue` for `ü`, budget lines, orders. It also has rules that are changed, one at a time. A list must show each change.
 """
 import itertools
 import random
@@ -15,16 +16,7 @@ from office_kit.api.tenders import CHANCE
 from office_kit.desks import modules
 
 pytestmark = pytest.mark.needs("node")
-SCRIPT = """
-const filters = await import(`${process.argv[1]}/common/filters.js`);
-const shown = ({ notice, state, year, lines, firms, winners }) => [notice, state, year, [...lines].sort(), [...firms].sort(), [...winners].sort()];
-const answer = ({ list, data, now, address, number }) => {
-  const asked = filters.filtersOf(address);
-  const found = filters.chosen(filters.entriesOf(list, data, Date.parse(now)), asked);
-  const again = filters.filtersOf(filters.addressOf(asked));
-  return { asked, again, found: filters.ordered(found, asked.order).map(shown), number: filters.noticeOf(list, number) };
-};
-"""
+DATA = modules.data_of("filters")
 NAMES, ORDERS = ("words", "state", "year", "line", "firm", "from", "to", "order"), ("deadline", "published", "amount")
 NOW = "2027-01-15T08:00:00Z"
 MOMENTS = ("2026-03-01T00:00:00Z", "2026-12-31T23:59:59Z", NOW, "2027-01-15T08:00:01Z", "2027-03-01T00:00:00Z")
@@ -55,6 +47,7 @@ class Entry:
         self.row, self.notice = row, row["notice"]
         of = {name: [it for it in rows if it.get("notice") == self.notice] for name, rows in (data or {}).items()}
         self.lots, self.known = of.get("lots", []), (of.get("notices") or [None])[-1]
+        self.lines = sorted({it["line"] for it in self.lots})
         self.firms = {it["tenderer"]: it["name"] for it in of.get("tenders", [])}
         titles = {it["line"]: it["title"] for it in (data or {}).get("budget", [])}
         self.texts = [self.notice, row["title"], self.known["buyer"] if self.known else "", *self.firms.values(), *(it["title"] for it in of.get("items", []))]
@@ -73,7 +66,7 @@ class Entry:
     def matches(self, asked):
         """Whether all filters that an address names find it."""
         return (has_words(asked["words"], self.texts) and asked["state"] in ("", self.state()) and asked["year"] in ("", self.row["published"][:4])
-                and (not asked["line"] or asked["line"] in self.lines()) and self.has_firm(asked["firm"]) and self.is_within(asked["from"], asked["to"]))
+                and (not asked["line"] or asked["line"] in self.lines) and self.has_firm(asked["firm"]) and self.is_within(asked["from"], asked["to"]))
 
     def has_firm(self, firm):
         return not firm or firm in self.firms or any(has_words(firm, [name]) for name in self.firms.values())
@@ -86,13 +79,10 @@ class Entry:
         except ValueError:
             return False
 
-    def lines(self):
-        return sorted({it["line"] for it in self.lots})
-
     def shown(self):
         is_older = self.state() == "opened" and not self.is_current
         winners = sorted({it["winner_name"] for it in self.lots if it["winner_name"] and not is_older})
-        return [self.notice, self.state(), self.row["published"][:4], self.lines(), sorted(map(list, self.firms.items())), winners]
+        return [self.notice, self.state(), self.row["published"][:4], self.lines, sorted(map(list, self.firms.items())), winners]
 
 
 def in_order(entries, order):
@@ -166,34 +156,34 @@ def made(chance):
             "number": chance.choice(("N1", "n1", " n2 ", "ab", "", "N9"))}
 
 
-CASES = CHANCE.map(made)
+# ---- Examples.
+
+QUESTIONS = [(it["listed"], it.get("tables"), *question) for it in DATA["lists"] for question in it["questions"].items()]
 
 
 @pytest.fixture(scope="module")
 def node():
-    with modules.Node(SCRIPT) as node:
+    with modules.Node("filters", "common/filters") as node:
         yield node
 
 
+@pytest.mark.parametrize("listed, data, address, found", QUESTIONS)
+def test_example(node, listed, data, address, found):
+    told = node.ask("answerTo", {"list": listed, "data": data, "now": NOW, "address": address, "number": ""})
+    assert " ".join(notice for notice, *_ in told["found"]) == found
+
+
+def test_texts_of_questions(node):
+    assert node.ask("written", "words=a+b&state=open&x=1") == "words=a+b&state=open"
+    assert [node.ask("noticeOf", DATA["lists"][0]["listed"], text) for text in ("n1", "N2", "n2", " N4 ", "N9", "")] == ["N1", "N2", "n2", "N4", None, None]
+
+
+# ---- Lists that are made.
+
 @settings(max_examples=500, deadline=None, suppress_health_check=HealthCheck.all())
-@given(CASES)
+@given(CHANCE.map(made))
 def test_list(node, case):
-    assert node.ask(case) == expected(case)
-
-
-# Rules that are changed: the text in the module, and the changed text.
-CHANGED = [
-    ("words.every(", "words.some("), ('replace(/[äöü]/gi, "$&e")', 'replace(/x/, "")'), ("[plain(word), spelled(word)]", "[plain(word)]"),
-    ('replaceAll("ß", "ss")', "normalize()"), ("more.get(notice)?.words.push(title)", "void title"), ('titles.get(line) ?? ""', '""'),
-    ('(one.state === "open" ? 1 : -1)', "1"), ('ORDERS.includes(found.order) ? found.order : ""', '"amount"'), ("one.lines.has(filters.line)", "true"),
-    ("estimate <= Number(to || Infinity)", "true"), ("estimate >= Number(from || 0)", "estimate > Number(from || 0)"),
-    ('Number(other.state === "open") - Number(one.state === "open") ||', ""),
-    ('isAwarded && known?.releases === row.releases ? "awarded" : "opened"', '"opened"'),
-    ("isAwarded && known?.releases === row.releases", "isAwarded"), ("isOlder ? new Set() : winners", "winners"), ("now <= Date.parse", "now < Date.parse"),
-    ('status !== "active" || Boolean(winner)', "Boolean(winner)"), ("known.running > 0", "true"), ("one.notice < other.notice ? -1 : 1", "1"),
-    ("id === firm || ", ""), ("isAsked(searchable(name))", "name === firm"), ('[one.year, ""].includes(filters.year)', "one.year >= filters.year"),
-    ("same.length === 1", "same.length"), ('told.get(name) ?? "").trim()', 'told.get(name) ?? "")'),
-]
+    assert node.ask("answerTo", case) == expected(case)
 
 
 @pytest.fixture(scope="module")
@@ -204,11 +194,11 @@ def answers():
 
 def test_many_lists(node, answers):
     for case, right in answers:
-        assert node.ask(case) == right
+        assert node.ask("answerTo", case) == right
 
 
-@pytest.mark.parametrize("old, new", CHANGED, ids=[old for old, _ in CHANGED])
+@pytest.mark.parametrize("old, new", DATA["changed"], ids=[old for old, _ in DATA["changed"]])
 def test_changed_rule(tmp_path, answers, old, new):
     """A list shows the difference."""
-    with modules.Node(SCRIPT, modules.copy_of(str(tmp_path), ("common/filters.js", old, new))) as node:
-        assert any(node.ask(case) != right for case, right in answers)
+    with modules.Node("filters", "common/filters", modules.copy_of(str(tmp_path), ("common/filters.js", old, new))) as node:
+        assert any(node.ask("answerTo", case) != right for case, right in answers)

@@ -3,11 +3,10 @@
 The files are those of test_check_tender.py, sheets that are written for known prices in many ways, and files whose meaning is unsure. `papers.js` must read the
 prices that the program reads, and `faults.js` find the lines that tools/check_tender finds. `convert.js` must leave a file that the office reads as it is. A
 converted file must be read by the program without a correction, and have a change to show. A refused one must have a fault at one of its lines. Each fault and
-change has a sentence in both languages. Then rules of the modules are changed, one at a time: these checks must find each change.
+change has a sentence. In tender_files.toml are files, and rules that are changed, one at a time: these checks must find each change.
 """
 import base64
 import collections
-import re
 from typing import NamedTuple
 
 import pytest
@@ -17,112 +16,8 @@ from office_kit.api.tenders import KINDS, Case
 from office_kit.desks import modules
 
 pytestmark = [pytest.mark.needs("node"), pytest.mark.budget(120)]
-HARNESS = """
-import { pathToFileURL } from "node:url";
-const of = async (name) => import(pathToFileURL(`${process.argv[1]}/${name}.js`));
-let text = "";
-for await (const part of process.stdin) text += part;
-const { kinds, files } = JSON.parse(text);
-const [{ readingOf }, { faultsOf }, { converted }] = [await of("tender/papers"), await of("tender/faults"), await of("tender/convert")];
-const told = files.map(({ kind, data }) => {
-  try {
-    const [bytes, items] = [new Uint8Array(Buffer.from(data, "base64")), kinds[kind]];
-    const { kind: word, stated, price, corrections, rows } = readingOf(bytes, items);
-    const made = converted(bytes, items, "EUR");
-    return { words: word === "priced" ? `priced ${stated} ${price} ${corrections}` : word,
-      lines: faultsOf(bytes, items, { kind: word, rows }).map(({ line }) => line), faults: made.faults.map(({ line, name }) => [line, name]),
-      changes: made.changes.map(({ line, name }) => [line, name]), kind: made.kind, made: Buffer.from(made.bytes ?? []).toString("base64") };
-  } catch (fault) {
-    return { words: String(fault.stack), lines: [], faults: [], changes: [], kind: "thrown", made: "" };
-  }
-});
-const books = [];
-for (const name of ["common/en", "common/de", "tender/en", "tender/de"]) books.push((await of(name)).default);
-console.log(JSON.stringify({ told, books }));
-"""
-# The outcomes of the files of each form of docs/TENDERER-API.md, a letter a file: `a` stays as it is, `c` converted, `r` refused.
-OUTCOMES = {
-    "as above": "a", "line ends of Windows (CR LF) or of old Macs (CR)": "aa", "a byte order mark at the start, as in Excel's `CSV UTF-8`": "a",
-    "all fields in quotation marks": "a", "empty lines, or no line end after the last line": "aa", "leading zeros": "a", "a wrong product": "a",
-    "a wrong sum": "a", "semicolons, tabs or vertical bars between the fields": "ccc", "cents": "rccr", "a quantity of `3.0`": "c",
-    "digits in groups": "rrrccc", "an exponent, as spreadsheets write large numbers": "rr", "a currency": "ccc", "a space beside a number": "cc",
-    "a total left empty, or a formula": "ccr", "capitals in the header": "cc", "a header in other words, or none": "cc", "a line above the header": "cc",
-    "an empty column": "c", "a column of titles": "c", "lines of only commas or spaces": "ccc", "a line after the sum": "rr", "no `TOTAL`": "cr",
-    "`Total`, or a quantity in its line": "cc", "UTF-16, as in Excel's `Unicode text`": "cr", "a PDF, a workbook, a page": "rrr",
-    "the lot before the item": "c", "an item in other letters, or with a space": "cc", "another order": "c",
-    "a missing item, an extra item, or an item twice": "rrr", "several lots in one file": "r", "another quantity": "r", "a unit price above 10^9": "r",
-    "an empty file": "r", "more than 32,768 bytes": "c",
-}
-# Files that change an offer's meaning, or could, and so must be refused: of the lot of docs/TENDERER-API.md.
-UNSURE = [
-    "item;quantity;unit;total\nI1;3;1.500;4.500\nI2;10;12;120\n", "item,quantity,unit,total,discount\nI1,3,150,450,5%\nI2,10,12,120,\n",
-    "item,quantity,unit,total\nI1,3,150,450\nI2,10,12,120\nTOTAL,,,570\ndiscount,,,-20\n", "item,quantity,unit,total\nI1,3,-150,-450\nI2,10,12,120\n",
-    "item,quantity,unit,total\nI1,3,150,450\nI2,10,#REF!,120\n", "item,quantity,unit,total\nI1,3,1.5E+02,450\nI2,10,12,120\n",
-    "item,quantity,unit,total\nI1,3,\"150,5\",451\nI2,10,12,120\n", "item,quantity,unit,total\nI1,3,150,450\nI2,11,12,132\n",
-    "item,quantity,unit,total\nI1,3,150,450\nI2,10,=B2,120\n", "item,quantity,unit,unit price,total\nI1,3,10,150,450\nI2,10,10,12,120\n",
-    "item,quantity,unit,total\nI1,3,150,450\nI2,10,12 or 13,120\n", "I1,3,0.150,450\nI2,10,12,120\n",
-]
-# Files of firms: the lot's kind, the file, and either the faults by line or the unit prices that the desk must find. A refusal names the cure. A figure with
-# two readings is no guess if only one of them agrees with the notice's quantity or with the product.
-FIRMS = [
-    (0, "Gamma Bau;;;\nPos;Menge;EP;GP\nI1;3;150;450\nI2;10;12;120\n;;Netto;570\n;;MwSt 19 %;108,30\n;;Brutto;678,30\n",
-     [(5, "tax"), (6, "tax"), (7, "tax")]),
-    (0, "item,quantity,unit,total\nI1,3,150,450\nI2,10,12,120\nNet sum,,,570\nVAT,,,108\n", [(4, "tax"), (5, "tax")]),
-    (0, "item,quantity,unit,total\nI1,3,150,450\nI2,10,12,120\n,,Network,5\nNetwork,,,5\n", [(4, "nameless"), (5, "unknown")]),
-    (0, "item,title,unit,quantity,price,total\nI1,Paving,m2,3,150,450\nI2,Kerbs,m,10,12,120\n", [(1, "twoUnits")]),
-    (0, "item,pos,quantity,unit,total\nI1,1,3,150,450\nI2,2,10,12,120\n", [(1, "twoColumns")]),
-    (0, "item,quantity,unit,total\nI1,3,58.50,175.50\nI2,10,12,120\n", [(2, "cents")]),
-    (5, "item;quantity;unit;total\n1;1.000;5;5.000\n3;1.000.000;1;1.000.000\n", [5, 1]),
-    (5, "item;quantity;unit;total\n1;1,000;5;5,000\n3;1000000;1;\n", [5, 1]),
-    (5, "item;quantity;unit;total\n1;1.001;5;5005\n3;1000000;1;\n", [(2, "figure")]),
-    (0, "item;quantity;unit;total\nI1;3;1.500;4500\nI2;10;12;120\n", [1500, 12]),
-    (0, "item;quantity;unit;total\nI1;3;1.500;4501\nI2;10;12;120\n", [(2, "figure")]),
-    (0, "item;quantity;unit;total\nI1;3;400;1.200\nI2;10;12;120\n", [400, 12]),
-    (0, "item;quantity;unit;total\nI1;3;400;1.201\nI2;10;12;120\n", [(2, "figure")]),
-]
-# The rules that are changed: the module, the text in it, and the changed text.
-CHANGED = {
-    "semicolons are taken for commas": ("common/csv.js", "sign === separator", "sign === separator || sign === ';'"),
-    "a quotation mark within a field opens one": ("common/csv.js", "sign === '\"' && state !== \"inside\"", "sign === '\"'"),
-    "CR ends no line": ("common/csv.js", "sign !== \"\\r\" && sign !== \"\\n\"", "sign !== \"\\n\""),
-    "an empty line is a record": ("common/csv.js", "} else if (state !== \"before\") {", "} else {"),
-    "a byte order mark stays": ("common/csv.js", "? binary.slice(MARK.length) : binary", "? binary : binary"),
-    "spaces beside numbers are dropped": ("common/csv.js", "return /^[0-9]{1,16}$/.test(field)", "field = field.trim(); return /^[0-9]{1,16}$/.test(field)"),
-    "17 digits are taken": ("common/csv.js", "{1,16}", "{1,17}"),
-    "numbers above 10^15 are taken": ("common/csv.js", "MOST_NUMBER = 1e15", "MOST_NUMBER = 1e16"),
-    "a fifth field of an item is dropped": ("tender/papers.js", "return fields.length !== HEAD.length ||", "return fields.length < HEAD.length ||"),
-    "the head may have capitals": ("tender/papers.js", "areSame(fields, HEAD)", "areSame(fields.map((it) => it.toLowerCase()), HEAD)"),
-    "`Total` is taken": ("tender/papers.js", "areSame(fields.slice(0, 3), SUM)", "areSame(fields.slice(0, 3).map((it) => it.toUpperCase()), SUM)"),
-    "the quantity may stand behind `TOTAL`": ("tender/papers.js", "areSame(fields.slice(0, 3), SUM)", "fields[0] === SUM[0]"),
-    "no sum is asked for": ("tender/papers.js", " || stated === null", ""),
-    "any quantity is taken": ("tender/papers.js", " && quantity === items[at].quantity", ""),
-    "a unit price of 10^9 is too great": ("tender/papers.js", "unit <= MOST_UNIT", "unit < MOST_UNIT"),
-    "a price of 10^12 is too great": ("tender/papers.js", "<= BigInt(MOST_PRICE)", "< BigInt(MOST_PRICE)"),
-    "the stated sum prevails": ("tender/papers.js", "const price = Number(priceOf(rows))", "const price = stated"),
-    "a wrong sum is no correction": ("tender/papers.js", "(stated === price ? 0 : 1)", "0"),
-    "32,768 bytes are too many": ("tender/papers.js", "bytes.length > MOST_BYTES", "bytes.length >= MOST_BYTES"),
-    "an empty file is unreadable": ("tender/papers.js", "bytes.length < 1 || ", ""),
-    "a fault is told a line too late": ("tender/faults.js", "return { line, name, values };", "return { line: line + 1, name, values };"),
-    "`1.500` is taken for 1": ("tender/figures.js", "return { why: \"ambiguous\", grouped: Number(front + behind) };", "return whole(front);"),
-    "`1.500` is taken for 1500": ("tender/figures.js", "isRight(got.grouped)", "true"),
-    "the notice's quantity is no help": ("tender/convert.js", "quantity: (value) => value === quantity", "quantity: () => false"),
-    "the total is no help": ("tender/convert.js", "unit: (value) => value * quantity === total.value", "unit: () => false"),
-    "the product is no help": ("tender/convert.js", "total: (value, right) => value === right", "total: () => false"),
-    "VAT is told as an unknown item": ("tender/convert.js", "return tax ?", "return false ?"),
-    "any word that begins like a tax is one": ("tender/convert.js", "(?![\\p{L}])/u", "/u"),
-    "the first of two unit prices is taken": ("tender/convert.js", "doubled.length > 0", "false"),
-    "cents are told without a cure": ("tender/convert.js", "got.why === \"part\" ? \"cents\"", "false ? \"cents\""),
-    "cents are dropped": ("tender/figures.js", "/^0+$/.test(behind) ?", "true ?"),
-    "another quantity is passed over": ("tender/convert.js", "quantity !== null && quantity !== item.quantity", "false"),
-    "what stands behind the sum is passed over": ("tender/convert.js", "...(sum ? body.slice(at + 1)", "...(false ? body.slice(at + 1)"),
-    "a column of any name is left out": ("tender/convert.js", "speaks.length > 0", "false"),
-    "an item that comes twice counts once": ("tender/convert.js", "faults.push(...again.map(", "void (again.map("),
-    "a changed order isn't told": ("tender/convert.js", "isInOrder ? []", "true ? []"),
-    "a changed figure isn't told": ("tender/convert.js", "if (got.changed) {", "if (false) {"),
-    "the office's own files are made anew": ("tender/convert.js", "reading.kind === \"priced\"", "false"),
-}
-
-
+NAMES = "tender/papers tender/faults tender/convert"
+DATA = modules.data_of("tender_files")
 HEADS = {"english": [["Item", "Quantity", "Unit price", "Total"], ["Pos.", "Menge", "Einzelpreis", "Gesamtpreis"]],
          "german": [["item", "quantity", "unit", "total"], ["Item", "Quantity", "Unit price", "Total"], ["Pos.", "Menge", "Einzelpreis", "Gesamtpreis"]]}
 
@@ -161,8 +56,8 @@ class Files:
 
     def __init__(self, reader, count):
         self.reader, self.tool = reader, tenders.tool()
-        cases = [*tenders.known(), *tenders.samples(tenders.FILES, count), *[Case("unsure", 0, text.encode()) for text in UNSURE],
-                 *[Case("firm", kind, text.encode()) for kind, text, _ in FIRMS]]
+        cases = [*tenders.known(), *tenders.samples(tenders.FILES, count), *[Case("unsure", 0, text.encode()) for text in DATA["unsure"]["files"]],
+                 *[Case("firm", it["kind"], it["file"].encode()) for it in DATA["firms"]]]
         sheets = tenders.samples(tenders.CHANCE.map(sheet), 200)
         self.all = [self.read(case, []) for case in cases] + [self.read(*it) for it in sheets]
         # (Most of the made files are left out when rules are changed, since reading them takes long.)
@@ -174,11 +69,9 @@ class Files:
         return File(case, words, sorted(fault.line for fault in faults), units)
 
     def answers(self, web, files):
-        """Each file with its answer, and the texts."""
-        kinds = [[{"id": item, "quantity": quantity, "title": "x"} for item, quantity in kind] for kind in KINDS]
-        given = [{"kind": file.case.kind, "data": base64.b64encode(file.case.data).decode()} for file in files]
-        told = modules.asked(HARNESS, web, {"kinds": kinds, "files": given})
-        return list(zip(files, told["told"])), told["books"]
+        """Each file with the answer of the modules in this folder."""
+        with modules.Node("tender_files", NAMES, web) as node:
+            return [(it, node.ask("whatBecomesOf", tenders.lot_of(it.case.kind)["items"], base64.b64encode(it.case.data).decode())) for it in files]
 
     def check(self, file, told):
         """The desk reads the file as the program and finds the tool's faults; it leaves, converts or refuses it as it must."""
@@ -215,8 +108,8 @@ def tells_changes(data, made, names):
 
 
 def check_outcome(answers, name):
-    """The files of a form are left, converted or refused as OUTCOMES says."""
-    assert "".join(told["kind"][0] for file, told in answers if file.case.source == name) == OUTCOMES[name]
+    """The files of a form are left, converted or refused as they must be."""
+    assert "".join(told["kind"][0] for file, told in answers if file.case.source == name) == DATA["forms"][name]
 
 
 def check_unsure(answers):
@@ -224,9 +117,9 @@ def check_unsure(answers):
 
 
 def check_firms(answers):
-    """From each file of FIRMS these prices are made, or it is refused with these faults."""
-    for (_, text, wanted), told in zip(FIRMS, (told for file, told in answers if file.case.source == "firm"), strict=True):
-        assert (units_of(base64.b64decode(told["made"])) or sorted(map(tuple, told["faults"]))) == wanted, text
+    """From each file of a firm these prices are made, or it is refused with these faults."""
+    for it, told in zip(DATA["firms"], (told for file, told in answers if file.case.source == "firm"), strict=True):
+        assert (units_of(base64.b64decode(told["made"])) or sorted(told["faults"])) == it["wanted"], it["file"]
 
 
 @pytest.fixture(scope="module", params=[500, pytest.param(5000, marks=[pytest.mark.long, pytest.mark.budget(900)])])
@@ -235,54 +128,49 @@ def files(program, tmp_path_factory, request):
 
 
 @pytest.fixture(scope="module")
-def told(files, tmp_path_factory):
-    """The answers of the modules as they are, and the texts."""
-    return files.answers(modules.copy_of(str(tmp_path_factory.mktemp("own"))), files.all)
+def told(files):
+    """The answers of the modules as they are."""
+    return files.answers(modules.WEB, files.all)
 
 
 def test_files(files, told):
-    for answer in told[0]:
+    for answer in told:
         files.check(*answer)
 
 
 @pytest.mark.parametrize("name", tenders.FORMS)
 def test_form(told, name):
-    check_outcome(told[0], name)
+    check_outcome(told, name)
 
 
 def test_unsure_files(told):
-    check_unsure(told[0])
+    check_unsure(told)
 
 
 def test_files_of_firms(told):
-    check_firms(told[0])
+    check_firms(told)
 
 
 def test_sheets(told):
     """A third of the sheets or more are converted."""
-    kinds = collections.Counter(it["kind"] for file, it in told[0] if file.units)
+    kinds = collections.Counter(it["kind"] for file, it in told if file.units)
     assert kinds["converted"] >= sum(kinds.values()) // 3, kinds
 
 
 def test_texts(told):
-    """Both languages have the same names with the same values, and each fault and change that came has a sentence."""
-    answers, books = told
-    for english, german in (books[:2], books[2:]):
-        assert set(english) == set(german)
-        for name, text in english.items():
-            pair = [sorted(set(re.findall(r"\{(\w+)\}", it if isinstance(it, str) else " ".join(it)))) for it in (text, german[name])]
-            assert pair[0] == pair[1] and isinstance(text, list) == isinstance(german[name], list), name
-            assert all(text) and all(german[name]), name
-    assert {f"{kind}.{name}" for _, it in answers for kind in ("fault", "change") for _, name in it[kind + "s"]} <= set(books[2])
+    """Each fault and change that came has a sentence. (test_page_rules.py compares the languages.)"""
+    came = {f"{kind}.{name}" for _, it in told for kind in ("fault", "change") for _, name in it[kind + "s"]}
+    with modules.Node("tender_files", NAMES) as node:
+        assert came <= set(node.ask("async () => Object.keys((await import(`${web}/tender/en.js`)).default)"))
 
 
-@pytest.mark.parametrize("change", CHANGED.values(), ids=CHANGED)
+@pytest.mark.parametrize("change", DATA["changed"].values(), ids=DATA["changed"])
 def test_changed_rule(files, tmp_path, change):
-    answers, _ = files.answers(modules.copy_of(str(tmp_path), change), files.few)
+    answers = files.answers(modules.copy_of(str(tmp_path), change), files.few)
     with pytest.raises(AssertionError):
         for answer in answers:
             files.check(*answer)
-        for name in OUTCOMES:
+        for name in DATA["forms"]:
             check_outcome(answers, name)
         check_unsure(answers)
         check_firms(answers)

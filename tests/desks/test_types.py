@@ -3,7 +3,6 @@
 [tsconfig.json](tsconfig.json) has its options. These are off: `noImplicitAny` and `strictNullChecks` (the modules don't give the types of answers),
 `strictPropertyInitialization` and `useUnknownInCatchVariables`.
 """
-import os
 import shutil
 import subprocess
 from pathlib import Path
@@ -18,7 +17,7 @@ HERE = Path(ROOT, "tests", "desks")
 # A module, a text in it, and the wrong text.
 PLANTS = [("common/filters.js", "noticeOf(list, text) {", "noticeOf(list) {"), ("common/money.js", "units.slice(-1)", "units.slize(-1)"),
           ("clerk/letters.js", "drawLetter(_again, name", "drawLetter(again, name"), ("common/csv.js", "(numberOf(field) ", "(numberOf(field, 10) "),
-          ("common/office.js", 'this.kind === "away"', 'this.kynd === "away"'), ("tender/search.js", "session.seen.has(", "session.seen.hast(")]
+          ("common/office.js", 'this.kind === "away"', 'this.kynd === "away"'), ("tender/search.js", "seen.has(one.", "seen.hast(one.")]
 
 
 def findings(project):
@@ -32,13 +31,7 @@ def test_screens():
 
 def test_planted_faults(tmp_path):
     """All are planted in one copy, since each run takes seconds."""
-    web = modules.copy_of(str(tmp_path))
-    for name, old, new in PLANTS:
-        text = (path := Path(web, name)).read_text(encoding="utf-8")
-        assert old in text
-        path.write_text(text.replace(old, new, 1), encoding="utf-8")
-    os.makedirs(project := tmp_path / "tests" / "desks")
-    for name in ("tsconfig.json", "web.d.ts"):
-        shutil.copy(HERE / name, project)
+    modules.copy_of(str(tmp_path), *PLANTS)
+    project = shutil.copytree(HERE, tmp_path / "tests" / "desks", ignore=shutil.ignore_patterns("*.py"))
     told = findings(project)
     assert [name for name, _, _ in PLANTS if not any(f"web/{name}(" in line for line in told)] == []
