@@ -90,6 +90,6 @@ def page_of(table, order, allowed):
     out += ["", f"The chain: {' > '.join(f'`{name}`' for name in table['chain'][1])}.", *(f"\n{it}." for it in lines_of_bodies(table)), LEGEND]
     out += [f"| Crate | {' | '.join(HEADS)} | budget |", f"|{'---|' * (len(HEADS) + 2)}", *lines_of_crates(crates, names, allowed)]
     told = ", ".join(f"`{name}` ({used:.1f})" for name, used in above.items()) or "none"
-    held = f" In the median crates took {slower:.2f} of what they took where budgets were set. Each budget and each aim counts times that." if slower > 1 else ""
+    held = f" In the median crates took {slower:.2f} of what they took where budgets were set. Budgets and aims count times that." if slower > 1 else ""
     out += ["", f"Above its budget by more than a tenth: {told}.{held}"]
     return "\n".join(out) + "\n"
