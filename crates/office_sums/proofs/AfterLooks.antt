@@ -19,3 +19,7 @@ module _ {S : Type 0} (M : Meaning S) (old middle new : S) (keeps : Keeps M old 
       → M.may_leave old u ⊎ ((t : Tables) → M.holds old t × Also t → u ≡ change t)
   leaves_after Also change u honest (inl left) = inl (keeps.stop honest u left)
   leaves_after Also change u honest (inr is) = inr (λ t held. is t (keeps.same honest t held.0))
+
+-- nothing happened
+pub keeps_same : {S : Type 0} (M : Meaning S) (s : S) → Keeps M s s
+keeps_same M s = record { before = λ h. h; same = λ h t held. held; stop = λ h u left. left; sound = λ h was. was }

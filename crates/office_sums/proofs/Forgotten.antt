@@ -1,43 +1,37 @@
--- The sums that are still remembered after some lines were forgotten.
-use Rattle.std.specs.Prelude.{◌≡◌, ℕ, Bool, true, false, cond, List, [], ◌∷◌, ◌++◌, Option, Some, None, Result, Ok, Err, IfOk}
+-- The sums that are remembered after a line was forgotten.
+use Rattle.std.specs.Prelude.{◌≡◌, ℕ, Bool, true, false, cond, List, Option, Some, None}
 use Rattle.std.proofs.Common.{refl, sym, ◌∙◌}
 use Rattle.std.specs.BTreeMap.{is_at}
 use Rattle.std.specs.Cmp.Lexicographic.{texts_ties}
-use Rattle.office_values.specs.Ids.{id_cmp}
-use Rattle.office_base.specs.Tables.{Tables}
-use Rattle.office_sums.proofs.NoneOf.{none_of_both}
+use Rattle.office_values.specs.Ids.{id_cmp, same_id}
+use Rattle.office_base.specs.Tables.{Tables, IsSorted, after_put}
+use Rattle.office_base.specs.declared.puts.Put.{Put}
+use Rattle.office_sums.proofs.SumsStaying.{sums_stay}
+use Rattle.office_sums.specs.Carried.{IsCarried, TouchesNone}
 use Rattle.office_sums.specs.Remembered.{sums_at, Forgets, Remembers}
-use Rattle.office_sums.specs.Touched.{IsNoneOf}
+use Rattle.office_sums.specs.declared.carried.Carried.{Carried}
 use Rattle.office_sums.specs.declared.sums.SumsOfLine.{SumsOfLine}
 
 step : (b : Bool) (old new : Option SumsOfLine) (sums : SumsOfLine) → new ≡ cond b None old → new ≡ Some sums → (old ≡ Some sums) × (b ≡ false)
 step true old new sums is found = absurd (let none : None ≡ Some sums = sym is ∙ found in cc)
 step false old new sums is found = (sym is ∙ found, refl)
 
--- one line is removed
-pub forgotten : (line : List ℕ) (old new : List (List ℕ × SumsOfLine)) → ((q : List ℕ) → sums_at new q ≡ cond (is_at (id_cmp line) q) None (sums_at old q)) → Forgets (line ∷ []) old new
+pub forgotten : (line : List ℕ) (old new : List (List ℕ × SumsOfLine)) → ((q : List ℕ) → sums_at new q ≡ cond (is_at (id_cmp line) q) None (sums_at old q)) → Forgets line old new
 forgotten line old new each = record {
   each = λ q sums found.
       let left : (sums_at old q ≡ Some sums) × (is_at (id_cmp line) q ≡ false) = step (is_at (id_cmp line) q) (sums_at old q) (sums_at new q) sums (each q) found in
-      (left.0, (texts_ties line q ∙ left.1, tt));
+      (left.0, texts_ties line q ∙ left.1);
 }
 
-pub forgets_none : (known : List (List ℕ × SumsOfLine)) → Forgets [] known known
-forgets_none known = record { each = λ line sums found. (found, tt) }
-
-pub forgets_both : (xs ys : List (List ℕ)) (a b c : List (List ℕ × SumsOfLine)) → Forgets xs a b → Forgets ys b c → Forgets (xs ++ ys) a c
-forgets_both xs ys a b c first second = record {
+-- the other lines agree with the tables after a change that touches only this one
+pub others_stay : (known left : List (List ℕ × SumsOfLine)) (p : Put) (t : Tables) (carried : Carried) → Forgets carried.line known left → IsCarried known p t carried → IsSorted t
+    → Remembers known t → Remembers left (after_put p t)
+others_stay known left p t carried forgets is sorted h = record {
   each = λ line sums found.
-      let later : (sums_at b line ≡ Some sums) × IsNoneOf line ys = second.each line sums found in
-      let sooner : (sums_at a line ≡ Some sums) × IsNoneOf line xs = first.each line sums later.0 in
-      (sooner.0, none_of_both line xs ys sooner.1 later.1);
+      let was : (sums_at known line ≡ Some sums) × (same_id carried.line line ≡ false) = forgets.each line sums found in
+      sums_stay line sums p t sorted (is.others line was.1) (h.each line sums was.0);
 }
 
-pub forgets_then : {T E : Type 0} (result : Result T E) (xs ys : List (List ℕ)) (a b c : List (List ℕ × SumsOfLine)) → Forgets xs a b → IfOk result (λ _. Forgets ys b c)
-    → IfOk result (λ _. Forgets (xs ++ ys) a c)
-forgets_then (Ok v) xs ys a b c first second = forgets_both xs ys a b c first second
-forgets_then (Err e) xs ys a b c first second = tt
-
--- sums that agreed with the tables still do
-pub still : (lines : List (List ℕ)) (old new : List (List ℕ × SumsOfLine)) (t : Tables) → Forgets lines old new → Remembers old t → Remembers new t
-still lines old new t forgets h = record { each = λ line sums found. h.each line sums (forgets.each line sums found).0 }
+-- all lines agree with the tables after a change that touches none
+pub all_stay : (known : List (List ℕ × SumsOfLine)) (p : Put) (t : Tables) → TouchesNone p t → IsSorted t → Remembers known t → Remembers known (after_put p t)
+all_stay known p t none sorted h = record { each = λ line sums found. sums_stay line sums p t sorted (none.each line) (h.each line sums found) }

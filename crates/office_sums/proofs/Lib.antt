@@ -1,11 +1,13 @@
 pub mod NoneOf
 pub mod PutRows
 pub mod PutAmounts
-pub mod Staying
 pub mod SumsStaying
 pub mod Forgotten
 pub mod Known
 pub mod AfterLooks
+pub mod LastLots
+pub mod LotMoved
+pub mod ContractMoved
 pub mod OneMore
 pub mod CarriedOver
 pub mod LedgerSoFar

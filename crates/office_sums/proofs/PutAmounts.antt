@@ -5,7 +5,6 @@ use Rattle.std.specs.List.{AllByRecursion}
 use Rattle.std.specs.Ordering.{nat_cmp, eq_by_cmp}
 use Rattle.std.specs.FinMap.{nat_cmp-IsAntisymmetric}
 use Rattle.std.proofs.lemmas.Cmp.{nat_cmp_total}
-use Rattle.office_values.specs.Ids.{same_id}
 use Rattle.office_base.specs.EntryKinds.{is_raise, is_payment, is_less}
 use Rattle.office_base.specs.Rows.{holds_of}
 use Rattle.office_base.specs.Tables.{Tables, IsSorted, lot_cmp, entry_cmp, same_number, lot_key, contract_key, entry_key, find_lot, put_lot, find_contract, find_entry, put_entry, of_line, after_put}
@@ -37,11 +36,11 @@ pub contract_apart : (line : List ℕ) (t : Tables) (c : Option ContractRow) →
 contract_apart line t None h = refl
 contract_apart line t (Some c) h = lot_apart line (find_lot t.lots (c.notice, c.lot)) h
 
--- a changed lot brings no contract to the line and takes none from it
-module _ (line : List ℕ) (lots : List LotRow) (l : LotRow) (new : same_id l.line line ≡ false) (old : holds_of (of_line line) (find_lot lots (lot_key l)) ≡ false) where
+-- a lot brings no contract to the line and takes none from it, if it is on the line exactly if the replaced one is
+module _ (line : List ℕ) (lots : List LotRow) (l : LotRow) (same : of_line line l ≡ holds_of (of_line line) (find_lot lots (lot_key l))) where
   lot_step : (k : List ℕ × List ℕ) (b : Bool) → eq_by_cmp lot_cmp k (lot_key l) ≡ b
       → holds_of (of_line line) (cond b (Some l) (find_lot lots k)) ≡ holds_of (of_line line) (find_lot lots k)
-  lot_step k true e = new ∙ sym (ap (λ k. holds_of (of_line line) (find_lot lots k)) (equal_keys lots_exact k (lot_key l) e) ∙ old)
+  lot_step k true e = same ∙ sym (ap (λ k. holds_of (of_line line) (find_lot lots k)) (equal_keys lots_exact k (lot_key l) e))
   lot_step k false e = refl
 
   pub on_line-put_lot : (c : ContractRow) → is_on_line (put_lot lots l) line c ≡ is_on_line lots line c
@@ -99,7 +98,7 @@ amounts-put (puts.Lot l) t line sorted h =
     ap (λ (ls : List LotRow). record { reserved = map (λ (lot : LotRow). lot.reserved) ls; contracts = map (sums_of t.entries) (filter (is_on_line (put_lot t.lots l) line) t.contracts) })
     (filter-put lot_cmp lot_key (of_line line) t.lots l h.0 old)
     ∙ ap (λ (cs : List ContractRow). record { reserved = reservations line t; contracts = map (sums_of t.entries) cs })
-    (filter-ext (is_on_line (put_lot t.lots l) line) (is_on_line t.lots line) (on_line-put_lot line t.lots l h.0 old) t.contracts)
+    (filter-ext (is_on_line (put_lot t.lots l) line) (is_on_line t.lots line) (on_line-put_lot line t.lots l (h.0 ∙ sym old)) t.contracts)
 amounts-put (puts.Contract c) t line sorted h =
     ap (λ (cs : List ContractRow). record { reserved = reservations line t; contracts = map (sums_of t.entries) cs })
     (filter-put nat_cmp contract_key (is_on_line t.lots line) t.contracts c

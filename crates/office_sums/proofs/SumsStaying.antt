@@ -1,21 +1,19 @@
--- The sums of lines that changes don't touch stay.
+-- The sums of lines that a change doesn't touch stay.
 use Rattle.std.specs.Prelude.{◌≡◌, ℕ, ◌≤◌, List, [], ◌∷◌, map}
 use Rattle.std.proofs.Common.{sym, ap, subst, ◌∙◌}
 use Rattle.std.specs.List.{AllByRecursion}
 use Rattle.office_values.specs.Money.{total_limit}
 use Rattle.office_base.specs.Sums.{sum_over}
-use Rattle.office_base.specs.Tables.{Tables, IsSorted, after_puts}
+use Rattle.office_base.specs.Tables.{Tables, after_put}
 use Rattle.office_base.specs.Joined.{plus, minus, reserved, contracted, paid, contracts_of_line, sums_of, LineFits}
 use Rattle.office_base.specs.LineSums.{outstanding_in, paid_in}
 use Rattle.office_base.specs.declared.records.ContractRow.{ContractRow}
 use Rattle.office_base.specs.declared.ledger.ContractSums.{ContractSums}
 use Rattle.office_base.specs.declared.ledger.LineAmounts.{LineAmounts}
-use Rattle.office_base.specs.declared.puts.Put.{Put}
 use Rattle.office_base.proofs.SumsOver.{sum_over-map}
-use Rattle.office_sums.proofs.Staying.{amounts_stay}
-use Rattle.office_sums.specs.Touched.{touched_by, IsNoneOf, joined_amounts}
-use Rattle.office_sums.specs.Remembered.{AreSums, SumsStay}
-use Rattle.office_sums.specs.declared.sums.SumsOfLine.{SumsOfLine}
+use Rattle.office_sums.proofs.PutAmounts.{amounts-put}
+use Rattle.office_sums.specs.Touched.{joined_amounts}
+use Rattle.office_sums.specs.Remembered.{SumsStay}
 
 -- a sum over contracts is a sum over their sums
 by_sums : (t : Tables) (f : ContractSums → ℕ) (cs : List ContractRow) → sum_over (λ m. m) (map (λ c. f (sums_of t.entries c)) cs) ≡ sum_over f (map (sums_of t.entries) cs)
@@ -54,14 +52,11 @@ module _ (line : List ℕ) (t u : Tables) (same : joined_amounts line u ≡ join
     paid_fits = subst (λ n. n ≤ total_limit) paid_same h.paid_fits;
   }
 
-pub stays : (line : List ℕ) (sums : SumsOfLine) (puts : List Put) (t : Tables) → IsSorted t → IsNoneOf line (touched_by puts t) → AreSums line sums t → AreSums line sums (after_puts puts t)
-stays line sums puts t sorted apart are =
-    let same : joined_amounts line (after_puts puts t) ≡ joined_amounts line t = amounts_stay puts t line sorted apart in record {
-      reserved_is = are.reserved_is ∙ reserved_same line t (after_puts puts t) same;
-      contracted_is = are.contracted_is ∙ contracted_same line t (after_puts puts t) same;
-      paid_is = are.paid_is ∙ paid_same line t (after_puts puts t) same;
-      fit = fits_same line t (after_puts puts t) same are.fit;
-    }
-
 pub sums_stay : SumsStay
-sums_stay known puts t sorted apart h = record { each = λ line sums found. stays line sums puts t sorted (apart.each line sums found) (h.each line sums found) }
+sums_stay line sums p t sorted apart are =
+    let same : joined_amounts line (after_put p t) ≡ joined_amounts line t = amounts-put p t line sorted apart in record {
+      reserved_is = are.reserved_is ∙ reserved_same line t (after_put p t) same;
+      contracted_is = are.contracted_is ∙ contracted_same line t (after_put p t) same;
+      paid_is = are.paid_is ∙ paid_same line t (after_put p t) same;
+      fit = fits_same line t (after_put p t) same are.fit;
+    }

@@ -1,16 +1,16 @@
 -- The sums of budget lines that a store remembers, and when they agree with its tables.
-use Rattle.std.specs.Prelude.{◌≡◌, ℕ, List, Option, Some, None}
+use Rattle.std.specs.Prelude.{◌≡◌, ℕ, false, List, Option, Some, None}
 use Rattle.std.specs.BTreeMap.{is_at}
 use Rattle.std.specs.List.{AllByRecursion}
 use Rattle.std.specs.Map.{lookup}
-use Rattle.office_values.specs.Ids.{id_cmp}
-use Rattle.office_base.specs.Tables.{Tables, IsSorted, after_puts}
+use Rattle.office_values.specs.Ids.{id_cmp, same_id}
+use Rattle.office_base.specs.Tables.{Tables, IsSorted, after_put}
 use Rattle.office_base.specs.Joined.{reserved, contracted, paid, pots_of, LineFits}
 use Rattle.office_base.specs.declared.ledger.LedgerRow.{LedgerRow}
 use Rattle.office_base.specs.declared.ledger.Pots.{Pots}
 use Rattle.office_base.specs.declared.records.LineRow.{LineRow}
 use Rattle.office_base.specs.declared.puts.Put.{Put}
-use Rattle.office_sums.specs.Touched.{touched_by, IsNoneOf}
+use Rattle.office_sums.specs.Touched.{touched, IsNoneOf}
 use Rattle.office_sums.specs.declared.sums.SumsOfLine.{SumsOfLine}
 
 -- the sums that are remembered of a line, if any
@@ -28,17 +28,13 @@ pub record AreSums (line : List ℕ) (sums : SumsOfLine) (t : Tables) : Type 0 w
 pub record Remembers (known : List (List ℕ × SumsOfLine)) (t : Tables) : Type 0 where
   pub each : (line : List ℕ) (sums : SumsOfLine) → sums_at known line ≡ Some sums → AreSums line sums t
 
--- the lines that are still remembered are none of these lines, and have the sums that they had
-pub record Forgets (lines : List (List ℕ)) (old new : List (List ℕ × SumsOfLine)) : Type 0 where
-  pub each : (line : List ℕ) (sums : SumsOfLine) → sums_at new line ≡ Some sums → (sums_at old line ≡ Some sums) × IsNoneOf line lines
+-- the lines that are still remembered aren't this line, and have the sums that they had
+pub record Forgets (line : List ℕ) (old new : List (List ℕ × SumsOfLine)) : Type 0 where
+  pub each : (other : List ℕ) (sums : SumsOfLine) → sums_at new other ≡ Some sums → (sums_at old other ≡ Some sums) × (same_id line other ≡ false)
 
--- no line that is remembered is touched by these changes
-pub record AreUntouched (known : List (List ℕ × SumsOfLine)) (puts : List Put) (t : Tables) : Type 0 where
-  pub each : (line : List ℕ) (sums : SumsOfLine) → sums_at known line ≡ Some sums → IsNoneOf line (touched_by puts t)
-
--- the sums that are remembered of lines that changes don't touch agree with the tables after these changes
+-- a change that doesn't touch a line leaves its sums
 abbrev pub SumsStay : Type 0
-SumsStay = (known : List (List ℕ × SumsOfLine)) (puts : List Put) (t : Tables) → IsSorted t → AreUntouched known puts t → Remembers known t → Remembers known (after_puts puts t)
+SumsStay = (line : List ℕ) (sums : SumsOfLine) (p : Put) (t : Tables) → IsSorted t → IsNoneOf line (touched p t) → AreSums line sums t → AreSums line sums (after_put p t)
 
 -- the balances of the line with this row and these sums
 abbrev pub pots_by : LineRow → SumsOfLine → Pots

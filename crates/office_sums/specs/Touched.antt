@@ -2,7 +2,7 @@
 use Rattle.std.specs.Prelude.{◌≡◌, ℕ, false, List, [], ◌∷◌, ◌++◌, map, Option, Some, None}
 use Rattle.std.specs.List.{AllByRecursion}
 use Rattle.office_values.specs.Ids.{same_id}
-use Rattle.office_base.specs.Tables.{Tables, IsSorted, lot_at, contract_at, lot_key, after_puts}
+use Rattle.office_base.specs.Tables.{Tables, IsSorted, lot_at, contract_at, lot_key, after_put}
 use Rattle.office_base.specs.Joined.{reservations, contracts_of_line, sums_of}
 use Rattle.office_base.specs.declared.records.LotRow.{LotRow}
 use Rattle.office_base.specs.declared.records.ContractRow.{ContractRow}
@@ -28,11 +28,6 @@ touched (puts.Contract r) t = lines_of_contract t (Some r) ++ lines_of_contract 
 touched (puts.Entry r) t = lines_of_contract t (contract_at r.contract t)
 touched _ t = []
 
--- the lines that these changes touch, all of them looked up before the first change is made
-abbrev pub touched_by : List Put → Tables → List (List ℕ)
-touched_by [] t = []
-touched_by (p ∷ ps) t = touched p t ++ touched_by ps t
-
 -- the line is none of these
 abbrev pub IsNoneOf : List ℕ → List (List ℕ) → Type 0
 IsNoneOf line lines = AllByRecursion (λ other. same_id other line ≡ false) lines
@@ -41,6 +36,6 @@ IsNoneOf line lines = AllByRecursion (λ other. same_id other line ≡ false) li
 abbrev pub joined_amounts : List ℕ → Tables → LineAmounts
 joined_amounts line t = record { reserved = reservations line t; contracts = map (sums_of t.entries) (contracts_of_line line t) }
 
--- changes that don't touch a line leave the amounts that add up to its sums
+-- a change that doesn't touch a line leaves the amounts that add up to its sums
 abbrev pub AmountsStay : Type 0
-AmountsStay = (ps : List Put) (t : Tables) (line : List ℕ) → IsSorted t → IsNoneOf line (touched_by ps t) → joined_amounts line (after_puts ps t) ≡ joined_amounts line t
+AmountsStay = (p : Put) (t : Tables) (line : List ℕ) → IsSorted t → IsNoneOf line (touched p t) → joined_amounts line (after_put p t) ≡ joined_amounts line t

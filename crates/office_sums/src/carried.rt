@@ -1,21 +1,51 @@
-//! The sums of a budget line after one more entry of one of its contracts, by the sums before it.
+//! The sums of a budget line after a change of one of its lots or contracts, by the sums before it.
 ghost use Rattle.std.specs.Prelude.{◌≡◌, ◌+◌, ◌≤◌, IfSome};
 ghost use Rattle.office_values.specs.Money.{total_limit};
 ghost use Rattle.office_base.specs.EntrySums.{bare_sums, sums_with_entries, sums_with_entry};
 ghost use Rattle.office_base.specs.LineSums.{outstanding_in};
-ghost use Rattle.office_sums.specs.Carried.{AreShifted};
+ghost use Rattle.office_sums.specs.Carried.{reservation_of, sums_before, AreReserved, AreShifted};
 
 use crate::sums::SumsOfLine;
 use office_base::ledger::ContractSums;
-use office_base::records::{ContractRow, EntryRow};
+use office_base::records::{ContractRow, EntryRow, LotRow};
 use office_values::id::Id;
-use office_values::money::Total;
+use office_values::money::{Amount, Total};
 
-/// A line, and the sums that it will have after some changes.
+/// The line of a lot, and the amount that the lot reserves there.
+#[derive(Clone, Copy)]
+pub struct Reservation {
+    pub line: Id,
+    pub amount: Amount,
+}
+
+impl Reservation {
+    /// That of this lot.
+    pub fn of(lot: &LotRow) -> Reservation
+        ensures { result ≡ reservation_of lot.now }
+    {
+        Reservation {
+            line: lot.line,
+            amount: lot.reserved,
+        }
+    }
+}
+
+/// A line, and its sums after a change. None if they would have to be added up.
 #[derive(Clone, Copy)]
 pub struct Carried {
     pub line: Id,
-    pub sums: SumsOfLine,
+    pub sums: Option<SumsOfLine>,
+}
+
+/// The lines that a change touches.
+#[derive(Clone, Copy)]
+pub enum Touch {
+    /// No line.
+    Nothing,
+    /// No other line than this one.
+    Line(Carried),
+    /// Any lines.
+    Any,
 }
 
 // No contract gets near it, since an entry has at most 2^50 units.
@@ -47,6 +77,20 @@ fn sums_with(contract: &ContractRow, entries: &[EntryRow]) -> Option<ContractSum
     Some(sums)
 }
 
+// The sums of a contract with these entries, and 0 if there is no contract; None if they are 2^100 or more.
+fn sums_before(contract: &Option<ContractRow>, entries: &[EntryRow]) -> Option<ContractSums>
+    ensures { IfSome result (λ sums. sums ≡ sums_before contract.now entries.now) }
+{
+    match contract {
+        Some(row) => sums_with(row, entries),
+        None => Some(ContractSums {
+            gained: 0,
+            lost: 0,
+            paid: 0,
+        }),
+    }
+}
+
 // The outstanding amount of a contract with these sums.
 fn outstanding(sums: ContractSums) -> u128
     ensures { result ≡ outstanding_in sums }
@@ -54,7 +98,7 @@ fn outstanding(sums: ContractSums) -> u128
     sums.gained.saturating_sub(sums.lost)
 }
 
-// The sum of a line if one of its contracts counts with another amount than before; None if it is outside its range.
+// The sum of a line if one of its rows counts with another amount than before; None if it is outside its range.
 fn shift_sum(sum: Total, before: u128, after: u128) -> Option<Total>
     ensures sum { IfSome result (λ new. new + before ≡ sum + after) }
     ensures fits { IfSome result (λ new. new ≤ total_limit) }
@@ -79,9 +123,34 @@ fn shift(old: SumsOfLine, before: ContractSums, after: ContractSums) -> Option<S
     })
 }
 
+/// The sums of a line if one of its lots reserves another amount than before. None if the sum is outside its range.
+pub fn shift_reserved(old: SumsOfLine, before: Amount, after: Amount) -> Option<SumsOfLine>
+    ensures { IfSome result (λ new. AreReserved old new before after) }
+{
+    let reserved = shift_sum(old.reserved, before.units() as u128, after.units() as u128)?;
+    Some(SumsOfLine { reserved, ..old })
+}
+
+/// The sums of a line if this contract has this row and not that one (None: it is new), and has these entries. None if the contract then lost more than it
+/// gained, or if a sum is outside its range.
+pub fn shift_contract(
+    old: SumsOfLine,
+    before: &Option<ContractRow>,
+    after: &ContractRow,
+    entries: &[EntryRow],
+) -> Option<SumsOfLine>
+    ensures { IfSome result (λ new. AreShifted old new (sums_before before.now entries.now) (sums_with_entries (bare_sums after.now) entries.now)) }
+{
+    shift(
+        old,
+        sums_before(before, entries)?,
+        sums_with(after, entries)?,
+    )
+}
+
 /// The sums of a line after one more entry of this contract, which has these entries. None if the contract then lost more than it gained, or if a sum is outside
 /// its range.
-pub fn shift_by(
+pub fn shift_entry(
     old: SumsOfLine,
     contract: &ContractRow,
     entries: &[EntryRow],

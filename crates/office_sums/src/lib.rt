@@ -4,7 +4,6 @@
 pub mod asking;
 pub mod carried;
 pub mod carrying;
-pub mod forgetting;
 pub mod laws;
 pub mod lookups;
 pub mod remembered;

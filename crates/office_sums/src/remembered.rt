@@ -1,14 +1,15 @@
 //! The sums of budget lines that are remembered.
-ghost use Rattle.std.specs.Prelude.{◌≡◌, ◌↔◌, [], ◌∷◌, IfSome, IsTrue, length};
-ghost use Rattle.office_base.specs.Tables.{Tables};
+ghost use Rattle.std.specs.Prelude.{◌≡◌, ◌↔◌, [], IsTrue, length};
+ghost use Rattle.office_base.specs.Tables.{Tables, IsSorted, after_put};
+ghost use Rattle.office_base.specs.declared.puts.Put.{Put};
+ghost use Rattle.office_sums.specs.Carried.{IsCarried, IsTouch};
 ghost use Rattle.office_sums.specs.Remembered.{sums_at, sums_in, AreSums, Forgets, IsSummed, Remembers};
-ghost use Rattle.office_sums.specs.Touched.{lines_of_lot};
 
-use crate::carried::Carried;
+use crate::carried::{Carried, Touch};
 use crate::laws::nothing_remembered;
 use crate::sums::SumsOfLine;
 use office_base::ledger::Pots;
-use office_base::records::{LineRow, LotRow};
+use office_base::records::LineRow;
 use office_values::id::Id;
 use std::alloc::Global;
 use std::collections::BTreeMap;
@@ -63,23 +64,11 @@ impl RememberedSums {
         self.sums.get(line).copied()
     }
 
-    /// Forgets this line. It allocates no memory.
-    pub fn forget(&mut self, line: &Id)
-        ensures forgets { Forgets (line.now ∷ []) self.old self.new }
-        ensures kept { (t : Tables) → Remembers self.old t → Remembers self.new t }
+    // Forgets this line.
+    fn forget(&mut self, line: &Id)
+        ensures { Forgets line.now self.old self.new }
     {
         self.sums.remove(line);
-    }
-
-    /// Forgets the line of this lot, if it exists. It allocates no memory.
-    pub fn forget_lot(&mut self, lot: &Option<LotRow>)
-        ensures forgets { Forgets (lines_of_lot lot.now) self.old self.new }
-        ensures kept { (t : Tables) → Remembers self.old t → Remembers self.new t }
-    {
-        match lot {
-            Some(row) => self.forget(&row.line),
-            None => {}
-        }
     }
 
     /// Forgets all lines. It allocates no memory.
@@ -124,14 +113,25 @@ impl RememberedSums {
         }
     }
 
-    /// Remembers the sums that were carried over changes, if there are any and there is memory for them. Their line was forgotten before, so there are at most
-    /// `MOST_LINES` lines.
-    pub fn remember_carried(&mut self, carried: &Option<Carried>)
-        ensures kept { (t : Tables) → IfSome carried.now (λ c. AreSums c.line c.sums t) → Remembers self.old t → Remembers self.new t }
+    // Remembers the sums that a line has after a change, if they are known and there is memory for them; otherwise forgets the line.
+    fn replace(&mut self, carried: &Carried)
+        ensures { (p : Put) (t : Tables) → IsCarried self.old p t carried.now → IsSorted t → Remembers self.old t → Remembers self.new (after_put p t) }
     {
-        match carried {
-            Some(line) => self.insert(line.line, line.sums),
-            None => {}
+        self.forget(&carried.line);
+        if let Some(sums) = carried.sums {
+            self.insert(carried.line, sums);
+        }
+    }
+
+    /// Takes over the sums of a change: they agree with the tables after it if the remembered ones agreed with those before it. There are no more lines than before.
+    pub fn take_over(&mut self, touch: &Touch)
+        ensures { (p : Put) (t : Tables) → IsTouch self.old p t touch.now → IsSorted t → Remembers self.old t → Remembers self.new (after_put p t) }
+    {
+        nothing_remembered();
+        match touch {
+            Touch::Nothing => {}
+            Touch::Line(carried) => self.replace(carried),
+            Touch::Any => self.forget_all(),
         }
     }
 }

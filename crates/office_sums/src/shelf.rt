@@ -1,14 +1,12 @@
 //! A store that remembers the sums of budget lines.
-ghost use Rattle.std.specs.Prelude.{◌≡◌, [], IfSome};
+ghost use Rattle.std.specs.Prelude.{◌≡◌, []};
 ghost use Rattle.office_base.specs.Faults.{count_after, one_fault_more};
 ghost use Rattle.office_base.specs.Shelves.{Keeps};
-ghost use Rattle.office_base.specs.Tables.{Tables, IsSorted, after_puts};
-ghost use Rattle.office_sums.specs.Remembered.{AreSums, AreUntouched, Remembers};
+ghost use Rattle.office_base.specs.Tables.{Tables};
+ghost use Rattle.office_sums.specs.Carried.{Follows};
 ghost use Rattle.office_sums.specs.RememberingMeaning.{remembering, remembering_standing};
 
-use crate::carried::Carried;
-use crate::carrying::carry;
-use crate::forgetting::forget;
+use crate::carrying::follow;
 use crate::laws::nothing_remembered;
 use crate::remembered::RememberedSums;
 use office_base::puts::Put;
@@ -68,29 +66,14 @@ impl<H: Lookups> RememberingShelf<H> {
         shelf
     }
 
-    // The sums of a line after these changes, if one new entry of its contracts is all that touches it. None also if a look-up for this fails.
-    fn carry(&mut self, puts: &[Put]) -> Option<Carried>
+    // Carries the sums over these changes, before they are made. If a look-up for this fails, it forgets all lines.
+    fn follow(&mut self, puts: &[Put])
         ensures keeps { Keeps H.meaning self.old.shelf self.new.shelf }
-        ensures right { H.meaning.honest self.new.shelf → (t : Tables) → H.meaning.holds self.old.shelf t → IsSorted t → Remembers self.old.known t
-            → IfSome result (λ c. AreSums c.line c.sums (after_puts puts.now t)) }
-        ensures known { self.new.known ≡ self.old.known }
-        ensures counted { self.new.faults ≡ self.old.faults }
-    {
-        match carry(&mut self.shelf, &self.known, puts) {
-            Ok(carried) => carried,
-            Err(_) => None,
-        }
-    }
-
-    // Forgets the lines that changes touch. If a look-up for this fails, it forgets all lines.
-    fn forget(&mut self, puts: &[Put])
-        ensures keeps { Keeps H.meaning self.old.shelf self.new.shelf }
-        ensures untouched { H.meaning.honest self.new.shelf → (t : Tables) → H.meaning.holds self.old.shelf t → AreUntouched self.new.known puts.now t }
-        ensures kept { (t : Tables) → Remembers self.old.known t → Remembers self.new.known t }
+        ensures right { H.meaning.honest self.new.shelf → (t : Tables) → H.meaning.holds self.old.shelf t → Follows self.old.known self.new.known puts.now t }
         ensures counted { self.new.faults ≡ self.old.faults }
     {
         nothing_remembered();
-        if forget(&mut self.shelf, &mut self.known, puts).is_err() {
+        if follow(&mut self.shelf, &mut self.known, puts).is_err() {
             self.known.forget_all();
         }
     }
@@ -122,9 +105,7 @@ impl<H: Lookups> RememberingShelf<H> {
 
 impl<H: Shelf> Shelf for RememberingShelf<H> {
     fn apply(&mut self, puts: Vec<Put>) -> Result<(), ShelfFault> {
-        let carried = self.carry(&puts);
-        self.forget(&puts);
-        self.known.remember_carried(&carried);
+        self.follow(&puts);
         match self.shelf.apply(puts) {
             Ok(()) => Ok(()),
             Err(fault) => {

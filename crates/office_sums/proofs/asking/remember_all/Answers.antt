@@ -5,7 +5,7 @@ use Rattle.office_sums.proofs.asking.remember_all.Goals as goal
 use Rattle.office_sums.specs.Remembered.{sums_in, AreSums, AreBalances, Remembers}
 
 pub loop-row-init : goal.loop-row-init
-loop-row-init c t told = (told, subst (λ known. Remembers known t) (sym c.forget_all.ensures) (c.nothing_remembered.ensures.agrees t))
+loop-row-init c t told = (told, subst (λ known. Remembers known t) (sym c.forget_all.ensures) (c.nothing_remembered.ensures t))
 
 pub loop-row-preserved : goal.loop-row-preserved
 loop-row-preserved c t told =

@@ -1,6 +1,6 @@
 use Rattle.std.proofs.Common.{◌≡◌, ◌+◌, ◌∷◌, List, drop, sym, ap, ◌∙◌, arith}
 use Rattle.std.proofs.lemmas.List.{at_drop_all, drop_more}
-use Rattle.office_base.specs.EntrySums.{bare_sums, sums_with_entries, sums_with_entry}
+use Rattle.office_base.specs.EntrySums.{sums_with_entries}
 use Rattle.office_base.specs.declared.ledger.ContractSums.{ContractSums}
 use Rattle.office_base.specs.declared.records.EntryRow.{EntryRow}
 use Rattle.office_sums.proofs.carried.sums_with.Goals as goal

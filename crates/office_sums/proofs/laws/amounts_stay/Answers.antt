@@ -1,5 +1,5 @@
-use Rattle.office_sums.proofs.Staying.{amounts_stay}
+use Rattle.office_sums.proofs.PutAmounts.{amounts-put}
 use Rattle.office_sums.proofs.laws.amounts_stay.Goals as goal
 
 pub returns : goal.returns
-returns c = amounts_stay
+returns c = amounts-put

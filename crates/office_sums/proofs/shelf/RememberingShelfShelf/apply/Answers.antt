@@ -1,51 +1,41 @@
-use Rattle.std.specs.Prelude.{List, IfSome}
+use Rattle.std.specs.Prelude.{List}
 use Rattle.std.proofs.Common.{ap, subst, sym, ◌∙◌}
-use Rattle.office_base.proofs.Looked.{keeps_then}
 use Rattle.office_base.specs.Faults.{one_fault_more}
 use Rattle.office_base.specs.Tables.{after_puts}
 use Rattle.office_base.specs.declared.puts.Put.{Put}
 use Rattle.office_sums.proofs.AfterLooks.{fails_after, leaves_after}
 use Rattle.office_sums.proofs.Known.{none_known}
-use Rattle.office_sums.proofs.SumsStaying.{sums_stay}
 use Rattle.office_sums.proofs.shelf.RememberingShelfShelf.apply.Goals as goal
-use Rattle.office_sums.specs.Remembered.{AreSums, AreUntouched, Remembers}
+use Rattle.office_sums.specs.Carried.{Follows}
+use Rattle.office_sums.specs.Remembered.{Remembers}
 
 pub returns-in-Ok : goal.returns-in-Ok
 returns-in-Ok g c =
-    let M = g.H.Lookups.meaning in
-    let carry = c.carry-carried.ensures in
-    let forgot = c.forget.ensures in
-    let looked = keeps_then M _ _ _ carry.keeps forgot.keeps in
-    let made = c.in-Ok.ensures.0 in
-    let puts = c.args.puts.items in
-    let known = c.forget.new.self.known in (
+    let follow = c.follow.ensures in
+    let looked = follow.keeps in
+    let made = c.in-Ok.ensures.0 in (
       record {
         before = λ honest. looked.before (made.before honest);
         all = λ honest t held.
-            let was = forgot.keeps.before (made.before honest) in
-            let sorted = g.met.H.Lookups.held_sorted _ t held.0 in (
-              made.all honest t (looked.same (made.before honest) t held.0),
-              c.remember_carried.ensures.kept (after_puts puts t)
-                  (subst (λ (ps : List Put). IfSome c.carry-carried.result (λ s. AreSums s.line s.sums (after_puts ps t))) c.deref.ensures.value (carry.right was t held.0 sorted held.1))
-                  (sums_stay known puts t sorted
-                  (subst (λ (ps : List Put). AreUntouched known ps t) c.deref-2.ensures.value (forgot.untouched (made.before honest) t (carry.keeps.same was t held.0)))
-                  (forgot.kept t (subst (λ k. Remembers k t) (sym carry.known) held.1))),
+            let then = made.before honest in (
+              made.all honest t (looked.same then t held.0),
+              (subst (λ (ps : List Put). Follows c.args.self.now.known c.follow.new.self.known ps t) c.deref.ensures.value (follow.right then t held.0)).right
+                  (g.met.H.Lookups.held_sorted _ t held.0) held.1,
             );
         none = λ honest t held. tt;
         stop_all = λ honest t held. made.stop_all honest t (looked.same (made.before honest) t held.0);
         stop_none = λ honest. tt;
         sound = λ honest was. made.sound honest (looked.sound (made.before honest) was);
       },
-      forgot.counted ∙ carry.counted,
+      follow.counted,
       λ honest t held. tt,
     )
 
 pub returns-in-Err : goal.returns-in-Err
 returns-in-Err g c =
     let M = g.H.Lookups.meaning in
-    let carry = c.carry-carried.ensures in
-    let forgot = c.forget.ensures in
-    let looked = keeps_then M _ _ _ carry.keeps forgot.keeps in
+    let follow = c.follow.ensures in
+    let looked = follow.keeps in
     let made = c.in-Err.ensures.0 in
     let puts = c.args.puts.items in (
       record {
@@ -59,6 +49,6 @@ returns-in-Err g c =
         stop_none = λ honest u left. leaves_after M _ _ c.apply.new.self looked (Remembers c.args.self.now.known) (after_puts puts) u (made.before honest) (made.stop_none honest u left);
         sound = λ honest was. made.sound honest (looked.sound (made.before honest) was);
       },
-      c.saturating_add-self.ensures ∙ ap one_fault_more (forgot.counted ∙ carry.counted),
+      c.saturating_add-self.ensures ∙ ap one_fault_more follow.counted,
       λ honest t held. fails_after M _ _ c.apply.new.self looked puts c.in-Err.fault (c.in-Err.ensures.2 honest t (looked.same (made.before honest) t held.0)),
     )
