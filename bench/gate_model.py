@@ -1,21 +1,12 @@
-#!/usr/bin/env python3
-"""Computes how long the gate takes on a given number of processors, from the minutes of a run on any number of them.
-
-    bench/gate_model.py TABLE           TABLE is what `bench/gate --save TABLE` wrote; for 4 and 2 processors
-    bench/gate_model.py TABLE 8         for 8
+"""Computes how long the gate takes on a given number of processors, from the table of a run on any number of them. Used by bench/gate.
 
 It plays the schedule of `rt ci` on paper, with one lane for each check. So rt must know the number of lanes, as with `make test` and 5 GB of free memory for
 each (office_kit/gate/lanes.py). Proofs and tests come first, those first on which most lines depend. The check with which a crate's mutants begin, and then the
-mutants, fill the free lanes. The model leaves out other work on the machine. It prints the wall minutes for each number, and the longest chain of crates.
-docs/GATE.md has both. Exit status: 0 they are printed, 1 the table can't be read or is incomplete, 2 wrong arguments.
+mutants, fill the free lanes. The model leaves out other work on the machine. docs/GATE.md has the wall minutes, and the longest chain of crates.
 """
-import json
-import sys
 from pathlib import Path
 from typing import NamedTuple
 
-sys.dont_write_bytecode = True
-from office_kit.common import ROOT, fail, options_of
 from office_kit.gate.crates import crates_of
 
 # The processor time of a check while this many run side by side, compared with one that runs alone.
@@ -96,23 +87,3 @@ def longest_chain(root, table):
         own = table["crates"].get(crate, {"wall": 0.0})["wall"]
         found[crate] = minutes + own, [*chain, crate] if own else chain
     return max(found.values())
-
-
-def main():
-    options = options_of(__doc__)
-    options.add_argument("table", metavar="TABLE", help="the table that `bench/gate --save TABLE` wrote")
-    options.add_argument("numbers", nargs="*", type=int, default=[4, 2], metavar="NUMBER", help="the number of processors (4, and 2)")
-    choice = options.parse_args()
-    try:
-        with open(choice.table) as file:
-            table = json.load(file)
-        minutes, chain = longest_chain(ROOT, table)
-        print(f"the longest chain of crates, in wall minutes of their proofs: {minutes:.1f}: {' > '.join(chain)}")
-        for lanes in choice.numbers:
-            print(f"by the model, on {lanes} processors that nothing else uses: {minutes_on(ROOT, table, lanes):.0f} minutes")
-    except (OSError, ValueError, KeyError) as error:
-        fail(f"{choice.table}: {error!r}")
-
-
-if __name__ == "__main__":
-    main()

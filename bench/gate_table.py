@@ -28,10 +28,6 @@ def cells_of(row):
     return [row["wall"], *used[:4], len(row["edits"]), *used[4:], sum(used)]
 
 
-def texts_of(cells):
-    return [f"{it:.1f}" if isinstance(it, float) else str(it) for it in cells]
-
-
 def budgets(root):
     """The processor minutes that bench/budgets.txt allows each crate."""
     with open(os.path.join(root, "bench", "budgets.txt"), encoding="utf-8") as file:
@@ -77,7 +73,8 @@ def lines_of_crates(crates, names, allowed):
     cells["all"] = ["", *map(sum, list(zip(*cells.values()))[1:])]
     most = {"all": sum(allowed.values()), **{f"`{name}`": minutes for name, minutes in allowed.items()}}
     for name, them in cells.items():
-        yield f"| {name} | {' | '.join(texts_of(them))} | {f'{most[name]:.1f}' if name in most else 'none'} |"
+        texts = [f"{it:.1f}" if isinstance(it, float) else str(it) for it in them]
+        yield f"| {name} | {' | '.join(texts)} | {f'{most[name]:.1f}' if name in most else 'none'} |"
 
 
 def page_of(table, order, allowed):

@@ -65,22 +65,18 @@ class Work:
 
 
 class Watch(threading.Thread):
-    """Reads the processes below that of a number until it ends or stop() is called."""
+    """Reads the processes below that of a number until it is gone: it has ended, and its parent has waited for it."""
 
     def __init__(self, pid):
         super().__init__(daemon=True)
-        self.pid, self.stopped, self.seen = pid, threading.Event(), {}
+        self.pid, self.seen = pid, {}
 
     def run(self):
-        while not self.stopped.is_set() and self.read():
-            self.stopped.wait(EVERY)
-
-    def stop(self):
-        self.stopped.set()
-        self.join()
+        while self.read():
+            time.sleep(EVERY)
 
     def read(self):
-        """One reading; whether the watched process still runs. A process counts for the nearest one at or above it that works for a crate."""
+        """One reading; whether the watched process is still there. A process counts for the nearest one at or above it that works for a crate."""
         every, now, used, below = all_processes(), time.clock_gettime(time.CLOCK_BOOTTIME), Counter(), defaultdict(list)
         for pid, process in every.items():
             below[process.parent].append(pid)

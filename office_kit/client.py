@@ -134,8 +134,7 @@ class Blocks(Requests):
 
 
 class Asking:
-    def __init__(self, strict: bool) -> None:
-        self.strict = strict
+    strict: bool
 
     def send(self, method: str, target: str, body: bytes, caller: Caller | None) -> Answer:
         answer = self.exchange(method, target, body, caller)
@@ -147,27 +146,29 @@ class Asking:
         raise NotImplementedError
 
 
+@dataclass
 class Port(Asking):
-    def __init__(self, port: int, patience: float = PATIENCE, strict: bool = True) -> None:
-        super().__init__(strict)
-        self.port, self.patience = port, patience
+    port: int
+    patience: float = PATIENCE
+    strict: bool = True
 
     def exchange(self, method: str, target: str, body: bytes, caller: Caller | None) -> Answer:
         return answer_of(*common.exchange(self.port, Requests().send(method, target, body, caller), self.patience))
 
 
+@dataclass
 class Front(Asking):
     """An office with a front, at an address without a path; a context for TLS if its certificate is self-signed."""
 
-    def __init__(self, base: str, context: ssl.SSLContext | None = None, strict: bool = True) -> None:
-        super().__init__(strict)
-        self.base, self.context = urllib.parse.urlsplit(base), context
+    base: str
+    context: ssl.SSLContext | None = None
+    strict: bool = True
 
     def connection(self) -> http.client.HTTPConnection:
-        host, port = self.base.hostname or HOST, self.base.port
-        if self.base.scheme == "https":
-            return http.client.HTTPSConnection(host, port, timeout=PATIENCE, context=self.context)
-        return http.client.HTTPConnection(host, port, timeout=PATIENCE)
+        base = urllib.parse.urlsplit(self.base)
+        if base.scheme == "https":
+            return http.client.HTTPSConnection(base.hostname or HOST, base.port, timeout=PATIENCE, context=self.context)
+        return http.client.HTTPConnection(base.hostname or HOST, base.port, timeout=PATIENCE)
 
     def exchange(self, method: str, target: str, body: bytes, caller: Caller | None) -> Answer:
         """The answer; after a 429 the next one, when the time of its Retry-After is over, or a second."""
@@ -187,15 +188,10 @@ class Front(Asking):
             return Answer(response.status, dict(response.headers), response.read(), time.perf_counter() - begun)
 
 
-def hello(_: str) -> str:
-    """The key that each tenderer has if no other is given."""
-    return "hello"
-
-
 class Client(Generic[Told]):
-    """Asks an office. A tenderer's key is made of the name. Each number may be given as a number, or as the name that it has in the requests."""
+    """Asks an office. A tenderer's key is made of the name, or is `hello`. Each number may be given as a number, or as the name that it has in the requests."""
 
-    def __init__(self, transport: Transport[Told], key_of: Callable[[str], str] = hello) -> None:
+    def __init__(self, transport: Transport[Told], key_of: Callable[[str], str] = lambda _: "hello") -> None:
         self.transport, self.key_of = transport, key_of
 
     def caller_of(self, who: str) -> Caller:
@@ -215,16 +211,19 @@ class Client(Generic[Told]):
     def clerk(self, target: str, body: Body = "") -> Told:
         return self.command("clerk", target, body)
 
+    def order(self, target: str, who: str, name: object, body: Body = "") -> Told:
+        """A command with this name in its path, or number."""
+        return self.command(who, target.format(name), body)
+
     # The clerk's commands.
 
-    def import_budget(self, batch: str, rows: str | bytes) -> Told:
-        return self.clerk(f"/budget/{batch}", rows)
+    import_budget = partialmethod(order, "/budget/{}", "clerk")
+    publish = partialmethod(order, "/notices/{}", "clerk")
+    open = partialmethod(order, "/notices/{}/open", "clerk")
+    fail = partialmethod(order, "/awards/{}/fail", "clerk")
 
     def register(self, name: str, firm: str = "Alpha", address: str = "High Street 1") -> Told:
         return self.clerk(f"/tenderers/{name}", {"name": firm, "address": address, "key": hashlib.sha256(self.key_of(name).encode()).hexdigest()})
-
-    def publish(self, name: str, body: Body) -> Told:
-        return self.clerk(f"/notices/{name}", body)
 
     def amend_notice(self, name: str, deadline: str, rationale: str = "More time") -> Told:
         return self.clerk(f"/notices/{name}/amend", {"deadline": deadline, "rationale": rationale})
@@ -232,17 +231,11 @@ class Client(Generic[Told]):
     def cancel(self, name: str, rationale: str = "No need") -> Told:
         return self.clerk(f"/notices/{name}/cancel", {"rationale": rationale})
 
-    def open(self, name: str) -> Told:
-        return self.clerk(f"/notices/{name}/open")
-
     def examine(self, receipt: int, responsive: bool = True, **quality: int) -> Told:
         return self.clerk(f"/tenders/{receipt}/examine", {"responsive": responsive, **quality})
 
     def award(self, name: str, lot_name: str = "L1") -> Told:
         return self.clerk(f"/notices/{name}/lots/{lot_name}/award")
-
-    def fail(self, award: int) -> Told:
-        return self.clerk(f"/awards/{award}/fail")
 
     def sign(self, award: int, security: str | None = None, amount: int = 0) -> Told:
         return self.clerk(f"/awards/{award}/sign", {"security": security, "amount": amount} if security else "")
@@ -258,15 +251,12 @@ class Client(Generic[Told]):
 
     # The tenderers' commands.
 
+    modify = partialmethod(order, "/tenders/{}/modify")
+    withdraw = partialmethod(order, "/tenders/{}/withdraw")
+
     def present(self, who: str, name: str, lot_name: str, body: str | bytes, security: str | None = None, amount: int = 0) -> Told:
         query = f"?security={security}&amount={amount}" if security else ""
         return self.command(who, f"/notices/{name}/lots/{lot_name}/tenders{query}", body)
-
-    def modify(self, who: str, receipt: int, body: str | bytes) -> Told:
-        return self.command(who, f"/tenders/{receipt}/modify", body)
-
-    def withdraw(self, who: str, receipt: int) -> Told:
-        return self.command(who, f"/tenders/{receipt}/withdraw")
 
     # The queries: of anybody, of the clerk, and of a named caller.
 

@@ -14,10 +14,11 @@ import signal
 import socket
 import subprocess
 import sys
-import tempfile
 import threading
 import time
+import unittest
 from collections.abc import Callable, Iterable, Iterator, Sequence
+from pathlib import Path
 from typing import Any, NoReturn
 
 # A name and a key. An empty one isn't sent.
@@ -40,12 +41,12 @@ STRIDE = 7919
 TURN = threading.Lock()
 
 
-class Missing(SystemExit):
-    """A tool is missing: ends a script with status 3. `told` says how to get it."""
+class Missing(SystemExit, unittest.SkipTest):
+    """A tool is missing: ends a script with status 3, and a test as one that isn't run. The text says how to get the tool."""
 
     def __init__(self, told: str) -> None:
-        super().__init__(3)
-        self.told = told
+        super().__init__(told)
+        self.code = 3
 
 
 def fail(what: object) -> NoReturn:
@@ -73,6 +74,13 @@ def kind_of(path: str | os.PathLike[str]) -> str | None:
     with open(path, "rb") as file:
         first = file.readline(200)
     return next((kind for kind, (end, mark) in SCRIPTS.items() if str(path).endswith(end) or mark.match(first)), None)
+
+
+def files_below(folder: str | os.PathLike[str], skipped: set[str]) -> Iterator[Path]:
+    """The files below a folder, in their order, without those in folders of these names."""
+    for at, folders, names in os.walk(folder):
+        folders[:] = sorted(set(folders) - skipped)
+        yield from filter(Path.is_file, (Path(at, name) for name in sorted(names)))
 
 
 def place_of(tool: str) -> str | None:
@@ -183,6 +191,14 @@ def connect(port: int, patience: float = 0) -> socket.socket:
             time.sleep(0.01)
 
 
+def until(holds: Callable[[], object], patience: float = 5) -> bool:
+    """Whether something holds within some seconds."""
+    end = time.monotonic() + patience
+    while not holds() and time.monotonic() < end:
+        time.sleep(0.02)
+    return bool(holds())
+
+
 def read_all(stream: socket.socket) -> bytes:
     """Everything until the server closes the connection."""
     return b"".join(iter(functools.partial(stream.recv, 1 << 16), b""))
@@ -228,9 +244,14 @@ def running(words: Sequence[str], **how: Any) -> Iterator["subprocess.Popen[byte
     try:
         yield process
     finally:
-        if process.poll() is None:
-            process.kill()
+        process.kill()
         process.wait()
+
+
+def ended(words: Sequence[str], stdin: Any = subprocess.DEVNULL, **how: Any) -> tuple[int, str]:
+    """The status of a command, and all that it printed. `how` is for `subprocess.run`."""
+    ran = subprocess.run(words, stdin=stdin, stdout=subprocess.PIPE, stderr=subprocess.STDOUT, text=True, errors="replace", **how)
+    return ran.returncode, str(ran.stdout)
 
 
 def stand_in(path: str, script: str) -> str:
@@ -253,26 +274,17 @@ def copy_into(folder: str | os.PathLike[str], *names: str) -> None:
 
 def planted(script: str, folder: str | os.PathLike[str], old: str, new: str) -> str:
     """The path of a copy of a script in another folder, with a fault: a part that it has once is replaced."""
-    with open(script, encoding="utf-8") as file:
-        text = file.read()
+    text, path = Path(script).read_text(encoding="utf-8"), Path(folder, os.path.basename(script))
     check(f"{script} has {text.count(old)} times: {old}", text.count(old) == 1)
-    path = os.path.join(folder, os.path.basename(script))
-    with open(path, "w", encoding="utf-8") as out:
-        out.write(text.replace(old, new))
-    return path
+    path.write_text(text.replace(old, new), encoding="utf-8")
+    return str(path)
 
 
-# The head of a library that is loaded before the C library. REAL(int, "fsync", int) makes `real` the C library's function of that name.
-HEADERS = ("dlfcn", "errno", "fcntl", "signal", "stdarg", "stdio", "stdlib", "string", "sys/stat", "sys/types", "sys/uio", "time", "unistd")
-REAL = "static result (*real)(__VA_ARGS__); if (!real) real = (result (*)(__VA_ARGS__))dlsym(RTLD_NEXT, name)"
-SHIM_HEAD = "".join(["#define _GNU_SOURCE\n", *(f"#include <{name}.h>\n" for name in HEADERS), f"#define REAL(result, name, ...) {REAL}\n"])
-
-
-def made_shim(source: str, folder: str) -> str:
-    """A library made from this C in the folder, to be loaded before the C library (LD_PRELOAD)."""
+def made_shim(source: str, folder: str, *words: str) -> str:
+    """A library made in the folder, to be loaded before the C library (LD_PRELOAD): of a file of office_kit/, with the head shim.h, by these words for `cc`."""
     need("cc", "gcc")
-    shim = os.path.join(folder, "shim.so")
-    subprocess.run(["cc", "-O1", "-shared", "-fPIC", "-o", shim, "-x", "c", "-", "-ldl"], input=SHIM_HEAD + source, text=True, check=True)
+    shim, head, place = os.path.join(folder, "shim.so"), os.path.join(ROOT, "office_kit", "shim.h"), os.path.join(ROOT, "office_kit", source)
+    subprocess.run(["cc", "-O1", "-shared", "-fPIC", *words, "-include", head, "-o", shim, place, "-ldl"], check=True)
     return shim
 
 
@@ -293,24 +305,4 @@ def peak(process: "subprocess.Popen[bytes]", before: int) -> int:
 
 def processor(process: "subprocess.Popen[bytes]") -> float:
     """The seconds of processor that a process took so far, without the kernel's work for it."""
-    with open(f"/proc/{process.pid}/stat") as stat:
-        return int(stat.read().rpartition(")")[2].split()[11]) / os.sysconf("SC_CLK_TCK")
-
-
-def run_blocks(command: Sequence[str], path: str) -> tuple[float, int, bytes, list[tuple[int, float]]]:
-    """Runs a command over an input: seconds, peak memory in KiB, the output, and how many bytes of it existed at which moments."""
-    marks, output, memory = list[tuple[int, float]](), bytearray(), 0
-    with open(path, "rb") as source, tempfile.TemporaryFile() as faults:
-        start = time.perf_counter()
-        with running(command, stdin=source, stdout=subprocess.PIPE, stderr=faults) as process:
-            assert process.stdout
-            while chunk := os.read(process.stdout.fileno(), 1 << 16):
-                output += chunk
-                marks.append((len(output), time.perf_counter() - start))
-                memory = peak(process, memory)
-            process.wait()
-            seconds = time.perf_counter() - start
-        faults.seek(0)
-        if process.returncode:
-            fail(f"{command[0]} ended with {process.returncode}: {faults.read().decode(errors='replace')}")
-    return seconds, memory, bytes(output), marks
+    return int(Path(f"/proc/{process.pid}/stat").read_text().rpartition(")")[2].split()[11]) / os.sysconf("SC_CLK_TCK")

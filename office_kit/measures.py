@@ -2,34 +2,39 @@
 import argparse
 import contextlib
 import os
+import shlex
 import sqlite3
 import statistics
 import subprocess
 import tempfile
 import time
-from collections.abc import Callable, Iterable, Iterator, Sequence
-from typing import Any
+from collections.abc import Iterator, Sequence
+from pathlib import Path
 
-from office_kit.client import Client, Port, Requests
-from office_kit.common import CONFIG, OK, add_program, block, check, fail, free_port, look, options_of, parts_of, run_blocks, running, serve_words
-from office_kit.common import timed_exchange, what_came
+from office_kit.client import Client, Port, Requests, tender
+from office_kit.common import CONFIG, OK, add_program, block, check, fail, look, options_of, parts_of, peak, running, timed_exchange, what_came
 from office_kit.store import pages
+from office_kit.store.served import server
 
 # The requests of measures, as bytes.
 OFFICE = Client(Requests())
-# More connections than a measure needs.
-MANY = 1_000_000
 # A program that uses no processor for so many seconds waits for input.
 QUIET = 0.02
+# The option of a measure that tries files of several page sizes, one after the other.
+PAGE_SIZES = (str(pages.NEW), "the page sizes of the files, each a power of two from 512 to 65536")
 
 
 # ---- Options.
 
-def options_with(text: str | None, **numbers: tuple[int | str, str]) -> argparse.ArgumentParser:
-    """A reader of the command line: of the program, and of numbers, each with its default and its meaning. A text is the default of several numbers."""
+def options_with(text: str | None, beside: bool = False, **numbers: tuple[int | str, str]) -> argparse.ArgumentParser:
+    """A reader of the command line: of the program, and of numbers, each with its default and its meaning. A text is the default of several numbers. With
+    `beside` another program can be named too."""
     options = options_of(text)
     for name, (default, meaning) in numbers.items():
-        options.add_argument(f"--{name}", type=int if isinstance(default, int) else counts_of, default=default, help=f"{meaning} ({default})")
+        flag = f"--{name.replace('_', '-')}"
+        options.add_argument(flag, type=int if isinstance(default, int) else counts_of, default=default, help=f"{meaning} ({default})")
+    if beside:
+        options.add_argument("--beside", type=shlex.split, metavar="CMD", help="another program's command line")
     add_program(options)
     return options
 
@@ -41,15 +46,16 @@ def counts_of(text: str) -> list[int]:
 
 # ---- Offices.
 
+def presented(number: int, tenderer: int) -> bytes:
+    """A tender with a security, for the first lot of a notice."""
+    return OFFICE.present(f"T{tenderer}", f"N{number}", "L1", tender((3, 200)), "G1", 50)
+
+
 class Office:
-    """An office that accepts each request, or else the measure fails."""
+    """An office that accepts each request, or else the measure fails. `moment` is that of the next requests, if the office is in memory."""
 
     def __init__(self, process: "subprocess.Popen[bytes]") -> None:
         self.process, self.moment = process, ""
-
-    def set_moment(self, moment: str) -> None:
-        """The moment of the next requests, if the office is in memory."""
-        self.moment = moment
 
     def send(self, texts: Sequence[bytes]) -> None:
         """Sends requests, and returns once all are answered."""
@@ -57,8 +63,7 @@ class Office:
 
     def used(self) -> float:
         """The seconds of processor that the program took so far, with the kernel's for it."""
-        with open(f"/proc/{self.process.pid}/schedstat") as stat:
-            return int(stat.read().split()[0]) / 1e9
+        return int(Path(f"/proc/{self.process.pid}/schedstat").read_text().split()[0]) / 1e9
 
     def took(self, texts: Sequence[bytes]) -> float:
         """The seconds of processor for each of these requests."""
@@ -90,14 +95,11 @@ class InFile(Office):
             timed_exchange(self.port, text)
 
 
-@contextlib.contextmanager
-def answering(words: Sequence[str], port: int, **how: Any) -> "Iterator[subprocess.Popen[bytes]]":
-    """A server that has answered a first query. `how` is for `subprocess.Popen`."""
-    with running(words, **how) as process:
-        while not what_came(port, look(b"/lines/none")):
-            check_runs(process)
-            time.sleep(0.01)
-        yield process
+def wait_for_answer(process: "subprocess.Popen[bytes]", port: int) -> None:
+    """Waits until a server has answered a first query."""
+    while not what_came(port, look(b"/lines/none")):
+        check_runs(process)
+        time.sleep(0.01)
 
 
 def check_runs(process: "subprocess.Popen[bytes]") -> None:
@@ -106,10 +108,11 @@ def check_runs(process: "subprocess.Popen[bytes]") -> None:
 
 
 @contextlib.contextmanager
-def in_file(program: str, file: str, **how: Any) -> Iterator[InFile]:
+def in_file(program: str, file: str) -> Iterator[InFile]:
     """An office over a file, which holds everything in the end, without a log."""
-    port, begun = free_port(), time.perf_counter()
-    with answering(serve_words(program, file, port, MANY), port, **how) as process:
+    begun = time.perf_counter()
+    with server(program, file) as (process, port):
+        wait_for_answer(process, port)
         yield InFile(process, port, time.perf_counter() - begun)
         check_runs(process)
     settle(file)
@@ -128,16 +131,11 @@ class InMemory(Office):
             self.process.stdin.flush()
         except BrokenPipeError:
             fail("the program ended before its input did")
-        while not self.waits():
-            pass
-
-    def waits(self) -> bool:
-        """Whether the program waits for something, and hasn't run for a moment."""
-        before = self.used()
-        time.sleep(QUIET)
-        with open(f"/proc/{self.process.pid}/stat") as stat:
-            state = stat.read().rpartition(")")[2].split()[0]
-        return state != "R" and self.used() == before
+        state, before = "R", self.used()
+        while state == "R" or self.used() != before:
+            before = self.used()
+            time.sleep(QUIET)
+            state = Path(f"/proc/{self.process.pid}/stat").read_text().rpartition(")")[2].split()[0]
 
 
 @contextlib.contextmanager
@@ -214,8 +212,16 @@ def medians(runs: Sequence[dict[str, float]]) -> dict[str, float]:
 
 def run_over(command: Sequence[str], path: str, count: int) -> tuple[float, int]:
     """The seconds and the peak memory in KiB of a program over an input of so many requests."""
-    seconds, memory, output, _ = run_blocks(command, path)
-    check_answers(command[0], output, count)
+    output, memory, start = bytearray(), 0, time.perf_counter()
+    with open(path, "rb") as source, running(command, stdin=source, stdout=subprocess.PIPE) as process:
+        assert process.stdout
+        while chunk := os.read(process.stdout.fileno(), 1 << 16):
+            output += chunk
+            memory = peak(process, memory)
+        if process.wait():
+            fail(f"{command[0]} ended with status {process.returncode}")
+        seconds = time.perf_counter() - start
+    check_answers(command[0], bytes(output), count)
     return seconds, memory
 
 
@@ -244,23 +250,20 @@ def tell_one_input(choice: argparse.Namespace, blocks: Sequence[bytes]) -> float
 Phase = tuple[str, str, Sequence[bytes]]
 
 
-def run_phases(phases: Iterable[Phase], office: Office, set_moment: Callable[[str], None]) -> dict[str, float]:
-    """Sends the requests phase by phase. For each kind: the processor time of a request, and that of the last tenth to that of the first."""
+def run_phases(program: str, phases: Sequence[Phase]) -> dict[str, float]:
+    """Sends the requests phase by phase, in memory. For each kind: the processor time of a request, and that of the last tenth to that of the first."""
     found: dict[str, float] = {}
-    for kind, moment, texts in phases:
-        set_moment(moment)
-        before = office.used()
-        growth = office.growth(texts)
-        found |= {f"{kind}, microseconds": (office.used() - before) / len(texts) * 1e6, f"{kind}, last tenth to first": growth}
+    with in_memory(program) as office:
+        for kind, moment, texts in phases:
+            office.moment = moment
+            before = office.used()
+            growth = office.growth(texts)
+            found |= {f"{kind}, microseconds": (office.used() - before) / len(texts) * 1e6, f"{kind}, last tenth to first": growth}
     return found
 
 
 def tell_phases(choice: argparse.Namespace, phases: Sequence[Phase]) -> tuple[dict[str, float], float]:
     """Runs the phases in memory, so many rounds, and then all of them as one input. Returns the figures and the peak memory in MiB."""
-    runs = []
-    for _ in range(choice.rounds):
-        with in_memory(choice.program) as office:
-            runs.append(run_phases(phases, office, office.set_moment))
-    figures = medians(runs)
+    figures = medians([run_phases(choice.program, phases) for _ in range(choice.rounds)])
     Table().add("in memory", figures)
     return figures, tell_one_input(choice, [block(moment.encode(), text) for _, moment, texts in phases for text in texts])

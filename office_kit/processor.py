@@ -14,8 +14,9 @@ ADOPTS = 36
 
 
 class Process(NamedTuple):
-    """The parent of a process; its start, in seconds after that of the machine; and the seconds that it used, with those of children that it waited for."""
+    """A process: `start` is in seconds after that of the machine, and `used` has the seconds of children that it waited for. States: proc_pid_stat(5)."""
 
+    state: str
     parent: int
     start: float
     used: float
@@ -40,7 +41,7 @@ def all_processes() -> dict[int, Process]:
     for number in filter(str.isdigit, os.listdir("/proc")):
         with contextlib.suppress(OSError), open(f"/proc/{number}/stat") as file:
             fields = file.read().rpartition(")")[2].split()
-            found[int(number)] = Process(int(fields[1]), int(fields[19]) / TICK, sum(map(int, fields[11:15])) / TICK)
+            found[int(number)] = Process(fields[0], int(fields[1]), int(fields[19]) / TICK, sum(map(int, fields[11:15])) / TICK)
     return found
 
 

@@ -21,12 +21,13 @@ SLOW = float(os.environ.setdefault("SLOWNESS", f"{processor.slowness():.2f}"))
 os.environ.setdefault("AHEAD", str(math.ceil(4 * SLOW)))
 os.environ.setdefault("PYTEST_TIMEOUT", str(math.ceil(600 * SLOW)))
 os.environ.setdefault("PYTHONDONTWRITEBYTECODE", "1")
-os.environ.setdefault("HYPOTHESIS_STORAGE_DIRECTORY", "build/hypothesis")
+# (While a relative folder has no parent, hypothesis looks for one forever.)
+os.environ.setdefault("HYPOTHESIS_STORAGE_DIRECTORY", os.path.abspath("build/hypothesis"))
 
-# (An assert in the checks of the screens says what it compared.)
-pytest.register_assert_rewrite("office_kit.desks")
+# (An assert in the checks of the screens and of the front says what it compared.)
+pytest.register_assert_rewrite("office_kit.desks", "office_kit.front")
 from office_kit import needs  # noqa: E402
-from office_kit.common import NO_PROGRAM, PROGRAM, Missing  # noqa: E402
+from office_kit.common import NO_PROGRAM, PROGRAM  # noqa: E402
 from office_kit.desks.browser import Browser  # noqa: E402
 from office_kit.store.served import Serving  # noqa: E402
 
@@ -100,14 +101,6 @@ def pytest_runtest_setup(item):
         pytest.skip("; ".join(missing))
 
 
-@pytest.hookimpl(hookwrapper=True)
-def pytest_runtest_makereport(item, call):
-    """A test that ends by `need` isn't run."""
-    report = (yield).get_result()
-    if call.excinfo and call.excinfo.errisinstance(Missing):
-        report.outcome, report.longrepr = "skipped", (str(item.path), 0, f"Skipped: {call.excinfo.value.told}")
-
-
 @pytest.hookimpl(tryfirst=True)
 def pytest_collection_modifyitems(config, items):
     """Gives tests in a browser their markers, and those of a module one group: they run one after another. The groups with the largest budgets begin."""
@@ -120,16 +113,12 @@ def pytest_collection_modifyitems(config, items):
             item.add_marker(pytest.mark.needs("chromium"))
             item.add_marker("browser")
         if not item.get_closest_marker("xdist_group"):
-            item.add_marker(pytest.mark.xdist_group(module_of(item)))
+            item.add_marker(pytest.mark.xdist_group(item.nodeid.partition("::")[0]))
         budgets.setdefault(group_of(item), {}).update([budget_of(item)])
     items.sort(key=lambda item: (-sum(budgets[group_of(item)].values()), group_of(item)))
 
 
 # ---- Budgets.
-
-def module_of(item):
-    return item.nodeid.partition("::")[0]
-
 
 def group_of(item):
     return item.get_closest_marker("xdist_group").args[0]
@@ -138,47 +127,43 @@ def group_of(item):
 def budget_of(item):
     """The owner of a budget, which is the test alone or its module, and the seconds of processor that it may use: more in long forms."""
     mark = item.get_closest_marker("budget")
-    is_own = any(it.name == "budget" for it in item.own_markers)
-    return item.nodeid if is_own else module_of(item), (mark.args[0] if mark else USUAL) * SLOW * (LONGER if item.config.getoption("long") else 1)
+    owner = item.nodeid if any(it.name == "budget" for it in item.own_markers) else item.nodeid.partition("::")[0]
+    return owner, (mark.args[0] if mark else USUAL) * SLOW * (LONGER if item.config.getoption("long") else 1)
 
 
 class Watch:
     """Watches the processor use of this process and of all below it, and ends a test that uses more than its budget leaves."""
 
     def __init__(self):
-        self.used, self.begun, self.until, self.was_ended = Counter(), 0.0, math.inf, False
-        self.never = threading.Event()
+        self.used, self.begun, self.until, self.never = Counter(), 0.0, math.inf, threading.Event()
         processor.adopt_orphans()
-        signal.signal(signal.SIGUSR1, self.interrupt)
+        signal.signal(signal.SIGUSR1, lambda *_: pytest.fail("it was ended: it used more seconds of processor than its budget", pytrace=False))
         threading.Thread(target=self.run, daemon=True).start()
 
     def run(self):
-        # (Not `time.sleep`: a test may replace that.)
+        """Interrupts a test at the end of its budget, after which it has no bound. (Not by `time.sleep`: a test may replace that.)"""
         while not self.never.wait(BETWEEN):
             if self.until < math.inf and processor.used_by(os.getpid()) > self.until:
                 self.until = math.inf
                 signal.pthread_kill(threading.main_thread().ident, signal.SIGUSR1)
 
-    def interrupt(self, *_):
-        self.was_ended = True
-        pytest.fail("it was ended: it used more seconds of processor than its budget", pytrace=False)
-
     @pytest.hookimpl(hookwrapper=True, tryfirst=True)
     def pytest_runtest_protocol(self, item):
         what, budget = budget_of(item)
-        self.begun, self.was_ended = processor.used_by(os.getpid()), False
+        self.begun = processor.used_by(os.getpid())
         self.until = self.begun + budget - self.used[what]
         yield
 
     @pytest.hookimpl(hookwrapper=True, tryfirst=True)
     def pytest_runtest_teardown(self, item):
-        """Notes the seconds that a test used. Too many for the budget are a failure."""
+        """Notes the seconds that a test used. Too many for the budget are a failure, unless the test was ended for that."""
         yield
         what, budget = budget_of(item)
-        self.until, used = math.inf, processor.used_by(os.getpid()) - self.begun
+        was_ended, self.until = self.until == math.inf, math.inf
+        used = processor.used_by(os.getpid()) - self.begun
         self.used[what] += used
         item.user_properties.append(("processor", used))
-        if self.used[what] > budget and not self.was_ended:
+        if self.used[what] > budget and not was_ended:
             pytest.fail(f"{what} used {self.used[what]:.0f} seconds of processor, and may use {budget:.0f}", pytrace=False)
 
     @pytest.hookimpl(trylast=True)

@@ -3,11 +3,10 @@
 The groups run side by side, and the scripts of a group one after another, since they use the same port or most of the machine.
 """
 import os
-import subprocess
 
 import pytest
 
-from office_kit.common import ROOT
+from office_kit.common import ROOT, ended
 from office_kit.docs import documents
 
 # (README.md has the walk.)
@@ -26,11 +25,9 @@ SCRIPTS = [
     for group, name, line, budget in SCRIPTS
 ])
 def test_script(words, program):
-    ran = subprocess.run(words, cwd=ROOT, env={**os.environ, "PROCURE": program}, stdin=subprocess.DEVNULL, stdout=subprocess.PIPE, stderr=subprocess.STDOUT,
-                         text=True, errors="replace")
-    said = ran.stdout.strip()
-    if ran.returncode == 3:
+    status, said = ended(words, cwd=ROOT, env={**os.environ, "PROCURE": program})
+    if status == 3:
         pytest.skip("; ".join(line[line.index("missing: "):] for line in said.split("\n") if "missing: " in line) or said)
     print(said)
-    if ran.returncode:
-        pytest.fail(f"it ended with status {ran.returncode}", pytrace=False)
+    if status:
+        pytest.fail(f"it ended with status {status}", pytrace=False)

@@ -4,7 +4,7 @@ A flaw is reported at a path: the names on the way to it, with the number of eac
 """
 import re
 import tomllib
-from collections.abc import Mapping, Sequence
+from collections.abc import Iterator, Mapping, Sequence
 from pathlib import Path
 from typing import Any
 
@@ -17,50 +17,39 @@ RELEASE_WITH_LOTS: Table = {**RELEASE, **{place: [*RELEASE.get(place, []), *memb
 # The forms of texts. A moment is an RFC 3339 date-time, as 2026-02-01T09:00:00Z.
 FORMS = {"text": r"(?s:.+)", "moment": r"[0-9]{4}-[0-9]{2}-[0-9]{2}T[0-9]{2}:[0-9]{2}:[0-9]{2}Z", "address": r"https?://(?s:.*)"}
 # Kinds of lists, and the kinds of their items.
-LISTS = {"texts": "text", "addresses": "address", "codes": "code"}
+LISTS = {"texts": "text", "addresses": "address", "codes": "code", "objects": "object"}
 
 
 class Flaw(Exception):
     """At this path, the value isn't as the table says, is missing, or isn't in the table."""
 
 
-def below(path: str, name: str) -> str:
-    return f"{path}/{name}" if path else name
-
-
-def found_at(path: str, value: Any, place: str) -> list[tuple[str, Any]]:
+def found_at(path: str, value: Any, place: str) -> Iterator[tuple[str, Any]]:
     """The values at a place within a value, each with its own path. The path of the outer value is given."""
-    found = [(path, value)]
-    for name in place.split("/") if place else []:
-        parents, found = found, []
-        for path, parent in parents:
-            if isinstance(parent, dict) and name in parent:
-                member, path = parent[name], below(path, name)
-                found += [(below(path, str(number)), item) for number, item in enumerate(member)] if isinstance(member, list) else [(path, member)]
-    return found
+    name, _, rest = place.partition("/")
+    if not place:
+        yield path, value
+    elif isinstance(value, dict) and name in value:
+        member, there = value[name], f"{path}/{name}".lstrip("/")
+        for way, item in [(f"{there}/{number}", item) for number, item in enumerate(member)] if isinstance(member, list) else [(there, member)]:
+            yield from found_at(way, item, rest)
 
 
 def texts_at(value: Any, place: str) -> list[str]:
     return [text for _, text in found_at("", value, place) if isinstance(text, str)]
 
 
-def are_objects(value: Any) -> bool:
-    """A list of at least one object, of which no two have the same `id`."""
-    if not isinstance(value, list) or not value or not all(isinstance(item, dict) for item in value):
-        return False
-    ids = [item["id"] if isinstance(item["id"], str) else "" for item in value if "id" in item]
-    return len(set(ids)) == len(ids)
-
-
 def is_kind(value: Any, kind: str) -> bool:
-    """Whether a value is of a kind. A number is a whole one of 0 or more. A list of texts has at least one, and none twice."""
+    """Whether a value is of a kind. A number is a whole one of 0 or more. A list of texts has at least one, and none twice; one of objects has at least one,
+    and no `id` twice."""
     kind, colon, codes = kind.partition(":")
     if kind in LISTS:
-        return isinstance(value, list) and bool(value) and all(is_kind(item, LISTS[kind] + colon + codes) for item in value) and len(set(value)) == len(value)
+        if not isinstance(value, list) or not value or not all(is_kind(item, LISTS[kind] + colon + codes) for item in value):
+            return False
+        texts = [str(item["id"]) for item in value if "id" in item] if kind == "objects" else value
+        return len(set(texts)) == len(texts)
     if kind == "object":
         return isinstance(value, dict)
-    if kind == "objects":
-        return are_objects(value)
     if kind == "number":
         return type(value) is int and 0 <= value < 2 ** 64
     if kind == "code":
@@ -68,27 +57,17 @@ def is_kind(value: Any, kind: str) -> bool:
     return isinstance(value, str) and bool(re.fullmatch(FORMS[kind], value))
 
 
-def check_members(path: str, value: Any, members: Sequence[str]) -> None:
-    """Checks that this is an object with these members."""
-    if not isinstance(value, dict):
-        raise Flaw(path)
-    table = dict(member.split(" ") for member in members)
-    for name in value:
-        if name not in table and name + "?" not in table:
-            raise Flaw(below(path, name))
-    for name, kind in table.items():
-        if name.rstrip("?") in value:
-            if not is_kind(value[name.rstrip("?")], kind):
-                raise Flaw(below(path, name.rstrip("?")))
-        elif not name.endswith("?"):
-            raise Flaw(below(path, name))
-
-
 def check(path: str, value: Any, table: Table) -> None:
-    """Checks that a value at this path is as the table says, at each of its places."""
+    """Checks that a value at this path is as the table says: at each of its places, an object with these members."""
     for place, members in table.items():
+        kinds = {name.rstrip("?"): kind for name, _, kind in (member.partition(" ") for member in members)}
+        needed = [member.split(" ")[0] for member in members if "? " not in member]
         for path_there, found in found_at(path, value, place):
-            check_members(path_there, found, members)
+            if not isinstance(found, dict):
+                raise Flaw(path_there)
+            for name in [*found, *needed]:
+                if name not in kinds or name not in found or not is_kind(found[name], kinds[name]):
+                    raise Flaw(f"{path_there}/{name}".lstrip("/"))
 
 
 def release_of(package: Any) -> Table:
@@ -102,7 +81,7 @@ def check_releases(package: Any, place: str) -> None:
     for path, release in found_at("", package, place):
         check(path, release, release_of(package))
         if "compiled" in texts_at(release, "tag"):
-            raise Flaw(below(path, "tag"))
+            raise Flaw(f"{path}/tag")
     dates = texts_at(package, place + "/date")
     if dates != sorted(dates):
         raise Flaw(place + "/date")
@@ -137,4 +116,4 @@ def check_record_package(package: Any) -> None:
                 if text not in known:
                     raise Flaw(path_there)
         if any(tag != "compiled" for tag in texts_at(compiled, "tag")):
-            raise Flaw(below(path, "tag"))
+            raise Flaw(f"{path}/tag")

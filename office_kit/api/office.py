@@ -9,14 +9,12 @@ import jsonschema
 import yaml
 from jsonschema.exceptions import best_match
 
-from office_kit.api.openapi_rules import target_of
-from office_kit.client import data_of
+from office_kit import client
+from office_kit.api.openapi_rules import METHODS, target_of
 from office_kit.common import ROOT, exchange
 from office_kit.gate.transcripts import PHRASES
 
-DOCUMENT = Path(ROOT, "docs", "openapi.yaml")
 JSON = "application/json"
-METHODS = ("GET", "POST", "PUT", "DELETE", "HEAD", "PATCH", "OPTIONS")
 MOMENT = re.compile(r"\d{4}-\d\d-\d\dT\d\d:\d\d:\d\dZ")
 KEYS = {"clerk": "abc", "T1": "hello", "T2": "hello", "T3": "hello"}
 
@@ -42,6 +40,8 @@ class Operation:
     def __init__(self, document: "Document", template: str, method: str, item: dict[str, Any]) -> None:
         node = item[method]
         self.name, self.template, self.method, self.node, self.callers = node["operationId"], template, method.upper(), node, node["x-callers"]
+        # Somebody who may ask.
+        self.caller = {"public": "public", "clerk": "clerk", "tenderer": "T1"}[self.callers[0]]
         parameters = [document.resolved(part) for part in (*item.get("parameters", []), *node.get("parameters", []))]
         self.places = [part["schema"] for part in parameters if part["in"] == "path"]
         # Parts of the path that fit their schemas and name nothing.
@@ -57,18 +57,14 @@ class Operation:
         """The target of a request for these things."""
         return shape(self.template).format(*place) + query
 
-    def answer(self, name: str) -> Any:
-        """The body of an answer of status 200."""
-        return next(iter(self.responses["200"]["content"].values()))["examples"][name]["value"]
-
 
 class Document:
-    """docs/openapi.yaml, or another file of its kind."""
+    """docs/openapi.yaml, or another tree of its kind."""
 
-    def __init__(self, path: Path = DOCUMENT) -> None:
-        self.tree = yaml.load(path.read_text(encoding="utf-8"), getattr(yaml, "CSafeLoader", yaml.SafeLoader))
+    def __init__(self, tree: Any = None) -> None:
+        self.tree = tree or yaml.load(Path(ROOT, "docs", "openapi.yaml").read_text(encoding="utf-8"), getattr(yaml, "CSafeLoader", yaml.SafeLoader))
         self.validators: dict[int, Any] = {}
-        found = (Operation(self, template, method, item) for template, item in self.tree["paths"].items() for method in item if method.upper() in METHODS)
+        found = (Operation(self, template, method, item) for template, item in self.tree["paths"].items() for method in item if method in METHODS)
         self.operations = {operation.name: operation for operation in found}
 
     def resolved(self, node: Any) -> Any:
@@ -100,35 +96,29 @@ class Document:
         return int(self.tree["components"]["schemas"][refusal]["properties"]["refusal"]["const"])
 
 
-class Answer:
-    """A response: its status, the lines and the fields of its head, and its body."""
+class Answer(client.Answer):
+    """A response, to be compared with the document."""
 
-    def __init__(self, data: bytes) -> None:
-        head, end, self.body = data.partition(b"\r\n\r\n")
-        self.lines = head.decode("latin-1").split("\r\n")
-        assert end and self.lines[0].startswith("HTTP/1.1 "), f"no response: {data[:100]!r}"
-        self.status = self.lines[0].split(" ")[1]
-        self.fields = dict(line.split(": ", 1) for line in self.lines[1:])
-        self.media = self.fields.get("Content-Type", "")
+    @property
+    def media(self) -> str:
+        return self.fields.get("Content-Type", "")
 
     def value(self) -> Any:
         """The body: a value of JSON, or a text."""
-        return json.loads(self.body) if self.media == JSON else self.body.decode()
+        return super().value() if self.media == JSON else self.body.decode()
 
     def told(self) -> str:
         """`200`, or the refusal's name and its `what`."""
-        if self.status == "200":
-            return "200"
-        refusal = json.loads(self.body)
-        return f"{refusal['name']} {refusal['what']}" if "what" in refusal else str(refusal["name"])
+        return "200" if self.status == 200 else " ".join(str(self[member]) for member in ("name", "what") if member in self.value())
 
-    def flaw(self) -> str | None:
-        """The part of the head or of the body's form that isn't as docs/API.md says, or None."""
+    def flaw(self, response: bytes) -> str | None:
+        """The part of the response's head or of its body's form that isn't as docs/API.md says, or None."""
         asked = [f"{name}: {self.fields[name]}" for name in ("Allow", "WWW-Authenticate") if name in self.fields]
         fields = [f"Content-Type: {self.media}", f"Content-Length: {len(self.body)}", *asked, "Connection: close"]
-        if self.lines != [f"HTTP/1.1 {self.status} {PHRASES.get(self.status)}", *fields]:
-            return f"the head is {self.lines}"
-        if self.media == JSON and self.body.decode() != plain(json.loads(self.body)):
+        head = "\r\n".join([f"HTTP/1.1 {self.status} {PHRASES.get(str(self.status))}", *fields, "", ""]).encode("latin-1")
+        if response != head + self.body:
+            return f"the response is {response[:300]!r}"
+        if self.media == JSON and self.body.decode() != plain(self.value()):
             return f"not compact, or members out of order: {self.body[:100]!r}"
         return None
 
@@ -154,8 +144,9 @@ class Asker:
             fields = [*named, f"Content-Length: {len(body)}"]
         # The server reads no more of a longer head. Bytes that it doesn't read reset the connection, perhaps before the answer comes.
         head = "\r\n".join([f"{method} {target} HTTP/1.1", *fields, "", ""]).encode()[:8192]
-        answer = Answer(exchange(self.port, head + body, ends=True)[0])
-        flaw = answer.flaw()
+        response, _ = exchange(self.port, head + body, ends=True)
+        answer = Answer(**vars(client.answer_of(response)))
+        flaw = answer.flaw(response)
         self.check(flaw is None, f"{method} {target}: {flaw}")
         return answer
 
@@ -174,22 +165,18 @@ class Asker:
             fields: Sequence[str] | None = None) -> Answer:
         """The answer to a request of an operation, which is judged and remembered."""
         answer = self.send(operation.method, operation.target(place, query), who, body, fields)
-        self.judge(operation.name, operation.responses.get(answer.status, {}), answer)
+        self.judge(operation.name, operation.responses.get(str(answer.status), {}), answer)
         name, what = (answer.told() + " ").split(" ")[:2]
         self.seen.add((operation.name, name, what or None))
         return answer
 
-    def sent(self, name: str, example: str, /, **members: Any) -> Any:
-        """The example of an operation's body with these members in place of its own; a text is left as it is."""
-        value = self.document.operations[name].body["examples"][example]["value"]
-        return {**value, **members} if isinstance(value, dict) else value
-
     def ask(self, name: str, who: str, *place: object, want: str = "200", body: Any = b"", query: str = "", like: str | None = None) -> Any:
         """The answer. `want` is the expected one; with `like`, it must equal this example except for moments."""
         operation = self.document.operations[name]
-        answer = self.put(operation, who, place, data_of(body), query)
+        answer = self.put(operation, who, place, client.data_of(body), query)
         self.check(answer.told() == want, f"{operation.method} {operation.target(place, query)} by {who}: {answer.told()}, and not {want}")
         if like and answer.told() == want:
-            said, right = (MOMENT.sub("MOMENT", plain(value)) for value in (answer.value(), operation.answer(like)))
+            example = operation.responses["200"]["content"][answer.media]["examples"][like]["value"]
+            said, right = (MOMENT.sub("MOMENT", plain(value)) for value in (answer.value(), example))
             self.check(said == right, f"{name}: the example {like} isn't what is answered: {said[:400]}")
         return answer.value()

@@ -3,6 +3,7 @@
 The document's own schemas are JSON Schema 2020-12, as OpenAPI 3.1 uses them by its dialect.
 """
 import re
+from collections import Counter
 from collections.abc import Iterator
 from pathlib import Path
 from typing import Any
@@ -44,28 +45,23 @@ def flaws_of_schemas(tree: Any) -> Iterator[str]:
                 yield f"{'/'.join(way)}: no schema: {error.message[:200]}"
 
 
-def flaws_of_operation(tree: Any, where: str, path: str, operation: dict[str, Any], named: list[Any]) -> Iterator[str]:
-    """Parameters of the path that aren't in it, those in it that nothing declares, and unknown names, in an operation with these parameters."""
-    parameters = [target_of(tree, it["$ref"]) if "$ref" in it else it for it in named]
-    declared = sorted(it["name"] for it in parameters if it and it["in"] == "path")
-    if declared != sorted(re.findall(r"\{([^}]+)\}", path)):
-        yield f"{where}: its parameters are declared as {declared}"
-    for unknown in {name for one in operation.get("security", []) for name in one}.difference(tree.get("components", {}).get("securitySchemes", {})):
-        yield f"{where}: no security scheme {unknown}"
-    for unknown in set(operation.get("tags", [])) - {tag["name"] for tag in tree.get("tags", [])}:
-        yield f"{where}: no tag {unknown}"
-
-
 def flaws_of_operations(tree: Any) -> Iterator[str]:
-    """The flaws of each operation, and names that come twice."""
-    names: list[str] = []
+    """Parameters of paths that aren't in them, those in paths that nothing declares, unknown names, and names of operations that come twice."""
+    names = Counter[str]()
     for path, item in tree["paths"].items():
         for method in sorted(item.keys() & METHODS):
-            name = item[method].get("operationId")
-            if name in names:
-                yield f"operationId {name} comes twice"
-            names += [name] if name else []
-            yield from flaws_of_operation(tree, f"{method} {path}", path, item[method], [*item.get("parameters", []), *item[method].get("parameters", [])])
+            where, operation = f"{method} {path}", item[method]
+            names.update([operation["operationId"]] if "operationId" in operation else [])
+            named = [*item.get("parameters", []), *operation.get("parameters", [])]
+            parameters = [target_of(tree, it["$ref"]) if "$ref" in it else it for it in named]
+            declared = sorted(it["name"] for it in parameters if it and it["in"] == "path")
+            if declared != sorted(re.findall(r"\{([^}]+)\}", path)):
+                yield f"{where}: its parameters are declared as {declared}"
+            for unknown in {name for one in operation.get("security", []) for name in one}.difference(tree.get("components", {}).get("securitySchemes", {})):
+                yield f"{where}: no security scheme {unknown}"
+            for unknown in set(operation.get("tags", [])) - {tag["name"] for tag in tree.get("tags", [])}:
+                yield f"{where}: no tag {unknown}"
+    yield from (f"operationId {name} comes twice" for name, times in names.items() if times > 1)
 
 
 def flaws_of(tree: Any) -> list[str]:

@@ -5,7 +5,7 @@ import random
 import subprocess
 import tomllib
 import types
-from collections.abc import Callable
+from collections.abc import Callable, Iterable
 from pathlib import Path
 from typing import Any, NamedTuple
 
@@ -65,10 +65,8 @@ LETTERS: list[Callable[[str], str]] = [str.lower, str.upper, str.title, lambda i
 BYTES = [b",", b";", b'"', b"\n", b"\r", b"\r\n", b" ", b"\t", b"0", b"9", b"x", b"\0", b"\xff", MARK, b"'", b",,,", b"TOTAL", b"\n\n", b'""', b""]
 
 
-def right_rows(chance: random.Random, kind: int) -> list[list[str]]:
-    """A right file's rows."""
-    most = 10 ** chance.choice((1, 3, 5))
-    units = [chance.randrange(most) for _ in KINDS[kind]]
+def right_rows(kind: int, units: Iterable[int]) -> list[list[str]]:
+    """The rows of a right file with these unit prices."""
     rows = [[item, str(quantity), str(unit), str(quantity * unit)] for (item, quantity), unit in zip(KINDS[kind], units)]
     return [HEAD.split(","), *rows, ["TOTAL", "", "", str(sum(int(row[3]) for row in rows))]]
 
@@ -102,7 +100,8 @@ def changed_bytes(chance: random.Random, data: bytes) -> bytes:
 def made(chance: random.Random) -> Case:
     """A file: right, or with up to three changes."""
     kind, of_rows, of_bytes = chance.choice(OFTEN), chance.choice((0, 0, 1, 1, 2)), chance.choice((0, 0, 0, 1))
-    rows = right_rows(chance, kind)
+    most = 10 ** chance.choice((1, 3, 5))
+    rows = right_rows(kind, [chance.randrange(most) for _ in KINDS[kind]])
     for _ in range(of_rows):
         rows = changed_rows(chance, rows)
     data = written(chance, rows)
@@ -128,27 +127,14 @@ def samples(strategy: strategies.SearchStrategy[Any], count: int) -> list[Any]:
     return found
 
 
-def dear(first: int, second: int) -> bytes:
-    """A file for a lot of 1,000 and 1,000,000 at these unit prices."""
-    return lines(HEAD, f"1,1000,{first},{1000 * first}", f"3,1000000,{second},{1000000 * second}", f"TOTAL,,,{1000 * first + 1000000 * second}")
-
-
-def at_bounds() -> list[Case]:
-    """Files at the bounds of the rules, and one beyond."""
-    prices = [(10 ** 9, 0), (999999, 999001), (999999, 999000), (999000, 1000000), (1000000, 999000), (1001000, 999000), (0, 0), (10 ** 9 + 1, 0)]
-    right, mark = lines(*RIGHT), b"\xef\xbb\xbf"
-    texts = [right + b"\n" * (length - len(right)) for length in (32767, 32768, 32769)]
-    texts += [b"\n", b"\r\n\r\n", b",", b'"', mark, mark + mark + right, HEAD.encode(), lines(HEAD, "TOTAL,,,0"), lines(HEAD, SUM, SUM), right[:-1] + b'"']
-    changed = [(b"570", b'"570'), (b"TOTAL", b'TO"TAL'), (b"TOTAL", b'"TO"TAL'), (b"I1", b'"I""1"'), (b"150", b"0" * 13 + b"150"), (b"150", b"0" * 14 + b"150"),
-               (b"450", b"1" + b"0" * 15), (b"450", b"1" + b"0" * 14 + b"1"), (b"\n", b"\r"), (b"\n", b"\n\r\n")]
-    changed += [(b"\n", sign) for sign in (b"\x0b", b"\x0c", b"\xc2\x85")]
-    texts += [right.replace(*change) for change in changed]
-    return [Case("bounds", 5, dear(*units)) for units in prices] + [Case("bounds", 0, data) for data in texts]
-
-
 def known() -> list[Case]:
-    """The document's forms, and the files at the bounds."""
-    return [Case(name, 0, data) for name, files in FORMS.items() for data in files] + at_bounds()
+    """The document's forms, and files at the bounds of the rules and one beyond."""
+    right, table = lines(*RIGHT), TEXTS["bounds"]
+    files = [right + b"\n" * (length - len(right)) for length in (32767, 32768, 32769)] + [file_of(form) for form in table["files"]]
+    files += [right.replace(old.encode(), new.encode()) for old, new in table["changed"]]
+    forms = [Case(name, 0, data) for name, listed in FORMS.items() for data in listed]
+    dear = [Case("bounds", 5, lines(*map(",".join, right_rows(5, units)))) for units in table["units"]]
+    return [*forms, *dear, *(Case("bounds", 0, data) for data in files)]
 
 
 def lot_of(kind: int) -> dict[str, Any]:

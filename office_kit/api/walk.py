@@ -39,7 +39,8 @@ def body_of(asker: Asker, operation: str, text: str) -> Any:
     """The body that a row has in its last column."""
     if text.startswith("="):
         example, _, members = text[1:].partition(" ")
-        return asker.sent(operation, example, **json.loads(members or "{}"))
+        value = asker.document.operations[operation].body["examples"][example]["value"]
+        return {**value, **json.loads(members)} if members else value
     if text.startswith(("{", '"')):
         return json.loads(text)
     return HEADS[operation] + "".join(row + "\n" for row in text.split(" / "))

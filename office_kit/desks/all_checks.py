@@ -3,10 +3,9 @@ import time
 from collections.abc import Callable
 
 from office_kit.client import AHEAD, wait_until
-from office_kit.common import check
 from office_kit.desks import clerk_desk, page_checks
 from office_kit.desks.clerk_checks import NUMBER, budget_part, publish_part
-from office_kit.desks.tender_office import Scene
+from office_kit.desks.scene import Scene
 from office_kit.desks.tender_page import Desk
 
 # Seconds from the publication to the deadline: for three firms at their desks.
@@ -19,15 +18,10 @@ SHEET = "Pos;Menge;EP;GP\r\nI1;3;140,00;420,00\r\nI2;10;12,00;120,00\r\nSumme;;;
 def enrol(scene: Scene, clerk: clerk_desk.Desk, name: str, firm: str, address: str) -> Desk:
     """A firm makes its key, saves it, drops it in again, and saves the file from which the clerk registers it."""
     desk = Desk(scene)
-    desk.at("key", "Key")
-    for field, text in (("tenderer", name), ("name", firm), ("address", address)):
-        desk.fill(f"key-{field}", text)
-    desk.press("Make a key")
-    desk.saved(f"{name}.key")
+    desk.make_key(name, firm, address)
     desk.press("Save the sheet as a file for the clerk")
     file = desk.saved(f"registration-{name}.json")
-    desk.page.choose("key-file", scene.path(f"{name}.key"))
-    desk.says("its file was saved")
+    desk.choose("key-file", scene.path(f"{name}.key"), "its file was saved")
     clerk.register(name, file.decode())
     clerk.confirm("Register the tenderer", f"{name} is registered.")
     return desk
@@ -35,17 +29,10 @@ def enrol(scene: Scene, clerk: clerk_desk.Desk, name: str, firm: str, address: s
 
 def submit(desk: Desk) -> int:
     """Checks an offer, and sends it. Returns its receipt, which must be green."""
-    desk.press("Check before submitting")
-    desk.shows("Check before submitting")
-    desk.press("Submit the tender")
-    receipt = desk.receipt()
-    check(f"the receipt says {desk.page.text()}", desk.has("good", "The office received exactly what you submitted.") and not desk.has("bad", ""))
+    desk.review()
+    receipt = desk.submit()
+    assert desk.has("good", "The office received exactly what you submitted.") and not desk.has("bad", ""), desk.page.text()
     return receipt
-
-
-def secure(desk: Desk, reference: str) -> None:
-    desk.fill("security-reference", reference)
-    desk.fill("security-amount", "50")
 
 
 def offers(alpha: Desk, beta: Desk, gamma: Desk) -> None:
@@ -54,36 +41,22 @@ def offers(alpha: Desk, beta: Desk, gamma: Desk) -> None:
     alpha.press("Road repair")
     alpha.shows("Road repair")
     alpha.prices("N1", "L1", 150, 12)
-    secure(alpha, "G1")
+    alpha.secure("G1", 50)
     first = submit(alpha)
     sheet = alpha.page.run("document.querySelector('.sheet').innerText")
-    check(f"the receipt's sheet says {sheet!r}", all(text in sheet for text in ("Alpha & Söhne\nT1", "Road repair\nN1", "This sheet has your price.")))
+    assert [text for text in ("Alpha & Söhne\nT1", "Road repair\nN1", "This sheet has your price.") if text not in sheet] == []
     alpha.prices("N1", "L2", 290)
     submit(alpha)
     beta.at("offer/N1/L1", "Tender for")
     beta.press("Use a file")
-    beta.page.choose("offer-file", beta.scene.put("sheet.csv", SHEET))
-    beta.says("was converted to the form that the office reads: 540 EUR")
-    secure(beta, "G2")
+    beta.choose("offer-file", beta.scene.put("sheet.csv", SHEET), "was converted to the form that the office reads: 540 EUR")
+    beta.secure("G2", 50)
     submit(beta)
-    alpha.at("tenders", "My tenders")
-    alpha.says("2 tenders: sealed ones first, the nearest deadline first")
+    alpha.at("tenders", "My tenders", "2 tenders: sealed ones first, the nearest deadline first")
     alpha.at(f"tender/{first}", "Tender with")
-    check("what a withdrawal costs isn't told", alpha.has("look", "Nothing: the security of 50 EUR (G1) is returned."))
+    assert alpha.has("look", "Nothing: the security of 50 EUR (G1) is returned."), "what a withdrawal costs isn't told"
     gamma.prices("N1", "L1", 100, 10)
-    secure(gamma, "G3")
-
-
-def too_late(desk: Desk, deadline: float) -> None:
-    """A tender after the deadline: the page warns about it, the office records it and returns it."""
-    wait_until(deadline + 1.1)
-    desk.press("Check before submitting")
-    desk.shows("Check before submitting")
-    check("a late tender can be sent without a tick", desk.has("bad", "The deadline has passed") and not desk.can_press("Submit the tender"))
-    desk.tick("send-late")
-    desk.press("Submit the tender")
-    desk.receipt()
-    check("a late tender is green", desk.has("bad", "The tender came late, and the office returned it."))
+    gamma.secure("G3", 50)
 
 
 def decide(clerk: clerk_desk.Desk) -> None:
@@ -131,22 +104,20 @@ def life(scene: Scene) -> None:
     time.sleep(2.1)
     offers(alpha, beta, gamma)
     clerk.says("Tenders in time, by lot: L1: 2, L2: 1.")
-    too_late(gamma, deadline)
+    wait_until(deadline + 1.1)
+    gamma.submit_late()
     decide(clerk)
     pay(clerk)
     # (It keeps records and evaluations for three seconds.)
     time.sleep(4.1)
-    beta.at("tender/3", "Tender with receipt 3")
-    for text in ("The contract was signed.", "Ended as agreed", "P1: Returned"):
-        beta.says(text)
-    alpha.at("tender/2", "Tender with receipt 2")
-    alpha.says("P2: Forfeited")
+    beta.at("tender/3", "Tender with receipt 3", "The contract was signed.", "Ended as agreed", "P1: Returned")
+    alpha.at("tender/2", "Tender with receipt 2", "P2: Forfeited")
     alpha.page.gives("document.querySelector('.contract .badge.stopped').innerText.endsWith('Ended by default')")
     alpha.page.gives("document.querySelector('main .badge.done') === null")
     page = page_checks.page_of(scene, "#notice/N1/L2")
     page.gives("document.activeElement.id", "lot-L2")
-    for text in ("Its price wasn't the lowest.", "540 EUR", "All contracts ended", "Returned", "Contract 2 ended: 0 EUR of 290 EUR was paid."):
-        check(f"the public sees {page.text()}", text in page.text())
+    texts = "Its price wasn't the lowest.", "540 EUR", "All contracts ended", "Returned", "Contract 2 ended: 0 EUR of 290 EUR was paid."
+    assert [text for text in texts if text not in page.text()] == []
     for page in (clerk.page, *(desk.page for desk in desks)):
         page_checks.keeps_nothing(scene, page)
 
@@ -159,15 +130,11 @@ def lost_key(scene: Scene) -> None:
     desk.at("key", "Key")
     desk.page.run("document.querySelector('main details').open = true")
     desk.says("let the clerk register it under another identifier")
-    desk.page.choose("key-file", scene.put("wrong.key", b"Office-Caller: T1\nOffice-Key: " + b"0" * 64 + b"\n"))
-    desk.says("This tab holds the key of T1")
-    desk.press("Ask whether")
-    desk.says("The name and the key don't belong together. Check both.")
+    desk.choose("key-file", scene.put("wrong.key", b"Office-Caller: T1\nOffice-Key: " + b"0" * 64 + b"\n"), "This tab holds the key of T1")
+    desk.press("Ask whether", "The name and the key don't belong together. Check both.")
     other = enrol(scene, clerk, "T4", "Alpha & Söhne", "High Street 1")
-    other.press("Ask whether")
-    other.says("The office knows T4 by this key.")
-    other.at("tenders", "My tenders")
-    other.says("None of your tenders was found.")
+    other.press("Ask whether", "The office knows T4 by this key.")
+    other.at("tenders", "My tenders", "None of your tenders was found.")
     other.page.run("location.hash = '#tender/1'")
     other.says("This belongs to another tenderer.")
     page_checks.is_quiet(other.page)
@@ -187,15 +154,14 @@ def slow(scene: Scene) -> None:
     clerk.go("key")
     for page, place in ((clerk.page, "budget"), (firm.page, "offer"), (public, "ledger")):
         page.gives(f"{REACHED} > 0")
-        page.answer_for({})
+        # (Each request waits, until the page answers.)
+        page.answer_for({"": None})
         page.run("new Promise((done) => { addEventListener('hashchange', () => setTimeout(done, 0), { once: true }); "
                  f"location.hash = '#{place}'; }})")
         page.gives(f"[{REACHED}, {IS_INERT}]", [0, True])
-        page.wait("document.querySelector('main').getAttribute('aria-busy') === 'false'")
+        page.drawn()
         page.gives(IS_INERT, False)
-        page.ask("Fetch.disable")
-        # (The browser itself sends what was held until now.)
-        page.browser.paused.clear()
+        page.answer_for({})
         page_checks.is_quiet(page)
 
 

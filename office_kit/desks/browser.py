@@ -1,5 +1,6 @@
 """Runs a browser without a window: Chromium, controlled by its DevTools protocol over two descriptors (--remote-debugging-pipe)."""
 import base64
+import collections
 import contextlib
 import json
 import os
@@ -7,6 +8,7 @@ import socket
 import subprocess
 import time
 from collections.abc import Callable, Mapping
+from pathlib import Path
 from typing import Any
 
 from office_kit.client import AHEAD
@@ -35,20 +37,15 @@ class Browser:
         self.stream, end = socket.socketpair()
         self.stream.settimeout(PATIENCE)
         self.count, self.rest = 0, b""
-        self.events: list[Event] = []
-        # Requests that wait to be answered.
-        self.paused: list[Event] = []
-
-        def plumb() -> None:
-            # It reads at 3 and writes at 4.
-            for number in (3, 4):
-                os.dup2(end.fileno(), number)
-                os.set_inheritable(number, True)
+        # By session the events, and the requests that wait to be answered.
+        self.events: dict[str | None, list[Event]] = collections.defaultdict(list)
+        self.paused: dict[str | None, list[Event]] = collections.defaultdict(list)
 
         environment = {**os.environ, "HOME": folder, "DBUS_SESSION_BUS_ADDRESS": "disabled:"}
+        # It reads at 3 and writes at 4.
+        words = ["sh", "-c", 'exec "$0" "$@" 3<&0 4>&1 </dev/null >/dev/null', program, *WORDS, f"--user-data-dir={os.path.join(folder, 'profile')}"]
         with end:
-            self.process = subprocess.Popen([program, *WORDS, f"--user-data-dir={os.path.join(folder, 'profile')}"], env=environment, preexec_fn=plumb,
-                                            close_fds=False, stdin=subprocess.DEVNULL, stdout=subprocess.DEVNULL, stderr=subprocess.DEVNULL)
+            self.process = subprocess.Popen(words, env=environment, stdin=end.fileno(), stdout=end.fileno(), stderr=subprocess.DEVNULL)
 
     def __enter__(self) -> "Browser":
         return self
@@ -71,7 +68,8 @@ class Browser:
         while (message := self.receive()).get("id") != number:
             # (An answer that came too late for its command is dropped.)
             if "method" in message:
-                (self.paused if message["method"] == "Fetch.requestPaused" else self.events).append(message)
+                kind = self.paused if message["method"] == "Fetch.requestPaused" else self.events
+                kind[message.get("sessionId")].append(message)
         if "error" in message:
             told = f"chromium: {method}: {message['error']['message']}"
             if "navigated" in told:
@@ -81,10 +79,7 @@ class Browser:
 
     def receive(self) -> Event:
         while b"\0" not in self.rest:
-            part = self.stream.recv(1 << 20)
-            if not part:
-                fail("chromium has ended")
-            self.rest += part
+            self.rest += self.stream.recv(1 << 20) or fail("chromium has ended")
         message, _, self.rest = self.rest.partition(b"\0")
         told: Event = json.loads(message)
         if told.get("method") == "Page.javascriptDialogOpening":
@@ -124,7 +119,7 @@ class Page:
 
     def events(self, *names: str) -> list[Event]:
         """The events of these kinds so far."""
-        return [event["params"] for event in self.browser.events if event.get("sessionId") == self.session and event["method"] in names]
+        return [event["params"] for event in self.browser.events[self.session] if event["method"] in names]
 
     def run(self, script: str) -> Any:
         """The value of an expression of the page, awaited if it is a promise."""
@@ -139,31 +134,25 @@ class Page:
         check(f"the page: {script}: gives {told!r}, and not {wanted!r}", told == wanted)
 
     def wait(self, script: str) -> None:
-        """Waits until an expression of the page holds, also while another page comes."""
-        def holds() -> bool:
-            try:
-                return bool(self.run(f"Boolean({script})"))
-            except Navigated:
-                return False
-        self.expect(script, holds)
+        """Waits until an expression of the page holds."""
+        self.expect(script, lambda: self.run(f"Boolean({script})"))
 
     def expect(self, what: str, holds: Callable[[], Any]) -> None:
-        """Waits until something holds, and answers the page's requests meanwhile."""
+        """Waits until something holds, also while another page comes, and answers the page's requests meanwhile."""
         end = time.monotonic() + PATIENCE
-        while not holds():
-            self.answer()
-            if time.monotonic() > end:
-                fail(f"the page: {what}: doesn't come to hold; it shows {self.text()!r}")
-            time.sleep(0.02)
-            # Events come with the answer to a command.
+        while time.monotonic() < end:
             with contextlib.suppress(Navigated):
+                if holds():
+                    return
+                # Events come with the answer to a command.
                 self.run("0")
+            self.answer()
+            time.sleep(0.02)
+        fail(f"the page: {what}: doesn't come to hold; it shows {self.text()!r}")
 
     def answer(self) -> None:
         """Answers a request of the page, if `answers` has its path."""
-        paused = [event for event in self.browser.paused if event["sessionId"] == self.session]
-        self.browser.paused = [event for event in self.browser.paused if event["sessionId"] != self.session]
-        for event in paused:
+        for event in self.browser.paused.pop(self.session, []):
             request = event["params"]["requestId"]
             path = "/" + event["params"]["request"]["url"].split("/", 3)[3]
             if path not in self.answers:
@@ -176,16 +165,30 @@ class Page:
                 self.ask("Fetch.fulfillRequest", requestId=request, responseCode=status, responseHeaders=media, body=base64.b64encode(body).decode())
 
     def answer_for(self, answers: Answers, kind: str = "Fetch") -> None:
-        """Sets the answers to requests of scripts from now on. For another kind of request, only the paths of `answers` are held, and no others wait."""
+        """Sets the answers to requests of scripts from now on. For another kind of request, only the paths of `answers` are held, and no others wait. If there
+        are none, the server answers again, also what was held until now."""
         self.answers = answers
-        places = ["*"] if kind == "Fetch" else [f"*{path}" for path in answers]
-        self.ask("Fetch.enable", patterns=[{"urlPattern": place, "resourceType": kind} for place in places])
+        if answers:
+            places = ["*"] if kind == "Fetch" else [f"*{path}" for path in answers]
+            self.ask("Fetch.enable", patterns=[{"urlPattern": place, "resourceType": kind} for place in places])
+        else:
+            self.ask("Fetch.disable")
+            self.browser.paused.pop(self.session, None)
 
     def go(self, address: str) -> None:
         """Loads a page from the beginning, until it has drawn the view of its address."""
         self.ask("Page.navigate", url="about:blank")
         self.ask("Page.navigate", url=address)
-        self.wait("document.querySelector('main')?.getAttribute('aria-busy') === 'false'")
+        self.drawn()
+
+    def drawn(self, script: str = "true") -> None:
+        """Waits until the page has drawn a view, and an expression holds."""
+        self.wait(f"document.querySelector('main')?.getAttribute('aria-busy') === 'false' && ({script})")
+
+    def fill(self, name: str, text: str) -> None:
+        """Types into the field of this name, in place of its old text."""
+        self.run(f"(() => {{ const at = document.getElementById({json.dumps(name)}); at.focus(); at.select(); }})()")
+        self.type(text)
 
     def text(self) -> str:
         """The text that is seen of the content, in lines without space around them."""
@@ -195,6 +198,11 @@ class Page:
     def keep_in(self, folder: str) -> None:
         """From now on files that the page saves go into a folder."""
         self.browser.ask("Browser.setDownloadBehavior", behavior="allow", browserContextId=self.context, downloadPath=folder)
+
+    def saved(self, path: str) -> bytes:
+        """A file that the page saved there."""
+        self.expect(f"{path} is saved", lambda: os.path.exists(path) and os.path.getsize(path) > 0)
+        return Path(path).read_bytes()
 
     def choose(self, name: str, path: str) -> None:
         """Chooses a file in the field of this name."""
@@ -224,12 +232,10 @@ class Page:
 
     def picture(self, path: str) -> None:
         """A picture of the whole page, also of parts that need scrolling. It makes none unless pictures are asked for."""
-        if not self.browser.pictures:
-            return
-        size = self.ask("Page.getLayoutMetrics")["cssContentSize"]
-        clip = {"x": 0, "y": 0, "width": size["width"], "height": size["height"], "scale": 1}
-        with open(path, "wb") as file:
-            file.write(self.shot(clip, optimizeForSpeed=True))
+        if self.browser.pictures:
+            size = self.ask("Page.getLayoutMetrics")["cssContentSize"]
+            clip = {"x": 0, "y": 0, "width": size["width"], "height": size["height"], "scale": 1}
+            Path(path).write_bytes(self.shot(clip, optimizeForSpeed=True))
 
     def shot(self, clip: Mapping[str, float], **how: bool) -> bytes:
         """A part of the page as a PNG."""

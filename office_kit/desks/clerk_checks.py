@@ -1,23 +1,18 @@
 """The first checks of tests/desks/test_clerk.py: a procurement from the budget to the last payment on the clerk's screens, and faults around it."""
-import base64
 import contextlib
 import hashlib
 import json
 import os
 import re
 import time
-from collections.abc import Callable
-from typing import Any
 
-from office_kit import client
-from office_kit.client import AHEAD, Answer, Client, budget, tender, wait_until
+from office_kit.client import AHEAD, budget, tender, wait_until
 from office_kit.common import check
 from office_kit.desks import page_checks
-from office_kit.desks.browser import Page
 from office_kit.desks.clerk_desk import Desk, with_key
-from office_kit.desks.page_office import key_of
 from office_kit.desks.scene import Scene
 from office_kit.front.nginx import OUTSIDE
+from office_kit.store.life import key_of
 
 # Seconds from the publication to the deadline: for all that comes between, by the screens.
 SOON = AHEAD + 26
@@ -32,11 +27,6 @@ NUMBER = "Number of the invoice or change"
 ACCEPTS_FILE, ACCEPTS_NOTICE = "The office would accept this file.", "The office would accept this notice."
 NOT_DONE = "This isn't done: the office's data shows nothing of it."
 NO_MATCH = "The name and the key don't belong together"
-
-
-def firms(scene: Scene) -> Client[Answer]:
-    """The tenderers, who aren't at this desk."""
-    return Client(client.Front(scene.front.address().rstrip("/"), scene.front.context), key_of)
 
 
 def budget_part(desk: Desk) -> None:
@@ -54,8 +44,7 @@ def budget_part(desk: Desk) -> None:
     desk.press("Import the file")
     desk.hides("POST /budget/B1")
     desk.press("Request, as it is sent", says="POST /budget/B1", picture="order")
-    told = desk.confirm("Import", "Budget file B1 is imported.")
-    check(f"the receipt is shown: {told}", '"rows":2' in told)
+    assert '"rows":2' in desk.confirm("Import", "Budget file B1 is imported."), "the receipt isn't shown"
     desk.page.wait("[...document.querySelectorAll('main section')].at(-1).innerText.includes('5,000')")
     desk.drop(BUDGET.replace("Roads", "Roads and paths"), "B2.csv", says="Careful: the same amounts were already imported, under B1.")
     desk.says("Careful: 2 budget lines would have twice their money: 1000, 2000.")
@@ -106,8 +95,7 @@ def notice_part(desk: Desk) -> None:
     desk.fill({"Performance security": "70"})
     check("the size is told", re.search(r"The notice has \d+ of at most 65,536 bytes", desk.told()))
     desk.picture("notice-right")
-    desk.press("Preview the public page")
-    desk.settle("preview", says="Lots, awards and contracts", picture="preview")
+    desk.press("Preview the public page", to="preview", says="Lots, awards and contracts", picture="preview")
 
 
 def publish_part(desk: Desk, name: str, title: str, deadline: float) -> None:
@@ -117,14 +105,21 @@ def publish_part(desk: Desk, name: str, title: str, deadline: float) -> None:
     desk.settle(f"notice/{name}")
 
 
-def tenders_part(desk: Desk, scene: Scene, deadline: float) -> None:
+def tenders_part(desk: Desk, deadline: float) -> None:
     """Two firms tender, one of them for both lots, and the register grows. Whose the securities are is shown after the opening."""
-    tenderers = firms(scene)
+    tenderers = desk.scene.client
     tenderers.present("T1", "N1", "L1", tender((3, 150), (10, 12)), "G1", 50)
     tenderers.present("T2", "N1", "L1", tender((3, 140), (10, 12), wrong=20), "G2", 60)
     tenderers.present("T1", "N1", "L2", "290 for all of it")
     desk.go("today")
-    countdowns(scene)
+    # All countdowns to a deadline say the same: that of a task, and that of a clock. A second that has begun counts.
+    other = Desk(desk.scene)
+    other.says("Wait for tenders until")
+    other.hand("stop")
+    shown = "[...document.querySelectorAll('main [role=timer]')].map((at) => at.textContent)"
+    other.page.wait(f"({shown}).length === 2 && ({shown}).every((text) => text.includes('47 minutes, 4'))")
+    other.page.gives(shown, ["(in 47 minutes, 41 seconds)", "closes in 47 minutes, 41 seconds"])
+    other.close()
     desk.go("notice/N1", says=("Tenders in time, by lot: L1: 2, L2: 1.", "2 securities", "G1", "shown after the opening"))
     desk.hides("Beta", picture="receiving")
     desk.is_off("Open the tenders …")
@@ -132,17 +127,6 @@ def tenders_part(desk: Desk, scene: Scene, deadline: float) -> None:
     desk.order("Open the tenders", "3 tenders of notice N1 are open.", says="2 tenders to examine")
     desk.go("minutes/N1", says=("3 tenders were opened.", "Alpha & Söhne", "unreadable", "In the presence of", "540 EUR"), picture="minutes")
     desk.go("notice/N1")
-
-
-def countdowns(scene: Scene) -> None:
-    """All countdowns to a deadline say the same: that of a task, and that of a clock. A second that has begun counts."""
-    desk = Desk(scene)
-    desk.says("Wait for tenders until")
-    desk.hand("stop")
-    shown = "[...document.querySelectorAll('main [role=timer]')].map((at) => at.textContent)"
-    desk.page.wait(f"({shown}).length === 2 && ({shown}).every((text) => text.includes('47 minutes, 4'))")
-    desk.page.gives(shown, ["(in 47 minutes, 41 seconds)", "closes in 47 minutes, 41 seconds"])
-    desk.close()
 
 
 def award_part(desk: Desk) -> None:
@@ -169,8 +153,7 @@ def examination_part(desk: Desk) -> None:
     desk.is_off("Award the lot …", "Lot L1")
     other = with_key(desk.scene)
     other.says(("Lot L1: examine 2 tenders", "Tenders are valid until"))
-    other.press("Lot L1: examine 2 tenders")
-    other.settle("notice/N1/L1")
+    other.press("Lot L1: examine 2 tenders", to="notice/N1/L1")
     other.page.gives("document.activeElement.id", "lot-L1")
     other.says("2 tenders to examine")
     desk.tick("Requirements not met", "Examination of Beta Ltd, receipt 2")
@@ -191,16 +174,14 @@ def examination_part(desk: Desk) -> None:
 
 def letters_part(desk: Desk) -> None:
     """Each lot that ended has letters, also one that nobody won. They have the winner's price, the losers' reasons, and the state of the securities."""
-    desk.press("Letters to the tenderers", "Lot L2")
-    desk.settle("letter/N1/L2", says=("No tender can win the lot. We ended it without an award on", "The office couldn't read it as a price list.",
-                                      "Alpha & Söhne"), picture="letters-nobody")
+    desk.press("Letters to the tenderers", "Lot L2", to="letter/N1/L2", picture="letters-nobody", says=(
+        "No tender can win the lot. We ended it without an award on", "The office couldn't read it as a price list.", "Alpha & Söhne"))
     desk.go("notice/N1")
-    desk.press("Letters to the tenderers", "Lot L1")
-    desk.settle("letter/N1/L1", says=(
+    desk.press("Letters to the tenderers", "Lot L1", to="letter/N1/L1", picture="letters", says=(
         "Your tender states 520 EUR. The opening corrected 1 figure in it.", "Please provide a performance security of at least 70 EUR",
         "We accept your tender at 540 EUR.", "We hold your security G2, of 60 EUR, until the contract for the lot is signed. Then we return it.",
         "We are sorry that we can't accept it. Its price wasn't the lowest.", "We hold your security G1, of 50 EUR, until",
-        "From: City Office, Anna", "Signature: City Office, Anna"), picture="letters")
+        "From: City Office, Anna", "Signature: City Office, Anna"))
     desk.go("notice/N1")
 
 
@@ -211,7 +192,7 @@ def signing_part(desk: Desk) -> None:
     desk.go("today")
     desk.go("notice/N1", says="the price is 30 EUR above its reserved money, and budget line 1000 has only 29 EUR free")
     desk.is_off("Award the lot …", "Lot L1")
-    desk.page.ask("Fetch.disable")
+    desk.page.answer_for({})
     desk.go("today")
     desk.go("notice/N1")
     desk.order("Award the lot", "Lot L1 goes to Alpha & Söhne for 570 EUR (receipt 1).", "Lot L1")
@@ -242,8 +223,7 @@ def contract_part(desk: Desk) -> None:
 def journal_part(desk: Desk) -> None:
     """The journal has an entry for each that was sent, without the key, and comes back from its file."""
     desk.go("journal", picture="journal")
-    entries = desk.hand("entries")
-    check(f"the journal has each command: {entries}", len(entries) == 16 and all(status == 200 and who == "Anna" for _, status, who, _ in entries))
+    assert [(status, who) for _, status, who, _ in desk.hand("entries")] == [(200, "Anna")] * 16, "each command"
     text = desk.hand("file")
     check("the key is in the journal", '"abc"' not in text and "Office-Key" not in text)
     other = Desk(desk.scene, place="#notice/N1")
@@ -278,13 +258,12 @@ def life(scene: Scene) -> None:
     notice_part(desk)
     deadline = int(time.time()) + SOON
     publish_part(desk, "N1", "Road repair", deadline)
-    tenders_part(desk, scene, deadline)
+    tenders_part(desk, deadline)
     award_part(desk)
     contract_part(desk)
     journal_part(desk)
     desk.go("today", picture="today")
-    ledger = scene.front.ask("GET", "/ledger").body.decode().split("\n")[2]
-    check(f"the ledger has what was done: {ledger}", ledger == "1000\t5000\t4500\t0\t0\t500")
+    assert scene.front.ask("GET", "/ledger").body.decode().split("\n")[2] == "1000\t5000\t4500\t0\t0\t500", "what was done"
     page_checks.keeps_nothing(scene, desk.page)
 
 
@@ -297,7 +276,7 @@ def moved_and_cancelled(scene: Scene) -> None:
     desk.press("Move the deadline …", says="The new deadline must be later than the old one.")
     desk.fill({"New deadline": time.time() + 200_000})
     desk.order("Move the deadline", "The deadline of notice N2 is moved.", says="No tender has arrived yet.")
-    firms(scene).present("T1", "N2", "L1", tender((3, 150), (10, 12)), "G7", 50)
+    scene.client.present("T1", "N2", "L1", tender((3, 150), (10, 12)), "G7", 50)
     desk.go("letter/N2/L1", says="There are no letters to print")
     desk.go("notice/N2")
     desk.press("Cancel the notice")
@@ -320,19 +299,11 @@ def stops(scene: Scene) -> None:
     desk.page.answer_for({"/notices/N3": None})
     desk.send("Publish the notice", says=NOT_DONE, picture="notdone")
     # Now it reaches the office, and the answer is lost.
-    firms(scene).publish("N3", body)
+    scene.client.publish("N3", body)
     desk.press("Send the same request again", says="This is done.", picture="done")
     desk.page.answer_for({})
-    desk.press("Close")
-    desk.settle("notice/N3")
-    registers_unanswered(desk)
-    found = [(status, found) for _, status, _, found in desk.hand("entries")]
-    check(f"the journal says what was found: {found}", found == [(None, "not done"), (None, "done"), (504, "done"), (409, "done")])
-    desk.close()
-
-
-def registers_unanswered(desk: Desk) -> None:
-    """A registration gets no answer. Queries get none at first, then show another firm's name, and at last the firm."""
+    desk.press("Close", to="notice/N3")
+    # A registration gets no answer. Queries get none at first, then show another firm's name, and at last the firm.
     desk.go("tenderers")
     desk.fill({"Identifier": "T9", "Name": "Gamma", "Address": "Mill Lane 3", "SHA-256 of the key": "ab " * 32})
     desk.press("Register a tenderer")
@@ -345,6 +316,8 @@ def registers_unanswered(desk: Desk) -> None:
     desk.press("Ask the office again", says=NOT_DONE)
     desk.page.answer_for({"/tenderers/T9": exists, "/tenderers": lists["Gamma"]})
     desk.press("Send the same request again", says="This is done.")
+    assert [(status, found) for _, status, _, found in desk.hand("entries")] == [(None, "not done"), (None, "done"), (504, "done"), (409, "done")]
+    desk.close()
 
 
 def refused_as(desk: Desk, at: int, status: int, body: bytes) -> str:
@@ -367,13 +340,12 @@ def each_refusal(scene: Scene) -> None:
     for language in ("en", "de"):
         desk = with_key(scene, place=f"?language={language}", language=language)
         told = {body: refused_as(desk, at, status, body) for at, (status, body) in enumerate(page_checks.refusals())}
-        odd = [said for said in told.values() if not re.fullmatch(r"[A-ZÄÖÜ].*\.", said) or "status" in said.lower()]
-        check(f"in {language} these are no sentences: {odd}", not odd)
+        assert [said for said in told.values() if not re.fullmatch(r"[A-ZÄÖÜ].*\.", said) or "status" in said.lower()] == [], "no sentences"
         sentences = [said for body, said in told.items() if b'"Unavailable"' not in body]
-        check(f"in {language} two refusals have one sentence: {sorted(sentences)}", len(set(sentences)) == len(sentences))
+        assert len(set(sentences)) == len(sentences), f"in {language} two refusals have one sentence: {sorted(sentences)}"
         for at, status in enumerate((403, 404, 413, 429)):
             said = refused_as(desk, 100 + at, status, b'{"front":"no"}')
-            check(f"{status} in {language} is told as {said!r}", re.fullmatch(r"[A-Z].*\.", said) and str(status) not in said)
+            assert re.fullmatch(r"[A-Z].*\.", said) and str(status) not in said, (language, status)
         page_checks.is_quiet(desk.page)
         desk.close()
 
@@ -400,10 +372,8 @@ def keyboard(scene: Scene) -> None:
     page.press("Enter")
     page.wait("document.activeElement.type === 'checkbox'")
     page.press("Space")
-    ways: list[Any] = []
-    while len(ways) < 6 and (not ways or ways[-1][0] != "Register the tenderer"):
-        ways += page_checks.tab(page, 1)
-    check(f"tabs lead to the button: {ways}", ways[-1] == ["Register the tenderer", True])
+    # (The last tab is the one that leads to the button.)
+    assert ["Register the tenderer", True] in (page_checks.tab(page) for _ in range(6)), "no tab leads to the button"
     page.press("Enter")
     desk.says("T8 is registered.")
     page.press("Enter")
@@ -426,19 +396,14 @@ def from_clerks_alone(scene: Scene) -> None:
     for path, media in (("/clerk/", "text/html"), ("/clerk/desk.js", "application/javascript"), ("/clerk/clerk.css", "text/css")):
         answer = scene.front.ask("GET", path)
         policy = answer.head["Content-Security-Policy"] or ""
-        kinds = (answer.status, answer.head["Content-Type"], answer.head["Cache-Control"])
-        check(f"{path}: {kinds}", kinds == (200, media, "no-cache"))
-        check(f"{path} has the policy {policy}", "script-src 'self'" in policy and "unsafe" not in policy)
+        assert (answer.status, answer.head["Content-Type"], answer.head["Cache-Control"]) == (200, media, "no-cache"), path
+        assert "script-src 'self'" in policy and "unsafe" not in policy, path
         answer = scene.front.ask("GET", path, source=OUTSIDE)
-        check(f"{path} from {OUTSIDE}: {answer}", answer.status == 403 and b"front" in answer.body)
+        assert answer.status == 403 and b"front" in answer.body, path
     for path in ("/clerk/nothing.js", "/clerk/README.md", "/clerk/x/desk.js"):
         answer = scene.front.ask("GET", path)
-        check(f"{path}: {answer}", answer.status == 404 and b"front" in answer.body)
-    page = Page(scene.browser, 375)
-    page.ask("Emulation.setScriptExecutionDisabled", value=True)
-    page.ask("Page.navigate", url=scene.front.address("clerk/"))
-    page.wait("document.readyState === 'complete' && document.querySelector('main')")
-    check(f"without scripts it says {page.text()!r}", "needs a browser with scripts" in page.text())
+        assert answer.status == 404 and b"front" in answer.body, path
+    page_checks.without_scripts(scene, "clerk/", "needs a browser with scripts")
 
 
 def printed(scene: Scene) -> None:
@@ -449,34 +414,22 @@ def printed(scene: Scene) -> None:
         desk.page.ask("Emulation.setEmulatedMedia", media="print")
         desk.page.gives("[...document.querySelectorAll('header, .who, button, nav, footer, .noprint')].filter((at) => at.checkVisibility())"
                         ".map((at) => at.outerHTML.slice(0, 80))", [])
-        paper = desk.page.ask("Page.printToPDF", paperWidth=8.27, paperHeight=11.69)["data"]
-        with open(os.path.join(scene.pictures, f"{screen.replace('/', '-')}.pdf"), "wb") as file:
-            file.write(base64.b64decode(paper))
+        page_checks.printed_to(desk.page, os.path.join(scene.pictures, f"{screen.replace('/', '-')}.pdf"))
         desk.page.ask("Emulation.setEmulatedMedia", media="")
-
-
-# Faults that are planted in the desk's screen, and which of the checks must find each.
-PLANTS: list[tuple[str, Callable[[Scene, Desk], None]]] = [
-    ("document.querySelector('main h1').style.color = '#ddd'", lambda _, desk: page_checks.has_contrast("planted", desk.page)),
-    ("document.querySelector('main').style.width = '2000px'", lambda _, desk: page_checks.is_within("planted", 1280, desk.page)),
-    ("localStorage.setItem('x', 'y')", lambda scene, desk: page_checks.keeps_nothing(scene, desk.page)),
-    ("document.cookie = 'x=y'", lambda scene, desk: page_checks.keeps_nothing(scene, desk.page)),
-    ("console.log('x')", lambda _, desk: page_checks.is_quiet(desk.page)),
-    ("document.querySelector('main h1').textContent = 'What to do next'", lambda _, desk: desk.hides("What to do next")),
-]
 
 
 def plants(scene: Scene) -> None:
     """The check for it finds a fault in a screen."""
     passed_over = []
-    for fault, judge in PLANTS:
-        desk = Desk(scene, place="?language=de#today", language="de")
-        judge(scene, desk)
-        desk.page.run(f"void ({fault})")
+    english = ("document.querySelector('main h1').textContent = 'What to do next'", lambda _, page: page.gives("hands.english()", []))
+    for fault, judge in (*page_checks.COMMON_PLANTS, english):
+        page = Desk(scene, place="?language=de#today", language="de").page
+        judge(scene, page)
+        page.run(f"void ({fault})")
         with contextlib.suppress(AssertionError):
-            judge(scene, desk)
+            judge(scene, page)
             passed_over.append(fault)
-    check(f"these are passed over: {passed_over}", not passed_over)
+    assert passed_over == []
 
 
 CHECKS = [from_clerks_alone, life, moved_and_cancelled, stops, each_refusal, keyboard, german, printed, plants]

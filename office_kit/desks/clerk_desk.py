@@ -1,6 +1,5 @@
 """The clerk's desk in a page of a browser, used as by hand: fields are found by their labels, buttons by their texts."""
 import json
-import os
 from collections.abc import Mapping
 from pathlib import Path
 from typing import Any
@@ -10,8 +9,6 @@ from office_kit.desks import page_checks
 from office_kit.desks.browser import Page
 from office_kit.desks.scene import Scene
 
-SHAPES = {"phone": 375, "desktop": 1280}
-WIDTHS = (320, 375, 1280, 1920)
 HANDS = Path(__file__).with_name("hands.js").read_text(encoding="utf-8")
 # A text, or several.
 Texts = str | tuple[str, ...]
@@ -59,8 +56,7 @@ class Desk:
         self.settle(screen, says, picture)
 
     def settle(self, screen: str, says: Texts = (), picture: str = "") -> None:
-        self.page.wait(f"location.hash === {json.dumps('#' + screen)} && document.querySelector('main').getAttribute('aria-busy') === 'false' "
-                       "&& document.title.length > 0 && document.querySelector('main h1, main .look')")
+        self.page.drawn(f"location.hash === {json.dumps('#' + screen)} && document.title.length > 0 && document.querySelector('main h1, main .look')")
         self.says(says, picture)
 
     def fill(self, values: Mapping[str, str | float], part: str = "", says: Texts = ()) -> None:
@@ -77,10 +73,13 @@ class Desk:
         self.hand("drop", text, name)
         self.says(says, picture)
 
-    def press(self, name: str, part: str = "", says: Texts = (), picture: str = "") -> None:
+    def press(self, name: str, part: str = "", says: Texts = (), picture: str = "", to: str = "") -> None:
+        """Presses a button, which may lead to another screen."""
         where = f"hands.button({json.dumps(name)}, {json.dumps(part)})"
         self.page.wait(f"{where} && !{where}.disabled")
         self.hand("press", name, part)
+        if to:
+            self.settle(to)
         self.says(says, picture)
 
     def is_off(self, name: str, part: str = "") -> None:
@@ -101,7 +100,7 @@ class Desk:
         self.page.gives("document.querySelector('dialog[open] [role=status] > *').className", kind)
         self.press("Close")
         # The desk then draws the screen again.
-        self.page.wait("!document.querySelector('dialog') && document.querySelector('main').getAttribute('aria-busy') === 'false'")
+        self.page.drawn("!document.querySelector('dialog')")
         return told
 
     def order(self, name: str, done: str, part: str = "", asks: Texts = (), send: str = "", says: Texts = ()) -> None:
@@ -134,26 +133,17 @@ class Desk:
         """Loads the page again, as F5 does."""
         self.page.run("void (window.isOld = true)")
         self.page.ask("Page.reload")
-        self.page.wait("!window.isOld && document.querySelector('main')?.getAttribute('aria-busy') === 'false' && document.querySelector('main h1')")
+        self.page.drawn("!window.isOld && document.querySelector('main h1')")
         self.page.run(HANDS)
 
     def close(self) -> None:
         """Leaves the desk, so that nothing of it asks any more."""
-        self.page.ask("Fetch.disable")
+        self.page.answer_for({})
         self.page.ask("Page.navigate", url="about:blank")
-        self.page.browser.paused.clear()
 
     def picture(self, name: str) -> None:
         """The screen, narrow and wide, light and dark: within the window, and with contrast."""
-        for width in WIDTHS:
-            self.page.shape(width)
-            page_checks.is_within(name, width, self.page)
-        for shape, width in SHAPES.items():
-            for shade in ("light", "dark"):
-                self.page.shape(width, dark=shade == "dark")
-                self.page.picture(os.path.join(self.scene.pictures, f"{name}-{shape}-{shade}.png"))
-                page_checks.has_contrast(f"{name}, {shape}, {shade}", self.page)
-        self.page.shape(1280)
+        page_checks.in_all_shapes(self.scene, name, self.page)
 
 
 def with_key(scene: Scene, width: int = 1280, place: str = "", language: str = "en") -> Desk:

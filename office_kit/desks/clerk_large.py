@@ -2,17 +2,14 @@
 opened, 7 close within a week, and 193 later. N001 has a lot with 24 tenders, and N390 has five lots. The items have words that no title has."""
 import time
 
-from office_kit.client import AHEAD, Answer, Client, budget, lot, notice, tender, text_of, wait_until
+from office_kit.client import AHEAD, Answer, Client, Port, budget, lot, notice, tender, text_of, wait_until
+from office_kit.store.life import key_of
 
 LINES, FIRMS, OPENED, OVERDUE, SOON, LATER = 125, 60, 20, 180, 7, 193
 TENDERS = 24
 DAY = 86_400
 WARES = ["Clay tiles", "Paving stones", "School desks", "Street lamps", "Playground swings", "Trees for avenues", "Fire hoses", "Library books"]
 KINDS = ["oak", "granite", "copper", "slate", "birch", "zinc", "cedar"]
-
-
-def key_of(firm: str) -> str:
-    return f"key of {firm}"
 
 
 def line_of(number: int) -> str:
@@ -33,9 +30,10 @@ def publish(office: Client[Answer], number: int, deadline: float) -> None:
     office.publish(name_of(number), notice(text_of(deadline), *lots, title=f"{ware}, purchase {number}", standstill=0))
 
 
-def fill(office: Client[Answer]) -> None:
+def fill(port: int) -> None:
     """Everything up to the deadline, then the openings. N001 waits for the examination of 24 tenders; N002 was cancelled after its opening; N003 was awarded to
     nobody; N004 waits for the signature; N005 to N009 have contracts; N010 was cancelled before its opening; the others wait for examinations."""
+    office = Client(Port(port), key_of)
     office.import_budget("B1", budget(*(f"{line_of(at)},add,{1_000_000 + 1000 * at},Upkeep of district {at}" for at in range(LINES))))
     for number in range(1, FIRMS + 1):
         office.register(f"F{number}", f"Firm {number} Ltd", f"{number} High Street")

@@ -1,13 +1,11 @@
 """What tests/desks/test_clerk.py asks besides: that nothing is lost or forgotten on the desk's screens, and that they do in an office of 400 notices."""
 import contextlib
 import json
-import tempfile
+import os
 import time
 from functools import partial
-from pathlib import Path
 
-from office_kit.client import Client, Port, budget
-from office_kit.common import check
+from office_kit.client import budget
 from office_kit.desks import clerk_large, page_checks
 from office_kit.desks.clerk_checks import ACCEPTS_FILE, DAY, NOT_DONE, drafting, write_notice
 from office_kit.desks.clerk_desk import Desk, with_key
@@ -43,7 +41,9 @@ def drafts(scene: Scene) -> None:
     desk.picture("draft-cleared")
     desk.press("Bring it back")
     desk.page.wait(f"{TITLE} === 'Kept'")
-    text = saved_draft(desk)
+    desk.page.keep_in(scene.front.folder)
+    desk.press("Save the draft as a file")
+    text = desk.page.saved(scene.path("draft-N7.json")).decode()
     desk.page.gives(ASKS, False)
     desk.press("Clear the form")
     desk.page.wait(f"{TITLE} === ''")
@@ -51,15 +51,6 @@ def drafts(scene: Scene) -> None:
     desk.drop('{"kind":"something else"}', "draft.json", says="This file contains no draft.")
     desk.drop(text, "draft-N7.json", says="Lot L2: South (1 item)")
     desk.page.wait(f"{TITLE} === 'Kept'")
-
-
-def saved_draft(desk: Desk) -> str:
-    with tempfile.TemporaryDirectory() as folder:
-        desk.page.keep_in(folder)
-        path = Path(folder, "draft-N7.json")
-        desk.press("Save the draft as a file")
-        desk.page.expect("the draft is saved", lambda: path.exists() and path.stat().st_size > 0)
-        return path.read_text(encoding="utf-8")
 
 
 def answers(scene: Scene) -> None:
@@ -122,10 +113,8 @@ def limit(desk: Desk, warn: int, forget: int) -> None:
 
 def letterheads(scene: Scene) -> None:
     """Letters and minutes have the city's letterhead; a letter to anyone who lost says how to object. The tables of the minutes have captions."""
-    city = Path(scene.front.folder, "city", "city.json")
-    city.parent.mkdir(exist_ok=True)
-    city.write_text(json.dumps({"letterhead": {"en": ["City of Example", "1 Town Hall Square"], "de": []},
-                                "remedy": {"en": ["Object within ten days at the chamber."]}}))
+    own = {"letterhead": {"en": ["City of Example", "1 Town Hall Square"], "de": []}, "remedy": {"en": ["Object within ten days at the chamber."]}}
+    city = scene.put("city/city.json", json.dumps(own).encode())
     objections = "[...document.querySelectorAll('.sheet')].map((at) => at.innerText.includes('Object within ten days'))"
     try:
         desk = Desk(scene)
@@ -138,7 +127,7 @@ def letterheads(scene: Scene) -> None:
         desk.go("minutes/N1", says=("City of Example", "2 tenders for lot L1"))
         desk.page.gives("[...document.querySelectorAll('main table')].every((at) => at.caption?.textContent)")
     finally:
-        city.unlink()
+        os.unlink(city)
 
 
 def reasons(desk: Desk) -> None:
@@ -167,7 +156,7 @@ def signed(desk: Desk) -> None:
     del compiled["contracts"]
     redraw(desk, record, terms, "ended on 15 January 2026")
     desk.hides("The contract was signed")
-    desk.page.ask("Fetch.disable")
+    desk.page.answer_for({})
     desk.go("today")
     desk.go("letter/N1/L1")
 
@@ -188,11 +177,9 @@ def phone(scene: Scene) -> None:
 
 def large(scene: Scene) -> None:
     """In an office of 400 notices, 125 budget lines and 60 firms each view comes at once, and everything in it can be found."""
-    with staged(scene.program, scene.browser, scene.pictures, lambda port: clerk_large.fill(Client(Port(port), clerk_large.key_of))) as made:
+    with staged(scene.program, scene.browser, scene.pictures, clerk_large.fill) as made:
         titles = [{"line": clerk_large.line_of(at), "title": f"Upkeep of district {at}"} for at in range(clerk_large.LINES)]
-        folder = Path(made.front.folder, "mirror", "data")
-        folder.mkdir(parents=True)
-        Path(folder, "budget.csv").write_text(table("budget", titles))
+        made.put("mirror/data/budget.csv", table("budget", titles).encode())
         desk = with_key(made)
         in_time(desk.page, "budget", "hands.button('Show more (100 left)')")
         today(desk)
@@ -228,8 +215,7 @@ def today(desk: Desk) -> None:
     desk.page.wait("[...document.querySelectorAll('main tbody th a')].map((at) => at.textContent).join() === 'N078'")
     desk.fill({words: "n003"})
     desk.page.wait("document.querySelector('main h2')?.textContent === 'Other notices: 1'")
-    desk.press("Show")
-    desk.settle("notice/N003")
+    desk.press("Show", to="notice/N003")
 
 
 def budget_lines(desk: Desk) -> None:
@@ -261,13 +247,11 @@ def examination(desk: Desk) -> None:
     done = order.index(3)
     desk.send("Record the results", says=(f"Stopped after {done} command", f"{23 - done} commands were not sent.", NOT_DONE))
     desk.page.answer_for({})
-    desk.page.ask("Fetch.disable")
     desk.press("Close")
     desk.page.wait("!document.querySelector('dialog')")
     desk.says(f"{24 - done} tenders to examine")
     desk.order("Record the results", f"{24 - done} tenders are examined.", "Lot L1")
-    results = sorted(str((status, found)) for _, status, _, found in desk.hand("entries"))
-    check(f"the journal has {results}", results == [*["(200, None)"] * 24, "(504, 'not done')"])
+    assert sorted(str((status, found)) for _, status, _, found in desk.hand("entries")) == [*["(200, None)"] * 24, "(504, 'not done')"]
     desk.says("Lot L1 goes to Firm ")
 
 

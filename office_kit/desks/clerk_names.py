@@ -1,7 +1,6 @@
 """The check of tests/desks/test_clerk.py for clerks who sign in at the front by name. The desk needs no key. Each clerk finds the own steps alone."""
 import contextlib
 import json
-import os
 import re
 import tomllib
 from pathlib import Path
@@ -11,7 +10,7 @@ from office_kit.common import ROOT, check
 from office_kit.desks import page_checks
 from office_kit.desks.clerk_desk import Desk
 from office_kit.desks.scene import Scene, staged
-from office_kit.front.clerks import Signing, lines_of_log
+from office_kit.front.clerks import Signing
 from office_kit.store.life import Life, offer, part
 
 TABLES = tomllib.loads(Path(__file__).with_suffix(".toml").read_text(encoding="utf-8"))
@@ -85,8 +84,7 @@ def by_name(scene: Scene) -> None:
             with signed_in(made, name) as desk:
                 finds_own(desk, name)
         does_own(made)
-        passed_over = [plant for plant in TABLES["plants"] if not is_found(made, *plant)]
-        check(f"these are passed over: {passed_over}", not passed_over)
+        assert [plant for plant in TABLES["plants"] if not is_found(made, *plant)] == [], "passed over"
         with signed_in(made, NOBODY) as desk:
             desk.page.gives("document.getElementById('who').innerText.includes('your name has no role')")
             desk.go("key")
@@ -97,14 +95,12 @@ def is_found(scene: Scene, name: str, module: str, old: str, new: str) -> bool:
     """Whether a wrong module is noticed."""
     text = Path(ROOT, "web", "clerk", module).read_text(encoding="utf-8")
     check(f"{module} doesn't have {old} once", text.count(old) == 1)
-    with signed_in(scene, name) as desk:
+    with contextlib.suppress(AssertionError), signed_in(scene, name) as desk:
         desk.page.answer_for({f"/clerk/{module}": (200, text.replace(old, new).encode())}, "Script")
         desk.load()
-        try:
-            finds_own(desk, name)
-        except AssertionError:
-            return True
-    return False
+        finds_own(desk, name)
+        return False
+    return True
 
 
 def does_own(scene: Scene) -> None:
@@ -120,7 +116,7 @@ def does_own(scene: Scene) -> None:
     with signed_in(scene, "dora") as desk:
         desk.go("notice/N4")
         desk.pay("P1", 3, 10)
-    told = [(line["name"], line["route"], line["status"]) for line in lines_of_log(os.path.join(scene.front.folder, "clerks.log"), 2)]
+    told = [(line["name"], line["route"], line["status"]) for line in scene.front.logged_commands(2)]
     # (Each contract has the number of its award: that of N4 is the second one.)
     check(f"the log has {told}", told == [("anna", "POST /tenderers/T9", 200), ("dora", "POST /contracts/2/pay", 200)])
 

@@ -1,10 +1,10 @@
-// A process that loads this library before the C library has a clock that is ahead by the seconds in the file PATH (tools/screens). The path is in the source,
-// because nginx drops its environment. The other headers are those of office_kit/common.py.
+// A process that loads this library before the C library has a clock that is ahead by the seconds in the file PATH (tools/screens). The path is in the library,
+// because nginx drops its environment. The other headers are those of office_kit/shim.h.
 #include <sys/syscall.h>
 #include <sys/time.h>
 static long ahead(void) {
     char text[32] = {0};
-    long file = syscall(SYS_openat, AT_FDCWD, "PATH", O_RDONLY | O_CLOEXEC), size = syscall(SYS_read, file, text, sizeof text - 1);
+    long file = syscall(SYS_openat, AT_FDCWD, PATH, O_RDONLY | O_CLOEXEC), size = syscall(SYS_read, file, text, sizeof text - 1);
     if (file >= 0) syscall(SYS_close, file);
     return size > 0 ? atol(text) : 0;
 }

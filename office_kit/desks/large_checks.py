@@ -1,15 +1,13 @@
 """Checks of the portal and of the tenderer's desk in an office of 400 notices (clerk_large.py), with its mirror beside it: each view comes at once, what the
 reader came for isn't far down, and everything can be found. Faults that are planted in the views must be found."""
-import contextlib
 import json
-from collections.abc import Callable, Iterator
+from collections.abc import Callable
 
-from office_kit.client import AHEAD, Answer, Client, Port, tender
+from office_kit.client import AHEAD, tender
 from office_kit.desks import clerk_large
-from office_kit.desks.browser import Browser, Page
+from office_kit.desks.browser import Page
 from office_kit.desks.page_checks import FOUND, is_quiet, page_of, texts_of
-from office_kit.desks.page_office import mirror_beside
-from office_kit.desks.tender_office import Scene, staged
+from office_kit.desks.scene import Scene
 from office_kit.desks.tender_page import Desk
 
 # A view is drawn within so many seconds, and what the reader came for isn't further down than so many pixels.
@@ -19,20 +17,6 @@ PHONE, DESKTOP = 390, 1280
 MOST_HEAD = {"en": 150, "de": 170}
 # The firm whose tenders are searched, the notice that closes next, and one that isn't among the first that are searched.
 FIRM, NEXT, FAR = "F3", 202, 245
-
-
-def client_of(port: int) -> Client[Answer]:
-    return Client(Port(port), clerk_large.key_of)
-
-
-@contextlib.contextmanager
-def large_office(program: str, browser: Browser, pictures: str) -> Iterator[Scene]:
-    """A large office with its front and its mirror; the office can be stopped and started again."""
-    with staged(program, browser, pictures, lambda port: clerk_large.fill(client_of(port))) as made:
-        made.client = client_of(made.front.office)
-        made.put(f"{FIRM}.key", f"Office-Caller: {FIRM}\nOffice-Key: {clerk_large.key_of(FIRM)}\n".encode())
-        mirror_beside(made.front)
-        yield made
 
 
 def timed(page: Page, place: str, wanted: str, again: str = "about") -> None:
@@ -50,7 +34,7 @@ def timed(page: Page, place: str, wanted: str, again: str = "about") -> None:
 def drawn(page: Page, place: str) -> float:
     """The seconds in which a view is drawn."""
     start = page.run(f"(performance.clearMarks('shown'), location.hash = {json.dumps('#' + place)}, performance.now())")
-    page.wait("performance.getEntriesByName('shown').length > 0 && document.querySelector('main').getAttribute('aria-busy') === 'false'")
+    page.drawn("performance.getEntriesByName('shown').length > 0")
     return float((page.run("performance.getEntriesByName('shown').at(-1).startTime") - start) / 1000)
 
 
@@ -241,12 +225,9 @@ def own_receipt(large: Scene) -> int:
     return int((sealed or [large.client.present(FIRM, name, "L1", tender((100, 30)))])[0]["receipt"])
 
 
-def own_first(desk: Desk) -> None:
-    next_first(desk, own_receipt(desk.scene))
-
-
-PLANTS_OF_DESK: list[tuple[str, str, str, Callable[[Desk], None]]] = [
-    ("/tender/search.js", "of(isOpen, 1)", "of(isOpen, -1)", own_first),
-    ("/tender/search.js", "FIRST = 12, AT_ONCE = 6", "FIRST = 240, AT_ONCE = 240", own_first),
-    ("/tender/open.js", "FIRST = 20", f"FIRST = 20, LATE = await {LATE}", open_notices),
+# (These checks get the desk and that receipt.)
+PLANTS_OF_DESK: list[tuple[str, str, str, Callable[[Desk, int], None]]] = [
+    ("/tender/search.js", "of(isOpen, 1)", "of(isOpen, -1)", next_first),
+    ("/tender/search.js", "FIRST = 12, AT_ONCE = 6", "FIRST = 240, AT_ONCE = 240", next_first),
+    ("/tender/open.js", "FIRST = 20", f"FIRST = 20, LATE = await {LATE}", lambda desk, _: open_notices(desk)),
 ]

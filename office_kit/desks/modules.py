@@ -1,4 +1,4 @@
-"""The modules of the screens (web/), run by node: copies of them with texts changed, and scripts that ask them."""
+"""The modules of the screens (web/), run by node: copies of them with texts changed, and questions to them."""
 import json
 import os
 import shutil
@@ -42,38 +42,21 @@ def data_of(name: str) -> dict[str, Any]:
     return tomllib.loads((TESTS / f"{name}.toml").read_text(encoding="utf-8"))
 
 
-def node_words(script: str, *words: str) -> list[str]:
-    return [need("node", "nodejs"), "--input-type=module", "-e", script, *words]
-
-
-def asked(script: str, web: str, given: Any) -> Any:
-    """The answer of a script, which gets the folder of the modules as its argument, and a value by standard input."""
-    done = subprocess.run(node_words(script, web), input=json.dumps(given), capture_output=True, text=True)
-    assert done.returncode == 0, done.stderr
-    return json.loads(done.stdout)
-
-
-class Node:
+class Node(subprocess.Popen[str]):
     """Node.js with the modules of these names, and with the script of a test beside them, tests/desks/SCRIPT.mjs. It ends with its `with`."""
 
     def __init__(self, script: str, names: str, web: str = WEB, **environment: str) -> None:
         self.web = web
         paths = [f"{web}/{name}.js" for name in names.split()] + [str(TESTS / f"{script}.mjs")]
-        self.process = subprocess.Popen(node_words(LOOP, web, *paths), stdin=subprocess.PIPE, stdout=subprocess.PIPE, text=True,
-                                        env={**os.environ, **environment})
-
-    def __enter__(self) -> "Node":
-        return self
-
-    def __exit__(self, *_: object) -> None:
-        self.process.communicate()
+        super().__init__([need("node", "nodejs"), "--input-type=module", "-e", LOOP, web, *paths], stdin=subprocess.PIPE, stdout=subprocess.PIPE, text=True,
+                         env={**os.environ, **environment})
 
     def ask(self, script: str, *values: Any) -> Any:
         """The answer of a function of JavaScript to these values: an exported one by its name, or one by its source."""
-        assert self.process.stdin and self.process.stdout
+        assert self.stdin and self.stdout
         try:
-            print(json.dumps([script, *values]), file=self.process.stdin, flush=True)
-            line = self.process.stdout.readline()
+            print(json.dumps([script, *values]), file=self.stdin, flush=True)
+            line = self.stdout.readline()
         except BrokenPipeError:
             line = ""
         assert line, "node ended"

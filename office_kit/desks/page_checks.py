@@ -1,14 +1,15 @@
 """Checks of tests/desks/test_portal.py: what each view says to eyes, keyboards and screen readers, and that no input breaks it."""
 import base64
 import contextlib
+import itertools
 import json
 import os
 import re
-import time
 from collections.abc import Callable, Iterator
 from pathlib import Path
 from typing import Any
 
+from office_kit import client
 from office_kit.common import ROOT
 from office_kit.desks.browser import Page
 from office_kit.desks.page_office import SCRIPT
@@ -20,7 +21,7 @@ SITE = "Public procurement"
 VIEWS = {"list": "", "open": "#notice/N3", "awarded": "#notice/N2", "paid": "#notice/N1", "cancelled": "#notice/N4", "stopped": "#notice/N5",
          "running": "#notice/N6", "budget": "#ledger", "line": "#line/1100", "firms": "#firms", "firm": "#firm/T1", "figures": "#figures", "about": "#about",
          "missing": "#notice/N99"}
-WIDTHS, NARROWEST = {"narrow": 375, "wide": 1280}, 320
+WIDTHS, NARROWEST, WIDEST = {"narrow": 375, "wide": 1280}, 320, 1920
 # The titles of the list.
 FOUND = ".entry-of-list h3"
 # The roles that a page has once, and those of elements that must have a name.
@@ -28,8 +29,6 @@ LANDMARKS = ("banner", "navigation", "main", "contentinfo")
 NAMED = ("link", "button", "textbox", "checkbox", "image", "table", "region", "article", "navigation", "search")
 # The number of queries that are more than the front takes from one address at a time, on any machine.
 MANY = 2000
-# How often a check asks again while the front answers 429. One address may ask 10 a second, and at most 100 are counted.
-TRIES = 20
 # Moments, days, clocks and years, which differ in each run.
 MOVING = [(re.compile(r"\d{1,2} [A-Z][a-z]+ \d{4},? (at )?\d\d:\d\d:\d\d UTC \(here: [^)]*\)"), "MOMENT"), (re.compile(r"\d{1,2} [A-Z][a-z]+ \d{4}"), "DAY"),
           (re.compile(r"closes in [^\n]*"), "closes in CLOCK"), (re.compile(r"^20\d\d(?=$|:)", re.M), "YEAR")]
@@ -54,12 +53,6 @@ def texts_of(page: Page, selector: str) -> list[str]:
     return list(page.run(f"[...document.querySelectorAll({json.dumps(selector)})].map((at) => at.textContent)"))
 
 
-def fill(page: Page, name: str, text: str) -> None:
-    """Types into a field, in place of its old text."""
-    page.run(f"(() => {{ const at = document.getElementById({json.dumps(name)}); at.focus(); at.select(); }})()")
-    page.type(text)
-
-
 def view(scene: Scene, name: str) -> None:
     """A view: its text, which is left with its pictures; headings, names and landmarks; contrast; no wider than the window. Nothing is kept."""
     page = page_of(scene, VIEWS[name])
@@ -82,6 +75,14 @@ def in_shape(scene: Scene, name: str, page: Page, shape: str, dark: bool) -> Non
     page.picture(os.path.join(scene.pictures, f"{called}.png"))
     has_contrast(called, page)
     is_within(called, WIDTHS[shape], page)
+
+
+def in_all_shapes(scene: Scene, name: str, page: Page) -> None:
+    """A page in all widths; narrow and wide, also light and dark."""
+    fits(name, page, NARROWEST, 768, WIDEST)
+    for shape, dark in itertools.product(WIDTHS, (False, True)):
+        in_shape(scene, name, page, shape, dark)
+    page.shape(WIDTHS["wide"])
 
 
 def without_moments(name: str, page: Page) -> str:
@@ -167,18 +168,15 @@ def focused(page: Page, slack: int = 0) -> Any:
     return asked(page, f"focused({slack})")
 
 
-def tab(page: Page, count: int) -> list[Any]:
-    """The elements that have the focus after each of so many tabs."""
-    seen = []
-    for _ in range(count):
-        page.press("Tab")
-        seen.append(focused(page))
-    return seen
+def tab(page: Page) -> Any:
+    """The element that has the focus after a tab: its name, and whether it is seen."""
+    page.press("Tab")
+    return focused(page)
 
 
 def printed_to(page: Page, path: str) -> int:
-    """The page on paper, as a PDF that is saved: its bytes."""
-    paper = base64.b64decode(page.ask("Page.printToPDF", printBackground=False)["data"])
+    """The page on paper of A4, as a PDF that is saved: its bytes."""
+    paper = base64.b64decode(page.ask("Page.printToPDF", paperWidth=8.27, paperHeight=11.69)["data"])
     assert paper.startswith(b"%PDF-")
     return Path(path).write_bytes(paper)
 
@@ -191,7 +189,7 @@ ORDER = ["skip", "Procurements", "Budget", "Firms", "Figures", "About", "For ten
 def keyboard(scene: Scene) -> None:
     """The keyboard reaches and uses everything, in the order of the page, and the element with the focus is seen."""
     page = page_of(scene, "")
-    order = tab(page, len(ORDER))
+    order = [tab(page) for _ in ORDER]
     page.picture(os.path.join(scene.pictures, "focus-wide-light.png"))
     assert order == [[name, True] for name in ORDER]
     page.press("Enter")
@@ -199,8 +197,7 @@ def keyboard(scene: Scene) -> None:
     assert focused(page)[0] == "A footbridge over the river"
     page.go(scene.front.address("#ledger"))
     page.run("[...document.querySelectorAll('main .lines a')].at(-1).focus()")
-    page.press("Tab")
-    assert focused(page)[0].startswith("Show more")
+    assert tab(page)[0].startswith("Show more")
     page.press("Enter")
     assert focused(page)[0] == "Budget line 3100"
     assert page.run("document.querySelectorAll('main h3').length === 22 && !document.querySelector('.more').checkVisibility()"), "the other lines are shown"
@@ -208,7 +205,7 @@ def keyboard(scene: Scene) -> None:
     page.press("Tab")
     page.press("Enter")
     assert focused(page)[0] == "content"
-    assert tab(page, 1) == [["by-words", True]]
+    assert tab(page) == ["by-words", True]
     page.type("n1")
     page.press("Enter")
     page.wait("document.title.startsWith('Road repair')")
@@ -218,11 +215,20 @@ def keyboard(scene: Scene) -> None:
 
 def is_seen(page: Page) -> None:
     """The elements to which the first tabs lead are seen."""
-    assert [name for name, seen in tab(page, 3) if not seen] == []
+    assert [name for name, seen in (tab(page) for _ in range(3)) if not seen] == []
 
 
-# Faults that are planted in a view: the change of the page, and the check above that must find it.
+# Faults that are planted in any screen: the change of the page, and the check above that must find it.
+COMMON_PLANTS: list[tuple[str, Callable[[Scene, Page], None]]] = [
+    ("document.querySelector('main h1').style.color = '#ddd'", lambda _, page: has_contrast("planted", page)),
+    ("document.querySelector('main').style.width = '2000px'", lambda _, page: is_within("planted", 1280, page)),
+    ("console.log('x')", lambda _, page: is_quiet(page)),
+    ("localStorage.setItem('x', 'y')", keeps_nothing),
+    ("document.cookie = 'x=y'", keeps_nothing),
+]
+# And in a view of the portal.
 PLANTS: list[tuple[str, Callable[[Scene, Page], None]]] = [
+    *COMMON_PLANTS,
     ("document.querySelector('main h2').append(' x')", lambda _, page: says_what_it_should("paid", page)),
     ("document.querySelector('main dd, main td').remove()", lambda _, page: says_what_it_should("paid", page)),
     ("document.title = 'Another'", lambda _, page: has_its_own("paid", page)),
@@ -232,14 +238,9 @@ PLANTS: list[tuple[str, Callable[[Scene, Page], None]]] = [
     ("document.querySelector('main').append(document.createElement('button'))", lambda _, page: tells_all("paid", page)),
     ("document.querySelectorAll('th').forEach((at) => at.replaceWith(document.createElement('td')))", lambda _, page: tells_all("paid", page)),
     ("document.querySelectorAll('.part, .swatch').forEach((at) => { at.style.background = '#333'; })", lambda _, page: tells_all("paid", page)),
-    ("document.querySelector('main h2').style.color = '#ddd'", lambda _, page: has_contrast("paid", page)),
-    ("document.querySelector('main').style.width = '2000px'", lambda _, page: is_within("paid", 1280, page)),
     ("document.styleSheets[0].insertRule('* { outline: none !important; }')", lambda _, page: is_seen(page)),
     ("new Promise((done) => { setTimeout(() => { throw new Error('x'); }); setTimeout(done, 50); })", lambda _, page: is_quiet(page)),
-    ("console.log('x')", lambda _, page: is_quiet(page)),
-    ("localStorage.setItem('x', 'y')", keeps_nothing),
     ("new Promise((done) => { indexedDB.open('x').onsuccess = done; }).then(() => 0)", keeps_nothing),
-    ("document.cookie = 'x=y'", keeps_nothing),
 ]
 
 
@@ -259,7 +260,7 @@ def sentence(page: Page, notice: str, answer: tuple[int, bytes] | None) -> str:
     """The sentence that the page shows if its requests for a notice get this answer."""
     page.answer_for({**{f"/notices/{notice}/{name}": answer for name in KINDS_OF_LOOKS}, "/notices": (200, b'{"next":null,"notices":[]}')})
     page.run(f"document.querySelector('main').replaceChildren(); location.hash = '#notice/{notice}'")
-    page.wait("document.querySelector('main h1') && document.querySelector('main').getAttribute('aria-busy') === 'false'")
+    page.drawn("document.querySelector('main h1')")
     head, rest, *_ = page.text().split("\n")
     assert head == "Not shown" and re.fullmatch(r"[A-Z].*\.", rest) and "answered with the status" not in rest, (answer, rest)
     assert page.run("document.getElementById('status').textContent") == rest, "it isn't read out"
@@ -276,8 +277,7 @@ def each_refusal(scene: Scene) -> None:
     for at, answer in enumerate(others):
         sentence(page, f"F{at}", answer)
     # (The page may still ask for files of the mirror, which nobody waits for.)
-    page.ask("Fetch.disable")
-    page.browser.paused.clear()
+    page.answer_for({})
     for text in ("N 1", "a/b", "..", "x" * 33, "<b>", "%00", "é"):
         page.run(f"location.hash = '#notice/' + encodeURIComponent({json.dumps(text)})")
         page.wait("document.querySelector('main').textContent.includes('not a valid number')")
@@ -337,14 +337,9 @@ def injected(scene: Scene) -> None:
 
 def office_away(scene: Scene) -> None:
     """If the office is gone, the front says so, and so does the page. It shows the ledger that the mirror has, and the list."""
-    scene.office.kill()
-    scene.office.wait()
+    scene.stop()
     # The checks before used up what one address may ask at once. So the front may answer 429 first, until its count has run down.
-    for _ in range(TRIES):
-        answer = scene.front.ask("GET", "/lines/78")
-        if answer.status != 429:
-            break
-        time.sleep(int(answer.head["Retry-After"]))
+    answer = client.Front(scene.front.address().rstrip("/"), scene.front.context, strict=False).send("GET", "/lines/78", b"", None)
     assert answer.status == 502 and b"front" in answer.body
     told = "The office isn't answering at the moment."
     assert page_of(scene, "#notice/N78").text() == f"Not shown\n{told} Try again in a few minutes.\nTry again\nProcurements\n"

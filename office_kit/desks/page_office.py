@@ -10,16 +10,13 @@ from pathlib import Path
 from office_kit.client import AHEAD, Answer, Asking, Client, budget, lot, notice, tender, text_of, wait_until
 from office_kit.common import HOST, ROOT, fail
 from office_kit.front.nginx import Front
+from office_kit.store.life import key_of
 
 OFFICE = tomllib.loads(Path(__file__).with_name("page_office.toml").read_text(encoding="utf-8"))
 # A title that is a script.
 SCRIPT = str(OFFICE["notices"][1]["title"])
 # A text that must be in no log of the front.
 SECURITY = "GUARANTEE-77"
-
-
-def key_of(tenderer: str) -> str:
-    return f"key of {tenderer}"
 
 
 def mirror(office: str, folder: str, *options: str, **environment: str) -> None:

@@ -6,12 +6,11 @@ from typing import Any
 
 from office_kit.client import text_of
 from office_kit.desks.browser import Page
-from office_kit.desks.page_checks import FOUND, NARROWEST, VIEWS, fill, fits, has_contrast, is_quiet, is_within, page_of, printed_to, texts_of
+from office_kit.desks.page_checks import FOUND, NARROWEST, VIEWS, WIDEST, fits, has_contrast, is_quiet, is_within, page_of, printed_to, texts_of
 from office_kit.desks.page_office import SCRIPT, mirror
 from office_kit.desks.scene import Scene
 from office_kit.mirror.tables import table
 
-WIDEST = 1920
 # The notices of an office that has run for some years, and the seconds of the page's own work within which they are shown.
 MANY, LONGEST = 500, 1.0
 # The first of the seconds in which they were published.
@@ -39,7 +38,7 @@ def german(scene: Scene) -> None:
     assert page.run("new URLSearchParams(location.search).get('language')") == "en"
     assert page.run("document.activeElement.lang") == "en"
     page.run("[...document.querySelectorAll('nav a')].at(-1).click()")
-    page.wait("location.pathname === '/tender/' && document.querySelector('main')?.getAttribute('aria-busy') === 'false'")
+    page.drawn("location.pathname === '/tender/'")
     assert page.run("document.documentElement.lang") == "en"
     page.run("document.querySelector('footer a').click()")
     page.wait("location.pathname === '/' && document.querySelector('h1')?.textContent === 'About this page'")
@@ -107,7 +106,7 @@ def search(scene: Scene) -> None:
         found = texts_of(page, FOUND)
         assert wanted == (len(found) if isinstance(wanted, int) else set(found)), address
     page.go(scene.front.address())
-    fill(page, "by-words", "poles")
+    page.fill("by-words", "poles")
     assert page.run("location.hash") == "#list?words=poles" and texts_of(page, FOUND) == ["Street lamps"], "the address keeps what is typed"
     page.go(scene.front.address())
     before = texts_of(page, ".clock")[0]
@@ -116,7 +115,7 @@ def search(scene: Scene) -> None:
     assert texts_of(page, "tbody th a") == ["Gamma O'Neill"]
     page.go(scene.front.address("#ledger"))
     for words, line in (("POOL", "Budget line 2000"), ("3100", "Budget line 3100")):
-        fill(page, "by-line", words)
+        page.fill("by-line", words)
         assert texts_of(page, ".lines h3 a") == [line]
     page.go(scene.front.address("#notice/n6"))
     assert page.run("location.hash") == "#notice/N6" and page.text().startswith("Street lamps\n")
@@ -146,7 +145,7 @@ def many(scene: Scene) -> None:
     page.run("document.querySelector('.more').click()")
     wanted = [f"Purchase {name}" for name in reversed(names) if name.endswith("0")]
     assert texts_of(page, FOUND)[:MANY // 10] == wanted, "open ones come first, and newest first"
-    fill(page, "by-words", "m012")
+    page.fill("by-words", "m012")
     assert len(texts_of(page, FOUND)) == 10
     page.picture(os.path.join(scene.pictures, "many.png"))
     is_quiet(page)
@@ -158,11 +157,9 @@ CITY = {"name": {"en": "Example City", "de": "Beispielstadt"}, "imprint": {"en":
 
 def city(scene: Scene) -> None:
     """The city's own words are its file's: the name above, its paragraphs as texts with links, in the language in which they exist."""
-    path = Path(scene.front.folder, "city", "city.json")
-    path.parent.mkdir(exist_ok=True)
-    path.write_text(json.dumps(CITY))
+    own = scene.put("city/city.json", json.dumps(CITY).encode())
     page = page_of(scene, "#about")
-    path.unlink()
+    os.unlink(own)
     for text in ("Imprint\n1 <b>Town</b> Square\n", "Privacy\nNichts wird gespeichert.\n", "hasn't filled"):
         assert text in page.text()
     assert texts_of(page, "#site") == ["Example City"] and page.run("document.title").endswith("Example City")
@@ -232,9 +229,8 @@ def failing_scripts(scene: Scene) -> None:
     page.run("location.hash = '#today'")
     page.wait("document.querySelector('main h1').textContent === 'Today'")
     # (Nobody answers the other files that the page then loads.)
-    page.ask("Fetch.disable")
+    page.answer_for({})
     page.ask("Page.navigate", url="about:blank")
-    page.browser.paused.clear()
 
 
 CHECKS = [german, open_data, feeds, search, many, city, on_paper, failing_scripts, without_mirror]

@@ -5,23 +5,51 @@ import subprocess
 import tempfile
 from collections.abc import Callable, Iterable, Iterator
 from dataclasses import dataclass
+from pathlib import Path
 
-from office_kit.common import connect
+from office_kit.client import Answer, Client, Front as Transport
+from office_kit.common import connect, serve_words
 from office_kit.desks.browser import Browser
 from office_kit.front.clerks import Change, Signing
 from office_kit.front.nginx import PATIENCE, Front
-from office_kit.store.served import server
+from office_kit.store.life import key_of
+from office_kit.store.served import MANY, server
 
 
 @dataclass
 class Scene:
-    """The front, the browser, the office's process, the folder for pictures, and the program."""
+    """The front, the browser, the office's process, the folder for pictures, the program, a client that asks the office beside the screens, and the second in
+    which a deadline comes. A test may stop the office and start it again."""
 
     front: Front
     browser: Browser
     office: "subprocess.Popen[bytes]"
     pictures: str
     program: str
+    client: Client[Answer]
+    deadline: int = 0
+
+    def start(self) -> None:
+        self.office = subprocess.Popen(serve_words(self.program, self.path("office.db"), self.front.office, MANY))
+        connect(self.front.office, PATIENCE).close()
+
+    def stop(self) -> None:
+        self.office.kill()
+        self.office.wait()
+
+    def path(self, name: str) -> str:
+        return os.path.join(self.front.folder, name)
+
+    def put(self, name: str, content: bytes) -> str:
+        """The path of a new file, which a desk may get or a front may show."""
+        path = Path(self.path(name))
+        path.parent.mkdir(parents=True, exist_ok=True)
+        path.write_bytes(content)
+        return str(path)
+
+    def key_file(self, tenderer: str) -> str:
+        """The path of a file with a tenderer's key."""
+        return self.put(f"{tenderer}.key", f"Office-Caller: {tenderer}\nOffice-Key: {key_of(tenderer)}\n".encode())
 
 
 @contextlib.contextmanager
@@ -32,4 +60,8 @@ def staged(program: str, browser: Browser, pictures: str, fill: Callable[[int], 
         connect(port, PATIENCE).close()
         fill(port)
         with Front(folder, port, more, signing) as front:
-            yield Scene(front, browser, office, pictures, program)
+            made = Scene(front, browser, office, pictures, program, Client(Transport(front.address().rstrip("/"), front.context), key_of))
+            try:
+                yield made
+            finally:
+                made.stop()

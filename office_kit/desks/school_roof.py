@@ -1,5 +1,4 @@
 """The office that `tools/screens` shows: a city that repairs the roof of a school. school_roof.toml has its lots, the firms and their prices."""
-import hashlib
 import tomllib
 from collections.abc import Iterable
 from datetime import datetime
@@ -24,10 +23,6 @@ def settings() -> str:
 def at(text: str) -> float:
     """The second of a moment in the city's time, written as `2026-01-12 09:14`."""
     return datetime.fromisoformat(text).replace(tzinfo=ZoneInfo(ZONE)).timestamp()
-
-
-def key_of(firm: str) -> str:
-    return hashlib.sha256(f"key of {firm}".encode()).hexdigest()
 
 
 def table() -> str:

@@ -4,15 +4,37 @@ import os
 import signal
 import time
 from collections.abc import Callable
-from pathlib import Path
 from typing import Any
 
-from office_kit.client import AHEAD, text_of, wait_until
+from office_kit.client import AHEAD, budget, lot, notice, tender, text_of, wait_until
 from office_kit.desks.page_checks import is_quiet, keeps_nothing, refusals, texts_of
-from office_kit.desks.tender_office import Scene
+from office_kit.desks.scene import Scene
 from office_kit.desks.tender_page import MADE, RIGHT, SHEET, Desk, digest_of
 
 CITY = {"letterhead": {"en": ["City Hall", "1 Town Square"]}, "remedy": {"en": ["Write to the review chamber."]}}
+DAY = 86_400
+ITEMS = [("Paving, square metres", 3), ("Kerbs", 10)]
+LONG = [(f"Item number {number} of a long list of things that a city buys", number + 1) for number in range(50)]
+
+
+def prepare(scene: Scene) -> None:
+    """The office before the checks: notices to which the desk submits tenders, and two whose deadline comes meanwhile. T1 and T2 are registered. T9 isn't,
+    until the check of the key registers it."""
+    client = scene.client
+    client.import_budget("B1", budget("1000,add,1000000000,Roads"))
+    for name, firm in (("T1", "Alpha & Söhne"), ("T2", "Beta")):
+        client.register(name, firm)
+    far = text_of(time.time() + DAY)
+    secured = lot("L1", "1000", 600, 50, *ITEMS)
+    client.publish("N1", notice(far, secured, lot("L2", "1000", 9000, 0, ("Paving", 1), title="South"), title="Road repair"))
+    more = [lot(name, "1000", 900, 0, *ITEMS) for name in ("L2", "L3", "L4")]
+    client.publish("N4", notice(far, lot("L1", "1000", 90_000, 0, *LONG, title="A long list"), *more, title="Things of all kinds"))
+    # (two publications and two tenders come before it, even if the machine is busy)
+    scene.deadline = int(time.time()) + AHEAD + 8
+    client.publish("N2", notice(text_of(scene.deadline), secured, title="Late tenders", late_withdrawal="forfeits"))
+    client.publish("N3", notice(text_of(scene.deadline), secured, title="A bridge", performance=70))
+    for name in ("N2", "N3"):
+        client.present("T2", name, "L1", tender((3, 150), (10, 12), wrong=20), "G2", 60)
 
 
 def key(scene: Scene) -> None:
@@ -21,10 +43,7 @@ def key(scene: Scene) -> None:
     desk.at("key", "Key")
     desk.press("Make a key")
     assert "1 to 32 letters" in desk.page.text(), "a missing name"
-    for name, text in (("tenderer", "T9"), ("name", 'Gamma "Bau" & Söhne'), ("address", "Mill Lane 3")):
-        desk.fill(f"key-{name}", text)
-    desk.press("Make a key", "Now drop the file T9.key")
-    lines = desk.saved("T9.key").decode().split("\n")
+    lines = desk.make_key("T9", 'Gamma "Bau" & Söhne', "Mill Lane 3").decode().split("\n")
     made = lines[1].removeprefix("Office-Key: ")
     assert lines == ["Office-Caller: T9", f"Office-Key: {made}", ""] and len(made) == 64
     sheet = desk.page.run("document.querySelector('.sheet').innerText")
@@ -48,17 +67,20 @@ def offer(scene: Scene) -> None:
     its digest, the receipt and the saved file, and whether both belong together."""
     desk = Desk(scene, "T1")
     finds_notice(desk)
-    desk.prices("N1", "L1", 150, 12)
-    assert [text for text in ("450", "120", "570 EUR") if text not in desk.page.text()] == []
-    names_security(desk)
-    city = Path(scene.front.folder, "city", "city.json")
-    city.parent.mkdir(exist_ok=True)
-    city.write_text(json.dumps(CITY))
+    sums(scene, desk)
+    # A security with a wrong reference can't be sent; with a right one the tender can be checked.
+    desk.secure("G 1", 50)
+    desk.review()
+    assert desk.has("bad", "The reference or the amount of the security is missing or wrong.") and not desk.can_press("Submit the tender")
+    desk.at("offer/N1/L1", "Tender for")
+    desk.fill("security-reference", "G1")
+    desk.review()
+    city = scene.put("city/city.json", json.dumps(CITY).encode())
     assert (texts_of(desk.page, "pre")[0], texts_of(desk.page, "#digest")[0].replace(" ", "")) == (RIGHT.decode(), digest_of(RIGHT))
     receipt = desk.submit()
     assert desk.has("good", "The office received exactly what you submitted.") and not desk.has("bad", ""), desk.page.text()
     names_all(desk)
-    city.unlink()
+    os.unlink(city)
     found = scene.client.tender("T1", receipt)
     assert (found["digest"], found["security"], found["lot"]) == (digest_of(RIGHT), receipt, "L1")
     desk.press("Save the receipt")
@@ -68,6 +90,11 @@ def offer(scene: Scene) -> None:
     assert sent == RIGHT and [kept[name] for name in names] == [found[name] for name in names]
     belongs(scene, desk, receipt)
     is_quiet(desk.page)
+
+
+def sums(_: Scene, desk: Desk) -> None:
+    desk.prices("N1", "L1", 150, 12)
+    assert [text for text in ("450", "120", "570 EUR") if text not in desk.page.text()] == []
 
 
 def finds_notice(desk: Desk) -> None:
@@ -86,16 +113,6 @@ def finds_notice(desk: Desk) -> None:
     for unit, text in (("12.5", "no point and no comma. Round it, or ask the clerk for a larger unit"), ("1000000001", "too much"), ("x", "digits only")):
         desk.fill("unit-1", unit)
         assert text in desk.page.text() and not desk.can_press("Check before submitting"), unit
-
-
-def names_security(desk: Desk) -> None:
-    """A security with a wrong reference can't be sent; with a right one the tender can be checked."""
-    desk.secure("G 1", 50)
-    desk.review()
-    assert desk.has("bad", "The reference or the amount of the security is missing or wrong.") and not desk.can_press("Submit the tender")
-    desk.at("offer/N1/L1", "Tender for")
-    desk.fill("security-reference", "G1")
-    desk.review()
 
 
 def names_all(desk: Desk) -> None:
@@ -126,13 +143,13 @@ def after_reload(scene: Scene) -> None:
     assert texts_of(desk.page, "main .button") == ["My tenders", "Prepare a tender"]
     desk.press("My tenders")
     desk.shows("My tenders", "tenders")
-    desk.choose("key-file", scene.path("T1.key"), "Change or withdraw ")
+    desk.choose("key-file", scene.key_file("T1"), "Change or withdraw ")
     other = Desk(scene)
     other.at("key", "Key")
     assert texts_of(other.page, "main h2")[:2] == ["Use your key", "Make a key"]
     other.prices("N1", "L2", 900)
     other.review()
-    other.page.choose("key-file", scene.path("T1.key"))
+    other.choose("key-file", scene.key_file("T1"))
     other.page.wait("!document.getElementById('key-file')")
     assert "900 EUR" in other.page.text() and other.can_press("Submit the tender"), "the key takes the prices away"
 
@@ -200,7 +217,7 @@ def withdraws(scene: Scene, desk: Desk, old: int, new: int) -> None:
     desk.at("check", "Do a file")
     desk.at(f"tender/{new}", "Tender with")
     assert desk.has("bad", "If it comes late, the security of 55 EUR (G5) is forfeited"), desk.page.text()
-    desk.page.ask("Fetch.disable")
+    desk.page.answer_for({})
     desk.at("check", "Do a file")
     desk.at(f"tender/{new}", "Tender with")
     desk.tick("withdraw-sure")
@@ -295,11 +312,7 @@ def late(scene: Scene) -> None:
     desk = Desk(scene, "T1")
     desk.prices("N2", "L1", 150, 12)
     desk.secure("G9", 50)
-    desk.review()
-    assert desk.has("bad", "The deadline has passed") and not desk.can_press("Submit the tender")
-    desk.tick("send-late")
-    desk.submit()
-    assert desk.has("bad", "The tender came late, and the office returned it.")
+    desk.submit_late()
     beta = Desk(scene, "T2")
     beta.page.run("import('/tender/session.js').then(({ session }) => { session.changing = { notice: 'N2', lot: 'L1', receipt: 1 }; })")
     beta.prices("N2", "L1", 140, 12)
@@ -326,9 +339,8 @@ def results(scene: Scene) -> None:
     time.sleep(4.1)
     desk = Desk(scene, "T2")
     desk.at("tender/2", "Tender with receipt 2")
-    for text in ("The office read a price of 570 EUR.", "The file stated 550 EUR; the office corrected 1 figure.", "The contract was signed.", "370 EUR",
-                 "P1: Held", "Returned"):
-        assert text in desk.page.text()
+    texts = "The office read a price of 570 EUR.", "The file stated 550 EUR; the office corrected 1 figure.", "The contract was signed.", "370 EUR", "P1: Held"
+    assert [text for text in (*texts, "Returned") if text not in desk.page.text()] == []
     desk.page.picture(os.path.join(scene.pictures, "results-desktop-light.png"))
     is_quiet(desk.page)
 

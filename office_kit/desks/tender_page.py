@@ -1,11 +1,9 @@
 """The tenderer's desk in a page of a browser, as tests use it: places, fields, buttons, files."""
 import hashlib
 import json
-from pathlib import Path
 
-from office_kit.desks import page_checks
 from office_kit.desks.browser import Page
-from office_kit.desks.tender_office import Scene
+from office_kit.desks.scene import Scene
 
 # The file of the prices 150 and 12 for the items of the first lot.
 RIGHT = b"item,quantity,unit,total\nI1,3,150,450\nI2,10,12,120\nTOTAL,,,570\n"
@@ -19,33 +17,29 @@ class Desk:
 
     def __init__(self, scene: Scene, who: str | None = None, width: int = 1280, language: str = "en", page: Page | None = None) -> None:
         self.scene, self.page = scene, page or Page(scene.browser, width)
-        self.page.keep_in(scene.folder)
+        self.page.keep_in(scene.front.folder)
         self.page.go(scene.front.address(f"tender/?language={language}"))
         if who:
-            self.give_key(who)
+            self.at("key", "")
+            self.choose("key-file", scene.key_file(who))
+            self.page.wait(f"document.getElementById('who').textContent.includes('{who}')")
 
-    def give_key(self, who: str) -> None:
-        """Chooses the file of somebody's key."""
-        self.at("key", "")
-        self.page.choose("key-file", self.scene.path(f"{who}.key"))
-        self.page.wait(f"document.getElementById('who').textContent.includes('{who}')")
-
-    def at(self, place: str, head: str, then: str = "") -> None:
-        """Goes to a place, until a view with this heading is shown that says something."""
+    def at(self, place: str, head: str, *texts: str) -> None:
+        """Goes to a place, until a view with this heading is shown that says these texts."""
         self.page.run(f"location.hash = {json.dumps('#' + place)}")
         self.shows(head, place)
-        self.says(then)
+        self.says(*texts)
 
     def shows(self, head: str, place: str | None = None) -> None:
         """Waits for a view with this heading."""
         where = "true" if place is None else f"location.hash.slice(1) === {json.dumps(place)}"
         self.page.run("new Promise((done) => { setTimeout(done, 0); })")
-        self.page.wait(f"{where} && document.querySelector('main').getAttribute('aria-busy') === 'false' && "
-                       f"document.querySelector('main h1')?.textContent.startsWith({json.dumps(head)})")
+        self.page.drawn(f"{where} && document.querySelector('main h1')?.textContent.startsWith({json.dumps(head)})")
 
-    def says(self, text: str) -> None:
-        """Waits until the view says something."""
-        self.page.wait(f"document.body?.innerText.includes({json.dumps(text)})")
+    def says(self, *texts: str) -> None:
+        """Waits until the view says these texts."""
+        for text in texts:
+            self.page.wait(f"document.body?.innerText.includes({json.dumps(text)})")
 
     def has(self, kind: str, text: str) -> bool:
         """Whether something of a kind (`good`, `look`, `bad`) says something."""
@@ -68,16 +62,22 @@ class Desk:
                                   f"at.textContent.includes({json.dumps(text)}))"))
 
     def fill(self, name: str, text: str) -> None:
-        page_checks.fill(self.page, name, text)
+        self.page.fill(name, text)
+
+    def make_key(self, tenderer: str, name: str, address: str) -> bytes:
+        """Makes a firm's key. Returns the file of the key, which the desk saves."""
+        self.at("key", "Key")
+        for field, text in (("tenderer", tenderer), ("name", name), ("address", address)):
+            self.fill(f"key-{field}", text)
+        self.press("Make a key", f"Now drop the file {tenderer}.key")
+        return self.saved(f"{tenderer}.key")
 
     def tick(self, name: str) -> None:
         self.page.run(f"document.getElementById({json.dumps(name)}).click()")
 
     def saved(self, name: str) -> bytes:
         """A file that the desk saved."""
-        path = Path(self.scene.path(name))
-        self.page.expect(f"{name} is saved", lambda: path.exists() and path.stat().st_size > 0)
-        return path.read_bytes()
+        return self.page.saved(self.scene.path(name))
 
     def review(self) -> None:
         self.press("Check before submitting")
@@ -86,6 +86,14 @@ class Desk:
     def submit(self) -> int:
         self.press("Submit the tender")
         return self.receipt()
+
+    def submit_late(self) -> None:
+        """Submits after the deadline: the page warns about it, and the office records the tender and returns it."""
+        self.review()
+        assert self.has("bad", "The deadline has passed") and not self.can_press("Submit the tender"), "a late tender can be sent without a tick"
+        self.tick("send-late")
+        self.submit()
+        assert self.has("bad", "The tender came late, and the office returned it."), "a late tender is green"
 
     def receipt(self) -> int:
         """The receipt that the page shows after a sending."""

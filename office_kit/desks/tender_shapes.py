@@ -7,11 +7,10 @@ from collections.abc import Callable
 from office_kit.client import AHEAD, lot, notice, text_of, wait_until
 from office_kit.desks import page_checks
 from office_kit.desks.browser import Page
-from office_kit.desks.page_checks import fits, focused, in_shape, is_quiet, is_read_out, keeps_nothing, printed_to
-from office_kit.desks.tender_office import ITEMS, Scene
+from office_kit.desks.page_checks import focused, in_all_shapes, is_quiet, is_read_out, keeps_nothing, printed_to
+from office_kit.desks.scene import Scene
+from office_kit.desks.tender_checks import ITEMS, sums
 from office_kit.desks.tender_page import MADE, RIGHT, SHEET, Desk, planted
-
-WIDTHS = (320, 375, 768, 1280, 1920)
 
 
 def tab_to(page: Page, name: str) -> None:
@@ -93,7 +92,7 @@ def goes(desk: Desk, place: str, field: str = "who") -> None:
     """Goes to a place in whatever language, until its view is drawn and has a field."""
     desk.page.run(f"location.hash = {json.dumps('#' + place)}")
     desk.page.run("new Promise((done) => { setTimeout(done, 0); })")
-    desk.page.wait(f"document.querySelector('main').getAttribute('aria-busy') === 'false' && document.getElementById('{field}')")
+    desk.page.drawn(f"document.getElementById('{field}')")
 
 
 def with_file(scene: Scene, desk: Desk, language: str) -> None:
@@ -110,11 +109,7 @@ def with_file(scene: Scene, desk: Desk, language: str) -> None:
 def looked_at(scene: Scene, desk: Desk, name: str, language: str) -> None:
     """One view in all widths, light and dark."""
     called = f"{name}-{language}"
-    fits(called, desk.page, *WIDTHS)
-    for shape in ("narrow", "wide"):
-        for dark in (False, True):
-            in_shape(scene, called, desk.page, shape, dark)
-    desk.page.shape(1280)
+    in_all_shapes(scene, called, desk.page)
     is_read_out(called, desk.page)
 
 
@@ -122,10 +117,7 @@ def printed(scene: Scene) -> None:
     """The sheets of a registration and of a receipt print alone, without buttons and ways to other views; also as a PDF."""
     receipt = scene.client.present("T2", "N4", "L2", RIGHT)["receipt"]
     desk = Desk(scene)
-    desk.at("key", "Key")
-    for name in ("tenderer", "name", "address"):
-        desk.fill(f"key-{name}", "T8")
-    desk.press("Make a key", "Now drop the file T8.key")
+    desk.make_key("T8", "T8", "T8")
     looked_at(scene, desk, "registration", "en")
     seen = on_paper(scene, desk, "registration")
     assert "SHA-256 of the key" in seen and "signature" in seen
@@ -172,8 +164,7 @@ def opened(scene: Scene) -> None:
     scene.client.open("N5")
     desk.page.wait(f"{row}.includes('opened')")
     assert desk.page.run("document.getElementById('tenders-receipt').value") == "123", "what was typed is gone"
-    other.says("The tender is now opened.")
-    other.says("The office read a price of 570 EUR.")
+    other.says("The tender is now opened.", "The office read a price of 570 EUR.")
     is_quiet(desk.page)
 
 
@@ -192,11 +183,6 @@ def other_digest(scene: Scene, desk: Desk) -> None:
     assert desk.has("bad", "something other than this file") and not desk.has("good", "")
 
 
-def sums(_: Scene, desk: Desk) -> None:
-    desk.prices("N1", "L1", 150, 12)
-    assert [text for text in ("450", "120", "570 EUR") if text not in desk.page.text()] == []
-
-
 def wants_tick(scene: Scene, desk: Desk) -> None:
     receipt = scene.client.present("T2", "N4", "L3", RIGHT)["receipt"]
     desk.at(f"tender/{receipt}", "Tender with")
@@ -205,15 +191,11 @@ def wants_tick(scene: Scene, desk: Desk) -> None:
     assert not is_free, "it can be withdrawn without a tick"
 
 
-def stores_nothing(scene: Scene, desk: Desk) -> None:
-    keeps_nothing(scene, desk.page)
-
-
 # A module of the desk, its text, the text that replaces it, the tenderer whose key is used, and the check that must find it.
 PLANTS: list[tuple[str, str, str, str, Callable[[Scene, Desk], None]]] = [
     ("receipt", "const isSame = own === others;", "const isSame = true;", "T1", other_digest),
     ("session", "BigInt(value) * BigInt(offer.lot.items[at].quantity)", "BigInt(value)", "T1", sums),
     ("tenders", "press.disabled = true;\n  const sure", "press.disabled = false;\n  const sure", "T2", wants_tick),
-    ("session", "export const session = {", "localStorage.setItem('key', 'x');\nexport const session = {", "T1", stores_nothing),
-    ("main", "const MENU = {", "fetch('https://127.0.0.2/').catch(() => 0);\nconst MENU = {", "T1", stores_nothing),
+    ("session", "export const session", "localStorage.setItem('key', 'x');\nexport const session", "T1", lambda scene, desk: keeps_nothing(scene, desk.page)),
+    ("main", "const MENU = {", "fetch('https://127.0.0.2/').catch(() => 0);\nconst MENU = {", "T1", lambda scene, desk: keeps_nothing(scene, desk.page)),
 ]

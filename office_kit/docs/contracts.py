@@ -127,8 +127,3 @@ def public_calls_of(crate: str, path: Path) -> list[Call]:
     found = HANDED_ON.findall(text_of(top)) if top.is_file() else []
     handed_on = {name for module, names, one in found if module == path.stem for name in re.findall(r"\w+", names or one)}
     return [call for call in public if (call.owner or call.name) in handed_on]
-
-
-def heading_of(path: Path) -> str:
-    """The `//!` comment at the head of a source."""
-    return first_paragraph(takewhile(lambda line: line.startswith("//!"), text_of(path).split("\n")))

@@ -4,22 +4,22 @@ A block fenced as ```sh run is run. If the next block of the document is fenced 
 a document run in turn in one bash, in an empty folder, with `procure`, `procure-backup`, `procure-check`, `audit` and `check_tender` on the PATH. Each must end
 with status 0. curl shows no meter there. Programs that a document leaves running are ended after its last block.
 """
-import contextlib
 import difflib
 import functools
 import json
 import os
 import re
+import select
 import shutil
 import signal
 import subprocess
 import tempfile
-import threading
+import textwrap
 from collections.abc import Iterable, Iterator, Sequence
 from dataclasses import dataclass
 from pathlib import Path
 
-from office_kit.common import ROOT
+from office_kit.common import ROOT, files_below
 
 # The tools that documents use, each with the package of Debian that has it. Tools that every Debian has aren't listed.
 TOOLS = {"curl": "curl", "sqlite3": "sqlite3", "jq": "jq", "openssl": "openssl", "xxd": "xxd", "lslocks": "util-linux", "git": "git", "python3": "python3"}
@@ -28,6 +28,8 @@ COMMANDS = {"procure-backup": "deploy/backup.sh", "procure-check": "deploy/check
 # The seconds that a block may take.
 PATIENCE = 60
 SKIPPED = {".git", "build", "out"}
+# The documents that scripts make of comments and figures.
+MADE = ("docs/GATE.md", "docs/READING.md")
 # The pages that name the buttons to press: each bold text in them is a text of these modules. A {value} of a text matches anything.
 SCREENS = {"docs/CLERK.md": ("web/clerk/en*.js", "web/common/en*.js"), "docs/TENDERER.md": ("web/tender/en*.js", "web/common/en*.js")}
 # The first line of a fenced block: its indent, its fence, and the words after that. Then the whole block.
@@ -54,11 +56,7 @@ class Step:
 
 def documents() -> list[str]:
     """The paths of the repository's documents, below its top."""
-    found = []
-    for folder, folders, names in os.walk(ROOT):
-        folders[:] = sorted(set(folders) - SKIPPED)
-        found += [os.path.relpath(os.path.join(folder, name), ROOT) for name in sorted(names) if name.endswith(".md")]
-    return found
+    return [str(path.relative_to(ROOT)) for path in files_below(ROOT, SKIPPED) if path.suffix == ".md"]
 
 
 def line_at(text: str, place: int) -> int:
@@ -118,30 +116,23 @@ class Shell:
         assert self.process.stdin and self.process.stdout
         block, out = self.tools / f"block{step.line}", self.tools / f"out{step.line}"
         block.write_text(step.text + "\n")
-        late = threading.Timer(PATIENCE, self.kill)
-        late.start()
         self.process.stdin.write(f". {block} >{out} 2>&1 </dev/null; echo $?\n")
         self.process.stdin.flush()
-        status = self.process.stdout.readline().strip()
-        late.cancel()
+        in_time, _, _ = select.select([self.process.stdout], [], [], PATIENCE)
+        status = self.process.stdout.readline().strip() if in_time else ""
         return out.read_text(encoding="utf-8", errors="replace"), status
 
-    def kill(self) -> None:
-        """Ends the shell, and everything that the blocks left running."""
-        with contextlib.suppress(ProcessLookupError):
-            os.killpg(self.process.pid, signal.SIGKILL)
 
-
-def indented(lines: Iterable[str]) -> str:
-    return ":\n" + "\n".join(f"    {it}" for it in lines)
-
-
-def compare(path: str, step: Step, told: str) -> None:
-    """Checks that a block printed the output in the document."""
+def check_run(path: str, step: Step, told: str, status: str) -> None:
+    """Checks that a block ended with status 0, and printed the output in the document."""
+    if status != "0":
+        how = f"ended with status {status}" if status else f"ended the shell, or took more than {PATIENCE} seconds"
+        output = ":\n" + textwrap.indent(told.rstrip(), "    ") if told.strip() else " nothing"
+        raise Wrong(path, step.line, f"the block {how}; it printed{output}")
     printed, shown = (text.rstrip("\n").split("\n") for text in (told, step.shown or ""))
-    if printed != shown:
-        lines = difflib.unified_diff(shown, printed, "shown", "printed", lineterm="", n=1)
-        raise Wrong(path, step.line, f"the block prints something else than is shown behind it{indented(lines)}")
+    if step.shown is not None and printed != shown:
+        lines = "\n".join(difflib.unified_diff(shown, printed, "shown", "printed", lineterm="", n=1))
+        raise Wrong(path, step.line, "the block prints something else than is shown behind it:\n" + textwrap.indent(lines, "    "))
 
 
 def run_steps(path: str, steps: Sequence[Step], program: str) -> int:
@@ -150,14 +141,10 @@ def run_steps(path: str, steps: Sequence[Step], program: str) -> int:
         shell = Shell(Path(folder), program)
         try:
             for step in steps:
-                told, status = shell.run(step)
-                if status != "0":
-                    how = f"ended with status {status}" if status else f"ended the shell, or took more than {PATIENCE} seconds"
-                    raise Wrong(path, step.line, f"the block {how}; it printed{indented(told.rstrip().splitlines()) if told.strip() else ' nothing'}")
-                if step.shown is not None:
-                    compare(path, step, told)
+                check_run(path, step, *shell.run(step))
         finally:
-            shell.kill()
+            # (With all that the blocks left running.)
+            os.killpg(shell.process.pid, signal.SIGKILL)
             shell.process.communicate()
     return sum(step.shown is not None for step in steps)
 

@@ -6,11 +6,10 @@
 - Contracts: whether `ended` is empty or filled in the puts of a command.
 """
 import re
-from collections import defaultdict
 from collections.abc import Iterable, Iterator
-from functools import cache
 
-from office_kit.docs.definitions import ROOT, Definition, Fault, Source, WORD, definition_at, places_in, source_at, sources_of, text_of
+from office_kit.docs.definitions import ROOT, WORD, Fault, Source, source_at, sources_of, text_of
+from office_kit.docs.reached import Reached
 
 # A kind of thing, the state before (empty if it begins), the state after, and the command.
 Arrow = tuple[str, str, str, str]
@@ -18,8 +17,8 @@ Arrow = tuple[str, str, str, str]
 DRAWING = "docs/pictures/states.dot"
 ARROW = re.compile(r'^\s*([a-z]+)(?:_(\w+))? -> ([a-z]+)_(\w+) \[label="([a-z_]+)(?: \([^)]*\))?"\];', re.MULTILINE)
 ANY_ARROW = re.compile(r"^(?!\s*//).*->", re.MULTILINE)
-# The place of a kind's states, and a line of a test of States.antt.
-STATES = re.compile(r"office_base\.specs\.declared\.records\.(\w+)State\.TheVariants$")
+# The type of a kind's states, and a line of a test of States.antt.
+STATES = re.compile(r"records\.(\w+)State")
 TEST = re.compile(r"^(\w+) \w+_states\.(\w+) = (true|false)$", re.MULTILINE)
 # The crates that have the rules, a file for each command.
 CORES = ("tender_core", "award_core")
@@ -39,14 +38,6 @@ def command_name(name: str) -> str:
     return re.sub(r"(?<!^)([A-Z])", r"_\1", name).lower()
 
 
-def drawn() -> set[Arrow]:
-    text = text_of(ROOT / DRAWING)
-    found = ARROW.findall(text)
-    if len(found) != len(ANY_ARROW.findall(text)) or any(kind != other for kind, _, other, _, _ in found):
-        raise Fault(f"{DRAWING}: an arrow isn't written as `kind_State -> kind_State [label=\"command (when)\"];`")
-    return {(kind, before, after, command) for kind, before, _, after, command in found}
-
-
 # ---- What definitions say.
 
 def lines_of(source: Source, name: str) -> list[str]:
@@ -57,32 +48,18 @@ def lines_of(source: Source, name: str) -> list[str]:
     return definition.lines
 
 
-def used(words: Iterable[str], source: Source) -> Iterator[Definition]:
-    """The definitions that words of a file name. The tests of states are left out: they write nothing."""
-    yield from (source.defined[word] for word in sorted(words) if word in source.defined)
-    for place, name in places_in(sorted(words), source.imports):
-        crate, _, module = place.partition(".specs.")
-        definition = definition_at(crate, module, name)
-        if definition and module != "States":
-            yield definition
+def followed(words: Iterable[str], source: Source) -> Reached:
+    """All that words of a file lead to. The tests of states are left out: they write nothing."""
+    made = Reached(apart="States")
+    made.add_all(words, source.imports, source)
+    made.follow()
+    return made
 
 
-def reached(words: Iterable[str], source: Source) -> list[Definition]:
-    """All definitions that words of a file lead to."""
-    found, waiting = list[Definition](), list(used(words, source))
-    while waiting:
-        definition = waiting.pop()
-        if definition not in found:
-            found.append(definition)
-            waiting += used(definition.words(), definition.source)
-    return found
-
-
-def states_of(words: Iterable[str], source: Source) -> set[tuple[str, str]]:
-    """The states that words of a file name, themselves or by the definitions that they lead to, each with its kind."""
-    named = [(words, source), *((definition.words(), definition.source) for definition in reached(words, source))]
-    places = [(STATES.search(place), name) for some, there in named for place, name in places_in(some, there.imports)]
-    return {(found[1].lower(), name) for found, name in places if found}
+def states_in(made: Reached) -> set[tuple[str, str]]:
+    """The states that are named there, each with its kind."""
+    kinds = ((STATES.fullmatch(kind), names) for kind, names in made.types["office_base"].items())
+    return {(found[1].lower(), name) for found, names in kinds if found for name in names}
 
 
 # ---- Tenders and securities: Fates.antt.
@@ -95,39 +72,26 @@ def cases_of(source: Source, name: str) -> Iterator[tuple[str, set[str]]]:
         yield command_name(command[1]) if command else "", set(WORD.findall(right))
 
 
-def begun(source: Source) -> Iterator[Arrow]:
-    """How tenders and securities begin. A tender that replaces another is in time, and carries the old one's security."""
+def of_fates(source: Source) -> Iterator[Arrow]:
+    """How tenders and securities begin, and the decisions of each command about those that are undecided. A tender that replaces another is in time, and
+    carries the old one's security."""
     for kind, name in (("tender", "first_state"), ("security", "first_security")):
         words = WORD.findall("\n".join(lines_of(source, name)))
-        yield from ((kind, "", state, "present") for _, state in states_of(words, source))
+        yield from ((kind, "", state, "present") for _, state in states_in(followed(words, source)))
     text = "\n".join(lines_of(source, "reception_replacing"))
     if "in_time = true" not in text or "named = None" not in text:
         raise Fault("crates/office_machine/specs/Fates.antt: `reception_replacing` isn't in time, or names a security")
     yield "tender", "", "Sealed", "modify"
     yield from (("performance", "", "Held", command) for command, words in cases_of(source, "named_for") if command)
-
-
-def decided(source: Source) -> Iterator[Arrow]:
-    """The decisions of each command about tenders and securities that are undecided."""
     for kind, undecided in (("tender", "Sealed"), ("security", "Held"), ("performance", "Held")):
-        for command, words in cases_of(source, f"{kind}_decided"):
-            after = {state for _, state in states_of(words, source)} - {undecided}
-            yield from ((kind, undecided, state, command) for state in after)
+        for command, decisions in cases_of(source, f"{kind}_decided"):
+            yield from ((kind, undecided, state, command) for _, state in states_in(followed(decisions, source)) if state != undecided)
 
 
 # ---- Notices, lots, awards and contracts: the rules.
 
-@cache
-def tests_of_states() -> dict[str, set[str]]:
-    """The tests of States.antt: in which states each holds, and in which it doesn't, as `not` and its name."""
-    found: defaultdict[str, set[str]] = defaultdict(set)
-    for test, state, value in TEST.findall(text_of(ROOT / "crates/office_base/specs/States.antt")):
-        found[test if value == "true" else f"not {test}"].add(state)
-    return found
-
-
 def states_before(command: str, kind: str, words: set[str]) -> set[str]:
-    """The states from which a command leads; an empty one if it makes a new row."""
+    """The states from which a command leads, by the tests of States.antt; an empty one if it makes a new row."""
     if (command, kind) in UNTESTED:
         return {UNTESTED[command, kind]}
     tests = BEFORE.get((command, kind), [])
@@ -136,16 +100,19 @@ def states_before(command: str, kind: str, words: set[str]) -> set[str]:
     for test in tests:
         if test.removeprefix("not ") not in words:
             raise Fault(f"docs/drawn_states.py: the rule {command} uses no {test}")
-    return set.intersection(*(tests_of_states()[test] for test in tests))
+    lines = TEST.findall(text_of(ROOT / "crates/office_base/specs/States.antt"))
+    holds = {(test if value == "true" else f"not {test}", state) for test, state, value in lines}
+    return {state for _, state in holds if all((test, state) in holds for test in tests)}
 
 
 def arrows_of(source: Source) -> Iterator[Arrow]:
     """The arrows by the rule of one command."""
     command = source.module.removeprefix("Rules.")
     name = command_name(command)
-    put, tests = reached([f"{name}_puts"], source), reached([f"{name}_tests"], source)
+    made = followed([f"{name}_puts"], source)
+    put, tests = (list(it.definitions.values()) for it in (made, followed([f"{name}_tests"], source)))
     words = {word for definition in put + tests for word in definition.words()}
-    for kind, state in states_of([f"{name}_puts"], source):
+    for kind, state in states_in(made):
         if kind in KINDS:
             yield from ((kind, before, state, name) for before in states_before(command, kind, words) if before != state)
     put_text, test_text = ("\n".join(line for definition in some for line in definition.lines) for some in (put, tests))
@@ -157,10 +124,14 @@ def arrows_of(source: Source) -> Iterator[Arrow]:
 
 def faults_of_states() -> list[str]:
     """The arrows that the drawing has and the specification hasn't, and the other way."""
-    fates = source_at("office_machine", "Fates")
+    text, fates = text_of(ROOT / DRAWING), source_at("office_machine", "Fates")
+    drawn = ARROW.findall(text)
+    if len(drawn) != len(ANY_ARROW.findall(text)) or any(kind != other for kind, _, other, _, _ in drawn):
+        raise Fault(f"{DRAWING}: an arrow isn't written as `kind_State -> kind_State [label=\"command (when)\"];`")
     if not fates:
         raise Fault("crates/office_machine/specs: there is no module Fates")
     rules = [source for crate in CORES for source in sources_of(crate) if source.module.startswith("Rules.")]
-    wanted, had = {*begun(fates), *decided(fates)}.union(*map(arrows_of, rules)), drawn()
+    had = {(kind, before, after, command) for kind, before, _, after, command in drawn}
+    wanted = set(of_fates(fates)).union(*map(arrows_of, rules))
     faults = [("the specification has no arrow", arrow) for arrow in sorted(had - wanted)] + [("there is no arrow", arrow) for arrow in sorted(wanted - had)]
     return [f"{DRAWING}: {fault} {kind}: {before or '(new)'} -> {after} by {command}" for fault, (kind, before, after, command) in faults]

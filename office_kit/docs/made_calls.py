@@ -1,6 +1,8 @@
 """The list of public calls, each with the clauses of its contract as the source has them. Read by tools/calls and office_kit/docs/releases.py."""
-from office_kit.docs.contracts import Call, heading_of, public_calls_of, sources_of
-from office_kit.docs.definitions import ROOT, Fault, crates_of_the_program
+from itertools import takewhile
+
+from office_kit.docs.contracts import Call, first_paragraph, public_calls_of, sources_of
+from office_kit.docs.definitions import ROOT, Fault, crates_of_the_program, text_of
 from office_kit.docs.made import WIDTH, opening, wrapped
 from office_kit.gate.crates import crates_of
 
@@ -26,17 +28,17 @@ def lines_of_call(call: Call) -> list[str]:
 
 def calls() -> tuple[list[str], str]:
     """The lines of the document, and the summary to print. A crate comes after those that it uses."""
-    lines, found, with_calls = opening(HEAD), list[Call](), 0
+    lines, found = opening(HEAD), list[Call]()
     for crate in (name for name in crates_of(ROOT) if name in crates_of_the_program()):
         public = {path: own for path in sources_of(crate) if (own := public_calls_of(crate, path))}
         if public:
             lines += [f"## `{crate}`", ""]
-            with_calls += 1
         for path, own in public.items():
-            heading = heading_of(path)
+            heading = first_paragraph(takewhile(lambda line: line.startswith("//!"), text_of(path).split("\n")))
             lines += [*wrapped(f"**{path.relative_to(ROOT / 'crates' / crate / 'src')}**" + (f": {heading}" if heading else "")), ""]
             lines += [line for call in own for line in lines_of_call(call)] + [""]
             found += own
     if not found:
         raise Fault("crates/*/src: there is no public function")
-    return lines[:-1], f"{len(found)} calls with {sum(len(call.clauses) for call in found)} clauses, in {with_calls} crates"
+    crates = sum(line.startswith("## ") for line in lines)
+    return lines[:-1], f"{len(found)} calls with {sum(len(call.clauses) for call in found)} clauses, in {crates} crates"

@@ -1,7 +1,7 @@
 """The index of definitions: every definition of crates/*/specs/**/*.antt, with the comment above it. Read by tools/index and office_kit/docs/releases.py."""
 from collections.abc import Iterable
 
-from office_kit.docs.definitions import Definition, Fault, Source, crates, sources_of
+from office_kit.docs.definitions import Definition, Fault, crates, sources_of
 from office_kit.docs.made import opening, wrapped
 
 NAME = "docs/INDEX.md"
@@ -33,19 +33,16 @@ def entry_text(comment: str, name: str, *others: str) -> str:
     return f"{name}: {comment}{end} Then {', '.join(others)}" if others else f"{name}: {comment}"
 
 
-def lines_of(source: Source) -> list[str]:
-    """The index of one file."""
-    made = wrapped(f"**`{source.module}`**" + (f": {source.heading}" if source.heading else "")) + [""]
-    return made + [line for text in entries_of(source.definitions) for line in wrapped(text, "- ", "  ")] + [""]
-
-
 def index() -> tuple[list[str], str]:
     """The lines of the document, and the summary to print."""
     sources = {crate.name: of_crate for crate in crates() if (of_crate := sources_of(crate.name))}
     if not sources:
         raise Fault("crates/*/specs: there is no definition")
-    made = opening(HEAD)
+    made, counts = opening(HEAD), list[int]()
     for name, of_crate in sources.items():
-        made += [f"## `{name}`", "", *(line for source in of_crate for line in lines_of(source))]
-    found = [source for of_crate in sources.values() for source in of_crate]
-    return made[:-1], f"{sum(len(source.definitions) for source in found)} definitions of {len(found)} files"
+        made += [f"## `{name}`", ""]
+        for source in of_crate:
+            made += [*wrapped(f"**`{source.module}`**" + (f": {source.heading}" if source.heading else "")), ""]
+            made += [*(line for text in entries_of(source.definitions) for line in wrapped(text, "- ", "  ")), ""]
+            counts.append(len(source.definitions))
+    return made[:-1], f"{sum(counts)} definitions of {len(counts)} files"

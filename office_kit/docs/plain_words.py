@@ -9,6 +9,8 @@ from collections.abc import Iterable, Iterator
 from pathlib import Path
 from typing import NamedTuple
 
+from office_kit.docs.documents import FENCED
+
 LONGEST = 30
 # The words of the table, each with its pattern. (A name in a code span isn't found.)
 WORDS = {
@@ -29,6 +31,7 @@ SENTENCE = re.compile(r"(?<=[.?!])[)'\"*_]*\s+(?=[A-Z0-9`'\"(*\[_])")
 SPAN = re.compile(r"(`+).+?\1", re.DOTALL)
 LINK = re.compile(r"!?\[([^\]]*)\](?:\([^)]*\)|\[[^\]]*\])")
 ITEM = re.compile(r"^\s*(?:[-*+]|\d+\.)\s+")
+BLOCK = re.compile(r"/\*(.*?)\*/", re.DOTALL)
 TEXT = re.compile(r'"((?:[^"\\]|\\.)*)"')
 # How a comment begins in files of each ending; in others with #.
 MARKS = {".antt": "--", ".rt": "//", ".js": "//"}
@@ -59,14 +62,11 @@ def joined(lines: Iterable[Numbered]) -> Iterator[Numbered]:
 
 def of_document(text: str) -> Iterator[Numbered]:
     """The prose of a document: its paragraphs, items, headings and cells of tables."""
-    kept: list[Numbered] = []
-    fence, empty = False, True
-    for number, line in enumerate(text.split("\n"), 1):
-        if re.match(r"\s*(```|~~~)", line):
-            fence = not fence
-        elif line.startswith("|") and not fence:
+    kept, empty = list[Numbered](), True
+    for number, line in enumerate(FENCED.sub(lambda block: "\n" * block[0].count("\n"), text).split("\n"), 1):
+        if line.startswith("|"):
             yield from ((number, cell.strip()) for cell in SPAN.sub("`x`", line).split("|") if cell.strip(" -:"))
-        elif not fence and not re.match(r"\[[^\]]+\]: ", line) and not (empty and line.startswith("    ") and not (kept and ITEM.match(kept[-1][1]))):
+        elif not re.match(r"\[[^\]]+\]: ", line) and not (empty and line.startswith("    ") and not (kept and ITEM.match(kept[-1][1]))):
             kept.append((number, line.lstrip("#> ") if line.startswith(("#", ">")) else line))
             if line.startswith("#"):
                 kept.append((number, ""))
@@ -81,35 +81,23 @@ def of_comments(text: str, mark: str) -> Iterator[Numbered]:
     yield from joined((number, line) for number, line in lines if not line.startswith("----"))
 
 
-def of_blocks(text: str) -> Iterator[Numbered]:
-    """Comments between /* and */."""
-    for found in re.finditer(r"/\*(.*?)\*/", text, re.DOTALL):
-        lines = [re.sub(r"^\s*\*? ?", "", line) for line in found[1].split("\n")]
-        yield from joined(enumerate(lines, text.count("\n", 0, found.start()) + 1))
-
-
-def of_docstrings(text: str) -> Iterator[Numbered]:
-    for node in ast.walk(ast.parse(text)):
-        if isinstance(node, (ast.Module, ast.ClassDef, ast.FunctionDef)) and (doc := ast.get_docstring(node)) is not None:
-            yield from joined(enumerate(doc.split("\n"), node.body[0].lineno))
-
-
-def of_texts(text: str) -> Iterator[Numbered]:
-    """The texts of a module that has the words of a screen."""
-    for number, line in enumerate(text.split("\n"), 1):
-        yield from ((number, found) for found in TEXT.findall(line) if " " in found)
-
-
 def paragraphs_of(path: Path) -> Iterator[Numbered]:
+    """The paragraphs of a file: a document, the comments and docstrings of a source or a script, or the words of a screen, where each text is one."""
     text = path.read_text(encoding="utf-8")
     if path.suffix == ".md":
         yield from of_document(text)
         return
     yield from of_comments(text, MARKS.get(path.suffix, "#"))
-    if path.suffix == ".js":
-        yield from of_texts(text) if path.name.startswith("en") else of_blocks(text)
+    if path.suffix == ".js" and path.name.startswith("en"):
+        yield from ((number, found) for number, line in enumerate(text.split("\n"), 1) for found in TEXT.findall(line) if " " in found)
+    elif path.suffix == ".js":
+        for found in BLOCK.finditer(text):
+            lines = [re.sub(r"^\s*\*? ?", "", line) for line in found[1].split("\n")]
+            yield from joined(enumerate(lines, text.count("\n", 0, found.start()) + 1))
     if path.suffix == ".py" or re.match(r"#!.*\bpython3?\b", text):
-        yield from of_docstrings(text)
+        for node in ast.walk(ast.parse(text)):
+            if isinstance(node, (ast.Module, ast.ClassDef, ast.FunctionDef)) and (doc := ast.get_docstring(node)) is not None:
+                yield from joined(enumerate(doc.split("\n"), node.body[0].lineno))
 
 
 # ---- What reads badly.

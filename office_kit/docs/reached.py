@@ -24,16 +24,19 @@ BESIDES: dict[str, list[str]] = {
 }
 
 
-class Reached:
-    """The definitions reached so far, the types of the program and the words of libraries that they use, and the definitions to follow."""
+# Names, by their crates and their modules.
+Names = defaultdict[str, defaultdict[str, set[str]]]
 
-    def __init__(self) -> None:
-        self.crates = crates_of_the_program()
+
+class Reached:
+    """The definitions reached so far, and those to follow; the types of the program that they use, each with the cases that they name; and the words of
+    libraries. The definitions of a module `apart` are left out."""
+
+    def __init__(self, apart: str = "") -> None:
+        self.crates, self.apart = crates_of_the_program(), apart
         self.definitions: dict[tuple[str, str, str], Definition] = {}
-        self.types: defaultdict[str, set[str]] = defaultdict(set)
-        self.libraries: defaultdict[str, defaultdict[str, set[str]]] = defaultdict(lambda: defaultdict(set))
+        self.types, self.libraries = Names(lambda: defaultdict(set)), Names(lambda: defaultdict(set))
         self.waiting: list[Definition] = []
-        self.seen: set[Path] = set()
 
     def add_all(self, words: Iterable[str], imports: Mapping[str, Imported], source: Source | None = None) -> None:
         """Adds the meanings of words in a file with these imports: definitions, types and words of libraries. In a file of definitions, its own come first."""
@@ -46,9 +49,13 @@ class Reached:
             if crate not in self.crates:
                 self.libraries[crate][module].add(name)
             elif module.startswith("declared."):
-                self.types[crate].add(module.removeprefix("declared.").removesuffix(".TheVariants"))
-            else:
-                self.add(definition_at(crate, module, name))
+                kind = module.removeprefix("declared.")
+                self.types[crate][kind.removesuffix(".TheVariants")].update({name} if kind.endswith(".TheVariants") else ())
+            elif module != self.apart:
+                definition = definition_at(crate, module, name)
+                if not definition:
+                    raise Fault(f"there is no definition {name} in {place}")
+                self.add(definition)
 
     def need(self, imports: Mapping[str, Imported], where: Path | str) -> None:
         """Checks that each definition of the program's crates that a file imports exists."""
@@ -57,18 +64,18 @@ class Reached:
             if name and crate in self.crates and not module.startswith("declared.") and not definition_at(crate, module, name):
                 raise Fault(f"{where}: there is no definition {name} in {place}")
 
-    def add(self, definition: Definition | None) -> None:
-        """Adds a definition, once; with the first one of a file what the file imports is looked for."""
-        if not definition:
-            raise Fault("a definition that is used isn't there")
-        source = definition.source
-        if source.path not in self.seen:
-            self.seen.add(source.path)
-            self.need(source.imports, source.path.relative_to(ROOT))
-        key = source.crate, source.module, definition.name
+    def add(self, definition: Definition) -> None:
+        """Adds a definition, once."""
+        key = definition.source.crate, definition.source.module, definition.name
         if key not in self.definitions:
             self.definitions[key] = definition
             self.waiting.append(definition)
+
+    def follow(self) -> None:
+        """Follows the names that definitions use, until nothing new is reached."""
+        while self.waiting:
+            definition = self.waiting.pop(0)
+            self.add_all(definition.words() - {definition.name}, definition.source.imports, definition.source)
 
     def files(self) -> dict[tuple[str, str], list[Definition]]:
         """The files that were reached, with the definitions of each that were."""
@@ -89,6 +96,6 @@ def begin(made: Reached, start: Mapping[str, Sequence[str]]) -> None:
         made.need(imports, f"crates/{name}")
         for call in calls:
             made.add_all(set(WORD.findall(" ".join(clause.text for clause in call.clauses))), imports)
-    while made.waiting:
-        definition = made.waiting.pop(0)
-        made.add_all(definition.words() - {definition.name}, definition.source.imports, definition.source)
+    made.follow()
+    for source in dict.fromkeys(definition.source for definition in made.definitions.values()):
+        made.need(source.imports, source.path.relative_to(ROOT))

@@ -2,23 +2,16 @@
 and OPERATING.md say."""
 import base64
 import ctypes
-import json
-import os
 import secrets
-import ssl
 import subprocess
-import time
 from collections.abc import Iterable, Mapping
 from pathlib import Path
-from typing import Any
 
 from office_kit.common import CLERK, ROOT, fail, need
 
 # A change of a text: the old part, how often it occurs, and the new one.
 Change = tuple[str, int, str]
 WAYS = ("password", "certificate")
-# The password of a clerk is hashed this many times, as a power of two: as `htpasswd -B` does.
-COST = 5
 
 
 def adapted(name: str, *changes: Iterable[Change]) -> str:
@@ -37,11 +30,11 @@ def basic(name: str, password: str) -> str:
 
 
 def bcrypt(password: str) -> str:
-    """The line of a password file, by the library that nginx uses."""
+    """The line of a password file, of the cost that `htpasswd -B` takes, by the library that nginx uses."""
     crypt = ctypes.CDLL("libcrypt.so.1").crypt
     crypt.restype = ctypes.c_char_p
     salt = base64.b64encode(secrets.token_bytes(18), b"./").decode()[:22]
-    made: bytes | None = crypt(password.encode(), f"$2y${COST:02}${salt}".encode())
+    made: bytes | None = crypt(password.encode(), f"$2y$05${salt}".encode())
     return made.decode() if made and made.startswith(b"$2y$") else fail("libcrypt makes no bcrypt")
 
 
@@ -54,12 +47,11 @@ def certify(place: str, subject: str, by: str | None = None, *more: str) -> None
 
 
 class Signing:
-    """Clerks by name with their roles, and one of two ways in which they sign in, or none. More of the files may be changed, by their names."""
+    """Clerks by name with their roles, and one of two ways in which they sign in, or none. More of the files may be changed: each change begins with a name."""
 
-    def __init__(self, way: str | None, roles: Mapping[str, str], others: Iterable[str] = (), faults: Mapping[str, Iterable[Change]] | None = None) -> None:
-        self.way, self.roles, self.names, self.key, self.faults = way, roles, [*roles, *others], CLERK[1].decode(), faults or {}
+    def __init__(self, way: str | None, roles: Mapping[str, str], others: Iterable[str] = (), faults: Iterable[tuple[str, str, int, str]] = ()) -> None:
+        self.way, self.roles, self.names, self.key, self.faults, self.folder = way, roles, [*roles, *others], CLERK[1].decode(), faults, ""
         self.passwords = {name: secrets.token_urlsafe(15) for name in self.names}
-        self.folder = ""
 
     def put(self, folder: str) -> list[Change]:
         """Writes the files into the folder of a front. The changes of nginx.conf: the `#` before one line is taken out."""
@@ -76,17 +68,20 @@ class Signing:
             for name in self.names:
                 self.certify(name, "clerks")
         if not self.way:
-            return []
+            return self.faults_of("nginx.conf")
         included = f"clerks-{self.way}.conf"
         self.copy(included, places)
-        return [(f"    # include /etc/procure/{included};", 1, f"    include {folder}/{included};")]
+        return [*self.faults_of("nginx.conf"), (f"    # include /etc/procure/{included};", 1, f"    include {folder}/{included};")]
+
+    def faults_of(self, name: str) -> list[Change]:
+        return [(old, count, new) for file, old, count, new in self.faults if file == name]
 
     def write(self, name: str, text: str) -> None:
         Path(self.folder, name).write_text(text, encoding="utf-8")
 
     def copy(self, name: str, changes: Iterable[Change]) -> None:
         """A file of deploy/, changed."""
-        self.write(name, adapted(name, self.faults.get(name, ()), changes))
+        self.write(name, adapted(name, self.faults_of(name), changes))
 
     def certify(self, name: str, by: str | None, subject: str = "") -> None:
         """Makes a certificate of a name, signed by another name's or by its own key."""
@@ -95,19 +90,3 @@ class Signing:
     def fields(self, name: str) -> dict[str, str]:
         """The fields of the head by which a clerk signs in."""
         return {"Authorization": basic(name, self.passwords.get(name, "wrong"))} if self.way == "password" and name else {}
-
-    def present_to(self, context: ssl.SSLContext, name: str) -> None:
-        """Has connections of this context come with the clerk's certificate."""
-        if self.way == "certificate" and name:
-            context.load_cert_chain(f"{self.folder}/{name}.pem", f"{self.folder}/{name}.key")
-
-
-def lines_of_log(path: str, least: int) -> list[dict[str, Any]]:
-    """The lines of the clerks' log, as soon as there are so many."""
-    end, lines = time.monotonic() + 5, list[dict[str, Any]]()
-    while len(lines) < least and time.monotonic() < end:
-        time.sleep(0.05)
-        if os.path.exists(path):
-            with open(path, encoding="utf-8", errors="surrogateescape") as file:
-                lines = [json.loads(line) for line in file]
-    return lines

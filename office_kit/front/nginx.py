@@ -2,36 +2,25 @@
 of the test."""
 import contextlib
 import http.client
+import json
 import os
 import ssl
 import subprocess
+import tomllib
 from collections.abc import Iterable, Mapping
 from pathlib import Path
-from typing import NamedTuple
+from string import Template
+from typing import Any, NamedTuple
 
-from office_kit.common import FIELDS, HOST, ROOT, Caller, connect, free_port, need
+from office_kit.common import FIELDS, HOST, ROOT, Caller, connect, free_port, need, until
 from office_kit.front.clerks import Change, Signing, adapted, certify
 
 # An address of this machine from which, by the adapted file, no clerk asks.
 OUTSIDE = "127.0.0.2"
-# Addresses from which a clerk may ask, each as 127.0.1.N.
-CLERKS = "127.0.1.0/24"
+FILES = tomllib.loads(Path(__file__).with_suffix(".toml").read_text(encoding="utf-8"))
 PATIENCE = 60
 # For tests that ask for the ledger right after a command: nginx keeps it for a second, and doesn't show it while it asks again.
 LEDGER_OF_NOW = [("proxy_cache_valid 200 1m;", 1, "proxy_cache_valid 200 1s;"), ("        proxy_cache_background_update on;\n", 1, "")]
-MAIN = """
-daemon off;
-worker_processes 2;
-pid {folder}/nginx.pid;
-error_log {folder}/errors.log warn;
-events {{ worker_connections 4096; }}
-http {{
-    include /etc/nginx/mime.types;
-    access_log off;
-    {places}
-    include {folder}/procure.conf;
-}}
-"""
 
 
 class Answer(NamedTuple):
@@ -53,25 +42,13 @@ class Front:
         certify(f"{folder}/certificate", "/CN=office", None, "-addext", f"subjectAltName=IP:{HOST}")
         self.context = ssl.create_default_context(cafile=self.certificate)
         ways = signing.put(folder) if signing else []
-        Path(folder, "procure.conf").write_text(adapted("nginx.conf", more, ways, self.changes(office)), encoding="utf-8")
         places = " ".join(f"{kind}_temp_path {folder}/{kind};" for kind in ("client_body", "proxy", "fastcgi", "uwsgi", "scgi"))
-        Path(folder, "nginx.conf").write_text(MAIN.format(folder=folder, places=places) + ("user root;\n" if os.geteuid() == 0 else ""))
+        names = {**vars(self), "host": HOST, "root": ROOT, "places": places, "user": "user root;" if os.geteuid() == 0 else ""}
+        Path(folder, "nginx.conf").write_text(Template(FILES["main"]).substitute(names))
+        changes = [(old, count, Template(new).substitute(names)) for old, count, new in FILES["changes"]]
+        Path(folder, "procure.conf").write_text(adapted("nginx.conf", more, ways, changes), encoding="utf-8")
         self.words = [need("nginx", "nginx"), "-p", folder, "-e", f"{folder}/errors.log", "-c", f"{folder}/nginx.conf"]
         self.process = subprocess.Popen(self.words, stdin=subprocess.DEVNULL)
-
-    def changes(self, office: int) -> list[Change]:
-        """The changes of the file. (Not every machine has IPv6.)"""
-        return [("listen [::]:80;", 1, ""), ("listen [::]:443 ssl", 1, "# "), ("listen 80;", 1, f"listen {HOST}:{self.plain_port};"),
-                ("listen 443 ssl", 1, f"listen {HOST}:{self.port} ssl"), ("server_name office.example;", 2, f"server_name {HOST};"),
-                ("server 127.0.0.1:8080", 1, f"server {HOST}:{office}"),
-                ("server 127.0.0.1:8081 ", 16, f"server {HOST}:{self.ways} "), ("listen 127.0.0.1:8081;", 1, f"listen {HOST}:{self.ways};"),
-                ("127.0.0.0/8 1;", 1, f"{HOST} 1; {CLERKS} 1;"),
-                ("/usr/share/procure/web;", 1, f"{ROOT}/web;"), ("/usr/share/procure;", 1, f"{ROOT}/docs;"),
-                ("include /etc/procure/clerks.conf;", 1, f"include {self.clerks};"), ("/etc/nginx/procure/clerks.passwords;", 4, f"{self.folder}/passwords;"),
-                ("/etc/nginx/procure;", 1, f"{self.folder}/city;"), ("/var/lib/procure-mirror;", 3, f"{self.folder}/mirror;"),
-                ("/etc/procure/tls/certificate.pem;", 1, f"{self.certificate};"), ("/etc/procure/tls/key.pem;", 1, f"{self.folder}/certificate.key;"),
-                ("/var/cache/nginx/procure ", 1, f"{self.folder}/answers "), ("/var/cache/nginx/procure-wrong ", 1, f"{self.folder}/wrong "),
-                ("/var/log/nginx/procure.log ", 2, f"{self.folder}/access.log "), ("/var/log/nginx/procure-counts.log ", 2, f"{self.folder}/counts.log ")]
 
     def __enter__(self) -> "Front":
         connect(self.port, PATIENCE).close()
@@ -82,23 +59,16 @@ class Front:
         self.process.terminate()
         self.process.wait()
 
-    def reload(self) -> None:
-        """nginx reads its files again."""
-        subprocess.run([*self.words, "-s", "reload"], check=True)
-
     def address(self, rest: str = "") -> str:
         return f"https://{HOST}:{self.port}/{rest}"
 
     def connection(self, source: str = HOST, name: str = "") -> http.client.HTTPSConnection:
-        return http.client.HTTPSConnection(HOST, self.port, context=self.context_of(name), source_address=(source, 0), timeout=PATIENCE)
-
-    def context_of(self, name: str) -> ssl.SSLContext:
-        """That of everybody, or of a clerk by name, with the clerk's certificate if the front asks for one."""
+        """A connection by TLS. That of a clerk, by name, has the clerk's certificate if the front asks for one."""
         context = self.context
-        if self.signing and name:
+        if name and self.signing and self.signing.way == "certificate":
             context = ssl.create_default_context(cafile=self.certificate)
-            self.signing.present_to(context, name)
-        return context
+            context.load_cert_chain(f"{self.folder}/{name}.pem", f"{self.folder}/{name}.key")
+        return http.client.HTTPSConnection(HOST, self.port, context=context, source_address=(source, 0), timeout=PATIENCE)
 
     def ask(self, method: str, target: str, body: bytes = b"", caller: Caller | None = None, source: str = HOST, name: str = "", **fields: str) -> Answer:
         """The answer to a request by TLS. A caller is a name and a key; further fields are named with `_` for `-`. A clerk may sign in, by name."""
@@ -107,7 +77,12 @@ class Front:
             return exchange(connection, method, target, body, caller, signed | {field.replace("_", "-"): value for field, value in fields.items()})
 
     def logged(self, name: str) -> str:
-        return Path(self.folder, name).read_text(encoding="utf-8", errors="replace")
+        return Path(self.folder, name).read_text(encoding="utf-8", errors="surrogateescape")
+
+    def logged_commands(self, least: int) -> list[dict[str, Any]]:
+        """The lines of the clerks' log, as soon as there are so many."""
+        until(lambda: self.logged("clerks.log").count("\n") >= least)
+        return [json.loads(line) for line in self.logged("clerks.log").split("\n")[:-1]]
 
 
 def exchange(connection: http.client.HTTPConnection, method: str, target: str, body: bytes = b"", caller: Caller | None = None,

@@ -1,7 +1,6 @@
-#!/usr/bin/env python3
 """Fifty strangers who ask a front all that they may, for tests/front/test_deadline.py; and a clerk's screen that asks all of its queries, again and again.
 
-    office_kit/front/strangers.py PORT BEGIN END LINES     from and to a moment, in seconds of this machine's clock; LINES is how many budget lines there are
+    python3 -m office_kit.front.strangers PORT BEGIN END LINES      from and to a second of this machine's clock; LINES is how many budget lines there are
 
 They connect at once, and ask from BEGIN on. Each has an address of its own (127.0.6.N, the clerk's screen 127.0.1.1) and several connections by TLS. At the end
 it prints, as JSON, how many answers of each status each kind got.
@@ -18,7 +17,9 @@ import time
 from collections import Counter
 from collections.abc import Coroutine, Iterator
 
-HOST, LARGEST = "127.0.0.1", 1 << 24
+from office_kit.common import HOST
+
+LARGEST = 1 << 24
 # Seconds between two requests on a connection: all readers together ask for some 1,000 answers a second.
 PAUSE = 0.25
 RANDOM = random.Random(1)
@@ -61,32 +62,26 @@ async def answered(streams: Streams, text: bytes) -> str:
 
 
 class Strangers:
-    """All strangers, until an end."""
+    """All strangers."""
 
-    def __init__(self, port: int, begin: float, end: float, lines: int) -> None:
-        self.port, self.begin, self.end, self.lines, self.counts = port, begin, end, lines, Counter[str]()
+    def __init__(self, port: int, begin: float, lines: int) -> None:
+        self.port, self.begin, self.lines, self.counts = port, begin, lines, Counter[str]()
         self.context = ssl.create_default_context()
         self.context.check_hostname, self.context.verify_mode = False, ssl.CERT_NONE
         self.invented = (request("POST", "/notices/D/lots/L1/tenders", f"X{number}", "wrong", b"An offer") for number in itertools.count())
 
-    def left(self) -> float:
-        return self.end - time.time()
-
     async def connect(self, source: str) -> Streams:
         return await asyncio.open_connection(HOST, self.port, ssl=self.context, local_addr=(source, 0), limit=LARGEST)
 
-    async def until_begin(self) -> None:
-        await asyncio.sleep(max(0.0, self.begin - time.time()))
-
     async def asks(self, kind: str, source: str, texts: Iterator[bytes], pause: float = PAUSE) -> None:
         """Asks one thing after another on a connection, which is made again when it ends."""
-        while self.left() > 0:
+        while True:
             try:
                 streams = await self.connect(source)
                 with contextlib.closing(streams[1]):
-                    await self.until_begin()
-                    while self.left() > 0:
-                        self.counts[f"{kind} {await answered(streams, next(texts))}"] += 1
+                    await asyncio.sleep(self.begin - time.time())
+                    for text in texts:
+                        self.counts[f"{kind} {await answered(streams, text)}"] += 1
                         await asyncio.sleep(pause * RANDOM.uniform(0.5, 1.5))
             except (OSError, asyncio.IncompleteReadError):
                 self.counts[f"{kind} closed"] += 1
@@ -94,12 +89,11 @@ class Strangers:
 
     async def goes_away(self, source: str) -> None:
         """Asks for something dear, and closes the connection at once."""
-        texts = queries(self.lines)
-        await self.until_begin()
-        while self.left() > 0:
+        await asyncio.sleep(self.begin - time.time())
+        for text in queries(self.lines):
             with contextlib.suppress(OSError):
                 _, writer = await self.connect(source)
-                writer.write(next(texts))
+                writer.write(text)
                 await asyncio.sleep(0.01)
                 writer.transport.abort()
                 self.counts["leaver sent"] += 1
@@ -107,35 +101,34 @@ class Strangers:
 
     async def is_slow(self, source: str, part: bytes) -> None:
         """Sends a part of a request, and nothing else, and stays."""
-        while self.left() > 0:
+        while True:
             with contextlib.suppress(OSError):
                 reader, writer = await self.connect(source)
                 writer.write(part)
                 self.counts["slow opened"] += 1
                 with contextlib.closing(writer):
-                    await asyncio.wait_for(reader.read(), max(0.01, self.left()))
+                    await reader.read()
                 self.counts["slow closed"] += 1
 
-    def tasks_of(self, number: int, source: str) -> list[Coroutine[None, None, None]]:
+    def tasks(self) -> Iterator[Coroutine[None, None, None]]:
         """25 are readers, each with as many connections as it may have requests in the front. 5 are monitors. 5 don't wait for answers. 5 submit tenders under
         names that they invent. 10 are slow."""
-        if number <= 25:
-            return [self.asks("reader", source, queries(self.lines), 2 * PAUSE) for _ in range(10)]
-        if number <= 30:
-            return [self.asks("monitor", source, itertools.cycle(HEALTH)) for _ in range(4)]
-        if number <= 35:
-            return [self.goes_away(source) for _ in range(4)]
-        if number <= 40:
-            return [self.asks("inventor", source, self.invented) for _ in range(10)]
-        return [self.is_slow(source, HALVES[at % 3]) for at in range(20)]
+        sources = [f"127.0.6.{number}" for number in range(1, 51)]
+        yield from (self.asks("reader", source, queries(self.lines), 2 * PAUSE) for source in sources[:25] for _ in range(10))
+        yield from (self.asks("monitor", source, itertools.cycle(HEALTH)) for source in sources[25:30] for _ in range(4))
+        yield from (self.goes_away(source) for source in sources[30:35] for _ in range(4))
+        yield from (self.asks("inventor", source, self.invented) for source in sources[35:40] for _ in range(10))
+        yield from (self.is_slow(source, HALVES[at % 3]) for source in sources[40:] for at in range(20))
+        yield from (self.asks("clerk", "127.0.1.1", itertools.cycle(OF_CLERK), 0.01) for _ in range(5))
 
-    async def run(self) -> None:
-        tasks = [task for number in range(1, 51) for task in self.tasks_of(number, f"127.0.6.{number}")]
-        tasks += [self.asks("clerk", "127.0.1.1", itertools.cycle(OF_CLERK), 0.01) for _ in range(5)]
-        await asyncio.gather(*tasks)
+    async def run(self, end: float) -> None:
+        with contextlib.suppress(TimeoutError):
+            async with asyncio.timeout(end - time.time()), asyncio.TaskGroup() as group:
+                for task in self.tasks():
+                    group.create_task(task)
 
 
 if __name__ == "__main__":
-    strangers = Strangers(int(sys.argv[1]), float(sys.argv[2]), float(sys.argv[3]), int(sys.argv[4]))
-    asyncio.run(strangers.run())
+    strangers = Strangers(int(sys.argv[1]), float(sys.argv[2]), int(sys.argv[4]))
+    asyncio.run(strangers.run(float(sys.argv[3])))
     print(json.dumps(strangers.counts))

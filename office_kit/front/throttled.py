@@ -9,7 +9,7 @@ from office_kit.front.office import Request, StandIn, Told
 # The answers that only an opened notice has.
 OF_OPENED = ("minutes", "evaluation")
 LISTS = {"/ledger": "ledger.txt", "/notices": "notices.json"}
-NOT_THERE = {404: b'{"name":"NoSuch","refusal":9,"what":"notice"}', 409: b'{"name":"NotOpened","refusal":22}'}
+NO_SUCH, NOT_OPENED = b'{"name":"NoSuch","refusal":9,"what":"notice"}', b'{"name":"NotOpened","refusal":22}'
 
 
 class Front(StandIn):
@@ -19,9 +19,8 @@ class Front(StandIn):
 
     def __init__(self, folder: str, copied: str = "", burst: int = 1 << 30, wait: int = 1, failing: int = 0, lacking: str = "",
                  old: tuple[int, ...] = ()) -> None:
-        self.old, self.ledgers = list(old), 0
-        self.folder, self.copied, self.burst, self.wait, self.failing, self.lacking = folder, copied, burst, wait, failing, lacking
-        self.left, self.until, self.refused, self.hasty = burst, 0.0, 0, 0
+        self.folder, self.copied, self.burst, self.wait, self.failing, self.lacking, self.old = folder, copied, burst, wait, failing, lacking, [*old]
+        self.left, self.until, self.refused, self.hasty, self.ledgers = burst, 0.0, 0, 0, 0
         super().__init__()
 
     def turn(self) -> tuple[int, str] | None:
@@ -32,21 +31,20 @@ class Front(StandIn):
             return 503, "0"
         if now < self.until:
             self.hasty += 1
-            return 429, str(self.wait)
-        if self.left == 0:
+        elif self.left > 0:
+            self.left -= 1
+            return None
+        else:
             # (A client that waits as long as `Retry-After` says comes after this moment.)
             self.left, self.until, self.refused = self.burst, now + self.wait, self.refused + 1
-            return 429, str(self.wait)
-        self.left -= 1
-        return None
+        return 429, str(self.wait)
 
     def answer(self, request: Request) -> Told:
         if refused := self.turn():
             return refused[0], b'{"front":"wait a while"}', {"Retry-After": refused[1]}
         body = self.body(request.path)
         if body is None:
-            status = 409 if request.path.endswith(OF_OPENED) else 404
-            return status, NOT_THERE[status], {}
+            return (409, NOT_OPENED, {}) if request.path.endswith(OF_OPENED) else (404, NO_SUCH, {})
         if request.path != "/ledger":
             return 200, body, {}
         self.ledgers += 1

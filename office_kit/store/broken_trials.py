@@ -24,7 +24,12 @@ class BrokenLife(Life):
     def live(self) -> None:
         self.import_budget("B1", budget("1000,add,100000,Roads", "2000,add,100000,Schools"))
         self.enrol_in_time("T1", "T2", "T3")
-        self.announce_all()
+        self.announce("R", self.deadline + 30 * DAY, *LOTS)
+        self.announce("F", self.deadline, LOTS[0], late_withdrawal="forfeits")
+        self.announce("E", self.deadline, LOTS[0], late_withdrawal="forfeits")
+        self.announce("A", self.deadline, LOTS[0], part("L2", "2000", 300, 70))
+        self.announce("W", self.deadline, LOTS[0], performance=30)
+        self.announce("C", self.deadline, LOTS[0], performance=15)
         for name in ("R", "F", "E", "A", "W", "C"):
             self.submit(f"{name}1", "T1", name, "L1", offer(10, 10), 50)
             self.submit(f"{name}2", "T2", name, "L1", offer(20, 20), 60)
@@ -40,15 +45,6 @@ class BrokenLife(Life):
         self.contract = self.contract_of(self.award_of("C", "L1"), 15)
         self.amend_contract(self.contract, "A1", "raise", 60)
         self.pay(self.contract, "P1", 40)
-
-    def announce_all(self) -> None:
-        first = LOTS[0]
-        self.announce("R", self.deadline + 30 * DAY, *LOTS)
-        self.announce("F", self.deadline, first, late_withdrawal="forfeits")
-        self.announce("E", self.deadline, first, late_withdrawal="forfeits")
-        self.announce("A", self.deadline, first, part("L2", "2000", 300, 70))
-        self.announce("W", self.deadline, first, performance=30)
-        self.announce("C", self.deadline, first, performance=15)
 
 
 # The commands: the client's method, and its arguments, made of the life.

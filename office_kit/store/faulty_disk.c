@@ -1,4 +1,4 @@
-// A disk that fails once, for office_kit/store/faulty_disk.py, which says what it does. office_kit/common.py puts its head, with REAL, in front.
+// A disk that fails once, for office_kit/store/faulty_disk.py, which says what it does. office_kit/shim.h is its head, with REAL.
 
 #include <sys/mman.h>
 #include <sys/syscall.h>

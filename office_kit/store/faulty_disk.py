@@ -11,7 +11,6 @@ import shutil
 import subprocess
 
 from office_kit.common import made_shim
-from office_kit.store.shims import FAULTY_DISK
 
 # The fields of the block, in this order. The clock's second. The flushes so far, the number of the one that fails, and the writes that it keeps. The writes so
 # far, and the number of the one that fails. Whether a call has failed, and on which file.
@@ -25,7 +24,7 @@ class FaultyDisk:
     """The library, made in a folder, and its block."""
 
     def __init__(self, folder: str) -> None:
-        self.shim, self.path = made_shim(FAULTY_DISK, folder), os.path.join(folder, "block")
+        self.shim, self.path = made_shim("store/faulty_disk.c", folder), os.path.join(folder, "block")
         with open(self.path, "w+b") as file:
             file.truncate(FIELDS * 8)
             self.fields = memoryview(mmap.mmap(file.fileno(), FIELDS * 8)).cast("q")

@@ -10,6 +10,7 @@ from collections.abc import Iterator
 from pathlib import Path
 from typing import Any
 
+from office_kit.audit.office import SUMS
 from office_kit.common import CONFIG, check, stand_in
 
 EMPTY = "LEDGER\nline\tappropriation\tfree\treserved\tcontracted\tpaid\n"
@@ -80,6 +81,13 @@ def rows_of(path: str, schema: bool = False, room: str | None = None) -> dict[st
         check(f"integrity_check: {sound}", sound == [("ok",)])
         names = [name for name, in base.execute("SELECT name FROM sqlite_master WHERE type = 'table'")] + ["sqlite_master"] * schema
         return {name: sorted(base.execute(f"SELECT * FROM {name}").fetchall(), key=repr) for name in names}
+
+
+def sums_in(path: str, lines: str = "SELECT line FROM lines") -> list[tuple[Any, ...]]:
+    """The lines of a file, or those that a query names, in order: each with its appropriation, free, reserved, contracted and paid units, by SQLite."""
+    with contextlib.closing(sqlite3.connect(path)) as base:
+        base.executescript(SUMS)
+        return base.execute(f"SELECT line, appropriation, free, reserved, contracted, paid FROM pots WHERE line IN ({lines}) ORDER BY line").fetchall()
 
 
 def unlike(some: dict[str, Any], others: dict[str, Any]) -> list[str]:

@@ -38,14 +38,11 @@ class Life(Client[Answer]):
         self.kept: dict[int, Answer] = {}
         self.deadline = int(time.time()) + AHEAD
 
-    def enrol(self, *names: str) -> None:
-        for name in names:
-            self.register(name, f"Firm {name}", f"{name} Street")
-
     def enrol_in_time(self, *names: str) -> None:
         """Registers these, and puts the deadline so far ahead that a program with its checks in, or a busy machine, answers some fifty requests before it."""
         begun = time.monotonic()
-        self.enrol(*names)
+        for name in names:
+            self.register(name, f"Firm {name}", f"{name} Street")
         self.deadline = int(time.time()) + max(AHEAD, math.ceil(25 * (time.monotonic() - begun)))
 
     def announce(self, name: str, deadline: float, *lots: Mapping[str, Any], **terms: Any) -> None:

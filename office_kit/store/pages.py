@@ -2,9 +2,7 @@
 
 A file keeps its page size, so a test or a measure tries both. To give a file the other size, it puts an empty database of that size there before the program.
 """
-import argparse
 import sqlite3
-from collections.abc import Sequence
 
 from office_kit.common import check
 
@@ -28,17 +26,3 @@ def check_size(path: str, size: int) -> None:
     check(f"{path} is no database", head.startswith(b"SQLite format 3\0"))
     named = int.from_bytes(head[16:], "big")
     check(f"{path} has pages of {named} bytes, and not of {size}", named == (1 if size == 65_536 else size))
-
-
-def sizes_of(words: str) -> list[int]:
-    """The sizes that an option names."""
-    sizes = [int(word) for word in words.split(",")]
-    if not all(512 <= size <= 65_536 and size & (size - 1) == 0 for size in sizes):
-        raise argparse.ArgumentTypeError("a page has 512 to 65536 bytes, a power of two")
-    return sizes
-
-
-def add_sizes(options: argparse.ArgumentParser, sizes: Sequence[int] = SIZES) -> None:
-    """The option that names the sizes."""
-    default = ",".join(map(str, sizes))
-    options.add_argument("--page-sizes", type=sizes_of, default=list(sizes), metavar="BYTES,..", help=f"the page sizes of the files ({default})")

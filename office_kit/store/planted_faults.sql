@@ -1,5 +1,6 @@
 -- The faults that tests/audit/test_audit.py plants in an office's file, each in a copy of its own. The comment before a script has the rule that must
--- find the fault, and the row that it must name. office_kit/store/planted_faults.py fills the names in braces.
+-- find the fault, the row that it must name and, if only a witness shows it, the arguments that name the witness. office_kit/store/planted_faults.py fills
+-- the names in braces.
 
 -- The balances, a release, a security, a compiled release, a late tender and a payment.
 
@@ -206,3 +207,16 @@ UPDATE releases SET text = replace(text, '","', '", "') WHERE notice = 'N2' AND 
 -- releases_follow_each_other releases N1/10
 UPDATE releases SET text = replace(text, '"amount":400,', '"amount":700,') WHERE notice = 'N1';
 UPDATE compiled SET text = replace(text, '"amount":400,', '"amount":700,') WHERE notice = 'N1';
+
+-- Only a witness shows these: a procurement that is lost whole, in which nobody took part, and a tender withdrawn after the deadline.
+
+-- saved_notices_are_there notices N7
+-- --answers answers
+DELETE FROM releases WHERE notice = 'N7';
+DELETE FROM compiled WHERE notice = 'N7';
+DELETE FROM lots WHERE notice = 'N7';
+DELETE FROM notices_2 WHERE notice = 'N7';
+
+-- tenders_stay_from_the_deadline_on envelopes {quoted}
+-- --earlier behind.db
+UPDATE envelopes SET state = 'withdrawn' WHERE receipt = {quoted};

@@ -1,4 +1,4 @@
-/* Refuses one allocation of a program, and no other. It is loaded before the C library, and office_kit/store/shims.py has the functions that allocate.
+/* Refuses one allocation of a program, and no other. It is loaded before the C library. office_kit/shim.h is its head, with REAL.
  *
  * The number of the allocation is in REFUSED; 0 refuses none. Or lines on the standard error control it, and go no further: `refuse N` begins to count, and
  * `enough` ends that. It says at once that it refused one. At the end it says how many allocations it counted (by lines: those since the last `refuse 0`),
@@ -42,3 +42,9 @@ ssize_t writev(int fd, const struct iovec *parts, int count_of_parts) {
     if (fd == 2 && count_of_parts == 1 && hears(parts[0].iov_base, parts[0].iov_len)) return (ssize_t)parts[0].iov_len;
     return real(fd, parts, count_of_parts);
 }
+
+// The functions that allocate.
+void *malloc(size_t n) { REAL(void *, "malloc", size_t); return is_refused() ? NULL : real(n); }
+void *realloc(void *p, size_t n) { REAL(void *, "realloc", void *, size_t); return is_refused() ? NULL : real(p, n); }
+int posix_memalign(void **p, size_t a, size_t n) { REAL(int, "posix_memalign", void **, size_t, size_t); return is_refused() ? 12 : real(p, a, n); }
+void *aligned_alloc(size_t a, size_t n) { REAL(void *, "aligned_alloc", size_t, size_t); return is_refused() ? NULL : real(a, n); }

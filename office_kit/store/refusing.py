@@ -1,15 +1,13 @@
 """The parts of tests that refuse memory: the library that does it (refusing.c), and plays of the transcripts."""
 import re
-from pathlib import Path
 
 from office_kit.common import made_shim
 from office_kit.gate.transcripts import topics
-from office_kit.store.shims import ALLOCATORS
 
 
 def refusing(folder: str) -> str:
     """The library, made in a folder."""
-    return made_shim(Path(__file__).with_suffix(".c").read_text(encoding="utf-8") + ALLOCATORS, folder)
+    return made_shim("store/refusing.c", folder)
 
 
 def counted(errors: str) -> tuple[int, int]:

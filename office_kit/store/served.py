@@ -9,7 +9,7 @@ from dataclasses import dataclass
 from typing import Any
 
 from office_kit.client import PATIENCE, Answer, Client, Port
-from office_kit.common import CONFIG, HOST, connect, free_port, running, serve_words
+from office_kit.common import CONFIG, HOST, check, connect, free_port, running, serve_words
 
 MANY = 1_000_000
 
@@ -23,11 +23,6 @@ class Office:
     process: "subprocess.Popen[bytes]"
     client: Client[Answer]
 
-    def end(self) -> None:
-        """Ends the server, as a machine does that stops."""
-        self.process.terminate()
-        self.process.wait()
-
 
 @contextlib.contextmanager
 def server(program: str, path: Any, count: int = MANY, settings: str = CONFIG, **how: Any) -> "Iterator[tuple[subprocess.Popen[bytes], int]]":
@@ -37,6 +32,15 @@ def server(program: str, path: Any, count: int = MANY, settings: str = CONFIG, *
         yield process, port
 
 
+@contextlib.contextmanager
+def served(program: str, path: Any, count: int = MANY, strict: bool = True, **how: Any) -> Iterator[Office]:
+    """An office, which may not listen yet. It ends with status 0 after so many connections; with MANY it is killed at the end. With `strict` its client ends
+    the test if a request is refused; `how` is for `subprocess.Popen`."""
+    with server(program, path, count, **how) as (process, port):
+        yield Office(str(path), port, process, Client(Port(port, strict=strict)))
+        check("it ends with 0", count == MANY or process.wait(PATIENCE) == 0)
+
+
 class Serving(contextlib.ExitStack):
     """Starts offices until the end of its `with`, which ends them. Each gets the next name in the folder, unless a file is named."""
 
@@ -44,13 +48,12 @@ class Serving(contextlib.ExitStack):
         super().__init__()
         self.program, self.folder, self.count = program, folder, 0
 
-    def __call__(self, file: str | None = None, strict: bool = True, count: int = MANY, settings: str = CONFIG, **how: Any) -> Office:
-        """An office that answers. With `strict`, its client ends the test if a request is refused; `how` is for `subprocess.Popen`."""
+    def __call__(self, file: Any = None, **how: Any) -> Office:
+        """An office that answers, by `served`."""
         self.count += 1
-        path = str(file or os.path.join(self.folder, f"office-{self.count}.db"))
-        process, port = self.enter_context(server(self.program, path, count, settings, **how))
-        connect(port, PATIENCE).close()
-        return Office(path, port, process, Client(Port(port, strict=strict)))
+        office = self.enter_context(served(self.program, file or os.path.join(self.folder, f"office-{self.count}.db"), **how))
+        connect(office.port, PATIENCE).close()
+        return office
 
 
 class Handler(http.server.BaseHTTPRequestHandler):

@@ -1,5 +1,5 @@
 // Ends the process before its N-th call that changes a file or a folder: STOP_AT is N. All else goes to the C library.
-// office_kit/common.py puts its head, with REAL, in front.
+// office_kit/shim.h is its head, with REAL.
 static void step(void) {
     static long left;
     if (!left) left = atol(getenv("STOP_AT"));

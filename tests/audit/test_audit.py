@@ -10,11 +10,10 @@ import filecmp
 import glob
 import gzip
 import hashlib
-import importlib.machinery
-import importlib.util
 import json
 import os
 import re
+import runpy
 import shutil
 import sqlite3
 import subprocess
@@ -24,21 +23,21 @@ from pathlib import Path
 import pytest
 
 from office_kit.audit import answers as audit_answers
-from office_kit.common import CLERK, FIELDS, ROOT, free_port
+from office_kit.common import CLERK, FIELDS, ROOT, copy_into, free_port
 from office_kit.front.throttled import OF_OPENED, Front
 from office_kit.store.life import AuditedLife
-from office_kit.store.planted_faults import COPY, FAULTS_OF_ANSWERS, FAULTS_OF_FILES, FAULTS_OUTSIDE, FORGERIES, HELD, LOG, PUBLIC, filled, plant, without
+from office_kit.store.planted_faults import FAULTS_OF_ANSWERS, FAULTS_OF_FILES, FORGERIES, filled, plant, take_over
 from office_kit.store.planted_lines import FAULTS_OF_LINES, Logged, at, text_of
 from office_kit.store.served import Serving
 
 pytestmark = [pytest.mark.budget(150), pytest.mark.time]
 AUDIT = os.path.join(ROOT, "tools", "audit")
-TOOL = importlib.util.module_from_spec(importlib.util.spec_from_loader("tool", importlib.machinery.SourceFileLoader("tool", AUDIT)))
-TOOL.__spec__.loader.exec_module(TOOL)
+TOOL = runpy.run_path(AUDIT)
 NOTICES = [f"N{number}" for number in range(1, 9)]
 OPENED = [notice for notice in NOTICES if notice not in ("N3", "N5")]
-# The arguments by which an audit gets a witness.
-WITNESSES = {PUBLIC: ["--earlier", "answers"], HELD: ["--earlier", "held"], COPY: ["--earlier", "whole.db"], LOG: ["--front-log", "front.log"]}
+# The witnesses, each with the arguments by which an audit gets it: the public answers, those to the clerk and tenderers, the file, and the front's log.
+WITNESSES = {"earlier answers": ["--earlier", "answers"], "what was handed out": ["--earlier", "held"], "an earlier copy": ["--earlier", "whole.db"],
+             "the log of the clerks": ["--front-log", "front.log"]}
 
 
 class Made:
@@ -103,8 +102,7 @@ class Made:
     def put_further(self):
         """The log in two files, of which one is compressed, and from the first opening on; a file of version 1; two that are no office; the clerk's key."""
         folder, lines = self.folder, (self.folder / "front.log").read_bytes().splitlines(keepends=True)
-        with gzip.open(folder / "front-1.log.gz", "wb") as file:
-            file.write(b"".join(lines[:20]))
+        (folder / "front-1.log.gz").write_bytes(gzip.compress(b"".join(lines[:20])))
         (folder / "front-2.log").write_bytes(b"".join(lines[20:]))
         opened = next(number for number, line in enumerate(self.lines) if line["route"].endswith("/open"))
         (folder / "front-later.log").write_bytes(b"".join(lines[opened:]))
@@ -126,7 +124,7 @@ class Made:
     def found(self, *words):
         """The findings of an audit, each a rule and a row. It runs in this process, which is three times as fast."""
         with tempfile.TemporaryDirectory() as room, contextlib.chdir(self.folder):
-            found, _ = TOOL.Audit(TOOL.arguments([str(word) for word in words]), room).run()
+            found, _ = TOOL["Audit"](TOOL["arguments"]([str(word) for word in words]), room).run()
         return {(rule, row) for rule, row, _ in found}
 
     def changed(self, path, script):
@@ -135,7 +133,7 @@ class Made:
 
     def folder_of(self, to, name="answers"):
         """A copy of a folder of answers."""
-        return Path(shutil.copytree(self.folder / name, to / name))
+        return shutil.copytree(self.folder / name, to / name)
 
 
 def copied(source, path):
@@ -175,9 +173,9 @@ def base(made, program, tmp_path_factory):
         yield f"http://127.0.0.1:{serve(made.folder / 'served.db').port}"
 
 
-def each(names, faults):
+def each(faults):
     """A test of each fault, by its number and its rule."""
-    return pytest.mark.parametrize(names, faults, ids=[f"{number:03}-{fault[0]}" for number, fault in enumerate(faults)])
+    return pytest.mark.parametrize("fault", faults, ids=[f"{number:03}-{fault[0]}" for number, fault in enumerate(faults)])
 
 
 # ---- What is sound, and what can't be read.
@@ -224,36 +222,23 @@ def test_who_gave_each_command(made, tmp_path):
 
 # ---- Faults.
 
-# Faults of the file that only a witness shows, which the last words name: a lost notice, and a tender withdrawn after the deadline.
-FAULTS_BESIDE = [
-    ("saved_notices_are_there", "notices N7", without("N7"), "--answers", "answers"),
-    ("tenders_stay_from_the_deadline_on", "envelopes {quoted}", "UPDATE envelopes SET state = 'withdrawn' WHERE receipt = {quoted}", "--earlier", "behind.db"),
-]
-
-
-@each("fault", FAULTS_OF_FILES + FAULTS_BESIDE)
+@each(FAULTS_OF_FILES)
 def test_fault_of_the_file(made, tmp_path, fault):
-    rule, row, script, *words = filled(fault, made.life)
-    assert (rule, row) in made.found(made.changed(tmp_path / "fault.db", script), *words)
+    rule, row, script, words = filled(fault, made.life)
+    assert (rule, row) in made.found(made.changed(tmp_path / "fault.db", script), *words.split())
 
 
-@each("rule, row, names, change", FAULTS_OF_ANSWERS)
-def test_fault_of_answers(made, tmp_path, rule, row, names, change):
-    plant(str(answers := made.folder_of(tmp_path)), names, change)
-    assert (rule, row) in made.found("whole.db", "--answers", answers)
+@each(FAULTS_OF_ANSWERS)
+def test_fault_of_answers(made, tmp_path, fault):
+    rule, row, further, change, *given = filled(fault, made.life)
+    change(answers := made.folder_of(tmp_path), *given)
+    assert (rule, row) in made.found("--answers", answers, *further.split())
 
 
-@each("fault", FAULTS_OUTSIDE)
-def test_fault_outside(made, tmp_path, fault):
-    rule, row, (change, *given), *further = filled(fault, made.life)
-    change(str(answers := made.folder_of(tmp_path)), *given)
-    assert (rule, row) in made.found("--answers", answers, *further)
-
-
-@each("fault", FAULTS_OF_LINES)
+@each(FAULTS_OF_LINES)
 def test_fault_of_the_log(made, tmp_path, fault):
-    rule, row, change, route, members = filled(fault, made.life)
-    change(lines := copy.deepcopy(made.lines), route, **members)
+    rule, row, change, *given = filled(fault, made.life)
+    change(lines := copy.deepcopy(made.lines), *given)
     (tmp_path / "front.log").write_bytes(text_of(lines))
     assert (rule, placed(row, lines)) in made.found("whole.db", "--front-log", tmp_path / "front.log")
 
@@ -267,16 +252,15 @@ def placed(row, lines):
 def test_fault_of_a_contract(made, tmp_path, contract, member, value):
     """In a contract that the clerk is shown now, or was earlier."""
     number = getattr(made.life, contract)
-    plant(str(held := made.folder_of(tmp_path, "held")), [f"contract-{number}.json"], lambda shown, _: shown.update({member: value}))
+    plant(held := made.folder_of(tmp_path, "held"), lambda shown: shown.update({member: value}), f"contract-{number}.json")
     assert ("contracts_are_of_the_rows", f"contracts {number}") in made.found("whole.db", "--answers", held)
     if contract == "broken":
         assert ("contracts_are_as_shown", f"contracts {number}") in made.found("whole.db", "--earlier", held)
 
 
 def test_an_earlier_record(made, tmp_path):
-    _, row, names, change = next(fault for fault in FAULTS_OF_ANSWERS if fault[0] == "compiled_is_the_merge")
-    plant(str(answers := made.folder_of(tmp_path)), names, change)
-    assert ("saved_records_are_merges", row) in made.found("whole.db", "--earlier", answers)
+    take_over(answers := made.folder_of(tmp_path))
+    assert ("saved_records_are_merges", "notices N1") in made.found("whole.db", "--earlier", answers)
 
 
 def test_ledgers_of_days(made, tmp_path):
@@ -324,7 +308,7 @@ def test_table_of_forgeries():
 def test_each_rule_finds_a_fault():
     """(The others are planted by tests of their own.)"""
     rules = {line.split(":")[0] for line in subprocess.run([AUDIT, "--rules"], capture_output=True, text=True, check=True).stdout.splitlines()}
-    planted = {fault[0] for table in (FAULTS_OF_FILES, FAULTS_OF_ANSWERS, FAULTS_OUTSIDE, FAULTS_OF_LINES) for fault in table}
+    planted = {fault[0] for fault in FAULTS_OF_FILES + FAULTS_OF_ANSWERS + FAULTS_OF_LINES}
     planted |= {rule for _, _, *found_by in FORGERIES for _, rule, _ in found_by}
     own = Path(__file__).read_text(encoding="utf-8")
     assert {rule for rule in rules - planted if f'("{rule}", ' not in own} == set()
@@ -394,10 +378,7 @@ def test_saving_loop(made, tmp_path, waits):
 
 def test_installed(made, tmp_path):
     """It runs from elsewhere, by a link, with only its modules beside its own folder, and leaves nothing there."""
-    for name in ("tools/audit", "tools/office_kit.py"):
-        (tmp_path / "tools").mkdir(exist_ok=True)
-        shutil.copy(os.path.join(ROOT, name), tmp_path / "tools")
-    shutil.copytree(os.path.join(ROOT, "office_kit", "audit"), tmp_path / "office_kit" / "audit", ignore=shutil.ignore_patterns("__pycache__"))
+    copy_into(tmp_path, "tools/audit", "tools/office_kit.py", "office_kit/audit")
     (link := tmp_path / "procure-audit").symlink_to(tmp_path / "tools" / "audit")
     run = subprocess.run([link, made.folder / "office.db"], capture_output=True, text=True, cwd="/", env={"PATH": os.environ["PATH"]})
     assert run.returncode == 0, run.stdout + run.stderr

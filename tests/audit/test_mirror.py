@@ -3,7 +3,6 @@
 The mirror makes tables, pages, feeds, a sitemap, a dictionary of columns, ledgers of days and a chain of digests. It finds releases that changed or are gone,
 and leaves its copy whole if it is killed or the office is in trouble. Some lines of the tool are made wrong, one at a time: the test beside each must fail.
 """
-import contextlib
 import csv
 import gzip
 import hashlib
@@ -11,7 +10,6 @@ import html
 import json
 import os
 import re
-import shutil
 import subprocess
 import sys
 import time
@@ -22,7 +20,7 @@ from xml.etree import ElementTree
 import pytest
 
 from office_kit import client
-from office_kit.common import ROOT, need
+from office_kit.common import ROOT, copy_into, need, planted, running
 from office_kit.desks.page_office import Procurements
 from office_kit.front.nginx import Front
 from office_kit.front.office import StandIn
@@ -114,16 +112,18 @@ def days(program, tmp_path_factory):
 class Copy:
     """An office that answers, and a folder in which it is mirrored by the script that is tried."""
 
-    def __init__(self, office, script, room):
-        self.office, self.script, self.room, self.folder = office, script, room, room / "data"
+    script = os.path.join(ROOT, "tools", "mirror")
 
-    def words(self, *more, folder=None):
-        return [sys.executable, self.script, self.office.address, folder or self.folder, *more]
+    def __init__(self, office, room):
+        self.office, self.room, self.folder = office, room, room / "data"
 
-    def run(self, wanted, *more, folder=None):
+    def words(self, *more):
+        return [sys.executable, self.script, self.office.address, self.folder, *more]
+
+    def run(self, wanted, *more):
         """Runs the script, which must end with this status; returns its output."""
         self.office.asked.clear()
-        ran = subprocess.run(self.words(*more, folder=folder), capture_output=True, text=True, timeout=PATIENCE)
+        ran = subprocess.run(self.words(*more), capture_output=True, text=True, timeout=PATIENCE)
         assert ran.returncode == wanted and "Traceback" not in ran.stderr, f"{more}: {ran.stdout}{ran.stderr}"
         return ran.stdout + ran.stderr
 
@@ -165,18 +165,12 @@ class Copy:
         return {path.split("/")[2] for path in self.office.asked if path.endswith("/record")}
 
 
-@contextlib.contextmanager
-def copying(days, script, room):
-    """A copy, below a folder of its own, whose office ends with it."""
-    room.mkdir()
-    with Office(days) as office:
-        yield Copy(office, script, room)
-
-
 @pytest.fixture
 def copy(days, tmp_path):
-    with copying(days, os.path.join(ROOT, "tools", "mirror"), tmp_path / "room") as made:
-        yield made
+    """A copy below a folder of its own, whose office ends with the test."""
+    (room := tmp_path / "room").mkdir()
+    with Office(days) as office:
+        yield Copy(office, room)
 
 
 def test_first_and_next(copy):
@@ -270,23 +264,19 @@ def test_pages(copy):
     assert "Abgelaufen" not in german and "Open for tenders" in Page(copy.text("en/N3.html")).text("dl"), "a state by the time"
 
 
-def told_of(entry, part):
-    return entry.find(f"{ATOM}{part}").text
-
-
 def entries(copy, name):
     """The entries of a feed that RFC 4287 accepts: the elements of each, once, and each identifier once in it."""
     feed = ElementTree.fromstring(copy.text(name))
     found = feed.findall(f"{ATOM}entry")
     for one in (feed, *found):
         for part in ("id", "title", "updated"):
-            assert len(one.findall(f"{ATOM}{part}")) == 1 and told_of(one, part), part
-        assert re.fullmatch(r"[0-9]{4}-[0-9]{2}-[0-9]{2}T[0-9:]{8}Z", told_of(one, "updated"))
+            assert len(one.findall(f"{ATOM}{part}")) == 1 and one.findtext(f"{ATOM}{part}"), part
+        assert re.fullmatch(r"[0-9]{4}-[0-9]{2}-[0-9]{2}T[0-9:]{8}Z", one.findtext(f"{ATOM}updated"))
     assert feed.find(f"{ATOM}author/{ATOM}name") is not None
     assert feed.find(f"{ATOM}link[@rel='self']").get("href").endswith(f"/data/{name}")
     ids = [it.text for it in feed.iter(f"{ATOM}id")]
     assert len(ids) == len(set(ids))
-    assert told_of(feed, "updated") == max(told_of(it, "updated") for it in found)
+    assert feed.findtext(f"{ATOM}updated") == max(it.findtext(f"{ATOM}updated") for it in found)
     return found
 
 
@@ -295,7 +285,7 @@ def test_waiting(copy):
     copy.run(0)
     for name in ("N1", "N2"):
         assert "Deadline passed, not opened yet" in Page(copy.text(f"en/{name}.html")).text("dl")
-    said = [told_of(it, "summary") for it in entries(copy, "en/notices.atom")]
+    said = [it.findtext(f"{ATOM}summary") for it in entries(copy, "en/notices.atom")]
     passed = [it for it in said if it.startswith("Deadline passed, not opened yet.")]
     assert len(passed) == 4 and not any("takes tenders" in it for it in passed), said
 
@@ -305,13 +295,13 @@ def test_feeds(copy):
     for folder in ("", "en/", "de/"):
         assert len(entries(copy, f"{folder}feed.atom")) == len(copy.text("releases.jsonl").splitlines())
         assert len(entries(copy, f"{folder}notices.atom")) == 6
-    said = {told_of(it, "title"): told_of(it, "summary") for it in entries(copy, "notices.atom")}
+    said = {it.findtext(f"{ATOM}title"): it.findtext(f"{ATOM}summary") for it in entries(copy, "notices.atom")}
     deadline = copy.value("terms/N3.json")["deadline"]
     clock, day = deadline[11:19], int(deadline[8:10])
     wanted = rf"Open for tenders\. 2 lots, estimated at 2,480,000 EUR\. The office takes tenders until {day} \w+ \d+, {clock} UTC\."
     assert re.fullmatch(wanted, said["A footbridge over the river (N3)"])
     shown = " ".join(word for path in Path(ROOT, "tests", "page_texts").glob("*.txt") for word in path.read_text(encoding="utf-8").split())
-    happened = [told_of(it, "summary") for it in entries(copy, "en/feed.atom")]
+    happened = [it.findtext(f"{ATOM}summary") for it in entries(copy, "en/feed.atom")]
     for it in happened:
         assert " ".join(re.sub(r"[0-9]+ \w+ [0-9]{4}, [0-9:]{8} UTC", "MOMENT", it).split()) in shown, "the portal says it"
     wanted = ["The office opened and read the sealed tenders of 2 tenderers.", "Lot L1 (Desks for two schools) went to Beta Paving Ltd for 82,000 EUR.",
@@ -339,7 +329,7 @@ def test_many(copy):
     words = [sys.executable, "-B", "-c", OF_MANY, copy.folder, READERS]
     subprocess.run(words, cwd=Path(copy.script).parents[1], check=True)
     assert len(entries(copy, "feed.atom")) == 1
-    assert {told_of(it, "title")[-3:-1] for it in entries(copy, "notices.atom")} == {"N3", "N6"}
+    assert {it.findtext(f"{ATOM}title")[-3:-1] for it in entries(copy, "notices.atom")} == {"N3", "N6"}
     parts = [f"sitemap-{at}.xml" for at in (1, 2, 3)]
     assert copy.places("sitemap.xml") == [f"{READERS}/data/{part}" for part in parts]
     assert sorted(place for part in parts for place in copy.places(part)) == sorted(f"{READERS}/data/{page}" for page in PAGES)
@@ -479,8 +469,7 @@ def test_changed(copy):
 
 
 def test_gone(copy):
-    more = lies(copy, "/notices/N2/record", lambda it: it["records"][0]["releases"].pop(), "release 5 of N2 is GONE", "--all")
-    assert more == [["N2", "5", "gone"]]
+    assert lies(copy, "/notices/N2/record", lambda it: it["records"][0]["releases"].pop(), "release 5 of N2 is GONE", "--all") == [["N2", "5", "gone"]]
 
 
 def test_unlisted(copy):
@@ -544,10 +533,8 @@ def test_stopped(copy):
     copy.run(0)
     copy.office.day = 1
     for at in range(12):
-        process = subprocess.Popen(copy.words("--all"), stdout=subprocess.DEVNULL, stderr=subprocess.DEVNULL)
-        time.sleep(0.03 + 0.05 * at)
-        process.kill()
-        process.wait()
+        with running(copy.words("--all"), stdout=subprocess.DEVNULL, stderr=subprocess.DEVNULL):
+            time.sleep(0.03 + 0.05 * at)
         assert copy.text("chain.txt").split("\n")[-2].startswith(copy.value("mirror.json")["chain"])
         assert len(copy.text("releases.jsonl").splitlines()) in (8, 28)
     copy.run(0)
@@ -580,24 +567,31 @@ def test_trouble(copy):
 def test_strange(copy):
     (other := copy.room / "other").mkdir()
     (other / "mine.txt").write_text("mine")
-    assert "is no mirror" in copy.run(2, folder=other) and os.listdir(other) == ["mine.txt"]
     copy.run(0)
-    before = copy.files()
+    before, office = copy.files(), copy.office.address
     with Office(copy.office.days) as second:
-        ran = subprocess.run([sys.executable, copy.script, second.address, copy.folder], capture_output=True, text=True)
-    assert ran.returncode == 2 and "is a mirror of" in ran.stderr and copy.files() == before
-    for words in ([], ["ftp://x", "y"], [copy.office.address], [copy.office.address, "x", "--none"]):
-        assert subprocess.run([sys.executable, copy.script, *words], capture_output=True).returncode == 2, words
+        for told, *words in (("is no mirror", office, other), ("is a mirror of", second.address, copy.folder), ("",), ("", "ftp://x", "y"), ("", office),
+                             ("", office, "x", "--none")):
+            ran = subprocess.run([sys.executable, copy.script, *words], capture_output=True, text=True)
+            assert ran.returncode == 2 and told in ran.stderr, words
+    assert os.listdir(other) == ["mine.txt"] and copy.files() == before
+
+
+@pytest.fixture
+def wrong(copy, tmp_path):
+    """A copy of the tool and of the files that it reads, which is run in place of the tool."""
+    copy_into(folder := tmp_path / "wrong", "office_kit", "tools", "web/common")
+    copy.script = folder / "tools" / "mirror"
+    return folder
+
+
+def test_nothing_planted(copy, wrong):
+    test_first_and_next(copy)
 
 
 @pytest.mark.parametrize("path, old, new, name", PLANTS, ids=[f"{name}-{at}" for at, (*_, name) in enumerate(PLANTS)])
-def test_planted_fault(days, tmp_path, path, old, new, name):
+def test_planted_fault(copy, wrong, path, old, new, name):
     """With a wrong line in the tool, the test named beside it fails."""
-    for part in ("office_kit", "tools"):
-        shutil.copytree(os.path.join(ROOT, part), tmp_path / "wrong" / part, ignore=shutil.ignore_patterns("__pycache__"))
-    text = (wrong := tmp_path / "wrong" / path).read_text(encoding="utf-8")
-    assert text.count(old) == 1
-    wrong.write_text(text.replace(old, new), encoding="utf-8")
-    with copying(days, str(tmp_path / "wrong" / "tools" / "mirror"), tmp_path / "room") as copy:
-        with pytest.raises((AssertionError, OSError, ValueError, LookupError, SyntaxError, subprocess.TimeoutExpired)):
-            globals()[f"test_{name}"](copy)
+    planted(os.path.join(ROOT, path), (wrong / path).parent, old, new)
+    with pytest.raises((AssertionError, OSError, ValueError, LookupError, SyntaxError, subprocess.TimeoutExpired)):
+        globals()[f"test_{name}"](copy)

@@ -1,6 +1,4 @@
-// Asks the modules of the clerk's desk for their answers (test_clerk_rules.py). Node.js runs this with the folder of the modules as its argument. It reads the
-// questions from standard input, as JSON.
-import { readFileSync } from "node:fs";
+// What test_clerk_rules.py asks the modules of the clerk's desk. Node.js runs this with the folder of the modules as its argument.
 const web = process.argv[1];
 const { readBudget, changesOf } = await import(`${web}/clerk/budget.js`);
 const { bodyBytes, faultsOf } = await import(`${web}/clerk/notice.js`);
@@ -55,45 +53,48 @@ function refusalOf(draft, lines, now, isUsed) {
 const WHAT = { title: "title", deadline: "deadline", validity: "validity_days", standstill: "standstill_days", criteria: "criteria", weight: "price_weight",
   performance: "performance" };
 
-const asked = JSON.parse(readFileSync(0, "utf8"));
 const bytes = (text) => new Uint8Array(Buffer.from(text, "base64"));
-const told = {};
-told.files = asked.files.map(({ data, ledger }) => {
-  const reading = readBudget(bytes(data)), lines = linesOf(ledger);
-  const after = changesOf(reading.rows, lines).changes.map(({ id, appropriation, free }) => [id, String(appropriation), String(free)]);
-  const rows = reading.rows.map(({ id, kind, amount, title }) => ({ amount, kind, line: id, title }));
-  return { answer: answerOf(reading, lines), after, read: reading.bytes > MOST.body || reading.faults.length > 0 ? null : rows };
-});
-told.bodies = asked.drafts.map((draft) => Buffer.from(bodyBytes(draft)).toString("base64"));
-told.notices = asked.notices.map(({ draft, ledger, isUsed }) => refusalOf(draft, linesOf(ledger), asked.now, isUsed));
-told.awards = asked.awards.map(({ record, terms, minutes, evaluation }) => {
-  const seen = { compiled: JSON.parse(record).records[0].compiledRelease, terms: JSON.parse(terms), tenders: tendersOf(minutes),
-    evaluation: evaluationOf(evaluation, true) };
-  const { code, tender } = outlookOf(stageOf(seen, asked.now).lots[0]);
-  return tender ? [tender.receipt, tender.corrected] : code;
-});
-told.journal = await (async () => {
-  const journal = newJournal("https://office.example");
-  for (const text of ["one", "t\u00fc\nwo", ""]) {
-    await addEntry(journal, { moment: "2026-01-05T09:00:00Z", who: "Anna", title: "x", method: "POST", path: "/budget/B1", body: new TextEncoder().encode(text),
-      answer: { status: 200, text: "{}" }, found: null });
+
+/** The modules' answers to budget files, drafts, notices, awards and names of refusals, and what they say of the journal and of the texts. */
+export async function answersTo({ files = [], drafts = [], notices = [], awards = [], refusals = [], now }) {
+  const told = {};
+  told.files = files.map(({ data, ledger }) => {
+    const reading = readBudget(bytes(data)), lines = linesOf(ledger);
+    const after = changesOf(reading.rows, lines).changes.map(({ id, appropriation, free }) => [id, String(appropriation), String(free)]);
+    const rows = reading.rows.map(({ id, kind, amount, title }) => ({ amount, kind, line: id, title }));
+    return { answer: answerOf(reading, lines), after, read: reading.bytes > MOST.body || reading.faults.length > 0 ? null : rows };
+  });
+  told.bodies = drafts.map((draft) => Buffer.from(bodyBytes(draft)).toString("base64"));
+  told.notices = notices.map(({ draft, ledger, isUsed }) => refusalOf(draft, linesOf(ledger), now, isUsed));
+  told.awards = awards.map(({ record, terms, minutes, evaluation }) => {
+    const seen = { compiled: JSON.parse(record).records[0].compiledRelease, terms: JSON.parse(terms), tenders: tendersOf(minutes),
+      evaluation: evaluationOf(evaluation, true) };
+    const { code, tender } = outlookOf(stageOf(seen, now).lots[0]);
+    return tender ? [tender.receipt, tender.corrected] : code;
+  });
+  told.journal = await (async () => {
+    const journal = newJournal("https://office.example");
+    for (const text of ["one", "t\u00fc\nwo", ""]) {
+      await addEntry(journal, { moment: "2026-01-05T09:00:00Z", who: "Anna", title: "x", method: "POST", path: "/budget/B1", body: new TextEncoder().encode(text),
+        answer: { status: 200, text: "{}" }, found: null });
+    }
+    const text = await fileOf(journal), lines = text.trimEnd().split("\n");
+    const isFound = async (changed) => Boolean((await readFile(changed)).fault);
+    const digit = (line) => line.replace(/\d(?=\D*$)/, (it) => (Number(it) + 1) % 10);
+    const ways = lines.flatMap((line, at) => [[], [line, line], [digit(line)], [line.replace("Anna", "Anne")], [line.replace("one", "two")]].map((others) =>
+      lines.toSpliced(at, 1, ...others)).filter((way) => way.join() !== lines.join()));
+    const found = await Promise.all(ways.map((way) => isFound(`${way.join("\n")}\n`)));
+    const back = await readFile(text);
+    return { ways: ways.length, missed: found.filter((it) => !it).length, isSame: JSON.stringify(back.journal?.entries) === JSON.stringify(journal.entries) };
+  })();
+  await addTexts({ en: () => ({ default: en }), de: () => ({ default: de }) });
+  const marks = (text) => [text].flat().map((one) => [...one.matchAll(/\{(\w+)\}/g)].map((it) => it[1]).sort().join()).join("|");
+  told.texts = [...Object.keys(en).filter((name) => !(name in de) || marks(de[name]) !== marks(en[name]) || Array.isArray(de[name]) !== Array.isArray(en[name])),
+    ...Object.keys(de).filter((name) => !(name in en))];
+  for (const tag of ["en", "de"]) {
+    await chooseLanguage(tag);
+    told.texts.push(...refusals.filter((name) => !hasText(name)));
   }
-  const text = await fileOf(journal), lines = text.trimEnd().split("\n");
-  const isFound = async (changed) => Boolean((await readFile(changed)).fault);
-  const digit = (line) => line.replace(/\d(?=\D*$)/, (it) => (Number(it) + 1) % 10);
-  const ways = lines.flatMap((line, at) => [[], [line, line], [digit(line)], [line.replace("Anna", "Anne")], [line.replace("one", "two")]].map((others) =>
-    lines.toSpliced(at, 1, ...others)).filter((way) => way.join() !== lines.join()));
-  const found = await Promise.all(ways.map((way) => isFound(`${way.join("\n")}\n`)));
-  const back = await readFile(text);
-  return { ways: ways.length, missed: found.filter((it) => !it).length, isSame: JSON.stringify(back.journal?.entries) === JSON.stringify(journal.entries) };
-})();
-await addTexts({ en: () => ({ default: en }), de: () => ({ default: de }) });
-const marks = (text) => [text].flat().map((one) => [...one.matchAll(/\{(\w+)\}/g)].map((it) => it[1]).sort().join()).join("|");
-told.texts = [...Object.keys(en).filter((name) => !(name in de) || marks(de[name]) !== marks(en[name]) || Array.isArray(de[name]) !== Array.isArray(en[name])),
-  ...Object.keys(de).filter((name) => !(name in en))];
-for (const tag of ["en", "de"]) {
-  await chooseLanguage(tag);
-  told.texts.push(...asked.refusals.filter((name) => !hasText(name)));
+  told.count = Object.keys(en).length;
+  return told;
 }
-told.count = Object.keys(en).length;
-console.log(JSON.stringify(told));

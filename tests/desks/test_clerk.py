@@ -6,15 +6,8 @@ after it. Each check says what it is about: office_kit/desks/clerk_checks.py, cl
 import pytest
 
 from office_kit.desks import clerk_checks, clerk_more, clerk_names
-from office_kit.desks.scene import staged
 
 pytestmark = [pytest.mark.needs("nginx", "openssl"), pytest.mark.nginx, pytest.mark.budget(420), pytest.mark.xdist_group("desks")]
-
-
-@pytest.fixture(scope="module")
-def scene(program, browser, pictures):
-    with staged(program, browser, pictures) as made:
-        yield made
 
 
 @pytest.mark.parametrize("one", [*clerk_checks.CHECKS, *clerk_more.CHECKS, *clerk_names.CHECKS], ids=lambda one: one.__name__)

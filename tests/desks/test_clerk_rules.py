@@ -1,18 +1,16 @@
 """The clerk's desk (web/clerk/) says before a budget file, a notice or an award is sent what the program will answer.
 
-One run of `procure desk` takes files and notices in, one after another, and prints its ledger after each. These are valid ones, changed ones, and ones at the
-bounds. The desk's modules read the same bytes with the ledger from before. The refusal must be the same, and so must the first wrong record, the rows of
-`procure read-budget`, and the amounts that each line has afterwards. The desk also foretells the winner of lots that are examined, by price and by points. A
-journal's file is read back unchanged, and each change of a line in it is found. Each text exists in English and in German, and each refusal of docs/API.md has
-a sentence. Then rules of the modules are changed, one at a time: these checks must find each change.
+One run of `procure desk` takes in files and notices, valid ones, changed ones and ones at the bounds, and prints its ledger after each. The desk's modules
+read the same bytes with the ledger from before. The refusal must be the same, and so must the first wrong record, the rows of `procure read-budget`, and the
+amounts that each line has afterwards. The desk also foretells the winner of lots that are examined, by price and by points. A journal's file is read back
+unchanged, and each change of a line in it is found. Each text exists in English and in German, and each refusal of docs/API.md has a sentence. Then rules of
+the modules are changed, one at a time: these checks must find each change.
 """
 import base64
 import collections
 import itertools
 import json
 import subprocess
-import tomllib
-from pathlib import Path
 
 import pytest
 from hypothesis import given, settings
@@ -29,10 +27,8 @@ NOW, DEADLINE, NOW_MS = "2026-01-05T09:00:00Z", "2026-02-01T12:00:00Z", 1_767_60
 MOST_BODY = 65_536
 LATER, PAST = 1_767_700_000_000, 1_767_600_000_000
 HEAD = b"line,kind,amount,title\n"
-# Asks the modules for their answers.
-ASKS = Path(__file__).with_name("clerk_rules.mjs").read_text(encoding="utf-8")
 # The rules that are changed: a module, the text in it, and the changed text.
-CHANGED = tomllib.loads(Path(__file__).with_name("clerk_rules.toml").read_text(encoding="utf-8"))
+CHANGED = modules.data_of("clerk_rules")
 # The changed values of a notice's field.
 VALUES = {
     "title": ["", "x" * 201, "\u00e4" * 101, "a\u0001"], "validity": ["0", "365", "366", "x", ""], "standstill": ["0", "90", "91", "-1"],
@@ -125,7 +121,8 @@ def at_bounds():
 
 def asked_of(web, **given):
     """The answers of the modules in a folder."""
-    return modules.asked(ASKS, web, {"files": [], "drafts": [], "notices": [], "awards": [], "now": NOW_MS, "refusals": [], **given})
+    with modules.Node("clerk_rules", "", web) as node:
+        return node.ask("answersTo", {"now": NOW_MS, **given})
 
 
 def bodies_of(drafts):
@@ -253,14 +250,11 @@ class Given:
         awards, self.winners = awards_of(program, count // 5)
         asked = [{"data": base64.b64encode(data).decode(), "ledger": ledger} for data, (_, ledger, _) in zip(files + later, self.of_files)]
         sentences = [f"refusal.{json.loads(body)['name']}" for _, body in refusals()]
-        self.asked = {"files": asked, "notices": self.notices(), "awards": awards, "refusals": sentences}
-
-    def notices(self):
         notices, taken = [], set()
         for draft, (answer, ledger, _) in zip(self.drafts, self.of_notices):
             notices.append({"draft": draft, "ledger": ledger, "isUsed": draft["name"] in taken})
             taken |= set() if "refusal" in answer else {draft["name"]}
-        return notices
+        self.asked = {"files": asked, "notices": notices, "awards": awards, "refusals": sentences}
 
 
 # ---- The tests. Each but the last compares the answers of the modules with the program's.

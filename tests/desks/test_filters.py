@@ -65,11 +65,10 @@ class Entry:
 
     def matches(self, asked):
         """Whether all filters that an address names find it."""
+        firm, line = asked["firm"], asked["line"]
         return (has_words(asked["words"], self.texts) and asked["state"] in ("", self.state()) and asked["year"] in ("", self.row["published"][:4])
-                and (not asked["line"] or asked["line"] in self.lines) and self.has_firm(asked["firm"]) and self.is_within(asked["from"], asked["to"]))
-
-    def has_firm(self, firm):
-        return not firm or firm in self.firms or any(has_words(firm, [name]) for name in self.firms.values())
+                and (not line or line in self.lines) and (not firm or firm in self.firms or any(has_words(firm, [name]) for name in self.firms.values()))
+                and self.is_within(asked["from"], asked["to"]))
 
     def is_within(self, least, most):
         if not least and not most:

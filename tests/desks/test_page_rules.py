@@ -41,8 +41,6 @@ OTHER_WORDS = [("de", BOOKS, r"Reiter|Posten|Rücknahme|Vertragsbruch|Einheitspr
                ("en", BOOKS, r"\bbehind\b|\bstands?\b|\bwants\b|(?<!\{)\btold\b|\banew\b|\black(s|ing)?\b|\bhand(s|ed)? in\b|\b(an|the|this|your) offer\b|"
                 r"\bgiven? back\b|\bresponsive\b|\btaken? (it |the file )?in\b")]
 MOST_WORDS = 30
-# The windows whose titles name the lot and the firm.
-WINDOWS = ("order.award.title", "order.sign.title", "order.fail.title")
 
 
 def books_of(node):
@@ -84,7 +82,7 @@ def texts(node):
         assert [name for name in english if name not in named and not name.startswith(parts)] == [], f"{book}: never asked for"
     for tag, where, pattern in OTHER_WORDS:
         assert [name for book in where for name, text in books[book][tag].items() if re.search(pattern, str(text))] == [], pattern
-    for name in WINDOWS:
+    for name in ("order.award.title", "order.sign.title", "order.fail.title"):
         assert {"lot", "name"} <= set(values_of(books["clerk"]["en"][name])[1]), name
     answers(node, "leftUntil", ("de", 89 * 86_400, "endet in 89 Tagen"), ("de", 86_401, "endet in 1 Tag"), ("en", 89 * 86_400, "closes in 89 days"))
 
@@ -121,9 +119,10 @@ LOTS = [("complete", False, ["running", "contracted"]), ("complete", True, ["end
         ("active", False, ["running", "awarded"])]
 
 
-def contracts_of(told):
-    return [{"id": str(at), "awardID": str(at), "value": {"amount": worth}, "status": "terminated" if ended else "active",
-             "implementation": {"transactions": [{"value": {"amount": it}} for it in paid]}} for at, (worth, paid, ended) in enumerate(told)]
+def contracts_of(told, first=0):
+    """Contracts, each with its worth, its payments, and whether it ended; none where a contract is None."""
+    return [{"id": str(at), "awardID": str(at), "value": {"amount": it[0]}, "status": "terminated" if it[2] else "active",
+             "implementation": {"transactions": [{"value": {"amount": paid}} for paid in it[1]]}} for at, it in enumerate(told, first) if it]
 
 
 def states(node):
@@ -235,11 +234,10 @@ def seen_of(state, states, text=None, standstill=10):
     """The notice, its lots in these states, awards made at the deadline, and the evaluation of the first lot."""
     lots = [{"id": f"L{at}", "state": {"ended": "contracted", "paid": "contracted"}.get(it, it), "title": "", "estimate": 5, "line": "1", "security": 0}
             for at, it in enumerate(states, 1)]
-    awarded = [(at, it) for at, it in enumerate(states, 1) if it in ("awarded", "contracted", "paid", "ended")]
-    contracts = [{"id": str(at), "awardID": str(at), "status": "terminated" if it == "ended" else "active", "value": {"amount": 5},
-                  "implementation": {"transactions": [{"value": {"amount": 5 if it == "paid" else 4}}]}} for at, it in awarded if it != "awarded"]
+    contracts = contracts_of([(5, [5 if it == "paid" else 4], it == "ended") if it in ("contracted", "paid", "ended") else None for it in states], 1)
+    awards = [award(at, "active", 5) for at, it in enumerate(states, 1) if it in ("awarded", "contracted", "paid", "ended")]
     terms = {"state": state, "deadline": "2026-03-01T00:00:00Z", "validity_days": 90, "standstill_days": standstill, "criteria": "price", "lots": lots}
-    return {"compiled": {"tender": {}, "awards": [award(at, "active", 5) for at, _ in awarded], "contracts": contracts}, "terms": terms,
+    return {"compiled": {"tender": {}, "awards": awards, "contracts": contracts}, "terms": terms,
             "tenders": [{"lot": "L1", "receipt": 1, "reading": "priced", "corrected": 5}],
             "evaluation": text and f"{HEAD}lot\tL1\t{states[0]}\n{text}END\n"}
 

@@ -8,7 +8,6 @@ With `--pictures FOLDER` the folder test_portal below it gets a picture of each 
 """
 import pytest
 
-from office_kit import client
 from office_kit.desks import large_checks, page_checks, portal_checks
 from office_kit.desks.page_office import Procurements, mirror_beside
 from office_kit.desks.scene import staged
@@ -20,23 +19,18 @@ pytestmark = [pytest.mark.needs("nginx", "openssl"), pytest.mark.nginx, pytest.m
 
 
 @pytest.fixture(scope="module")
-def procurements():
-    return []
-
-
-@pytest.fixture(scope="module")
-def scene(program, browser, pictures, procurements):
+def scene(program, browser, pictures):
     """The office before the deadline."""
     with staged(program, browser, pictures, more=LEDGER_OF_NOW) as made:
-        procurements.append(Procurements(client.Front(made.front.address().rstrip("/"), made.front.context)))
-        procurements[0].before_the_deadline()
+        made.client = Procurements(made.client.transport)
+        made.client.before_the_deadline()
         yield made
 
 
 @pytest.fixture(scope="module")
-def scene_after(scene, procurements):
+def scene_after(scene):
     """The office after it, and its mirror."""
-    procurements[0].after_the_deadline()
+    scene.client.after_the_deadline()
     mirror_beside(scene.front)
     return scene
 
@@ -61,7 +55,8 @@ def test_planted_in_view(scene_after, fault, check):
         check(scene_after, page)
 
 
-@pytest.mark.parametrize("one", page_checks.CHECKS + portal_checks.CHECKS, ids=lambda one: one.__name__)
+# (After the last ones the front refuses more requests, and then the office is gone.)
+@pytest.mark.parametrize("one", page_checks.CHECKS + portal_checks.CHECKS + page_checks.LAST, ids=lambda one: one.__name__)
 def test_page(scene_after, one):
     one(scene_after)
 
@@ -77,9 +72,3 @@ def test_planted_in_module(large, path, old, new, check):
     page.go(large.front.address("#about"))
     with pytest.raises((AssertionError, SystemExit)):
         check(page)
-
-
-# (After these the front refuses more requests, and then the office is gone.)
-@pytest.mark.parametrize("one", page_checks.LAST, ids=lambda one: one.__name__)
-def test_last(scene_after, one):
-    one(scene_after)

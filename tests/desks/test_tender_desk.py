@@ -6,17 +6,15 @@ beside it. Faults are planted in modules of the desk, and checks must find each 
 import pytest
 
 from office_kit.desks import large_checks, tender_checks, tender_shapes
-from office_kit.desks.tender_office import prepare, staged
 from office_kit.desks.tender_page import Desk, planted
 
 pytestmark = [pytest.mark.needs("nginx", "openssl"), pytest.mark.nginx, pytest.mark.budget(360)]
 
 
 @pytest.fixture(scope="module")
-def scene(program, browser, pictures):
-    with staged(program, browser, pictures) as made:
-        prepare(made)
-        yield made
+def scene(scene):
+    tender_checks.prepare(scene)
+    return scene
 
 
 @pytest.mark.parametrize("one", tender_checks.CHECKS + tender_shapes.CHECKS, ids=lambda one: one.__name__)
@@ -39,7 +37,7 @@ def test_large(large):
 
 @pytest.mark.parametrize("path, old, new, check", large_checks.PLANTS_OF_DESK)
 def test_planted_in_large(large, path, old, new, check):
-    large_checks.own_receipt(large)
+    receipt = large_checks.own_receipt(large)
     desk = Desk(large, large_checks.FIRM, page=planted(large, path, old, new))
     with pytest.raises((AssertionError, SystemExit)):
-        check(desk)
+        check(desk, receipt)

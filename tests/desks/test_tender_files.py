@@ -107,21 +107,6 @@ def tells_changes(data, made, names):
     return not others or bool(names & {"figure", "filled", "sum", "product", "sumCleared"})
 
 
-def check_outcome(answers, name):
-    """The files of a form are left, converted or refused as they must be."""
-    assert "".join(told["kind"][0] for file, told in answers if file.case.source == name) == DATA["forms"][name]
-
-
-def check_unsure(answers):
-    assert [file.case.data for file, told in answers if file.case.source == "unsure" and told["kind"] != "refused"] == []
-
-
-def check_firms(answers):
-    """From each file of a firm these prices are made, or it is refused with these faults."""
-    for it, told in zip(DATA["firms"], (told for file, told in answers if file.case.source == "firm"), strict=True):
-        assert (units_of(base64.b64decode(told["made"])) or sorted(told["faults"])) == it["wanted"], it["file"]
-
-
 @pytest.fixture(scope="module", params=[500, pytest.param(5000, marks=[pytest.mark.long, pytest.mark.budget(900)])])
 def files(program, tmp_path_factory, request):
     return Files(tenders.Reader(program, str(tmp_path_factory.mktemp("items"))), request.param)
@@ -140,15 +125,18 @@ def test_files(files, told):
 
 @pytest.mark.parametrize("name", tenders.FORMS)
 def test_form(told, name):
-    check_outcome(told, name)
+    """The files of a form are left, converted or refused as they must be."""
+    assert "".join(it["kind"][0] for file, it in told if file.case.source == name) == DATA["forms"][name]
 
 
 def test_unsure_files(told):
-    check_unsure(told)
+    assert [file.case.data for file, it in told if file.case.source == "unsure" and it["kind"] != "refused"] == []
 
 
 def test_files_of_firms(told):
-    check_firms(told)
+    """From each file of a firm these prices are made, or it is refused with these faults."""
+    for firm, it in zip(DATA["firms"], (it for file, it in told if file.case.source == "firm"), strict=True):
+        assert (units_of(base64.b64decode(it["made"])) or sorted(it["faults"])) == firm["wanted"], firm["file"]
 
 
 def test_sheets(told):
@@ -166,11 +154,10 @@ def test_texts(told):
 
 @pytest.mark.parametrize("change", DATA["changed"].values(), ids=DATA["changed"])
 def test_changed_rule(files, tmp_path, change):
-    answers = files.answers(modules.copy_of(str(tmp_path), change), files.few)
+    told = files.answers(modules.copy_of(str(tmp_path), change), files.few)
     with pytest.raises(AssertionError):
-        for answer in answers:
-            files.check(*answer)
+        test_files(files, told)
         for name in DATA["forms"]:
-            check_outcome(answers, name)
-        check_unsure(answers)
-        check_firms(answers)
+            test_form(told, name)
+        test_unsure_files(told)
+        test_files_of_firms(told)

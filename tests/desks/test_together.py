@@ -5,15 +5,8 @@ The checks are those of office_kit/desks/all_checks.py. `lost_key` runs after `l
 import pytest
 
 from office_kit.desks import all_checks
-from office_kit.desks.tender_office import staged
 
 pytestmark = [pytest.mark.needs("nginx", "openssl"), pytest.mark.nginx, pytest.mark.budget(240), pytest.mark.xdist_group("desks")]
-
-
-@pytest.fixture(scope="module")
-def scene(program, browser, pictures):
-    with staged(program, browser, pictures) as made:
-        yield made
 
 
 @pytest.mark.parametrize("one", all_checks.CHECKS, ids=lambda one: one.__name__)

@@ -5,15 +5,12 @@
 """
 import shutil
 import subprocess
-from pathlib import Path
 
 import pytest
 
-from office_kit.common import ROOT
 from office_kit.desks import modules
 
 pytestmark = [pytest.mark.needs("tsc"), pytest.mark.budget(120)]
-HERE = Path(ROOT, "tests", "desks")
 # A module, a text in it, and the wrong text.
 PLANTS = [("common/filters.js", "noticeOf(list, text) {", "noticeOf(list) {"), ("common/money.js", "units.slice(-1)", "units.slize(-1)"),
           ("clerk/letters.js", "drawLetter(_again, name", "drawLetter(again, name"), ("common/csv.js", "(numberOf(field) ", "(numberOf(field, 10) "),
@@ -26,12 +23,12 @@ def findings(project):
 
 
 def test_screens():
-    assert findings(HERE) == []
+    assert findings(modules.TESTS) == []
 
 
 def test_planted_faults(tmp_path):
     """All are planted in one copy, since each run takes seconds."""
     modules.copy_of(str(tmp_path), *PLANTS)
-    project = shutil.copytree(HERE, tmp_path / "tests" / "desks", ignore=shutil.ignore_patterns("*.py"))
+    project = shutil.copytree(modules.TESTS, tmp_path / "tests" / "desks", ignore=shutil.ignore_patterns("*.py"))
     told = findings(project)
     assert [name for name, _, _ in PLANTS if not any(f"web/{name}(" in line for line in told)] == []

@@ -29,18 +29,6 @@ def naming(extensions, package):
     return '{"extensions":[' + extensions + "]," + package[1:]
 
 
-def examples():
-    """Examples: the kind of the package, its text, and the place of its fault."""
-    for members, place in FLAWS["releases"]:
-        yield "releases", RELEASES.replace("MEMBERS", members), place
-    for members, place in FLAWS["lots"]:
-        yield "releases", naming(LOTS, RELEASES.replace("MEMBERS", members)), place
-    for extensions, place in FLAWS["names"]:
-        yield "releases", naming(extensions, RELEASES.replace("MEMBERS", FLAWS["lots"][0][0])), place
-    for members, place in FLAWS["records"]:
-        yield "record", naming(LOTS, RECORD.replace("MEMBERS", members)), place
-
-
 def packages():
     """Each package among the answers of the transcripts: its kind, and its text."""
     for topic in topics():
@@ -52,7 +40,14 @@ def packages():
                     yield pytest.param(asked[1], answer[2], id=f"{topic.name}-{name.replace(' ', '_')}-{number}")
 
 
-EXAMPLES, PACKAGES = list(examples()), list(packages())
+PACKAGES = list(packages())
+# Examples: the kind of the package, its text, and the place of its fault.
+EXAMPLES = [
+    *(("releases", RELEASES.replace("MEMBERS", members), place) for members, place in FLAWS["releases"]),
+    *(("releases", naming(LOTS, RELEASES.replace("MEMBERS", members)), place) for members, place in FLAWS["lots"]),
+    *(("releases", naming(extensions, RELEASES.replace("MEMBERS", FLAWS["lots"][0][0])), place) for extensions, place in FLAWS["names"]),
+    *(("record", naming(LOTS, RECORD.replace("MEMBERS", members)), place) for members, place in FLAWS["records"]),
+]
 
 
 def once(pairs):

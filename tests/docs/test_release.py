@@ -18,8 +18,6 @@ from office_kit.docs.releases import logic_of, newest_entry
 
 pytestmark = [pytest.mark.budget(180), pytest.mark.needs("dh", "dpkg-deb", "lintian", "mandoc", "readelf")]
 SOURCES = ("tools", "office_kit", "debian", "docs", "deploy", "web", "README.md", "CHANGELOG.md", "crates.txt")
-# Documents that a release makes of the sources of the crates.
-LISTED = {"docs/CALLS.md", "docs/INDEX.md"}
 # A line of a script that starts a service, or has it started.
 STARTS = re.compile(r"(?m)^[^#]*\b(systemctl|invoke-rc\.d|service)\b.*\b(start|restart|enable)\b")
 # Lines that a link in a package's document may have, with a link of which each but the last leads to nothing.
@@ -44,13 +42,6 @@ class Made:
             run("tar", "-xzf", self.to / f"procure-{self.version}.tar.gz", "-C", folder, check=True)
             run("dpkg-deb", "-R", self.package, self.tree, check=True)
 
-    def copy(self, folder):
-        """A copy, into which faults can be planted."""
-        copy = Made.__new__(Made)
-        copy.top, copy.tree = (shutil.copytree(it, folder / it.name, symlinks=True) for it in (self.top, self.tree))
-        copy.told = copy.tree / "DEBIAN"
-        return copy
-
 
 def files_in(folder):
     return {os.path.relpath(f"{at}/{name}", folder) for at, _, names in os.walk(folder) for name in names}
@@ -61,6 +52,12 @@ def made(program, tmp_path_factory):
     made = Made(program, tmp_path_factory.mktemp("release"))
     assert made.ran.returncode == 0, made.ran
     return made
+
+
+@pytest.fixture
+def tree(made, tmp_path):
+    """A copy of the unpacked package, for faults."""
+    return shutil.copytree(made.tree, tmp_path / "tree", symlinks=True)
 
 
 @pytest.fixture
@@ -118,10 +115,11 @@ def wrong_sums(top):
 
 def test_archive(made, program, tmp_path):
     sources = {f"{kind}/{name}" for kind in ("deploy", "web", "docs") for name in files_in(f"{ROOT}/{kind}")}
-    assert sources | LISTED | {"procure", "procure.1", "README.md", "CHANGELOG.md", "SHA256SUMS"} <= files_in(made.top)
+    # (A release makes the lists of calls and definitions.)
+    assert sources | {"docs/CALLS.md", "docs/INDEX.md", "procure", "procure.1", "README.md", "CHANGELOG.md", "SHA256SUMS"} <= files_in(made.top)
     assert (made.top / "procure").read_bytes() == Path(program).read_bytes()
     assert wrong_sums(made.top) == []
-    top = made.copy(tmp_path).top
+    top = shutil.copytree(made.top, tmp_path / "top", symlinks=True)
     (top / "web" / "index.html").write_bytes((top / "web" / "index.html").read_bytes().replace(b"e", b"f", 1))
     assert wrong_sums(top) == ["web/index.html: FAILED"]
 
@@ -154,25 +152,24 @@ def test_manual(made, program):
 
 # ---- The package.
 
-def wrong_units(made):
+def wrong_units(tree):
     """Commands of units that the package doesn't have, and its scripts that can't be read or start something."""
-    for unit in sorted((made.tree / "lib/systemd/system").glob("*.*")):
+    for unit in sorted((tree / "lib/systemd/system").glob("*.*")):
         text = unit.read_text() if unit.is_file() else ""
-        absent = [path for path in re.findall(r"(?m)^Exec\w+=[-+!@:]*(/\S*procure\S*)", text) if not os.access(f"{made.tree}{path}", os.X_OK)]
+        absent = [path for path in re.findall(r"(?m)^Exec\w+=[-+!@:]*(/\S*procure\S*)", text) if not os.access(f"{tree}{path}", os.X_OK)]
         if absent or "/usr/local" in text:
             yield unit.name
     for script in ("postinst", "prerm", "postrm"):
-        if run("sh", "-n", made.told / script).returncode or STARTS.search((made.told / script).read_text()):
+        if run("sh", "-n", tree / "DEBIAN" / script).returncode or STARTS.search((tree / "DEBIAN" / script).read_text()):
             yield script
 
 
-def test_units(made, tmp_path):
-    assert list(wrong_units(made)) == []
-    planted = made.copy(tmp_path)
-    (planted.tree / "usr/bin/procure").unlink()
-    with open(planted.told / "postinst", "a") as file:
+def test_units(made, tree):
+    assert list(wrong_units(made.tree)) == []
+    (tree / "usr/bin/procure").unlink()
+    with open(tree / "DEBIAN/postinst", "a") as file:
         file.write("systemctl enable --now procure\n")
-    assert set(wrong_units(planted)) == {"procure.service", "postinst"}
+    assert set(wrong_units(tree)) == {"procure.service", "postinst"}
 
 
 def test_control(made, program):
@@ -212,11 +209,10 @@ def test_lintian(made):
     assert said_of(made.package) == ""
 
 
-def test_lintian_finds_symbols(made, program, tmp_path):
+def test_lintian_finds_symbols(program, tree, tmp_path):
     """Without the words about them."""
-    planted = made.copy(tmp_path)
-    (planted.tree / "usr/share/lintian/overrides/procure").unlink()
-    run("dpkg-deb", "--root-owner-group", "--build", planted.tree, tmp_path / "procure_1_amd64.deb", check=True)
+    (tree / "usr/share/lintian/overrides/procure").unlink()
+    run("dpkg-deb", "--root-owner-group", "--build", tree, tmp_path / "procure_1_amd64.deb", check=True)
     is_whole = re.search(r"\.symtab\b", run("readelf", "-S", "--wide", program).stdout)
     assert ("unstripped-binary-or-object" in said_of(tmp_path / "procure_1_amd64.deb")) == bool(is_whole)
 
@@ -261,8 +257,8 @@ def test_links(made):
     assert [*wrong_links(made.top), *wrong_links(made.tree), *wrong_places(made.tree)] == []
 
 
-def test_planted_links(made, tmp_path):
-    at = (tree := made.copy(tmp_path).tree) / "usr/share/doc/procure"
+def test_planted_links(tree):
+    at = tree / "usr/share/doc/procure"
     (at / "README.md").write_text("".join(f"[x]({target})\n" for target in LINKS))
     wrong = [f"usr/share/doc/procure/README.md:{line}: {target}" for line, target in enumerate(LINKS[:-1], 1)]
     assert list(wrong_links(tree)) == wrong
@@ -276,7 +272,7 @@ def test_planted_links(made, tmp_path):
 def test_links_as_in_the_checkout(program, copy):
     """They lead to nothing in a release."""
     path = copy / "office_kit/docs/releases.py"
-    path.write_text(path.read_text().replace("    return LINK.sub(put, text)\n", "    return text\n"))
+    path.write_text(path.read_text().replace("(texts.get(path, data), mode)", "(data, mode)"))
     (copy / "out").mkdir()
     made = Made(program, copy / "out", copy)
     assert any("../crates/" in it for top in (made.top, made.tree) for it in wrong_links(top))

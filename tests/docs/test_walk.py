@@ -2,36 +2,28 @@
 
 If another program has the port, the walk stops where the office would begin. It sends that program no key, and nothing but queries.
 """
-import http.server
 import re
-import threading
 
 import pytest
 
-from office_kit.common import FIELDS, HOST, free_port, need
+from office_kit.common import FIELDS, free_port, need
 from office_kit.docs import documents
+from office_kit.store.served import Handler, answered_by
 
 WALK = "README.md"
 PORT = re.compile(r"^port=\d+$", re.M)
 
 
-class Other(http.server.BaseHTTPRequestHandler):
+class Other(Handler):
     """Gives all requests the same answer, and keeps them."""
 
     told, came = (200, b""), []
 
     def answer(self):
         self.came.append((self.command, self.path, [name.decode() for name in FIELDS if self.headers[name.decode()] is not None]))
-        status, body = self.told
-        self.send_response(status)
-        self.send_header("Content-Length", str(len(body)))
-        self.end_headers()
-        self.wfile.write(body)
+        self.tell(*self.told)
 
     do_GET = do_POST = answer
-
-    def log_message(self, *_):
-        """Nothing is printed."""
 
 
 def steps_at(port):
@@ -54,9 +46,6 @@ def test_walk(program):
 def test_other_program(program, told):
     """The answers of another program at the port to any request: something of its own, an error, and an office's page."""
     Other.told, Other.came = told, []
-    with http.server.ThreadingHTTPServer((HOST, free_port()), Other) as server:
-        threading.Thread(target=server.serve_forever, daemon=True).start()
-        with pytest.raises(documents.Wrong):
-            documents.run_steps(WALK, steps_at(server.server_port), program)
-        server.shutdown()
+    with answered_by(Other) as address, pytest.raises(documents.Wrong):
+        documents.run_steps(WALK, steps_at(address.rpartition(":")[2]), program)
     assert [it for it in Other.came if it[0] != "GET" or it[2]] == []

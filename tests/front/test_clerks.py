@@ -18,16 +18,15 @@ import pytest
 
 from office_kit import client
 from office_kit.client import Answer
-from office_kit.common import HOST, ROOT
+from office_kit.common import HOST, ROOT, until
 from office_kit.front.checks import is_own, placed, routes
-from office_kit.front.clerks import WAYS, Signing, basic, lines_of_log
+from office_kit.front.clerks import WAYS, Signing, basic
 from office_kit.front.nginx import OUTSIDE, Front, exchange
 from office_kit.front.office import Office
 from office_kit.store.life import AuditedLife
 from office_kit.store.planted_lines import NAMES as NAMED
 
 pytestmark = [pytest.mark.needs("nginx", "openssl", "curl"), pytest.mark.nginx, pytest.mark.budget(120)]
-MAIN, NAMES = "nginx.conf", "clerks.conf"
 PLANTS = tomllib.loads(Path(__file__).with_suffix(".toml").read_text(encoding="utf-8"))
 SMALLER = PLANTS.pop("smaller")
 ROLES = {"anna": "notices", "bert": "budget", "cora": "evaluation", "dora": "contracts", "emil": "all", "fred": "notices contracts"}
@@ -54,10 +53,6 @@ def seen(office):
 
 def keys_seen(office):
     return [key for _, _, key in seen(office) if key]
-
-
-def log_of(front):
-    return os.path.join(front.folder, "clerks.log")
 
 
 def roles(front, office):
@@ -143,14 +138,11 @@ def removed(front, office):
     """A clerk who was taken out of the list of names may do nothing, with the right password or certificate."""
     def ask(name):
         return front.ask(*COMMAND, name=name, **AS_CLERK)
-    names = Path(front.folder, NAMES)
+    names = Path(front.folder, "clerks.conf")
     names.write_text(names.read_text(encoding="utf-8").replace('    emil "all";\n', ""), encoding="utf-8")
     assert ask("emil").status == 200
-    front.reload()
-    end = time.monotonic() + 10
-    while (answer := ask("emil")).status == 200 and time.monotonic() < end:
-        time.sleep(0.1)
-    assert is_own(answer, 403)
+    subprocess.run([*front.words, "-s", "reload"], check=True)
+    assert until(lambda: is_own(ask("emil"), 403), 10)
     assert ask("bert").status == 200
 
 
@@ -188,7 +180,7 @@ def lines(front, office):
     office.server_close()
     front.ask("POST", "/budget/B9", b"lost", name="bert", **AS_CLERK)
     due.append(("bert", "budget", "POST /budget/B9", 502, b"lost"))
-    told = lines_of_log(log_of(front), len(due))
+    told = front.logged_commands(len(due))
     # (Each of two workers of nginx writes its lines.)
     read = sorted((it["name"], it["roles"], it["route"], it["status"], it["body"].encode("utf-8", "surrogateescape")) for it in told)
     is_same = read == sorted(due)
@@ -225,7 +217,7 @@ def secrets(front, office):
                for name in ("emil", NOBODY, "bert", "") for method, path in asked]
     office.server_close()
     answers.append(front.ask(*COMMAND, b"{}", name="emil", **AS_CLERK))
-    lines_of_log(log_of(front), 1)
+    front.logged_commands(1)
     texts = {name: front.logged(name) for name in ("access.log", "counts.log", "errors.log", "clerks.log")}
     texts["a response"] = "".join(f"{dict(it.head)} {it.body.decode('latin-1')}" for it in answers)
     for secret in (front.signing.key, *front.signing.passwords.values(), "Office-Key", "Authorization: "):
@@ -250,7 +242,7 @@ def by_key(front, office):
             assert seen(office) == [(f"{method} {path}", "clerk", key.decode())]
     assert is_own(front.ask("GET", "/front/who"), 404)
     assert front.ask("GET", "/clerk/").status == 200
-    assert not os.path.exists(log_of(front))
+    assert not os.path.exists(f"{front.folder}/clerks.log")
 
 
 # Each check, with its ways of signing in. (Without one the names are read, and nobody can sign in.)
@@ -260,11 +252,8 @@ CHECKS = {roles: WAYS, keys: WAYS, strangers: WAYS, removed: WAYS, who: WAYS, li
 def run(one, way, folder, *faults):
     """Runs a check over a front and a server of its own."""
     folder.mkdir()
-    changes = {MAIN: list(SMALLER.get(one.__name__, []))}
-    for file, *change in faults:
-        changes.setdefault(file, []).append(change)
-    signing = Signing(way, ROLES, [NOBODY], faults=changes)
-    with Office() as office, Front(str(folder), office.port, changes[MAIN], signing) as front, contextlib.suppress(BrokenPipeError):
+    signing = Signing(way, ROLES, [NOBODY], [*SMALLER.get(one.__name__, []), *faults])
+    with Office() as office, Front(str(folder), office.port, (), signing) as front, contextlib.suppress(BrokenPipeError):
         one(front, office)
 
 
@@ -277,7 +266,7 @@ def test_front(tmp_path, one, way):
                                         for one in CHECKS for number, fault in enumerate(PLANTS[one.__name__])])
 def test_planted_fault(tmp_path, one, fault):
     """The check fails, in one of its ways of signing in."""
-    for way in [it for it in CHECKS[one] if fault[0] in (MAIN, NAMES, f"clerks-{it}.conf")]:
+    for way in [it for it in CHECKS[one] if fault[0] in ("nginx.conf", "clerks.conf", f"clerks-{it}.conf")]:
         try:
             run(one, way, tmp_path / str(way), fault)
         except (AssertionError, ValueError):
@@ -311,6 +300,6 @@ def test_audit(office, tmp_path, way):
         life.after_the_deadline()
         assert front.ask("POST", "/notices/N6/cancel", b"{}", name="dora", **AS_CLERK).status == 403
         assert front.ask(*COMMAND, client.budget("1,add,1,x").encode(), name="bert", **AS_CLERK).status == 409
-        assert len(lines_of_log(log_of(front), 57)) == 57
-    run = subprocess.run([os.path.join(ROOT, "tools", "audit"), office.path, "--front-log", log_of(front)], capture_output=True, text=True)
+        assert len(front.logged_commands(57)) == 57
+    run = subprocess.run([os.path.join(ROOT, "tools", "audit"), office.path, "--front-log", f"{front.folder}/clerks.log"], capture_output=True, text=True)
     assert run.returncode == 0, run.stdout + run.stderr

@@ -24,14 +24,17 @@ import subprocess
 import sys
 import tempfile
 import time
+import tomllib
 from concurrent.futures import ThreadPoolExecutor
+from pathlib import Path
 
 import pytest
 
 from office_kit.client import AHEAD, Client, Port, lot, notice, text_of, wait_until
-from office_kit.common import ROOT, connect, exchange, free_port, look, running, serve_words
+from office_kit.common import ROOT, exchange, look
 from office_kit.front.nginx import Front
 from office_kit.store import large_office
+from office_kit.store.served import server
 
 pytestmark = [pytest.mark.needs("nginx", "openssl"), pytest.mark.nginx, pytest.mark.time, pytest.mark.budget(240), pytest.mark.xdist_group("machine")]
 # How many times slower this machine is than a usual one.
@@ -45,19 +48,7 @@ LEDGER = 0.5
 STRANGERS, TENDERERS_TURN, SERVERS = 1, 2, 3
 # The fewest answers that the strangers must get: with fewer, they tried nothing.
 LEAST = 1_000
-# The front as it was: parts of today's file, and the earlier ones.
-EARLIER = [
-    ("proxy_pass http://ways/notices?after=zzzzzzzzzzzzzzzzzzzzzzzzzzzzzzzz;", 1, "proxy_pass http://office/ledger;"),
-    ("proxy_pass http://ways;", 4, "proxy_pass http://office;"),
-    ("map $request_method $to_tenders { POST office; default ways; }", 1, "map $request_method $to_tenders { default office; }"),
-    ("proxy_cache_valid 200 1m;", 1, "proxy_cache_valid 200 1s;"),
-    ("proxy_cache_valid 200 404 409 3s;", 1, "proxy_cache_valid 200 404 409 1s;"),
-    ("proxy_cache_use_stale updating;", 1, ""),
-    ("proxy_cache_background_update on;", 1, ""),
-    ("limit_req zone=reading burst=60 nodelay;", 2, "limit_req zone=reading burst=100 nodelay;"),
-    ("        limit_conn dear_connections 10;\n", 2, ""),
-    ("limit_req zone=addresses burst=1500 delay=300;", 1, "limit_req zone=addresses burst=1500 nodelay;"),
-]
+EARLIER = tomllib.loads(Path(__file__).with_suffix(".toml").read_text(encoding="utf-8"))["earlier"]
 
 
 def comes_before(others):
@@ -83,16 +74,14 @@ def submit(front, number, at):
 def last_seconds(front, deadline, lines):
     """The strangers, and sixty tenders in the last 0.3 seconds: the tenders' states and waits, and the strangers' counts."""
     turn = ["chrt", "-f", str(STRANGERS)] if os.sched_getscheduler(0) == os.SCHED_FIFO else []
-    script = os.path.join(ROOT, "office_kit", "front", "strangers.py")
-    words = [*turn, sys.executable, script, *map(str, (front.port, deadline - BEGIN, deadline + AFTER, lines))]
+    words = [*turn, sys.executable, "-m", "office_kit.front.strangers", *map(str, (front.port, deadline - BEGIN, deadline + AFTER, lines))]
     moments = random.Random(2)
     comes_before(TENDERERS_TURN)
-    with running(words, stdout=subprocess.PIPE) as strangers, ThreadPoolExecutor(TENDERERS) as pool:
+    with ThreadPoolExecutor(TENDERERS + 1) as pool:
+        strangers = pool.submit(subprocess.check_output, words, cwd=ROOT)
         tenders = [pool.submit(submit, front, number, deadline - moments.uniform(0.01, LAST)) for number in range(1, TENDERERS + 1)]
-        states, waits = zip(*(it.result() for it in tenders))
-        told = strangers.communicate()[0]
-    assert strangers.returncode == 0
-    return collections.Counter(states), waits, json.loads(told)
+    states, waits = zip(*(it.result() for it in tenders))
+    return collections.Counter(states), waits, json.loads(strangers.result())
 
 
 @contextlib.contextmanager
@@ -101,9 +90,8 @@ def served(program, kind, many):
     comes_before(SERVERS)
     with tempfile.TemporaryDirectory(prefix="office-deadline-") as folder:
         file = shutil.copy(large_office.file_of(kind, many), os.path.join(folder, "office.db"))
-        with running(serve_words(program, file, port := free_port(), 1_000_000)):
-            connect(port, PATIENCE).close()
-            yield folder, port, exchange(port, look(b"/ledger"))[1]
+        with server(program, file) as (_, port):
+            yield folder, port, exchange(port, look(b"/ledger"), PATIENCE)[1]
 
 
 def run(program, kind, changes=()):

@@ -3,20 +3,20 @@ needed. Each check also runs over files in which a fault was planted (test_limit
 """
 import contextlib
 import email.utils
+import functools
 import http.client
 import os
 import re
 import subprocess
-import threading
 import time
 import tomllib
 from collections import Counter
-from concurrent.futures import ThreadPoolExecutor
+from concurrent.futures import ThreadPoolExecutor, wait
 from pathlib import Path
 
 import pytest
 
-from office_kit.common import CLERK, HOST, ROOT
+from office_kit.common import CLERK, HOST, ROOT, until
 from office_kit.front.checks import is_own
 from office_kit.front.nginx import OUTSIDE, PATIENCE, Front, exchange, fields_of
 from office_kit.front.office import WRONG, Office
@@ -24,8 +24,7 @@ from office_kit.front.office import WRONG, Office
 pytestmark = [pytest.mark.needs("nginx", "openssl", "curl"), pytest.mark.nginx, pytest.mark.budget(120)]
 PLANTS = tomllib.loads(Path(__file__).with_suffix(".toml").read_text())
 SMALLER = PLANTS.pop("smaller")
-TENDERS, ONE, SECURITY, CLERKS_OWN = "/notices/N1/lots/L1/tenders", "/tenders/1", "/securities/1", "/notices/N1/register"
-EVALUATION = "/notices/N1/evaluation"
+TENDERS, ONE, SECURITY, CLERKS_OWN, EVALUATION = "/notices/N1/lots/L1/tenders", "/tenders/1", "/securities/1", "/notices/N1/register", "/notices/N1/evaluation"
 # Public queries that read many rows, and the others.
 DEAR = ["/ledger", "/lines/1000", "/notices/N1/record", "/notices/N1/releases", "/notices/N1/minutes", EVALUATION]
 PUBLIC = DEAR + ["/notices", "/notices/N1/terms"]
@@ -44,14 +43,6 @@ def waits(answer):
     time.sleep(int(answer.head["Retry-After"]) + 1.1)
 
 
-def until(holds, patience=5.0):
-    """Whether something holds within some seconds."""
-    end = time.monotonic() + patience
-    while not holds() and time.monotonic() < end:
-        time.sleep(0.02)
-    return holds()
-
-
 def paths_at(office):
     return [it.path for it in office.came]
 
@@ -63,30 +54,27 @@ def queued(office):
     return sum(row[1].endswith(f":{office.port:04X}") and row[3] in ("01", "08") for row in rows)
 
 
-class Asking(threading.Thread):
-    """A request on a connection of its own. It waits for the answer, or closes the connection soon."""
+def status_of(front, method, path, who=None, source=HOST, stays=True):
+    """The status of the answer to a request on a connection of its own; 0 if none came, or the connection was closed soon."""
+    with contextlib.closing(front.connection(source)) as connection, contextlib.suppress(OSError):
+        connection.request(method, path, b"x" if method == "POST" else b"", fields_of(who))
+        if stays:
+            return connection.getresponse().status
+        time.sleep(0.3)
+    return 0
 
-    def __init__(self, front, method, path, who=None, source=HOST, stays=True):
-        super().__init__(daemon=True)
-        self.front, self.asked, self.source, self.stays, self.status = front, (method, path, who), source, stays, 0
-        self.start()
 
-    def run(self):
-        method, path, who = self.asked
-        with contextlib.closing(self.front.connection(self.source)) as connection, contextlib.suppress(OSError):
-            connection.request(method, path, b"x" if method == "POST" else b"", fields_of(who))
-            if self.stays:
-                self.status = connection.getresponse().status
-            else:
-                time.sleep(0.3)
+# Requests beside others: more than any check has at a time.
+asking = functools.partial(ThreadPoolExecutor(500).submit, status_of)
 
 
 def ended(asked, patience=5.0):
-    return until(lambda: not any(it.is_alive() for it in asked), patience)
+    return not wait(asked, patience).not_done
 
 
 def count(asked, status):
-    return sum(it.status == status for it in asked)
+    """How many of them have this status by now; 0 is for those that wait, too."""
+    return sum((it.result() if it.done() else 0) == status for it in asked)
 
 
 # ---- What each answer is.
@@ -234,10 +222,9 @@ def counts(front, office):
     form = re.search(r"(?m)^/(\^.*\$)/ \{$", Path(ROOT, "deploy", "procure.mtail").read_text())[1]
     requests = (("GET", "/ledger"), ("GET", "/nothing"), ("HEAD", "/"), ("POST", "/budget/B1", b"", caller("clerk", "wrong")), ("BREW", "/ledger"))
     asked = [front.ask(*it).status for it in requests]
-    log = Path(front.folder, "counts.log")
-    assert until(lambda: log.exists() and len(log.read_text().splitlines()) == len(asked))
-    told = [re.match(form, line) for line in log.read_text().splitlines()]
-    assert all(told), log.read_text()
+    assert until(lambda: front.logged("counts.log").count("\n") == len(asked))
+    told = [re.match(form, line) for line in front.logged("counts.log").splitlines()]
+    assert all(told), front.logged("counts.log")
     assert [(it["method"], int(it["status"])) for it in told] == list(zip(("GET", "GET", "HEAD", "POST", "other"), asked))
 
 
@@ -265,7 +252,7 @@ def shown_meanwhile(front, office):
     given = front.ask("GET", "/ledger").head["Last-Modified"]
     time.sleep(2.1)
     office.held.clear()
-    asked = [Asking(front, "GET", "/ledger") for _ in range(5)]
+    asked = [asking(front, "GET", "/ledger") for _ in range(5)]
     assert until(lambda: count(asked, 200) == 5, 2)
     office.held.set()
     assert until(lambda: paths_at(office) == ["/ledger"] * 2)
@@ -293,17 +280,16 @@ def two_at_a_time(front, office):
     queries the office gets one at a time."""
     office.held.clear()
     for round_ in range(3):
-        dear = [Asking(front, "GET", f"/lines/{round_}-{number}", source=f"127.0.2.{number + 1}", stays=number % 2) for number in range(20)]
-        dear += [Asking(front, "GET", CLERKS_OWN, caller("clerk")) for _ in range(10)]
+        lines = [asking(front, "GET", f"/lines/{round_}-{number}", source=f"127.0.2.{number + 1}", stays=number % 2) for number in range(20)]
+        stay = lines[1::2] + [asking(front, "GET", CLERKS_OWN, caller("clerk")) for _ in range(10)]
         time.sleep(0.8)
         assert queued(office) == 3
     time.sleep(10)
-    waited = [it for it in dear if it.stays]
-    assert queued(office) == 3 and count(waited, 0) <= 3 and count(waited, 429) >= len(dear) * 2 // 3 - 4
+    assert queued(office) == 3 and count(stay, 0) <= 3 and count(stay, 429) >= 16
     office.held.set()
-    assert ended(dear)
+    assert ended(lines + stay)
     office.pause = 0.02
-    asked = [Asking(front, "GET", f"/lines/{number}", source=f"127.0.3.{number}") for number in range(1, 17)]
+    asked = [asking(front, "GET", f"/lines/{number}", source=f"127.0.3.{number}") for number in range(1, 17)]
     assert ended(asked) and count(asked, 200) == 16
 
 
@@ -311,8 +297,8 @@ def one_ledger(front, office):
     """The office makes one ledger at a time, for the public and the clerk together."""
     office.held.clear()
     for _ in range(2):
-        asked = [Asking(front, "GET", "/ledger", caller("clerk")) for _ in range(4)]
-        asked += [Asking(front, "GET", "/ledger", source=f"127.0.2.{number + 1}") for number in range(4)]
+        asked = [asking(front, "GET", "/ledger", caller("clerk")) for _ in range(4)]
+        asked += [asking(front, "GET", "/ledger", source=f"127.0.2.{number + 1}") for number in range(4)]
         time.sleep(0.8)
         assert queued(office) == 1
     office.held.set()
@@ -322,7 +308,7 @@ def one_ledger(front, office):
 def ten_of_an_address(front, office):
     """An address may have ten dear queries in the front."""
     office.held.clear()
-    asked = [Asking(front, "GET", "/ledger") for _ in range(30)]
+    asked = [asking(front, "GET", "/ledger") for _ in range(30)]
     assert until(lambda: count(asked, 429) == 20)
     office.held.set()
     assert until(lambda: count(asked, 200) == 10)
@@ -332,13 +318,13 @@ def ways_are_full(front, office):
     """All ways are full, and the office answers nobody. A hundred tenders reach its socket, and all succeed once it answers. So do two hundred."""
     for many in (100, 200):
         office.held.clear()
-        others = [Asking(front, "GET", f"{path}?{number}" if path == "/notices" else path, who, f"127.0.4.{number + 1}")
+        others = [asking(front, "GET", f"{path}?{number}" if path == "/notices" else path, who, f"127.0.4.{number + 1}")
                   for number in range(20) for path, who in (("/notices", None), ("/lines/1000", None), (ONE, caller(f"T{number}")))]
-        others += [Asking(front, "POST", "/tenderers/T5", caller("clerk")) for _ in range(20)] + [Asking(front, "GET", "/health") for _ in range(5)]
-        others += [Asking(front, "GET", CLERKS_OWN, caller("clerk")) for _ in range(5)]
+        others += [asking(front, "POST", "/tenderers/T5", caller("clerk")) for _ in range(20)] + [asking(front, "GET", "/health") for _ in range(5)]
+        others += [asking(front, "GET", CLERKS_OWN, caller("clerk")) for _ in range(5)]
         time.sleep(1.5)
         assert 10 < queued(office) <= 28
-        tenders = [Asking(front, "POST", TENDERS, caller(f"T{number}"), f"127.0.5.{number % 4}") for number in range(many)]
+        tenders = [asking(front, "POST", TENDERS, caller(f"T{number}"), f"127.0.5.{number % 4}") for number in range(many)]
         time.sleep(1)
         assert many > 100 or queued(office) >= 100
         assert count(tenders, 0) == many
@@ -430,19 +416,11 @@ CHECKS = [by_http_2, compressed, for_all_sites, asked_first, in_the_clear, for_p
           invented_names, wrong_keys, sixty_behind_wrong_keys]
 
 
-def run(one, folder, *changes):
-    """Runs a check over a front and a server of its own."""
-    with Office() as office, Front(str(folder), office.port, [*SMALLER.get(one.__name__, []), *changes]) as front, contextlib.suppress(BrokenPipeError):
-        one(front, office)
-
-
-@pytest.mark.parametrize("one", CHECKS, ids=lambda one: one.__name__)
-def test_front(tmp_path, one):
-    run(one, tmp_path)
-
-
-@pytest.mark.parametrize("one, plant", [pytest.param(one, plant, id=f"{one.__name__}-{number}")
-                                        for one in CHECKS for number, plant in enumerate(PLANTS[one.__name__])])
-def test_planted_fault(tmp_path, one, plant):
-    with pytest.raises(AssertionError):
-        run(one, tmp_path, plant)
+@pytest.mark.parametrize("one, faults", [pytest.param(one, [fault] if fault else [], id=f"{one.__name__}-fault-{number}" if fault else one.__name__)
+                                         for one in CHECKS for number, fault in enumerate([None, *PLANTS[one.__name__]])])
+def test_front(tmp_path, one, faults):
+    """A check over a front and a server of its own. It must fail if there is a fault."""
+    changes = [*SMALLER.get(one.__name__, []), *faults]
+    with pytest.raises(AssertionError) if faults else contextlib.nullcontext():
+        with Office() as office, Front(str(tmp_path), office.port, changes) as front, contextlib.suppress(BrokenPipeError):
+            one(front, office)

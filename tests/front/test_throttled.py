@@ -12,7 +12,7 @@ from collections import Counter
 
 import pytest
 
-from office_kit.client import Client, Port, lot, notice, tender, text_of
+from office_kit.client import budget, lot, notice, tender, text_of
 from office_kit.common import HOST, free_port
 from office_kit.docs import documents
 from office_kit.front.office import StandIn
@@ -35,53 +35,47 @@ STEPS = [step.text for step in documents.steps_of("docs/TENDERER-API.md")]
 
 
 class Front(StandIn):
-    """Passes requests on to an office, but for the first ones at a path, which it answers itself; `kept` counts these."""
+    """Passes requests on to an office, but for the first ones at a path, which it answers itself; `left` counts these."""
 
     def __init__(self, client, first, status, fields):
-        self.client, self.left, self.status, self.fields, self.kept = client, Counter(first), status, fields, 0
+        self.client, self.left, self.status, self.fields = client, Counter(first), status, fields
         super().__init__()
 
     def answer(self, request):
         if self.left[request.path] > 0:
             self.left[request.path] -= 1
-            self.kept += 1
             return self.status, json.dumps(ANSWERS[self.status]).encode(), self.fields
         told = self.client.tender(request.head["Office-Caller"], int(request.path.rpartition("/")[2]))
         return told.status, told.body, {}
 
 
-class Trial:
-    """Runs loops over an office with the receipts."""
-
-    def __init__(self, office, folder):
-        self.client, self.folder = Client(Port(office.port, strict=False)), folder
-        (folder / "T1.key").write_text("Office-Caller: T1\nOffice-Key: hello\n")
-        office.client.import_budget("B1", "line,kind,amount,title\n1000,add,1000,Roads\n")
-        for name in ("T1", "T2"):
-            office.client.register(name)
-        office.client.publish("N1", notice(text_of(time.time() + FOREVER), lot()))
-        office.client.present("T2", "N1", "L1", tender((3, 140)))
-        first = office.client.present("T1", "N1", "L1", tender((3, 150)))["receipt"]
-        answer = office.client.modify("T1", first, tender((3, 145)))
-        assert answer["receipt"] == MINE
-        self.digest = answer["digest"]
-
-    def run(self, loop, address):
-        """The output of a loop."""
-        script = "\n".join(["rm -f answer", f"office={address}", ALPHA, PLAIN, loop])
-        return subprocess.run(["bash", "-c", script], cwd=self.folder, stdin=subprocess.DEVNULL, capture_output=True, text=True, timeout=LONGEST).stdout
-
-    def finds(self, loop, first, status=429, fields=WAIT):
-        """Whether a loop finds the receipt. The front must have answered some requests itself."""
-        with Front(self.client, first, status, fields) as front:
-            told = self.run(loop, front.address)
-        assert front.kept > 0
-        return self.digest in told and f'"receipt":{MINE}' in told
-
-
 @pytest.fixture
-def trial(office, tmp_path):
-    return Trial(office, tmp_path)
+def client(serving, tmp_path):
+    """The client of an office with the receipts. The folder gets the tenderer's key."""
+    (tmp_path / "T1.key").write_text("Office-Caller: T1\nOffice-Key: hello\n")
+    client = serving(strict=False).client
+    client.import_budget("B1", budget("1000,add,1000,Roads"))
+    for name in ("T1", "T2"):
+        client.register(name)
+    client.publish("N1", notice(text_of(time.time() + FOREVER), lot()))
+    client.present("T2", "N1", "L1", tender((3, 140)))
+    first = client.present("T1", "N1", "L1", tender((3, 150)))["receipt"]
+    assert client.modify("T1", first, tender((3, 145)))["receipt"] == MINE
+    return client
+
+
+def run(loop, address, folder):
+    """The output of a loop."""
+    script = "\n".join(["rm -f answer", f"office={address}", ALPHA, PLAIN, loop])
+    return subprocess.run(["bash", "-c", script], cwd=folder, stdin=subprocess.DEVNULL, capture_output=True, text=True, timeout=LONGEST).stdout
+
+
+def finds(client, folder, loop, first, status=429, fields=WAIT):
+    """Whether a loop finds the receipt. The front must have answered some requests itself."""
+    with Front(client, first, status, fields) as front:
+        told = run(loop, front.address, folder)
+    assert front.left != Counter(first)
+    return client.tender("T1", MINE)["digest"] in told and f'"receipt":{MINE}' in told
 
 
 @pytest.mark.parametrize("least, first, how", [
@@ -91,18 +85,18 @@ def trial(office, tmp_path):
     (1, OWN, {"fields": {}}),
     (1, OWN, {"status": 503, "fields": {}}),
 ], ids=["429_at_ones_own", "429_twice_for_two_seconds", "429_at_each", "429_without_retry_after", "503_at_ones_own"])
-def test_loop(trial, least, first, how):
+def test_loop(client, tmp_path, least, first, how):
     """It finds the receipt, and waits for so many seconds."""
     begun = time.monotonic()
-    assert trial.finds(LOOP, first, **how) and time.monotonic() - begun >= least
+    assert finds(client, tmp_path, LOOP, first, **how) and time.monotonic() - begun >= least
 
 
 @pytest.mark.parametrize("loop", [EARLIER, LOOP.replace("--retry 60 ", "")], ids=["earlier", "without_waiting"])
-def test_wrong_loop(trial, loop):
+def test_wrong_loop(client, tmp_path, loop):
     """It misses the receipt."""
-    assert not trial.finds(loop, OWN)
+    assert not finds(client, tmp_path, loop, OWN)
 
 
-def test_nothing_answers(trial):
+def test_nothing_answers(client, tmp_path):
     """The loop ends, and shows no receipt."""
-    assert "receipt" not in trial.run(LOOP, f"http://{HOST}:{free_port()}")
+    assert "receipt" not in run(LOOP, f"http://{HOST}:{free_port()}", tmp_path)

@@ -2,14 +2,13 @@
 or in processes that they start. It ends these processes.
 """
 import os
-import subprocess
 import time
 import xml.etree.ElementTree
-from pathlib import Path
 
 import pytest
 
-from office_kit.common import copy_into
+from office_kit.common import copy_into, ended
+from office_kit.processor import all_processes
 
 pytestmark = pytest.mark.budget(120)
 HEAD = r"""
@@ -57,9 +56,7 @@ def lay(folder):
 def check(folder, *words, program="/bin/true"):
     """The status of tools/check there, and its output."""
     own = {name: value for name, value in os.environ.items() if not name.startswith("PYTEST_")}
-    run = subprocess.run(["tools/check", *words], cwd=folder, env={**own, "PROCURE": program, "SLOWNESS": "1"}, stdout=subprocess.PIPE,
-                         stderr=subprocess.STDOUT, text=True)
-    return run.returncode, run.stdout
+    return ended(["tools/check", *words], cwd=folder, env={**own, "PROCURE": program, "SLOWNESS": "1"})
 
 
 @pytest.fixture(scope="module")
@@ -89,17 +86,15 @@ def test_counts(checked):
 def runs(pid):
     """Whether a process still runs a while after it was killed. One that has ended may remain in the list of processes until it is waited for."""
     for _ in range(50):
-        try:
-            if Path(f"/proc/{pid}/stat").read_text().rpartition(")")[2].split()[0] == "Z":
-                return False
-        except OSError:
+        found = all_processes().get(pid)
+        if not found or found.state == "Z":
             return False
         time.sleep(0.1)
     return True
 
 
 def test_nothing_runs_on(checked):
-    found = [path.name for path in checked[0].glob("*.pid") if runs(path.read_text().strip())]
+    found = [path.name for path in checked[0].glob("*.pid") if runs(int(path.read_text()))]
     assert found == [] and len(list(checked[0].glob("*.pid"))) >= 10
 
 

@@ -2,21 +2,22 @@
 
 Each measure of the program also runs over a program that answers nothing: it must not end with 0 then. bench/gate is left out, since it runs the gate itself.
 """
-import subprocess
+import json
+from pathlib import Path
 
 import pytest
 
-from office_kit.common import ROOT, stand_in
+from bench.gate_model import minutes_on
+from office_kit.common import ROOT, ended, stand_in
 
 pytestmark = [pytest.mark.budget(120), pytest.mark.time]
 MEASURES = {
     "desk": "bench/desk --count 20 --rounds 1",
     "year": "bench/year --notices 1 --size 200 --rounds 1",
-    "year_in_files": "bench/year --notices 1 --size 200 --rounds 1 --page-sizes 4096,1024",
     "long_notice": "bench/long_notice --releases 60",
     "serve": "bench/serve --count 10 --lines 10 --rounds 1 --page-sizes 4096,1024",
     "record": "bench/record --counts 2,4 --merges 4,8 --rounds 2 --page-sizes 4096,1024",
-    "frames": "bench/frames --lines 100 --tenderers 4 --notices 2 --tenders 2 --rounds 2 --pages --page-sizes 4096,1024",
+    "frames": "bench/frames --lines 100 --tenderers 4 --notices 2 --tenders 2 --rounds 2 --page-sizes 4096,1024",
     "present": "bench/present --many 4 --few 2 --rounds 3 --times 1 --page-sizes 4096,1024",
     "looks": "bench/looks --few 110 --many 220 --count 3 --rounds 1 --notices 1 --lots 2 --tenders 2 --lines 1000",
     "sums": "bench/sums --contracts 4,8 --lines 2 --bare 1000 --count 2 --rounds 1 --payments 2",
@@ -28,16 +29,14 @@ PROVED = {"ledger": "sh bench/ledger/run.sh", "merge": "sh bench/merge/run.sh", 
 
 def run(line, *more):
     """The status of a measure, and its output. If it says that a tool is missing, it isn't run."""
-    ran = subprocess.run([*line.split(), *more], cwd=ROOT, stdin=subprocess.DEVNULL, stdout=subprocess.PIPE, stderr=subprocess.STDOUT, text=True)
-    if ran.returncode == 3:
-        pytest.skip(ran.stdout.strip())
-    return ran.returncode, ran.stdout
+    status, said = ended([*line.split(), *more], cwd=ROOT)
+    if status == 3:
+        pytest.skip(said.strip())
+    return status, said
 
 
 @pytest.mark.parametrize("line", MEASURES.values(), ids=MEASURES)
-def test_measure(request, line):
-    """(bench/year puts a library before the C library to set the program's clock.)"""
-    program = request.getfixturevalue("plain_program" if line.startswith("bench/year") and "--page-sizes" in line else "program")
+def test_measure(program, line):
     status, said = run(line, "--program", program)
     assert status == 0, said
 
@@ -56,5 +55,7 @@ def test_measure_with_a_program_of_its_own(line):
 
 
 def test_model_of_the_gate():
-    status, said = run("bench/gate_model.py bench/gate.json")
-    assert status == 0, said
+    """By the minutes of the run that is kept, more processors need less time."""
+    table = json.loads(Path(ROOT, "bench", "gate.json").read_text(encoding="utf-8"))
+    two, four, many = (minutes_on(ROOT, table, lanes) for lanes in (2, 4, 1000))
+    assert two > four > many > 0

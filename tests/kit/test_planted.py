@@ -6,14 +6,13 @@ missing), and name the change. `tools/calls` and `tools/index` compare nothing: 
 """
 import functools
 import os
-import subprocess
 import sys
 import tomllib
 from pathlib import Path
 
 import pytest
 
-from office_kit.common import ROOT, copy_into
+from office_kit.common import ROOT, copy_into, ended
 from office_kit.gate.wrong_bodies import came_to
 
 pytestmark = pytest.mark.budget(400)
@@ -53,9 +52,9 @@ def run(folder, script):
     """The status of a script in the folder, and its output, or the document that it wrote. (tools/check_docs finds no tools but those in bin/.)"""
     name, *words = COMMANDS[script].split()
     places = {"PATH": f"{folder}/bin", "PROCURE": f"{folder}/bin/stand-in"} if script == "docs" else {}
-    done = subprocess.run([sys.executable, os.path.join(ROOT if script == "lint" else folder, name), *words], cwd=folder, env={**os.environ, **places},
-                          stdout=subprocess.PIPE, stderr=subprocess.STDOUT, text=True)
-    return done.returncode, done.stdout if script not in WRITTEN or done.returncode else (folder / WRITTEN[script]).read_text(encoding="utf-8")
+    command = [sys.executable, os.path.join(ROOT if script == "lint" else folder, name), *words]
+    status, said = ended(command, cwd=folder, env={**os.environ, **places})
+    return status, said if script not in WRITTEN or status else (folder / WRITTEN[script]).read_text(encoding="utf-8")
 
 
 @pytest.fixture(scope="module")

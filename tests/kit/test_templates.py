@@ -1,17 +1,15 @@
 """The programs that aren't crates of the repository, *.rt.in, compile: otherwise a renamed item in a crate would break them unnoticed. Nothing is proved.
 
-Each is put beside the crates that it uses, as its own script does it. Then `rt try` compiles it and runs it for a second. It compiled if the run begins. One
-with a name changed must not compile.
+Each is put beside a copy of the crates, as tools/first_run/run.sh does it. Then `rt try` compiles it and runs it for a second. It compiled if the run begins.
+One with a name changed must not compile.
 """
 import os
-import shutil
 import subprocess
 from pathlib import Path
 
 import pytest
 
-from office_kit.common import ROOT
-from office_kit.gate.crates import crates_of
+from office_kit.common import ROOT, ended
 
 RT = os.environ.get("RT", "rt")
 pytestmark = [pytest.mark.budget(300), pytest.mark.proofs, pytest.mark.xdist_group("machine"), pytest.mark.needs(RT)]
@@ -28,32 +26,20 @@ TEMPLATES = {
 }
 
 
-def lay_out(folder, name, old, new):
-    """The crate of a program, beside those that it uses."""
-    files, uses = TEMPLATES[name]
-    below = crates_of(ROOT)
-    own = [it for it in uses.split() if it in below]
-    wanted = set(own).union(*(below[it] for it in own))
-    (home := folder / "crates" / "program").joinpath("src").mkdir(parents=True)
-    for crate in wanted:
-        shutil.copytree(os.path.join(ROOT, "crates", crate), folder / "crates" / crate, ignore=shutil.ignore_patterns("out", "must-fail", "BUILD.bazel"))
-    for file, place in files.items():
-        (home / "src" / place).write_text(Path(ROOT, file).read_text(encoding="utf-8").replace(old, new), encoding="utf-8")
-    lines = [line for line in Path(ROOT, "crates.txt").read_text(encoding="utf-8").splitlines(True) if line.partition(":")[0].strip() in wanted]
-    (folder / "crates.txt").write_text("".join([*lines, f"program: {uses}\n"]), encoding="utf-8")
-    shutil.copy(os.path.join(ROOT, "HANDLES"), folder)
-    return home
-
-
 @pytest.mark.parametrize("name, old, new, compiles", [
     ("first_run", "", "", True),
     *(pytest.param(name, "", "", True, marks=pytest.mark.long) for name in TEMPLATES if name != "first_run"),
     ("refused", "merge_into(", "merge_unto(", False),
 ], ids=lambda it: it if it in TEMPLATES else None)
 def test_program(tmp_path, name, old, new, compiles):
-    home = lay_out(tmp_path, name, old, new)
+    (files, uses), home = TEMPLATES[name], tmp_path / "crates" / "program"
+    subprocess.run([f"{ROOT}/tools/copy_crates", tmp_path], check=True)
+    (home / "src").mkdir(parents=True)
+    for file, place in files.items():
+        (home / "src" / place).write_text(Path(ROOT, file).read_text(encoding="utf-8").replace(old, new), encoding="utf-8")
+    with open(tmp_path / "crates.txt", "a", encoding="utf-8") as crates:
+        crates.write(f"program: {uses}\n")
     with open(os.path.join(ROOT, "crates", "procure", "stdin"), "rb") as source:
-        ran = subprocess.run([RT, "try", "--steps", "1000", "--seconds", "1"], cwd=home, stdin=source, stdout=subprocess.PIPE, stderr=subprocess.STDOUT,
-                             text=True, errors="replace")
-    last = ran.stdout.rstrip().rpartition("\n")[2]
-    assert ("proved=no" in last and "run=none" not in last) == compiles, ran.stdout
+        _, said = ended([RT, "try", "--steps", "1000", "--seconds", "1"], cwd=home, stdin=source)
+    last = said.rstrip().rpartition("\n")[2]
+    assert ("proved=no" in last and "run=none" not in last) == compiles, said

@@ -9,7 +9,7 @@ from pathlib import Path
 
 import pytest
 
-from office_kit.common import ROOT, stand_in
+from office_kit.common import ROOT, planted, stand_in
 
 pytestmark = pytest.mark.xdist_group("machine")
 LEDGER = "LEDGER\\nline\\tappropriation\\tfree\\treserved\\tcontracted\\tpaid\\n"
@@ -27,7 +27,7 @@ class Ledger(http.server.BaseHTTPRequestHandler):
     def do_GET(self):
         self.send_response(200)
         self.end_headers()
-        self.wfile.write(b"%s")
+        self.wfile.write(b"LEDGER")
     def log_message(self, *_):
         pass
 server = http.server.HTTPServer(("127.0.0.1", int(sys.argv[1])), Ledger)
@@ -36,20 +36,18 @@ for _ in range(int(sys.argv[2])):
 """
 PYTHON = os.path.realpath(sys.executable)
 LOADER = "/lib64/ld-linux-x86-64.so.2"
-# The line by which tools/try finds the program's file, and the lines that replace it, to find another file.
-OWN_FILE = "    own = [path for path in paths if not "
-WRONG_FILES = {"the loader": "    own = [] and [path for path in paths if not ", "a shared object": "    own = [path for path in paths if "}
+# The words by which tools/try finds the program's file.
+OWN_FILE = "own = [path for path in paths if not "
 
 
-def run(folder, answer=LEDGER, failing="", server=SERVER, rt="bin/rt", loader="", root=ROOT):
+def run(folder, answer=LEDGER, failing="", server=SERVER, rt="bin/rt", loader="", script=f"{ROOT}/tools/try"):
     """`tools/try` by a toolchain in this folder."""
-    server = server % answer if "%" in server else server
-    for name, text in (("bin/rt", RT.format(python=PYTHON, home=sys.base_prefix, failing=failing, loader=loader, server=server)),
-                       ("toolchain/bin/clang", 'printf "%s;" "$@"')):
+    program = RT.format(python=PYTHON, home=sys.base_prefix, failing=failing, loader=loader, server=server.replace("LEDGER", answer))
+    for name, text in (("bin/rt", program), ("toolchain/bin/clang", 'printf "%s;" "$@"')):
         (folder / name).parent.mkdir(parents=True)
         stand_in(str(folder / name), text)
-    environment = {**os.environ, "RT": f"{folder}/{rt}", "ASKED": f"{folder}/asked"}
-    return subprocess.run([f"{root}/tools/try", "--to", folder / "to" / "procure"], capture_output=True, text=True, env=environment)
+    environment = {**os.environ, "RT": f"{folder}/{rt}", "ASKED": f"{folder}/asked", "PYTHONPATH": ROOT}
+    return subprocess.run([sys.executable, script, "--to", folder / "to" / "procure"], capture_output=True, text=True, env=environment)
 
 
 def is_program(folder):
@@ -67,20 +65,11 @@ def test_program_is_left(tmp_path, loader):
     assert (tmp_path / "asked").read_bytes() == b"-c;-O1;a b;"
 
 
-@pytest.mark.parametrize("line", WRONG_FILES.values(), ids=["the_loader", "a_shared_object"])
-def test_another_file_is_seen(tmp_path, line):
+@pytest.mark.parametrize("words", [f"own = [] and {OWN_FILE[6:]}", OWN_FILE.removesuffix("not ")], ids=["the_loader", "a_shared_object"])
+def test_another_file_is_seen(tmp_path, words):
     """A tools/try that takes another file for the program leaves it."""
-    text = Path(ROOT, "tools", "try").read_text(encoding="utf-8")
-    assert text.count(OWN_FILE) == 1
-    (checkout := tmp_path / "checkout").joinpath("tools").mkdir(parents=True)
-    for source, to in ((ROOT, checkout), (f"{ROOT}/tools", checkout / "tools")):
-        for name in {*os.listdir(source)} - {"tools", "try"}:
-            (to / name).symlink_to(f"{source}/{name}")
-    (checkout / "tools" / "try").write_text(text.replace(OWN_FILE, line), encoding="utf-8")
-    (checkout / "tools" / "try").chmod(0o755)
-    (tmp_path / "room").mkdir()
-    told = run(tmp_path / "room", loader=LOADER, root=checkout)
-    assert told.returncode == 0 and not is_program(tmp_path / "room"), told
+    told = run(tmp_path, loader=LOADER, script=planted(f"{ROOT}/tools/try", tmp_path, OWN_FILE, words))
+    assert told.returncode == 0 and not is_program(tmp_path), told
 
 
 @pytest.mark.parametrize("fault, status", [({"failing": "exit 4"}, 1), ({"server": "pass"}, 1), ({"answer": "<html>"}, 1), ({"rt": "bin/absent"}, 3)],

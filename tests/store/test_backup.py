@@ -1,5 +1,4 @@
 """The copies of deploy/backup.sh, of running and stopped offices: whole, checked, and deleted in turn. Scripts without one of its checks accept bad ones."""
-import contextlib
 import functools
 import lzma
 import os
@@ -8,15 +7,15 @@ import threading
 
 import pytest
 
-from office_kit.client import Client, Port, budget
+from office_kit.client import budget
 from office_kit.common import CONFIG, ROOT, planted, stand_in
 from office_kit.store import pages
 from office_kit.store.files import VERSION_1, sqlite
-from office_kit.store.served import server
+from office_kit.store.served import served
 
 pytestmark = [pytest.mark.needs("sqlite3"), pytest.mark.budget(120)]
 SCRIPT = os.path.join(ROOT, "deploy", "backup.sh")
-LISTENS, LINES = 60, 300
+LINES = 300
 
 
 def rows(count, first=0, title="Roads"):
@@ -36,16 +35,9 @@ class Trial:
         self.words = {**os.environ, "PROCURE": program, "TRIES": "1", "STOP": f"{say} stop", "START": f"{say} start"}
         pages.begin(str(self.file), size)
 
-    @contextlib.contextmanager
-    def served(self, count=None, file=None):
-        """The client of a server over the file. It ends on its own after so many requests, or is killed."""
-        with server(self.program, file or self.file, *[count] if count else []) as (process, port):
-            yield Client(Port(port))
-            assert not count or process.wait(LISTENS) == 0
-
     def fill(self):
-        with self.served(1) as office:
-            office.import_budget("B1", rows(LINES))
+        with served(self.program, self.file, 1) as office:
+            office.client.import_budget("B1", rows(LINES))
 
     def fill_without_log(self):
         self.fill()
@@ -91,14 +83,14 @@ class Trial:
                 done.write_text("\n")
         threading.Thread(target=answer_each, daemon=True).start()
 
-    def move_log(self, office):
+    def move_log(self, client):
         """Imports until the log was moved, and then one more time."""
         before, is_moved = self.log.read_bytes()[:32], False
         while not is_moved:
             is_moved = self.log.read_bytes()[:32] != before
             self.count += 1
             # (Each changes pages of its own, so that the log is soon moved, and a pair has not all of them.)
-            office.import_budget(f"M{self.count}", rows(250, 1000 * self.count, "Roads".ljust(200, ".")))
+            client.import_budget(f"M{self.count}", rows(250, 1000 * self.count, "Roads".ljust(200, ".")))
 
 
 @pytest.fixture
@@ -110,25 +102,25 @@ def trial(program, tmp_path, size):
 
 def test_a_good_copy(trial):
     """A copy of an office that is being served is one file with everything that was answered. Nothing is stopped."""
-    with trial.served() as office:
-        office.import_budget("B1", rows(LINES))
-        ledger = office.ledger().body
+    with served(trial.program, trial.file) as office:
+        office.client.import_budget("B1", rows(LINES))
+        ledger = office.client.ledger().body
         run = trial.back_up()
         assert run.returncode == 0 and "nothing was stopped" in run.stdout and "is good" in run.stdout
-        assert not trial.said.read_text() and office.ledger().body == ledger
+        assert not trial.said.read_text() and office.client.ledger().body == ledger
     trial.is_one_copy()
     assert trial.copy().with_suffix(".ledger").read_bytes() == ledger
     assert trial.copy().stat().st_mode & 0o077 == 0, "others can't read the copy"
-    with trial.served(1, trial.copy()) as office:
-        assert office.ledger().body == ledger
+    with served(trial.program, trial.copy(), 1) as office:
+        assert office.client.ledger().body == ledger
 
 
 def test_a_moved_log(trial):
     """If the log is moved between the two copies, the script makes them again. Without this check it takes a pair in which answered commands are missing."""
     batches = "SELECT count(*) FROM batches"
-    with trial.served() as office:
-        office.import_budget("B1", rows(LINES))
-        moves = functools.partial(trial.move_log, office)
+    with served(trial.program, trial.file) as office:
+        office.client.import_budget("B1", rows(LINES))
+        moves = functools.partial(trial.move_log, office.client)
         trial.works_between(moves, lambda: None, moves)
         run = trial.back_up(TRIES="2")
         assert run.returncode == 0 and "whole at try 2" in run.stdout
@@ -165,13 +157,13 @@ def is_whole(trial, file, log, early, late):
 def test_half_moved(trial):
     """While an office's log is being moved into the file, the file is whole with a log that was copied after it, and isn't with one copied before it."""
     trial.fill_without_log()
-    with trial.served() as office:
+    with served(trial.program, trial.file) as office:
         # Imports of one line first, and then of all: so the later log has pages that the earlier one doesn't have.
         for number in range(3):
-            office.import_budget(f"C{number}", rows(1))
+            office.client.import_budget(f"C{number}", rows(1))
         earlier = trial.log.read_bytes()
         for number in range(3):
-            office.import_budget(f"D{number}", rows(LINES))
+            office.client.import_budget(f"D{number}", rows(LINES))
         file, log = trial.file.read_bytes(), trial.log.read_bytes()
     assert log[:32] == earlier[:32], "the log has one head"
     assert is_whole(trial, file, log, 3, 3) and is_whole(trial, file, earlier, 3, 0)
@@ -254,9 +246,9 @@ def test_no_office(trial):
 
 def test_no_room(trial):
     """If the copy can't be written, nothing of it is left, and nothing was stopped."""
-    with trial.served() as office:
+    with served(trial.program, trial.file) as office:
         for number in range(20):
-            office.import_budget(f"C{number}", rows(LINES))
+            office.client.import_budget(f"C{number}", rows(LINES))
         run = trial.back_up("set -eu\n", "set -eu\nulimit -f 4\n")
     assert run.returncode == 1 and "the copy can't be written" in run.stderr
     assert not trial.left() and not trial.said.read_text()
@@ -278,7 +270,6 @@ def test_no_service(trial, word, said):
 def test_wrong_words(program, tmp_path, words):
     """The status is 2 for wrong arguments, or a file or folder that doesn't exist, before anything is stopped."""
     trial = Trial(program, tmp_path, pages.NEW)
-    words = [CONFIG if it == "CONFIG" else str(tmp_path / it) for it in words.split()]
-    run = subprocess.run([SCRIPT, *words], env=trial.words, capture_output=True, text=True)
+    run = subprocess.run([SCRIPT, *words.replace("CONFIG", CONFIG).split()], cwd=tmp_path, env=trial.words, capture_output=True, text=True)
     assert run.returncode == 2 and run.stderr
     assert not trial.said.read_text()

@@ -9,17 +9,14 @@ or is `Unavailable` if appropriation = free + reserved + contracted + paid doesn
 import os
 import re
 import shutil
-import sqlite3
 import subprocess
-from contextlib import closing
 
 import pytest
 
-from office_kit.audit.office import SUMS
 from office_kit.client import COMMANDS as METHODS, Client, Port, Requests, answer_of
 from office_kit.common import ROOT, exchange, look
 from office_kit.store.broken_trials import ANEW, COMMANDS, MAY, MOVES, BrokenLife, trials
-from office_kit.store.files import dump, printed, scripts_of, sqlite, wrong
+from office_kit.store.files import dump, printed, scripts_of, sqlite, sums_in, wrong
 from office_kit.store.served import Serving, server
 
 pytestmark = [pytest.mark.needs("sqlite3"), pytest.mark.time, pytest.mark.budget(180)]
@@ -107,10 +104,7 @@ def test_command(whole, name, tmp_path):
 
 def sums_of(path, lines="SELECT line FROM lines"):
     """The sums of lines, as SQLite finds them. A line that doesn't add up is Unavailable."""
-    with closing(sqlite3.connect(path)) as base:
-        base.executescript(SUMS)
-        rows = base.execute(f"SELECT line, {', '.join(NAMES)} FROM pots WHERE line IN ({lines}) ORDER BY line").fetchall()
-    return {line: sums if sums[0] == sum(sums[1:]) and min(sums) >= 0 else UNAVAILABLE for line, *sums in rows}
+    return {line: sums if sums[0] == sum(sums[1:]) and min(sums) >= 0 else UNAVAILABLE for line, *sums in sums_in(path, lines)}
 
 
 def right_answers(path):
@@ -130,14 +124,11 @@ def answers_of(program, path):
 
 
 def try_sums(whole, change, program, folder):
+    """Lines and the ledger are shown as SQLite finds them. Returns how many are Unavailable."""
     path = whole.copy(folder, change)
     right = right_answers(path)
     assert answers_of(program, path) == [*right, right[-1]], "other sums"
-    return right
-
-
-def test_sums_that_are_not_shown(whole, tmp_path):
-    assert try_sums(whole, CHANGES["one more is free"], whole.program, tmp_path).count(UNAVAILABLE) == 2
+    return right.count(UNAVAILABLE)
 
 
 def try_moves(whole, change, program, folder):
@@ -158,8 +149,9 @@ def test_change(whole, change, test, tmp_path):
     test(whole, CHANGES[change], whole.program, tmp_path)
 
 
-def test_moves_that_are_refused(whole, tmp_path):
-    assert try_moves(whole, CHANGES["all is free"], whole.program, tmp_path) == len(MOVES) - 1
+@pytest.mark.parametrize("test, change, count", [(try_sums, "one more is free", 2), (try_moves, "all is free", len(MOVES) - 1)])
+def test_what_is_refused(whole, test, change, count, tmp_path):
+    assert test(whole, CHANGES[change], whole.program, tmp_path) == count
 
 
 # ---- Planted faults.

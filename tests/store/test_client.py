@@ -1,34 +1,30 @@
 """The client that tests and measures share (office_kit/client.py): its routes, its transports, refusals, and how it waits. Planted faults are found."""
+import itertools
 import re
 import socket
 import threading
 import time
-from pathlib import Path
 
 import pytest
 
 from office_kit import client
 from office_kit.client import Answer, Blocks, Client, Front, Port, Requests, budget, lot, notice, tender
-from office_kit.common import FIELDS, HOST, ROOT
-from office_kit.store.served import Handler, answered_by
+from office_kit.common import FIELDS, HOST
+from office_kit.front.checks import routes
+from office_kit.front.office import StandIn
 
 MOMENT = re.compile(rb"\d{4}-\d\d-\d\dT\d\d:\d\d:\d\dZ")
 DEADLINE = "2099-03-01T12:00:00Z"
 # The arguments of each method.
 GIVEN = {"import_budget": ("B1", budget()), "register": ("T1",), "publish": ("N1", {}), "amend_notice": ("N1", DEADLINE), "cancel": ("N1",), "open": ("N1",),
          "examine": (1,), "award": ("N1", "L1"), "fail": (1,), "sign": (1,), "amend_contract": (1, "E1", "raise", 1), "pay": (1, "P1", 1), "end": (1,),
-         "present": ("T1", "N1", "L1", "x"), "modify": ("T1", 1, "x"), "withdraw": ("T1", 1), "line": ("1000",), "ledger": (), "releases": ("N1",),
+         "present": ("T1", "N1", "L1", "x"), "modify": ("T1", 1, "x"), "withdraw": ("T1", 1), "line": ("1100",), "ledger": (), "releases": ("N1",),
          "record": ("N1",), "minutes": ("N1",), "tender_register": ("N1",), "tender": ("T1", 1), "security": ("T1", 1), "performance_security": ("clerk", 1),
          "notices": (), "terms": ("N1",), "own_tenders": ("T1", "N1"), "evaluation": ("N1",), "securities": ("N1",), "tenderers": (),
          "contract_seen": ("T1", 1)}
-NAMES = {"batch": "B1", "tenderer": "T1", "notice": "N1", "lot": "L1", "line": "1000"}
 METHODS = (*client.COMMANDS, *client.QUERIES)
-
-
-def routes():
-    """The routes of docs/API.md: a method and a path, and the callers that may ask."""
-    rows = re.findall(r"^\| \[`(GET|POST) (/[^`]*)`\]\([^)]*\) \| ([^|]*) \|", Path(ROOT, "docs", "API.md").read_text(encoding="utf-8"), re.M)
-    return {(method, re.sub(r"\{(\w+)\}", lambda name: NAMES.get(name[1], "1"), path)): who for method, path, who in rows}
+# The callers that may ask each method and path, by docs/API.md.
+CALLERS = {(method, path): who for method, path, who in routes()}
 
 
 def asked(name):
@@ -42,12 +38,12 @@ def asked(name):
 def test_route(name):
     """It is one of docs/API.md, asked by a caller that may ask it."""
     route, who = asked(name)
-    assert ("tenderer" if who == "T1" else who) in routes()[route]
+    assert ("tenderer" if who == "T1" else who) in CALLERS[route]
     assert (route[0] == "POST") == (name in client.COMMANDS)
 
 
 def test_each_route_is_asked():
-    assert {asked(name)[0] for name in METHODS} == routes().keys()
+    assert {asked(name)[0] for name in METHODS} == CALLERS.keys()
 
 
 def life(office):
@@ -56,22 +52,20 @@ def life(office):
             office.tender("T1", 1), office.open("N1"), office.security("clerk", 1), office.line("1000"), office.ledger(), office.record("N1")]
 
 
-def relay(office, times=0, wait="1"):
-    """A front that passes requests on to the office at a port, or first answers 429 some times; and the moments of all requests, as they come."""
-    came = []
+class Relay(StandIn):
+    """A front that passes requests on to the office at a port, or first answers 429 some times. It keeps the moments of all requests, as they come."""
 
-    class Relay(Handler):
-        def do_GET(self):
-            came.append(time.monotonic())
-            body = self.rfile.read(int(self.headers.get("Content-Length", "0")))
-            if len(came) <= times:
-                return self.tell(429, b"later", **{"Retry-After": wait})
-            caller = tuple(self.headers.get(name.decode(), "").encode() for name in FIELDS)
-            answer = Port(office, strict=False).send(self.command, self.path, body, caller if any(caller) else None)
-            return self.tell(answer.status, answer.body)
+    def __init__(self, office, times=0, wait="1"):
+        self.office, self.times, self.wait, self.came = Port(office, strict=False), times, wait, []
+        super().__init__()
 
-        do_POST = do_GET
-    return answered_by(Relay), came
+    def answer(self, request):
+        self.came.append(time.monotonic())
+        if len(self.came) <= self.times:
+            return 429, b"later", {"Retry-After": self.wait}
+        caller = tuple(request.head.get(name.decode(), "").encode() for name in FIELDS)
+        answer = self.office.send(request.method, request.path, request.body, caller if any(caller) else None)
+        return answer.status, answer.body, {}
 
 
 def plain(answers):
@@ -95,8 +89,8 @@ def test_a_port_answers_as_blocks(serving, of_blocks):
 
 
 def test_a_front_answers_as_blocks(serving, of_blocks):
-    with relay(serving().port)[0] as base:
-        assert plain(life(Client(Front(base, strict=False)))) == of_blocks
+    with Relay(serving().port) as front:
+        assert plain(life(Client(Front(front.address, strict=False)))) == of_blocks
 
 
 def test_a_refusal_ends_the_test(office):
@@ -116,18 +110,16 @@ def test_no_response():
 
 
 def test_it_waits_after_429(office):
-    front, came = relay(office.port, times=2, wait="1")
-    with front as base:
-        Client(Front(base)).ledger()
-    gaps = [later - earlier for earlier, later in zip(came, came[1:])]
+    with Relay(office.port, times=2) as front:
+        Client(Front(front.address)).ledger()
+    gaps = [later - earlier for earlier, later in itertools.pairwise(front.came)]
     assert len(gaps) == 2 and min(gaps) >= 1
 
 
 def test_it_gives_up_after_429(office):
-    front, came = relay(office.port, times=1000, wait="0")
-    with front as base, pytest.raises(SystemExit, match=f"GET /ledger: 429, {client.TRIES} times"):
-        Client(Front(base)).ledger()
-    assert len(came) == 60
+    with Relay(office.port, times=1000, wait="0") as front, pytest.raises(SystemExit, match=f"GET /ledger: 429, {client.TRIES} times"):
+        Client(Front(front.address)).ledger()
+    assert len(front.came) == 60
 
 
 ASK, EXCHANGE = Front.ask, Port.exchange

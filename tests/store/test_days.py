@@ -21,11 +21,10 @@ from collections import Counter, namedtuple
 import pytest
 
 from office_kit.client import COMMANDS
-from office_kit.common import CLERK, CONFIG, OK, ROOT, connect, is_whole, look, made_shim, read_all
+from office_kit.common import CLERK, CONFIG, OK, ROOT, connect, exchange, is_whole, look, made_shim, what_came
 from office_kit.store import fault_plays, pages
 from office_kit.store.files import ledger_of, rows_of, unlike
 from office_kit.store.served import MANY, server
-from office_kit.store.shims import CLOCK
 
 pytestmark = [pytest.mark.needs("cc"), pytest.mark.budget(120)]
 # The second of each day, and its request: first that of the ledger, and then one command a day.
@@ -51,20 +50,15 @@ class Office:
             folder.mkdir()
             pages.begin(self.path, size)
 
-    @contextlib.contextmanager
     def on(self, number, count=MANY, settings=CONFIG):
-        """A server of so many connections on a day, and its first connection. If it doesn't end on its own, it is killed."""
+        """A server of so many connections on a day, and its port. If it doesn't end on its own, it is killed."""
         clock = {"LD_PRELOAD": self.shim, "SECOND": str(LIFE[number][0])}
-        with server(self.program, self.path, count, settings, env={**os.environ, **clock}) as (process, port), connect(port, LISTENS) as stream:
-            yield process, stream
+        return server(self.program, self.path, count, settings, env={**os.environ, **clock})
 
     def asked(self, number, request, settings=CONFIG, answer=OK, is_killed=False):
         """The seconds of a request, on a day that ends on its own after it, or is killed."""
-        with self.on(number, MANY if is_killed else 1, settings) as (process, stream):
-            begun = time.perf_counter()
-            stream.sendall(request)
-            response = read_all(stream)
-            took = time.perf_counter() - begun
+        with self.on(number, MANY if is_killed else 1, settings) as (process, port):
+            response, took = exchange(port, request, LISTENS)
             assert response.startswith(answer) and is_whole(response) == (answer == OK)
             assert is_killed or process.wait(LISTENS) == 0
         return took
@@ -72,15 +66,12 @@ class Office:
     def killed(self, number, request, delay, by_log):
         """Whether a request was answered as a whole, on a day with a kill after so many seconds. (It is sent after the first ones of these, BEFORE.) If
         `by_log`, they are counted from the first write to the log."""
-        response = b""
-        with self.on(number) as (process, stream):
+        with self.on(number) as (process, port):
+            connect(port, LISTENS).close()
             killer = threading.Thread(target=self.kill_in_time, args=(process, delay, self.log() if by_log else None))
             killer.start()
             time.sleep(BEFORE)
-            with contextlib.suppress(OSError):
-                stream.sendall(request)
-                while part := stream.recv(1 << 16):
-                    response += part
+            response = what_came(port, request)
             killer.join()
             assert process.wait() == -signal.SIGKILL, "it ended by itself"
         assert not response or OK.startswith(response[:len(OK)]), "refused"
@@ -120,7 +111,7 @@ def what_is_left(before, after, found, answered):
 def whole(request, program, tmp_path_factory):
     """An office that was served on all days, with these."""
     folder = tmp_path_factory.mktemp("days")
-    office = Office(program, made_shim(CLOCK, str(folder)), folder / "whole", request.param)
+    office = Office(program, made_shim("store/clock.c", str(folder)), folder / "whole", request.param)
     for number, (_, text) in enumerate(LIFE):
         seconds = office.asked(number, text)
         office.days.append(Day(seconds, office.rows(), shutil.copy(office.path, folder / f"day-{number}.db")))

@@ -4,7 +4,6 @@ Each comparison of the check is made void (planted_in_check.tsv), and a test fai
 programs in place of the installed ones, and something if a word in one is wrong.
 """
 import contextlib
-import functools
 import io
 import json
 import os
@@ -28,34 +27,22 @@ UNITS = {path.name: path.read_text(encoding="utf-8") for path in sorted(Path(ROO
 OK, WARNING, CRITICAL, WORDS = range(4)
 DAY, HOUR = 86_400, 3_600
 LOTS = "https://raw.githubusercontent.com/open-contracting-extensions/ocds_lots_extension/v1.1.5/extension.json"
-# The replacement of a line of the settings, and the setting that must be named; the program accepts those without a name.
-SETTINGS = [
-    ("prefix =", 'prefix = "ocds-a1b2c"', "prefix"),
-    ("prefix =", "", "prefix"),
-    ("currency =", 'currency = "eur"', "currency"),
-    ("language =", 'language = "EN"', "language"),
-    ("base =", "base = 7", "base"),
-    ("base =", 'base = ""', "base"),
-    ("base =", f'base = "{"x" * 201}"', "base"),
-    ("publisher =", 'publisher = "a\\tb"', "publisher"),
-    ("extensions =", 'extensions = "none"', "extensions"),
-    ("extensions =", f"extensions = {['https://a.b'] * 11}", "extensions"),
-    ("extensions =", "", "extensions"),
-    ("clerk_key =", 'clerk_key = "ba78"', "clerk_key"),
-    ("id =", 'id = "a b"', "buyer.id"),
-    ("id =", f'id = "{"x" * 33}"', "buyer.id"),
-    ("[buyer]", "", "buyer.id"),
-    ("name =", 'name = ""', "buyer.name"),
-    ("currency =", 'currency = "EUR', None),
-    ("clerk_key =", f'clerk_key = "{"AB" * 32}"', ""),
-    ("extensions =", f"extensions = {['https://a.b'] * 10}", ""),
-    ("publisher =", f'publisher = "{"ü" * 100}"', ""),
-    ("publisher =", f'publisher = "{"ü" * 101}"', "publisher"),
-    ("currency =", 'currency = "EUR"\nother = 1', ""),
-]
+# Values of settings that the program refuses, and values that it accepts.
+WRONG = {"prefix": ["ocds-a1b2c"], "currency": ["eur"], "language": ["EN"], "base": [7, "", "x" * 201], "publisher": ["a\tb", "ü" * 101],
+         "extensions": ["none", ["https://a.b"] * 11], "clerk_key": ["ba78"], "buyer.id": ["a b", "x" * 33], "buyer.name": [""]}
+RIGHT = [("publisher", "ü" * 100), ("extensions", ["https://a.b"] * 10), ("clerk_key", "AB" * 32)]
+# The replacement of a line of the settings, and the setting that must be named: an empty text if the program accepts all, `None` if it isn't TOML.
+LINES = [("prefix =", "", "prefix"), ("extensions =", "", "extensions"), ("[buyer]", "", "buyer.id"), ("currency =", 'currency = "EUR', None),
+         ("currency =", 'currency = "EUR"\nother = 1', "")]
 RIGHT_BASES = ["https://office.example", "http://127.0.0.1:8080", "https://office.example/office/2", "https://[::1]:8443"]
 WRONG_BASES = ["foo bar", "https://office.example/", "https://office.example/a/", "ftp://office.example", "office.example", "https://office.example:port",
                "https://office.example?x=1", "https://", "https://a b"]
+
+
+def line_of(name, value):
+    """The line of a setting that has another value, and how it begins."""
+    begins = name.removeprefix("buyer.") + " ="
+    return begins, f"{begins} {json.dumps(value, ensure_ascii=False)}"
 
 
 class Trial:
@@ -65,7 +52,7 @@ class Trial:
         self.program, self.folder, self.script = program, folder, script
         self.file, self.copies, self.config, self.told, self.opener = (folder / name for name in ("office.db", "copies", "office.toml", "told", "opens"))
         self.copies.mkdir(parents=True)
-        self.set("extensions =", f'extensions = ["{LOTS}"]')
+        self.set(*line_of("extensions", [LOTS]))
 
     def set(self, begins, line):
         """Writes the settings of the walks, with a line that begins so in another form."""
@@ -96,9 +83,8 @@ class Trial:
     def make_copy(self, age, moment, ending="db"):
         """A copy of this age, of an office whose last command is of this moment."""
         path = self.copies / time.strftime(f"office-%Y%m%dT%H%M%SZ.{ending}", time.gmtime(time.time() - age))
-        self.make_office(path, moment)
         with contextlib.closing(sqlite3.connect(path)) as office:
-            office.execute("PRAGMA wal_checkpoint(TRUNCATE)")
+            office.executescript(f"PRAGMA journal_mode = wal; CREATE TABLE office AS SELECT {int(moment)} AS moment;")
         return path
 
     def content(self):
@@ -124,17 +110,18 @@ def named(trial):
 
 def test_settings(trial):
     """Of missing or wrong settings the check names first the one that the program names first. It also reports texts that are no address."""
-    for begins, line, name in SETTINGS:
+    wrong = [(*line_of(name, value), name) for name, values in WRONG.items() for value in values]
+    for begins, line, name in LINES + wrong + [(*line_of(name, value), "") for name, value in RIGHT]:
         trial.set(begins, line)
         assert named(trial) == name
         told = re.findall(r"(?m)^CRITICAL settings: (\S+)", trial.run("settings")[1])
         assert told[:1] == ([] if name == "" else [name or str(trial.config)])
     for base in RIGHT_BASES + WRONG_BASES:
-        trial.set("base =", f'base = "{base}"')
+        trial.set(*line_of("base", base))
         assert named(trial) == ""
         trial.says(*((WARNING, "all nine") if base in RIGHT_BASES else (CRITICAL, "base is")), "settings")
     for extension, status, told in (("lots", CRITICAL, "no address"), (LOTS, OK, "all nine"), ("https://example.org/points", WARNING, "lots extension")):
-        trial.set("extensions =", f'extensions = ["{extension}"]')
+        trial.set(*line_of("extensions", [extension]))
         trial.says(status, told, "settings")
 
 
@@ -173,7 +160,7 @@ def test_clock(trial):
 def test_before_start(trial):
     """The check reads the last moment from the file and its log, and changes neither. A warning lets the office start."""
     now = time.time()
-    trial.set("extensions =", "extensions = []")
+    trial.set(*line_of("extensions", []))
     trial.says(OK, "no command is known", "--before-start", "--room", "1")
     for ahead, status in ((HOUR, OK), (-HOUR, CRITICAL), (25 * HOUR, CRITICAL)):
         trial.make_office(trial.file, now - ahead)
@@ -196,8 +183,7 @@ def test_room(trial):
     for wanted, status in ((1, OK), (free * 5 // 4, WARNING), (free * 3, CRITICAL)):
         trial.says(status, "MB", "room", "--room", wanted)
         trial.says(OK, "", "room", "--before-start", "--room", wanted)
-    with open(trial.file, "w") as file:
-        file.truncate(8_100_000)
+    trial.file.write_bytes(bytes(8_100_000))
     for memory, status in ((10, WARNING), (11, OK)):
         trial.says(status, "raise LimitAS" if status else "MB free", "room", "--room", "1", "--memory", memory)
     bound = int(re.search(r"\nLimitAS=(\d+)G\n", UNITS["procure.service"])[1])
@@ -250,7 +236,7 @@ def test_jump(trial):
     trial.config.write_text("currency")
     trial.run("--before-start", "--clock-file", note)
     assert not note.exists()
-    trial.set("extensions =", f'extensions = ["{LOTS}"]')
+    trial.set(*line_of("extensions", [LOTS]))
     trial.says(OK, "", "--before-start", "--clock-file", note)
     trial.says(OK, "hasn't jumped", *words)
     noted = float(note.read_text())
@@ -298,15 +284,14 @@ def test_wrong_words(trial, words):
 
 ROWS = Path(__file__).with_name("planted_in_check.tsv").read_text(encoding="utf-8").splitlines()[1:]
 PLANTS = [row.replace(r"\n", "\n").split("\t") for row in ROWS]
-TESTS = {"settings": test_settings, "clock": test_clock, "before_start": test_before_start, "room": test_room, "copy": test_copy, "answer": test_answer,
-         "jump": test_jump, "standby": test_standby, "wrong_words": functools.partial(test_wrong_words, words="colour")}
 
 
 @pytest.mark.parametrize("name, old, new", PLANTS, ids=[f"{new} in {name}" for name, _, new in PLANTS])
 def test_planted(program, tmp_path, name, old, new):
     trial = Trial(program, tmp_path / "trial", planted(CHECK, tmp_path, old, new))
+    test, *case = name.split(" ")
     with pytest.raises(AssertionError):
-        TESTS[name](trial)
+        globals()[f"test_{test}"](trial, *case)
 
 
 # ---- The units.

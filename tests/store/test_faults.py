@@ -21,11 +21,12 @@ from collections import Counter
 
 import pytest
 
-from office_kit.common import HOST, free_port, look, read_all, running, serve_words
+from office_kit.common import HOST, look, read_all
 from office_kit.store import pages
 from office_kit.store.fault_plays import PLAYS
 from office_kit.store.faulty_disk import ALL, EVEN, FAILED, FLUSHES, NONE, ODD, WRITES, FaultyDisk, SmallDisk
 from office_kit.store.files import REFUSED, made_line, rows_of
+from office_kit.store.served import server
 
 pytestmark = [pytest.mark.needs("cc"), pytest.mark.budget(150)]
 LISTENS, IDLE = 60, look(b"/lines/none")
@@ -55,10 +56,9 @@ class Office(contextlib.ExitStack):
 
     def start(self):
         """Whether the server listens; else it has ended with `procure: store`."""
-        self.port, self.taken = free_port(), 0
-        words = serve_words(self.trial.program, self.path, self.port, self.count)
-        self.process = self.enter_context(running(words, env=self.trial.disk.environment(), stderr=subprocess.PIPE))
-        end = time.monotonic() + LISTENS
+        how = {"env": self.trial.disk.environment(), "stderr": subprocess.PIPE}
+        self.process, self.port = self.enter_context(server(self.trial.program, self.path, self.count, **how))
+        self.taken, end = 0, time.monotonic() + LISTENS
         while self.ask(IDLE)[0] is None:
             if self.process.poll() is not None:
                 self.end()
@@ -225,16 +225,11 @@ def trial(request, program, tmp_path_factory):
     return Trial(program, *request.param, tmp_path_factory.mktemp("faults"))
 
 
-def test_flush(trial, is_long):
-    for number in trial.spread("flush", is_long):
-        for left in (ALL, NONE, ODD, EVEN):
-            trial.fail_once(flush=number, left=left)
-    print(trial.tally)
-
-
-def test_write(trial, is_long):
-    for number in trial.spread("write", is_long):
-        trial.fail_once(write=number)
+@pytest.mark.parametrize("call, lefts", [("flush", (ALL, NONE, ODD, EVEN)), ("write", (ALL,))], ids=["flush", "write"])
+def test_one_call(trial, is_long, call, lefts):
+    for number in trial.spread(call, is_long):
+        for left in lefts:
+            trial.fail_once(**{call: number}, left=left)
     print(trial.tally)
 
 

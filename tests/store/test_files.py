@@ -15,10 +15,11 @@ from pathlib import Path
 
 import pytest
 
-from office_kit.common import CONFIG, free_port, import_of, look, running, timed_exchange
+from office_kit.client import budget
+from office_kit.common import CONFIG, free_port, running
 from office_kit.store import pages
 from office_kit.store.files import EMPTY, REFUSED, dump, made_line, scripts_of, sqlite, told, unlike, wrong
-from office_kit.store.served import server
+from office_kit.store.served import served
 
 pytestmark = [pytest.mark.needs("sqlite3"), pytest.mark.budget(120)]
 AT_ONCE, LISTENS = 3 * float(os.environ["SLOWNESS"]), 60
@@ -57,16 +58,16 @@ class Folder:
         words = [self.program, job, os.path.join(os.path.dirname(self.program), "office.toml"), name, *more]
         return told(subprocess.run(words, cwd=self.path, stdin=subprocess.DEVNULL, capture_output=True, text=True, timeout=LISTENS, **how))
 
-    def refused(self, name="office.db", jobs=("serve", "ledger"), **how):
-        """These programs refuse the file at once, and nothing changes."""
+    def refused(self, name="office.db", jobs=("serve", "ledger"), why="", **how):
+        """These programs refuse the file at once, and nothing changes. A fault is reported with the reason for which they must refuse it."""
         for job in jobs:
             before, begun = self.found(), time.monotonic()
             ended = self.run(job, name, **how)
             took = time.monotonic() - begun
-            assert ended == REFUSED, f"{job} ended with {ended}"
-            assert took < AT_ONCE, f"{job} took {took:.1f} s to refuse"
+            assert ended == REFUSED, f"{why}{job} ended with {ended}"
+            assert took < AT_ONCE, f"{why}{job} took {took:.1f} s to refuse"
             changed = unlike(before, self.found())
-            assert not changed, f"{job} changed {changed}"
+            assert not changed, f"{why}{job} changed {changed}"
 
     def database(self, script):
         """A database that sqlite3 makes."""
@@ -98,28 +99,26 @@ def folder(everybody, size):
 def test_two_servers(folder):
     """While a file is served, other programs are refused, even through a link. The server keeps running."""
     pages.begin(folder.file, folder.size)
-    with server(folder.program, folder.file, 3) as (process, port):
-        timed_exchange(port, import_of(b"B1", [b"1000,add,600,Roads"]), LISTENS)
+    with served(folder.program, folder.file, 3) as office:
+        office.client.import_budget("B1", budget("1000,add,600,Roads"))
         (folder.path / "link.db").symlink_to("office.db")
         folder.refused("office.db", ALL_JOBS)
         folder.refused("link.db", ALL_JOBS)
-        timed_exchange(port, import_of(b"B2", [b"1000,add,1,Roads"]))
-        assert b"1000\t601\t601\t0\t0\t0\n" in timed_exchange(port, look(b"/ledger"))[0]
-        assert process.wait(LISTENS) == 0
+        office.client.import_budget("B2", budget("1000,add,1,Roads"))
+        assert b"1000\t601\t601\t0\t0\t0\n" in office.client.ledger().body
     assert "1000\t601" in folder.run()[1], "then it can be opened"
 
 
 def test_a_reader(folder):
     """While a file is served, `sqlite3` finds it locked. While `sqlite3` reads it, the program refuses it, and the reader continues."""
     pages.begin(folder.file, folder.size)
-    with server(folder.program, folder.file, 2) as (process, port):
-        timed_exchange(port, look(b"/ledger"), LISTENS)
+    with served(folder.program, folder.file, 2) as office:
+        office.client.ledger()
         before = folder.found()
         ran = subprocess.run(["sqlite3", "-batch", folder.file, "SELECT count(*) FROM lines;"], capture_output=True, text=True)
         assert ran.returncode == 5 and "database is locked" in ran.stderr, f"sqlite3 finds the file locked, and not {ran}"
         assert folder.found() == before
-        timed_exchange(port, look(b"/ledger"))
-        process.wait(LISTENS)
+        office.client.ledger()
     with running(["sqlite3", "-batch", folder.file], stdin=subprocess.PIPE, stdout=subprocess.PIPE, text=True, bufsize=1) as reader:
         reader.stdin.write("BEGIN; SELECT count(*) FROM lines;\n")
         assert reader.stdout.readline() == "0\n"
@@ -146,16 +145,8 @@ def test_refused(folder, what):
     assert kind != "no file" or not folder.log.exists() or not folder.log.stat().st_size
 
 
-# The changes that sqlite3 makes to a table. One of its columns is named.
-CHANGES = {
-    "is gone": "DROP TABLE {table};",
-    "has another name": "ALTER TABLE {table} RENAME TO others;",
-    "has a column more": "ALTER TABLE {table} ADD COLUMN more TEXT;",
-    "has a condition more": "PRAGMA writable_schema = ON; UPDATE sqlite_master SET sql = replace(sql, ') STRICT', ', CHECK ({column} IS NOT 0)) STRICT')"
-                            " WHERE type = 'table' AND name = '{table}';",
-    "has a trigger": "CREATE TRIGGER seen AFTER INSERT ON {table} BEGIN SELECT 1; END;",
-    "has a unique index": "CREATE UNIQUE INDEX once ON {table} ({column});",
-}
+# The changes that sqlite3 makes to a table.
+CHANGES = {what: script for (what,), script in scripts_of(Path(__file__).with_name("changed_tables.sql"))}
 
 
 def test_another_form(folder):
@@ -195,27 +186,24 @@ def test_beside(folder):
     assert sqlite(folder.file, "SELECT text FROM notes; SELECT version FROM office;") == ["a", "b", "2"], "its own rows stay"
 
 
-def served(folder, line):
+def said_until_killed(folder, line):
     """The standard error of a server that is killed after an import of this line."""
-    with server(folder.program, "office.db", cwd=folder.path, stderr=subprocess.PIPE) as (process, port):
-        timed_exchange(port, import_of(b"B%d" % line, [b"%d,add,600,Roads" % line]), LISTENS)
-        process.kill()
-        return process.stderr.read().decode()
+    with served(folder.program, "office.db", cwd=folder.path, stderr=subprocess.PIPE) as office:
+        office.client.import_budget(f"B{line}", budget(f"{line},add,600,Roads"))
+        office.process.kill()
+        return office.process.stderr.read().decode()
 
 
 def test_used_log(folder):
     """A server that is killed early leaves everything in the log, beside a file without a table. With another bit in the log's head, without the file, or
     beside an empty file, the log is refused. Its own bytes give the ledger again."""
     pages.begin(folder.file, folder.size)
-    assert [served(folder, line) for line in (1000, 2000)] == [made_line("office.db"), ""], "a new office is said once"
+    assert [said_until_killed(folder, line) for line in (1000, 2000)] == [made_line("office.db"), ""], "a new office is said once"
     assert folder.file.stat().st_size <= folder.size and folder.log.stat().st_size > LEAST, "the file has no table"
     whole = folder.log.read_bytes()
     for at in (*range(GATE), *range(GATE + 1, HEADS)):
         folder.log.write_bytes(whole[:at] + bytes([whole[at] ^ 1 << at % 8]) + whole[at + 1:])
-        try:
-            folder.refused()
-        except AssertionError as why:
-            pytest.fail(f"bit {at % 8} of byte {at} of the log: {why}")
+        folder.refused(why=f"bit {at % 8} of byte {at} of the log: ")
     folder.log.write_bytes(whole)
     aside = folder.file.rename(folder.path / "aside")
     folder.refused()
@@ -228,7 +216,6 @@ def test_used_log(folder):
 
 # Programs that are wrong: the fault, the test that finds it, with its case, the words that it must say, and the script.
 WRONG = {fault: (test, said, script) for (fault, test, said), script in scripts_of(Path(__file__).with_name("wrong_programs.txt"), "# ")}
-TESTS = {test.__name__: test for test in (test_two_servers, test_a_reader, test_refused, test_another_form, test_foreign_log, test_beside, test_used_log)}
 
 
 @pytest.mark.parametrize("fault", WRONG)
@@ -236,8 +223,8 @@ def test_planted(folder, fault):
     test, said, script = WRONG[fault]
     name, *case = test.split(" ", 1)
     folder.program = wrong(os.path.dirname(folder.program), script.replace("AT_ONCE", str(AT_ONCE)), folder.program)
-    with pytest.raises((AssertionError, pytest.fail.Exception), match=re.escape(said)):
-        TESTS[name](folder, *case)
+    with pytest.raises(AssertionError, match=re.escape(said)):
+        globals()[name](folder, *case)
 
 
 def test_nothing_planted(folder):

@@ -9,30 +9,22 @@ larger files.
 import os
 import random
 import shutil
-import sqlite3
 import statistics
 import subprocess
 import time
-from contextlib import closing
 
 import pytest
 
-from office_kit.audit.office import SUMS
-from office_kit.common import CONFIG, peak
+from office_kit.common import CONFIG, peak, running
 from office_kit.store import pages
 from office_kit.store.earlier import in_version_2, made, statements_in, text_of
-from office_kit.store.files import ledger_of, rows_of, unlike
+from office_kit.store.files import ledger_of, rows_of, sums_in, unlike
 
 pytestmark = pytest.mark.budget(300)
 # How often a file is opened again, and the seconds between two looks at the memory.
 OPENINGS, LOOK = 5, 0.002
 # The counts of copies, and of those of the long form.
 FILES = {"notices": (20_000, 20_000), "procurements": (500, 2_000)}
-
-
-def check_second(path, rows):
-    """The file is version 2, whole, with these rows."""
-    assert unlike(rows_of(path), rows) == []
 
 
 def opened(program, path):
@@ -48,15 +40,12 @@ def opened(program, path):
 
 def measured(program, path, rows):
     """Opens a file often, and prints what the first opening took. Returns its seconds."""
-    with closing(sqlite3.connect(path)) as base:
-        base.executescript(SUMS)
-        ledger = base.execute("SELECT line, appropriation, free, reserved, contracted, paid FROM pots ORDER BY line").fetchall()
-    size = os.path.getsize(path)
+    ledger, size = sums_in(path), os.path.getsize(path)
     longest, memory = opened(program, path)
-    check_second(path, rows)
+    assert unlike(rows_of(path), rows) == []
     assert ledger_of(program, path).splitlines()[2:] == ["\t".join(map(str, row)) for row in ledger]
     again = [opened(program, path) for _ in range(OPENINGS)]
-    check_second(path, rows)
+    assert unlike(rows_of(path), rows) == []
     ratio, more = longest / statistics.median(took for took, _ in again), max(0, memory - max(it for _, it in again)) / size
     print(f"{size} bytes: the first opening took {ratio:.2f} of the next ones, and {more:.2f} of the file's size more memory")
     return longest
@@ -64,14 +53,12 @@ def measured(program, path, rows):
 
 def killed(program, path, rows, seconds):
     """Kills a first opening after so many seconds, and opens the file again. Returns the version that the kill left."""
-    process = subprocess.Popen([program, "ledger", CONFIG, path], stdout=subprocess.DEVNULL)
-    time.sleep(seconds)
-    process.kill()
-    process.wait()
+    with running([program, "ledger", CONFIG, path], stdout=subprocess.DEVNULL):
+        time.sleep(seconds)
     found = rows_of(path)
     assert unlike(in_version_2(found), rows) == []
     ledger_of(program, path)
-    check_second(path, rows)
+    assert unlike(rows_of(path), rows) == []
     return found["office"][0][0]
 
 

@@ -4,6 +4,7 @@ The program starts over the file as the last kill left it. Imports are sent one 
 before the program listens, it is killed (`kill -9`). `sqlite3` opens a copy, and the program opens the file itself again and answers its ledger: both show
 the same lines. Faults of such a file, and programs that are wrong, are found. (test_formats.py kills a program that migrates a file.)
 """
+import contextlib
 import copy
 import os
 import random
@@ -14,9 +15,10 @@ import time
 
 import pytest
 
-from office_kit.common import free_port, import_of, is_whole, look, running, serve_words, timed_exchange, what_came
+from office_kit.common import exchange, free_port, import_of, is_whole, look, running, serve_words, timed_exchange, what_came
+from office_kit.measures import wait_for_answer
 from office_kit.store import pages
-from office_kit.store.files import copied, rows_of, sqlite, wrong
+from office_kit.store.files import EMPTY, copied, rows_of, sqlite, wrong
 from office_kit.store.served import MANY, server
 
 pytestmark = [pytest.mark.needs("sqlite3"), pytest.mark.budget(90)]
@@ -85,15 +87,12 @@ def found_by_sqlite(file):
 
 
 def found_by_program(program, file):
-    """The lines of the ledger that the program answers for the file."""
-    end, response = time.monotonic() + LISTENS, b""
-    with server(program, file.path, 1) as (process, port):
-        while not response and process.poll() is None and time.monotonic() < end:
-            response = what_came(port, look(b"/ledger"))
-            time.sleep(0 if response else 0.005)
-        status = process.wait(LISTENS) if is_whole(response) else process.poll()
-    assert is_whole(response) and status == 0, "it isn't opened again"
-    return {" ".join(row.split("\t")[:3]) for row in response.decode().split("\r\n\r\n", 1)[1].split("\n")[2:-1]}
+    """The lines of the ledger that the program answers for the file. (Its first answer ends the waiting.)"""
+    with server(program, file.path, 2) as (process, port):
+        wait_for_answer(process, port)
+        response, _ = exchange(port, look(b"/ledger"))
+        assert process.wait(LISTENS) == 0 and is_whole(response), "it isn't opened again"
+    return {" ".join(row.split("\t")[:3]) for row in response.decode().partition(EMPTY)[2].splitlines()}
 
 
 def judge(program, file):
@@ -130,28 +129,12 @@ def left(program, tmp_path_factory):
     return three_imports(program, tmp_path_factory.mktemp("left"))
 
 
-def judge_planted(program, left, plant=None):
-    """Judges a copy of the file with a fault."""
-    with copied(left.path) as path:
-        twin = copy.copy(left)
-        twin.path = path
-        if callable(plant):
-            plant(path)
-        elif plant:
-            sqlite(path, plant)
-        judge(program, twin)
-
-
-@pytest.mark.parametrize("plant", [None, "DELETE FROM batches WHERE batch = 'F0B2'; DELETE FROM lines WHERE line LIKE 'F0B2-%';"],
-                         ids=["with", "without what wasn't answered"])
-def test_nothing_planted(program, left, plant):
-    judge_planted(program, left, plant)
-
-
 # Lines of an import F0B3, which wasn't sent.
 NEXT = "INSERT INTO lines SELECT replace(line, 'B2', 'B3'), title, appropriation, free FROM lines WHERE line LIKE 'F0B2%';"
-# The changes to a file with the imports F0B0 and F0B1, which were answered, and F0B2, which wasn't, and the words that must be said of each.
+# The changes to a file with the imports F0B0 and F0B1, which were answered, and F0B2, which wasn't, and the words that must be said of each, if any.
 PLANTED = {
+    "nothing": (None, None),
+    "all of an import that wasn't answered is missing": ("DELETE FROM batches WHERE batch = 'F0B2'; DELETE FROM lines WHERE line LIKE 'F0B2-%';", None),
     "a line of an answered import is missing": ("DELETE FROM lines WHERE line = 'F0B0-2';", "in part"),
     "a line of another import is missing": ("DELETE FROM lines WHERE line = 'F0B2-4';", "in part"),
     "the batch of an answered import is missing": ("DELETE FROM batches WHERE batch = 'F0B1';", "lacks"),
@@ -169,8 +152,8 @@ PLANTED = {
 }
 # Programs that open such a file after the kill, and the words that must be said of each.
 WRONG = {
-    "it doesn't open the file": ("exit 1", "isn't opened again"),
-    "it ends without an answer": ("exit 0", "isn't opened again"),
+    "it doesn't open the file": ("exit 1", "the program ended with status 1"),
+    "it ends without an answer": ("exit 0", "the program ended with status 0"),
     "it ends with 1 behind its answer": ('PROGRAM "$@"; exit 1', "isn't opened again"),
     "it opens it without a line": ('sqlite3 "$3" "DELETE FROM lines WHERE line = \'F0B1-3\';"; exec PROGRAM "$@"', "different lines"),
 }
@@ -178,11 +161,19 @@ WRONG = {
 
 @pytest.mark.parametrize("what", [*PLANTED, *WRONG])
 def test_planted(program, left, what, tmp_path):
+    """In a copy of the file."""
     change, said = {**PLANTED, **WRONG}[what]
-    if what in WRONG:
-        program, change = wrong(tmp_path, change, program), None
-    with pytest.raises((AssertionError, sqlite3.DatabaseError), match=re.escape(said)):
-        judge_planted(program, left, change)
+    with copied(left.path) as path:
+        twin = copy.copy(left)
+        twin.path = path
+        if what in WRONG:
+            program = wrong(tmp_path, change, program)
+        elif callable(change):
+            change(path)
+        elif change:
+            sqlite(path, change)
+        with pytest.raises((AssertionError, SystemExit, sqlite3.DatabaseError), match=re.escape(said)) if said else contextlib.nullcontext():
+            judge(program, twin)
 
 
 def test_wrong_program_with_another_file(program, tmp_path):

@@ -12,17 +12,19 @@ import json
 import re
 import shutil
 import sqlite3
+import subprocess
 
 import pytest
 
 from office_kit.client import Client, Port, budget, lot, notice
-from office_kit.common import free_port, running, serve_words
+from office_kit.store.files import wrong
+from office_kit.store.served import server
 
 pytestmark = pytest.mark.needs("valgrind")
 # Seconds to wait for a server under valgrind.
 PATIENCE = 300
 AMENDMENTS, PAYMENTS, MOST = 5, 225, 75
-VALGRIND = ("valgrind", "--tool=cachegrind", "--cache-sim=no", "--cachegrind-out-file=/dev/null")
+VALGRIND = 'exec valgrind --tool=cachegrind --cache-sim=no --cachegrind-out-file=/dev/null PROGRAM "$@"'
 
 
 def with_payments(text, amount):
@@ -37,19 +39,13 @@ class Merges:
     """A program over copies of a file in which a notice is published."""
 
     def __init__(self, program, folder):
-        self.program, self.file, self.said = program, folder / "office.db", folder / "said"
-        with self.served(self.file, 2) as office:
+        self.counting, self.file = wrong(folder, VALGRIND, program), folder / "office.db"
+        with server(program, self.file, 2) as (process, port):
+            office = Client(Port(port))
             office.import_budget("B1", budget("1000,add,100000,Roads"))
             office.publish("N1", notice("2099-03-01T12:00:00Z", lot()))
-        self.least, self.few = self.cost()
-
-    @contextlib.contextmanager
-    def served(self, path, count, tool=()):
-        """The client of a server, which ends after so many requests. The server's output goes into a file."""
-        port = free_port()
-        with open(self.said, "w") as out, running([*tool, *serve_words(self.program, str(path), port, count)], stdout=out, stderr=out) as process:
-            yield Client(Port(port, PATIENCE))
             assert process.wait(PATIENCE) == 0
+        self.least, self.few = self.cost()
 
     def cost(self, amount=None):
         """The instructions of amendments over a copy of the file, and the bytes of the merge; with payments in it, if the first one's amount is given."""
@@ -59,10 +55,12 @@ class Merges:
             if amount is not None:
                 text = with_payments(text, amount)
                 base.execute("UPDATE compiled SET text = ?", (text,))
-        with self.served(path, AMENDMENTS, VALGRIND) as office:
+        with server(self.counting, path, AMENDMENTS, stderr=subprocess.PIPE, text=True) as (process, port):
             for turn in range(AMENDMENTS):
-                office.amend_notice("N1", f"2099-04-01T12:00:{turn:02}Z")
-        count = re.search(r"I +refs: +([\d,]+)", self.said.read_text())
+                Client(Port(port, PATIENCE)).amend_notice("N1", f"2099-04-01T12:00:{turn:02}Z")
+            _, said = process.communicate(timeout=PATIENCE)
+        assert process.returncode == 0, said
+        count = re.search(r"I +refs: +([\d,]+)", said)
         return int(count[1].replace(",", "")), len(text.encode())
 
     def rate(self, amount):

@@ -13,11 +13,11 @@ from pathlib import Path
 
 import pytest
 
-from office_kit.common import CONFIG, exchange, import_of, look, made_shim, timed_exchange
+from office_kit.client import Client, Port, budget
+from office_kit.common import CONFIG, made_shim, running
 from office_kit.store import pages
 from office_kit.store.files import EMPTY, REFUSED, copied, made_line, printed, sqlite, told, wrong
-from office_kit.store.served import server
-from office_kit.store.shims import STOPPING
+from office_kit.store.served import served, server
 
 pytestmark = [pytest.mark.needs("sqlite3", "cc"), pytest.mark.budget(100)]
 LISTENS = 60
@@ -36,8 +36,6 @@ PLANTED = {
     "an index in place of a table": (100, 10), "a row that isn't there": (104, 1), "fragments": (107, 70), "rows past the page's end": (105, 5),
 }
 SMALL = "PRAGMA journal_mode = delete; PRAGMA page_size = 1024; VACUUM;"
-# A library by which no file gets a second name, as on a file system without hard links.
-NO_LINKS = "int link(const char *from, const char *to) { (void)from; (void)to; errno = EPERM; return -1; }"
 
 
 class Folder:
@@ -50,10 +48,6 @@ class Folder:
     def ledger(self, name="office.db", **more):
         """The program's answer for the file: its status, and its output."""
         return told(printed(self.program, str(self.path / name), env={**os.environ, **more}))
-
-    def contents(self):
-        """The bytes of each file of the folder, by its name."""
-        return {path.name: content(path) for path in sorted(self.path.iterdir())}
 
     def is_new(self, name="office.db"):
         """The program makes an office there, in pages of a new file, and leaves nothing beside it but its log."""
@@ -77,11 +71,6 @@ def said_of(path):
             return {name: base.execute(f"PRAGMA {name}").fetchone()[0] for name in SAYS}
         except sqlite3.DatabaseError as fault:
             return {"fault": str(fault)}
-
-
-def content(path):
-    """The bytes of a file; none if there is no file."""
-    return path.read_bytes() if path.exists() else b""
 
 
 def test_sqlite_takes_the_page(folder):
@@ -128,22 +117,20 @@ def test_new_waits(folder):
     """A start waits for another one that has the folder locked."""
     lock = os.open(folder.path, os.O_RDONLY)
     fcntl.flock(lock, fcntl.LOCK_EX)
-    started = subprocess.Popen([folder.program, "ledger", CONFIG, folder.file], stdout=subprocess.DEVNULL, stderr=subprocess.DEVNULL)
-    try:
+    with running([folder.program, "ledger", CONFIG, folder.file], stdout=subprocess.DEVNULL, stderr=subprocess.DEVNULL) as started:
         time.sleep(1)
-        assert started.poll() is None and not folder.contents()
-    finally:
+        assert started.poll() is None and not os.listdir(folder.path)
         os.close(lock)
-    assert started.wait(LISTENS) == 0
+        assert started.wait(LISTENS) == 0
     folder.is_new()
 
 
 def test_no_links(folder, tmp_path_factory):
     """On a file system without hard links the office is made with pages of 4,096 bytes, and nothing is left."""
-    shim = made_shim(NO_LINKS, str(tmp_path_factory.mktemp("shim")))
+    shim = made_shim("store/no_links.c", str(tmp_path_factory.mktemp("shim")))
     assert [folder.ledger(LD_PRELOAD=shim) for _ in range(2)] == [(0, EMPTY, made_line(folder.file)), (0, EMPTY, "")]
     pages.check_size(folder.file, pages.FORMER)
-    assert [*folder.contents()] == ["office.db", "office.db-wal"]
+    assert sorted(os.listdir(folder.path)) == ["office.db", "office.db-wal"]
 
 
 @pytest.mark.parametrize("name", ["office.db", "link.db"])
@@ -160,16 +147,15 @@ def test_empty(folder, what, name):
     assert said_of(folder.file)["integrity_check"] == "ok"
     stays = folder.file.stat()
     assert (stays.st_ino, stays.st_mode) == (found.st_ino, found.st_mode)
-    assert [*folder.contents()] == ["link.db", "office.db", "office.db-wal"]
+    assert sorted(os.listdir(folder.path)) == ["link.db", "office.db", "office.db-wal"]
 
 
 def imported(folder, number, lines):
     """Serves the file for an import and a query: the ledger then has so many lines."""
-    with server(folder.program, folder.file, 2) as (process, port):
-        timed_exchange(port, import_of(b"B%d" % number, [b"%d,add,600,Roads" % line for line in range(1000 * number, 1000 * number + 400)]), LISTENS)
-        ledger = timed_exchange(port, look(b"/ledger"))[0].decode()
-        assert len(ledger.splitlines()) == 2 + lines
-        assert process.wait(LISTENS) == 0
+    with served(folder.program, folder.file, 2) as office:
+        office.client.import_budget(f"B{number}", budget(*(f"{line},add,600,Roads" for line in range(1000 * number, 1000 * number + 400))))
+        ledger = office.client.ledger().body.decode()
+    assert len(ledger.splitlines()) == 2 + lines
     return ledger
 
 
@@ -192,12 +178,6 @@ def test_changed_pages(folder):
     pages.check_size(folder.file, pages.NEW)
 
 
-def test_planted_file_that_is_taken_for_a_new_one(folder):
-    pages.begin(folder.file, pages.FORMER)
-    with pytest.raises(AssertionError, match="has pages of 4096 bytes"):
-        folder.is_new()
-
-
 def test_second_name_of_a_stopped_start(folder):
     """The program removes the second name that a stopped start leaves. Another file of that name stays."""
     ledger = imported(folder, 1, 400)
@@ -206,7 +186,7 @@ def test_second_name_of_a_stopped_start(folder):
     assert not folder.spare.exists()
     folder.spare.write_bytes(b"another file")
     assert folder.ledger() == (0, ledger, "")
-    assert content(folder.spare) == b"another file"
+    assert folder.spare.read_bytes() == b"another file"
 
 
 @pytest.mark.parametrize("turn", range(8))
@@ -217,7 +197,7 @@ def test_two_at_once(folder, turn):
             time.sleep(0.01)
         (ended, _), (process, port) = (one, other) if one[0].poll() is not None else (other, one)
         assert (ended.returncode, ended.stderr.read().decode()) == (REFUSED[0], REFUSED[2])
-        assert exchange(port, look(b"/ledger"), LISTENS)[0].endswith(EMPTY.encode())
+        assert Client(Port(port)).ledger().body.decode() == EMPTY
         assert process.wait(LISTENS) == 0
     folder.is_new()
 
@@ -225,7 +205,7 @@ def test_two_at_once(folder, turn):
 def test_stops(program, tmp_path):
     """The program is stopped before its N-th call that changes a file or a folder. Each time the file is missing, or the one page, or a whole office, and the
     next start continues from there."""
-    shim, seen, at, runs = made_shim(STOPPING, str(tmp_path)), set(), 1, True
+    shim, seen, at, runs = made_shim("store/stopping.c", str(tmp_path)), set(), 1, True
     while runs:
         folder = Folder(program, tmp_path / str(at))
         folder.path.mkdir()
@@ -241,10 +221,10 @@ def test_stops(program, tmp_path):
 
 def state_of(folder):
     """The state of the path after a stop. Anything else is a fault."""
-    found = content(folder.file)
     if not folder.file.exists():
         return "no file"
-    if len(found) == pages.NEW and not content(folder.log):
+    found = folder.file.read_bytes()
+    if len(found) == pages.NEW and not (folder.log.exists() and folder.log.stat().st_size):
         assert found == PAGE, "the page isn't whole"
         return "the page"
     assert len(found) % pages.NEW == 0, "the file ends within a page"
@@ -253,14 +233,13 @@ def state_of(folder):
     return "more"
 
 
-# Programs that are wrong: what each does to the file $3 before the program (PAGE has the bytes of a new file), and the test that must find it.
+# Programs that are wrong: what each does to the file $3 before the program, the test that must find it, and its case. PAGE has the bytes of a new file.
 WRONG = {
     "pages of 4,096 bytes in a new file": ('[ -s "$3" ] || sqlite3 "$3" "PRAGMA page_size = 4096; VACUUM;"', test_new),
-    "another file in the place of an empty one": ('[ ! -e "$3" ] || [ -s "$3" ] || { cp PAGE "$3.new"; mv "$3.new" "$3"; }',
-                                                  lambda folder: test_empty(folder, b"", "office.db")),
-    "one byte is refused": ('[ "$(cat "$3" 2> /dev/null)" != x ] || exit 1', lambda folder: test_empty(folder, b"x", "office.db")),
-    "a page in an empty file": ('[ ! -e "$3" ] || [ -s "$3" ] || cp PAGE "$3"', lambda folder: test_empty(folder, b"", "office.db")),
-    "other pages in a file that is there": (f'[ ! -s "$3" ] || sqlite3 "$3" "{SMALL}" > "$3.out"', lambda folder: test_keeps(folder, 512)),
+    "another file in the place of an empty one": ('[ ! -e "$3" ] || [ -s "$3" ] || { cp PAGE "$3.new"; mv "$3.new" "$3"; }', test_empty, b"", "office.db"),
+    "one byte is refused": ('[ "$(cat "$3" 2> /dev/null)" != x ] || exit 1', test_empty, b"x", "office.db"),
+    "a page in an empty file": ('[ ! -e "$3" ] || [ -s "$3" ] || cp PAGE "$3"', test_empty, b"", "office.db"),
+    "other pages in a file that is there": (f'[ ! -s "$3" ] || sqlite3 "$3" "{SMALL}" > "$3.out"', test_keeps, 512),
     "something that is left": (': > "$3-procure-new"', test_new),
     "half a page": ('[ -s "$3" ] || { head -c 512 PAGE > "$3"; kill -9 $$; }', lambda folder: test_stops(folder.program, folder.path)),
 }
@@ -268,9 +247,9 @@ WRONG = {
 
 @pytest.mark.parametrize("what", WRONG)
 def test_planted(folder, tmp_path_factory, what):
-    script, test = WRONG[what]
+    script, test, *case = WRONG[what]
     elsewhere = tmp_path_factory.mktemp("wrong")
     (elsewhere / "page").write_bytes(PAGE)
     folder.program = wrong(elsewhere, script.replace("PAGE", str(elsewhere / "page")) + '\nexec PROGRAM "$@"', folder.program)
     with pytest.raises((AssertionError, FileNotFoundError)):
-        test(folder)
+        test(folder, *case)

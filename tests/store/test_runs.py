@@ -6,11 +6,9 @@ from pathlib import Path
 
 import pytest
 
-from office_kit.common import ROOT
 from office_kit.gate.transcripts import CRATE, counts
 
 PROGRAM = os.path.abspath(os.environ.get("RUNS", f"{CRATE}/out/tests_of_runs"))
-RT = shutil.which(os.environ.get("RT", "rt"))
 # The texts of files, by their names and, for wrong ones, the lines that must be printed.
 TEXTS = dict(part.split("\n", 1) for part in Path(__file__).with_name("wrong_transcripts.txt").read_text(encoding="utf-8").split("\n%% ")[1:])
 ALL_RIGHT = ["setup.txt", "right.txt"]
@@ -28,37 +26,19 @@ def test_counts():
     assert counts().encode() == Path(CRATE, "stdout").read_bytes()
 
 
-def lay_out(folder):
+@pytest.mark.long
+@pytest.mark.proofs
+@pytest.mark.skipif(not os.path.exists(PROGRAM), reason=f"missing: {PROGRAM}. Get it: make test")
+@pytest.mark.parametrize("name", ["", *WANTED], ids=lambda name: name or "right")
+def test_wrong_file(tmp_path, name):
+    """A run over the right files, and a wrong one if it is named, prints the expected lines of that, and ends with status 1, or 0 without it."""
     right = Path(CRATE, "data", "imports.txt").read_text(encoding="utf-8")
     changed = right.replace('"rows":500}', '"rows":501}')
     assert changed != right
     for line, text in {**TEXTS, "imports.txt": changed}.items():
-        (folder / line.partition(": ")[0]).write_text(text, encoding="utf-8")
-    shutil.copy(os.path.join(CRATE, "data", "setup.txt"), folder)
-    return folder
-
-
-def run(words, folder, *names):
-    """A run over these wrong files, and the right ones, prints the expected lines of each, and ends with status 1, or 0 if there are none."""
-    ran = subprocess.run([*words, *ALL_RIGHT, *names], cwd=folder, capture_output=True, text=True)
-    lines = ran.stdout.splitlines()
-    assert [line for name in names for line in [*WANTED[name], f"{name}: NOT as written"] if line not in lines] == [], ran.stdout + ran.stderr
-    assert ran.returncode == bool(names)
-
-
-if RT and not os.path.exists(PROGRAM):
-    @pytest.mark.long
-    @pytest.mark.proofs
-    def test_wrong_files(tmp_path):
-        """All in one run of `rt try`, which compiles the program and proves nothing."""
-        subprocess.run([os.path.join(ROOT, "tools", "copy_crates"), tmp_path / "office"], check=True)
-        folder, words = lay_out(tmp_path / "office" / "crates" / "tests_of_runs"), [RT, "try", "--seconds", "500", "--"]
-        run(words, folder)
-        run(words, folder, *WANTED)
-else:
-    @pytest.mark.long
-    @pytest.mark.proofs
-    @pytest.mark.skipif(not os.path.exists(PROGRAM), reason=f"missing: {PROGRAM}. Get it: make test")
-    @pytest.mark.parametrize("names", [(), *((name,) for name in WANTED)], ids=lambda names: (*names, "right")[0])
-    def test_wrong_file(tmp_path, names):
-        run([PROGRAM], lay_out(tmp_path), *names)
+        (tmp_path / line.partition(": ")[0]).write_text(text, encoding="utf-8")
+    shutil.copy(os.path.join(CRATE, "data", "setup.txt"), tmp_path)
+    ran = subprocess.run([PROGRAM, *ALL_RIGHT, *filter(None, [name])], cwd=tmp_path, capture_output=True, text=True)
+    wanted = [*WANTED[name], f"{name}: NOT as written"] if name else []
+    assert set(wanted) <= set(ran.stdout.splitlines()), ran.stdout + ran.stderr
+    assert ran.returncode == bool(name)

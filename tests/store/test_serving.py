@@ -4,7 +4,6 @@ A library of a few lines of C replaces the C library's clock and flushes. Server
 the tests find. A server that answers like ours passes.
 """
 import contextlib
-import functools
 import os
 import re
 import shutil
@@ -19,8 +18,7 @@ from office_kit.client import Blocks, Client, budget, lot, notice
 from office_kit.common import CONFIG, HOST, LENGTH, connect, import_of, look, made_shim, read_all
 from office_kit.store import pages
 from office_kit.store.files import ledger_of, made_line, wrong
-from office_kit.store.served import server
-from office_kit.store.shims import CLOCK
+from office_kit.store.served import served, server
 
 pytestmark = pytest.mark.time
 IMPORT = import_of(b"B1", [b"1000,add,600,Roads"])
@@ -41,13 +39,6 @@ class Place:
     def __init__(self, program, shim, folder):
         self.program, self.shim, self.folder, self.db = program, shim, folder, str(folder / "office.db")
 
-    @contextlib.contextmanager
-    def served(self, count):
-        """The port of a server of so many connections, which ends well then."""
-        with server(self.program, self.db, count) as (process, port):
-            yield port
-            assert process.wait(LISTENS) == 0, "it ends with 0"
-
     def ended(self, db, requests, **control):
         """The answers of a server with the library, which gets these variables; the status and the errors with which it ends on its own."""
         with server(self.program, db, len(requests), env={**os.environ, "LD_PRELOAD": self.shim, **control}, stderr=subprocess.PIPE) as (process, port):
@@ -58,7 +49,7 @@ class Place:
 
 @pytest.fixture(scope="module")
 def shim(tmp_path_factory):
-    return made_shim(CLOCK, str(tmp_path_factory.mktemp("shim")))
+    return made_shim("store/clock.c", str(tmp_path_factory.mktemp("shim")))
 
 
 @pytest.fixture
@@ -103,18 +94,18 @@ def answers_until_the_end(process, port, requests):
 
 def test_one_after_another(place):
     """Two waiting clients are answered in turn."""
-    with place.served(2) as port:
-        first, second = client(port, IMPORT), client(port, LOOK)
+    with served(place.program, place.db, 2) as office:
+        first, second = client(office.port, IMPORT), client(office.port, LOOK)
         assert told(first)[0] == [b"200"], "the import is answered"
         assert told(second) == ([b"200"], SEEN), "the look is answered"
 
 
 def test_harmful_clients(place):
     """One client hangs up, one after its request, one sends half a request, and one sends 65,536 bytes and reads nothing. The next one is answered."""
-    with place.served(5) as port:
-        client(port, b"").close()
-        client(port, IMPORT).close()
-        half, silent, last = client(port, IMPORT[:100]), client(port, b"a" * 65536), client(port, LOOK)
+    with served(place.program, place.db, 5) as office:
+        client(office.port, b"").close()
+        client(office.port, IMPORT).close()
+        half, silent, last = (client(office.port, sent) for sent in (IMPORT[:100], b"a" * 65536, LOOK))
         assert told(half) == ([b"400"], b'{"name":"BadHead","refusal":1}'), "half a request is refused"
         assert told(last) == ([b"200"], SEEN), "the last one is answered, and the import that nobody heard of is there"
         silent.close()
@@ -122,9 +113,9 @@ def test_harmful_clients(place):
 
 def test_a_silent_client(place):
     """It loses its connection after ten seconds, and the next one is answered."""
-    with place.served(2) as port, connect(port, LISTENS) as silent:
+    with served(place.program, place.db, 2) as office, connect(office.port, LISTENS) as silent:
         begun = time.monotonic()
-        behind = client(port, look(b"/ledger"))
+        behind = client(office.port, look(b"/ledger"))
         silent.settimeout(3 * PATIENCE)
         read_all(silent)
         waited = time.monotonic() - begun
@@ -175,13 +166,13 @@ def test_the_end(place, size):
     """After the last connection, and after a program that prints, the log has no page, and the file alone is the office."""
     program, db = place.program, place.db
     pages.begin(db, size)
-    with place.served(2) as port:
-        assert told(client(port, IMPORT))[0] == [b"200"], "the import is answered"
+    with served(program, db, 2) as office:
+        assert told(client(office.port, IMPORT))[0] == [b"200"], "the import is answered"
         assert os.path.getsize(db + "-wal") > EMPTY_LOG, "it stands in the log"
-        told(client(port, LOOK))
+        told(client(office.port, LOOK))
     assert "\n1000\t" in seen_alone(program, db), "the file alone has the line"
-    with server(program, db, 2) as (_, port):
-        told(client(port, imported(1001)))
+    with served(program, db) as office:
+        told(client(office.port, imported(1001)))
     assert os.path.getsize(db + "-wal") > EMPTY_LOG
     assert "\n1001\t" in ledger_of(program, db), "a program that prints shows it"
     assert "\n1001\t" in seen_alone(program, db)
@@ -246,7 +237,7 @@ def answering(*answers, status=0, patience=PATIENCE):
 
 # The program within another one, with which it is killed.
 WITHIN = 'setpriv --pdeathsig KILL PROGRAM "$@"'
-# Programs that behave wrongly, the test that finds each, and the words that it must say.
+# Programs that behave wrongly, the test that finds each, the words that it must say, and its case.
 WRONG = {
     "no answer behind a silent client": (answering(b"", b""), test_a_silent_client, "the next one is answered"),
     "an answer comes twice": (answering(TAKEN * 2, LOOKED), test_one_after_another, "it isn't one whole answer"),
@@ -265,10 +256,10 @@ WRONG = {
     "no extensions": ('exec PROGRAM "$1" CONFIG', test_extensions, "a package names them in front"),
     "extensions in another order": ("""PROGRAM "$@" | sed 's|lots","https://example.org/points|points","https://example.org/lots|'""", test_extensions,
                                     "a package names them in front"),
-    "the moment isn't the clock's": ('unset SECOND; exec PROGRAM "$@"', functools.partial(test_moment, second="0"), "it is the clock's"),
-    "2100": ('[ "$SECOND" != 4102444800 ] || SECOND=0; exec PROGRAM "$@"', functools.partial(test_moment, second="4102444800"), "it is the clock's"),
-    "a moment without a clock": ('[ "$SECOND" ] || unset SECOND; exec PROGRAM "$@"', functools.partial(test_moment, second=""), "it is the clock's"),
-    "a moment before 1970": ('[ "$SECOND" != -1 ] || SECOND=0; exec PROGRAM "$@"', functools.partial(test_moment, second="-1"), "it is the clock's"),
+    "the moment isn't the clock's": ('unset SECOND; exec PROGRAM "$@"', test_moment, "it is the clock\'s", "0"),
+    "2100": ('[ "$SECOND" != 4102444800 ] || SECOND=0; exec PROGRAM "$@"', test_moment, "it is the clock\'s", "4102444800"),
+    "a moment without a clock": ('[ "$SECOND" ] || unset SECOND; exec PROGRAM "$@"', test_moment, "it is the clock\'s", ""),
+    "a moment before 1970": ('[ "$SECOND" != -1 ] || SECOND=0; exec PROGRAM "$@"', test_moment, "it is the clock\'s", "-1"),
 }
 # The same about the end of a program, and about a disk, for files of each page size.
 WRONG_FILES = {
@@ -292,11 +283,11 @@ def test_right_answers(place, test, answers):
     test(place)
 
 
-def finds(place, script, test, said):
+def finds(place, script, test, said, *case):
     """A test finds the program of this script, and says these words."""
     place.program = wrong(place.folder, script.replace("CONFIG", CONFIG), place.program)
     with pytest.raises((AssertionError, SystemExit), match=re.escape(said)):
-        test(place)
+        test(place, *case)
 
 
 @pytest.mark.parametrize("what", WRONG)
@@ -306,5 +297,4 @@ def test_planted(place, what):
 
 @pytest.mark.parametrize("what", WRONG_FILES)
 def test_planted_in_files(place, what, size):
-    script, test, said = WRONG_FILES[what]
-    finds(place, script, functools.partial(test, size=size), said)
+    finds(place, *WRONG_FILES[what], size)

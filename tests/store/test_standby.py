@@ -25,9 +25,9 @@ from pathlib import Path
 import pytest
 
 from office_kit.client import Client, Port, budget, lot, notice, text_of
-from office_kit.common import CONFIG, HOST, ROOT, free_port, need, place_of, planted, running, serve_words, stand_in
+from office_kit.common import CONFIG, HOST, ROOT, free_port, need, place_of, planted, running, stand_in
 from office_kit.store.files import copied, ledger_of
-from office_kit.store.served import MANY
+from office_kit.store.served import server
 
 pytestmark = [pytest.mark.needs("rsync"), pytest.mark.time, pytest.mark.budget(180)]
 SCRIPT, CHECK = (os.path.join(ROOT, "deploy", name) for name in ("follow", "check"))
@@ -46,8 +46,7 @@ class Trial:
     """Two machines, a folder each. It keeps the second of each answer to the load, what the receipts say, and the imports that were sent."""
 
     def __init__(self, program, folder):
-        self.program, self.folder, self.script, self.port = program, folder, SCRIPT, free_port()
-        self.client, self.environment = Client(Port(self.port)), dict(os.environ)
+        self.program, self.folder, self.script = program, folder, SCRIPT
         self.first, self.file, self.log = folder / "first", folder / "first" / "office.db", folder / "first" / "office.db-wal"
         self.copies, self.made = folder / "second" / "copies", folder / "second" / "office.db"
         self.good, self.newest, self.said = self.copies / "good.db", self.copies / "newest" / "office.db", folder / "said"
@@ -62,7 +61,8 @@ class Trial:
         """A server that answers, over a file or the first machine's. A new file gets a notice to which firms submit, unless it isn't to be prepared."""
         file = file or self.file
         is_prepared = is_prepared and not file.exists()
-        with running(serve_words(self.program, str(file), self.port, MANY), stderr=subprocess.DEVNULL) as process:
+        with server(self.program, file, stderr=subprocess.DEVNULL) as (process, self.port):
+            self.client = Client(Port(self.port))
             self.client.ledger()
             if is_prepared:
                 self.client.import_budget("B1", budget("1000,add,1000000,Roads"))
@@ -79,27 +79,26 @@ class Trial:
             works = [pool.submit(work, Client(Port(self.port, patience=0))) for work in (self.submit_all, self.import_all)]
             yield
         for work in works:
-            work.result()
+            with contextlib.suppress(*BROKEN):
+                work.result()
 
     def submit_all(self, client):
-        with contextlib.suppress(*BROKEN):
-            for place, firm in itertools.product(LOTS, FIRMS):
-                tender = random.randbytes(self.size)
-                told = client.present(firm, "N1", place, tender).value()
-                self.answered[f"receipt {told['receipt']}"] = time.monotonic()
-                self.receipts[told["receipt"]] = (firm, place, told["digest"])
-                assert (told["digest"], told["state"]) == (hashlib.sha256(tender).hexdigest(), "sealed")
-                if self.ends.wait(1 / self.rate):
-                    return
+        for place, firm in itertools.product(LOTS, FIRMS):
+            tender = random.randbytes(self.size)
+            told = client.present(firm, "N1", place, tender).value()
+            self.answered[f"receipt {told['receipt']}"] = time.monotonic()
+            self.receipts[told["receipt"]] = (firm, place, told["digest"])
+            assert (told["digest"], told["state"]) == (hashlib.sha256(tender).hexdigest(), "sealed")
+            if self.ends.wait(1 / self.rate):
+                return
 
     def import_all(self, client):
-        with contextlib.suppress(*BROKEN):
-            for name in (f"I{number}" for number in itertools.count()):
-                self.sent.add(name)
-                client.import_budget(name, budget(f"{name},add,7,Roads", "1000,add,1,Roads")).value()
-                self.answered[f"import {name}"] = time.monotonic()
-                if self.ends.wait(1 / self.rate):
-                    return
+        for name in (f"I{number}" for number in itertools.count()):
+            self.sent.add(name)
+            client.import_budget(name, budget(f"{name},add,7,Roads", "1000,add,1,Roads")).value()
+            self.answered[f"import {name}"] = time.monotonic()
+            if self.ends.wait(1 / self.rate):
+                return
 
     def submit(self, size=SIZE):
         """Submits a tender, or another one in its place."""
@@ -135,7 +134,7 @@ class Trial:
     def followed(self, every="1"):
         """While this lasts, a follower runs. Then it is killed."""
         words = [*self.words("run", self.source, self.copies), "--every", every]
-        with open(self.said, "a") as out, running(words, env=self.environment, stdout=out, stderr=out) as process:
+        with open(self.said, "a") as out, running(words, stdout=out, stderr=out) as process:
             yield process
 
     def state(self):
@@ -151,7 +150,7 @@ class Trial:
 
     def ended(self, words):
         """The status of a script, and its output."""
-        ran = subprocess.run(words, env=self.environment, stdout=subprocess.PIPE, stderr=subprocess.STDOUT, text=True)
+        ran = subprocess.run(words, stdout=subprocess.PIPE, stderr=subprocess.STDOUT, text=True)
         return ran.returncode, ran.stdout
 
     def once(self):
@@ -183,7 +182,7 @@ def trial(program, tmp_path):
 
 def lose(trial, stopped=False):
     """Loses the first machine under load; before that, if asked, the follower. The second of the kill, the output of `take-over`, and the faults."""
-    with trial.served() as server, trial.followed() as follower, trial.loaded():
+    with trial.served() as office, trial.followed() as follower, trial.loaded():
         trial.wait_for(lambda: trial.state()["good"] and trial.receipts)
         if stopped:
             follower.kill()
@@ -191,8 +190,8 @@ def lose(trial, stopped=False):
         time.sleep(LOAD)
         trial.wait_for(lambda: trial.head() != before or trial.size < SIZE)
         assert stopped or follower.poll() is None
-        server.kill()
-        server.wait()
+        office.kill()
+        office.wait()
         killed = time.monotonic()
         shutil.rmtree(trial.first)
     status, told = trial.take_over()
@@ -242,12 +241,12 @@ def test_a_lost_machine(trial):
     assert trial.said.read_text(encoding="utf-8").count("the whole file was copied") == 1
 
 
-def test_over_ssh(trial):
+def test_over_ssh(trial, monkeypatch):
     """The same by a real `sshd` on this machine, with a key that may only read the office's folder (rrsync). Without `sshd`, a local command takes the place of
     `ssh`."""
     with contextlib.ExitStack() as stack:
         sshd = place_of("sshd")
-        trial.environment["RSYNC_RSH"] = served_by(sshd, trial, stack) if sshd else stand_in(str(trial.folder / "ssh"), NO_SSH)
+        monkeypatch.setenv("RSYNC_RSH", served_by(sshd, trial, stack) if sshd else stand_in(str(trial.folder / "ssh"), NO_SSH))
         trial.source = "here:office.db" if sshd else f"here:{trial.file}"
         assert lose(trial)[-1] == []
 

@@ -1,18 +1,19 @@
 """Files of earlier programs open to their own content, in version 2. Files that can't, or that are no version 2 as they claim, are refused and stay unchanged.
 
-The files are those of tests/version_1, the first of them as the program itself left it (version_1.db.xz), and an older one of crates/tests_of_stores, which
-has no table of late withdrawals. Some have tables of other software beside them (beside.sql). Each row of each table is unchanged, except for notices: they are
-in `notices_2`, with no performance security required. Queries are answered as tools/audit computes it from the rows. If PROCURE_1 names a program of version
-1, it must refuse a file that ours migrated.
+The files are those of tests/version_1, which a program of version 1 made, as `sqlite3 .dump` printed them, with the ledgers that it showed. `running` has one
+contract, raised and paid in part; version_1.db.xz is its file as the program itself left it. `ten` has ten notices: receiving, cancelled, past their deadline,
+opened, awarded, signed, ended; four of them have tenders that were withdrawn late. An older file, of crates/tests_of_stores, has no table of late withdrawals.
+Some have tables of other software beside them (beside.sql).
+
+Each row of each table is unchanged, except for notices: they are in `notices_2`, with no performance security required. Queries are answered as tools/audit
+computes it from the rows. If PROCURE_1 names a program of version 1, it must refuse a file that ours migrated.
 """
 import json
 import lzma
 import os
 import re
-import sqlite3
 import subprocess
 import time
-from contextlib import closing
 from pathlib import Path
 
 import pytest
@@ -23,11 +24,11 @@ from office_kit.client import Client, Port, data_of
 from office_kit.common import ROOT
 from office_kit.store import pages
 from office_kit.store.earlier import in_version_2, made, statements_in, text_of
-from office_kit.store.files import REFUSED, VERSION_1, ledger_of, printed, rows_of, told
+from office_kit.store.files import REFUSED, VERSION_1, dump, ledger_of, printed, rows_of, sqlite, told
 from office_kit.store.life import Life, key_of, offer, part
 from office_kit.store.served import Serving
 
-pytestmark = [pytest.mark.time, pytest.mark.budget(90)]
+pytestmark = [pytest.mark.needs("sqlite3"), pytest.mark.time, pytest.mark.budget(90)]
 STORES = Path(ROOT, "crates", "tests_of_stores", "src")
 TEXT = re.compile(r'pub const (\w+): &str =\s*(?:r##"(.*?)"##|("(?:[^"\\]|\\.)*"));', re.S)
 EARLIER = os.environ.get("PROCURE_1")
@@ -64,11 +65,6 @@ def test_copies(name, tmp_path):
     assert text_of(f"{name}.ledger") == texts[f"{upper}_LEDGER"]
 
 
-def line_of(row):
-    names = ("notice", "state", "published", "deadline", "opened", "amendments", "releases", "title")
-    return "\t".join("-" if row[name] is None else str(row[name]) for name in names) + "\n"
-
-
 def try_looks(program, path):
     """The list of notices, and the terms and evaluation of each, are answered and printed as tools/audit makes them of the rows."""
     folder = os.path.dirname(path)
@@ -82,7 +78,9 @@ def try_looks(program, path):
             assert looks.terms(notice).value() == audit_looks.terms_of(audited, notice)
             answer = looks.evaluation(notice)
             assert (answer.body.decode() if answer.status == 200 else answer["name"]) == (evaluations[notice] or "NotOpened")
-    assert printed(program, path, "notices").stdout == "".join(line_of(rows[it]) for it in notices)
+    columns = ("notice", "state", "published", "deadline", "opened", "amendments", "releases", "title")
+    lines = [["-" if rows[it][name] is None else str(rows[it][name]) for name in columns] for it in notices]
+    assert printed(program, path, "notices").stdout == "".join("\t".join(line) + "\n" for line in lines)
     for notice, text in evaluations.items():
         assert told(printed(program, path, "evaluation", notice)) == ((0, text, "") if text else (1, "", "procure: NotOpened\n"))
 
@@ -175,11 +173,6 @@ def test_served(program, size, tmp_path):
     pages.check_size(path, size)
 
 
-def dump(path):
-    with closing(sqlite3.connect(path)) as base:
-        return list(base.iterdump())
-
-
 def is_refused(program, path):
     """The program refuses a file, which stays unchanged."""
     before = dump(path)
@@ -197,8 +190,7 @@ def test_version_2_without_a_table(program, table, size, tmp_path):
     """The program doesn't make the table of a file that claims version 2."""
     path = made(tmp_path / "office.db", earliest()[0], size)
     ledger_of(program, path)
-    with closing(sqlite3.connect(path)) as base:
-        base.executescript(f"DROP TABLE {table};")
+    sqlite(path, f"DROP TABLE {table};")
     is_refused(program, path)
 
 
