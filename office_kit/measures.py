@@ -8,8 +8,9 @@ import statistics
 import subprocess
 import tempfile
 import time
-from collections.abc import Iterator, Sequence
+from collections.abc import Callable, Iterator, Sequence
 from pathlib import Path
+from typing import Any
 
 from office_kit.client import Client, Port, Requests, tender
 from office_kit.common import CONFIG, OK, add_program, block, check, fail, look, options_of, parts_of, peak, running, timed_exchange, what_came
@@ -108,10 +109,10 @@ def check_runs(process: "subprocess.Popen[bytes]") -> None:
 
 
 @contextlib.contextmanager
-def in_file(program: str, file: str) -> Iterator[InFile]:
-    """An office over a file, which holds everything in the end, without a log."""
+def in_file(program: str, file: str, **how: Any) -> Iterator[InFile]:
+    """An office over a file, which holds everything in the end, without a log. `how` is for `subprocess.Popen`."""
     begun = time.perf_counter()
-    with server(program, file) as (process, port):
+    with server(program, file, **how) as (process, port):
         wait_for_answer(process, port)
         yield InFile(process, port, time.perf_counter() - begun)
         check_runs(process)
@@ -250,20 +251,24 @@ def tell_one_input(choice: argparse.Namespace, blocks: Sequence[bytes]) -> float
 Phase = tuple[str, str, Sequence[bytes]]
 
 
-def run_phases(program: str, phases: Sequence[Phase]) -> dict[str, float]:
-    """Sends the requests phase by phase, in memory. For each kind: the processor time of a request, and that of the last tenth to that of the first."""
+def run_phases(office: Office, phases: Sequence[Phase], set_moment: Callable[[str], None]) -> dict[str, float]:
+    """Sends the requests phase by phase. For each kind: the processor time of a request, and that of the last tenth to that of the first."""
     found: dict[str, float] = {}
-    with in_memory(program) as office:
-        for kind, moment, texts in phases:
-            office.moment = moment
-            before = office.used()
-            growth = office.growth(texts)
-            found |= {f"{kind}, microseconds": (office.used() - before) / len(texts) * 1e6, f"{kind}, last tenth to first": growth}
+    for kind, moment, texts in phases:
+        set_moment(moment)
+        before = office.used()
+        growth = office.growth(texts)
+        found |= {f"{kind}, microseconds": (office.used() - before) / len(texts) * 1e6, f"{kind}, last tenth to first": growth}
     return found
+
+
+def run_in_memory(program: str, phases: Sequence[Phase]) -> dict[str, float]:
+    with in_memory(program) as office:
+        return run_phases(office, phases, lambda moment: setattr(office, "moment", moment))
 
 
 def tell_phases(choice: argparse.Namespace, phases: Sequence[Phase]) -> tuple[dict[str, float], float]:
     """Runs the phases in memory, so many rounds, and then all of them as one input. Returns the figures and the peak memory in MiB."""
-    figures = medians([run_phases(choice.program, phases) for _ in range(choice.rounds)])
+    figures = medians([run_in_memory(choice.program, phases) for _ in range(choice.rounds)])
     Table().add("in memory", figures)
     return figures, tell_one_input(choice, [block(moment.encode(), text) for _, moment, texts in phases for text in texts])

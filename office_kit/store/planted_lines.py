@@ -32,8 +32,10 @@ class Logged(Port):
 
     def note(self, target: str, status: int, body: bytes = b"", seconds: float = 0.0, name: str = "") -> None:
         """Adds a line."""
+        # (`gmtime()` alone reads a coarse clock, which may be some milliseconds before the office's.)
+        moment = time.gmtime(time.time())
         own, roles = next((known, roles) for known, roles, routes in NAMES if name in ("", known) and (name or re.fullmatch(routes, target)))
-        self.lines.append({"moment": time.strftime("%Y-%m-%dT%H:%M:%S+00:00", time.gmtime()), "seconds": round(seconds, 3), "name": own, "roles": roles,
+        self.lines.append({"moment": time.strftime("%Y-%m-%dT%H:%M:%S+00:00", moment), "seconds": round(seconds, 3), "name": own, "roles": roles,
                            "address": HOST, "route": f"POST {target}", "status": status, "body": body.decode("utf-8", "surrogateescape")})
 
 
