@@ -1,5 +1,6 @@
 pub mod NoneOf
 pub mod PutRows
+pub mod PutLast
 pub mod PutAmounts
 pub mod SumsStaying
 pub mod Forgotten
@@ -9,6 +10,8 @@ pub mod LastLots
 pub mod LotMoved
 pub mod ContractMoved
 pub mod OneMore
+pub mod EntriesAdd
 pub mod CarriedOver
+pub mod NumbersOn
 pub mod LedgerSoFar
 pub mod LedgerTold

@@ -15,6 +15,7 @@ use Rattle.office_base.specs.declared.puts.Put.TheVariants as puts
 use Rattle.office_sums.specs.Remembered.{sums_at, AreSums, Remembers}
 use Rattle.office_sums.specs.Touched.{touched, IsNoneOf}
 use Rattle.office_sums.specs.declared.carried.Carried.{Carried}
+use Rattle.office_sums.specs.declared.carried.EntrySums.{EntrySums}
 use Rattle.office_sums.specs.declared.carried.Reservation.{Reservation}
 use Rattle.office_sums.specs.declared.carried.Touch.{Touch}
 use Rattle.office_sums.specs.declared.carried.Touch.TheVariants.{Nothing, Line, Any}
@@ -44,6 +45,14 @@ last_lot key (p ∷ ps) = either_row (last_lot key ps) (lot_put key p)
 -- the line of a lot, and the amount that the lot reserves there
 abbrev pub reservation_of : LotRow → Reservation
 reservation_of lot = record { line = lot.line; amount = lot.reserved }
+
+-- the sums before any entry
+abbrev pub no_sums : ContractSums
+no_sums = record { gained = 0; lost = 0; paid = 0 }
+
+-- the sums of the entries of one contract, if they are remembered, are right
+pub record KnowsEntries (listed : Option EntrySums) (t : Tables) : Type 0 where
+  pub are : IfSome listed (λ l. l.sums ≡ sums_with_entries no_sums (entries_of_contract l.contract t))
 
 -- the sums of a contract with these entries; 0 if there is no contract
 abbrev pub sums_before : Option ContractRow → List EntryRow → ContractSums

@@ -1,4 +1,5 @@
 pub mod Touched
 pub mod Remembered
+pub mod Numbered
 pub mod Carried
 pub mod RememberingMeaning

@@ -107,7 +107,9 @@ fn ledger_by_lines<H: Lookups>(
         → SumsAnswer H.meaning.may_break (λ t rows. rows.items ≡ ledger_of t) LinesFit result t }
     ensures kept { H.meaning.honest shelf.new → (t : Tables) → H.meaning.holds shelf.old t → Remembers known.old t → Remembers known.new t }
 {
-    let mut rows = Vec::new(alloc);
+    let Ok(mut rows) = Vec::with_capacity(alloc, lines.len()) else {
+        return Err(ShelfFault::NoMemory);
+    };
     for line in lines {
         let pots = pots_of_row(shelf, known, line)?;
         let row = LedgerRow {

@@ -1,13 +1,16 @@
 //! The sums of a budget line after a change of one of its lots or contracts, by the sums before it.
-ghost use Rattle.std.specs.Prelude.{◌≡◌, ◌+◌, ◌≤◌, IfSome};
+ghost use Rattle.std.specs.Prelude.{◌≡◌, ◌+◌, ◌≤◌, List, IfSome};
 ghost use Rattle.office_values.specs.Money.{total_limit};
 ghost use Rattle.office_base.specs.EntrySums.{bare_sums, sums_with_entries, sums_with_entry};
 ghost use Rattle.office_base.specs.LineSums.{outstanding_in};
-ghost use Rattle.office_sums.specs.Carried.{reservation_of, sums_before, AreReserved, AreShifted};
+ghost use Rattle.office_base.specs.Tables.{Tables, entries_of_contract};
+ghost use Rattle.office_base.specs.declared.records.EntryRow.{EntryRow as EntryRowOf};
+ghost use Rattle.office_sums.specs.Carried.{no_sums, reservation_of, sums_before, AreReserved, AreShifted, KnowsEntries};
 
 use crate::sums::SumsOfLine;
 use office_base::ledger::ContractSums;
 use office_base::records::{ContractRow, EntryRow, LotRow};
+use office_values::given::AskedNumber;
 use office_values::id::Id;
 use office_values::money::{Amount, Total};
 
@@ -62,19 +65,66 @@ fn with_one(sums: ContractSums, entry: &EntryRow) -> Option<ContractSums>
     }
 }
 
-// The sums of a contract with these entries; None if they are 2^100 or more.
-fn sums_with(contract: &ContractRow, entries: &[EntryRow]) -> Option<ContractSums>
-    ensures { IfSome result (λ sums. sums ≡ sums_with_entries (bare_sums contract.now) entries.now) }
+// These sums after these entries; None if they are 2^100 or more.
+fn sums_after(before: ContractSums, entries: &[EntryRow]) -> Option<ContractSums>
+    ensures { IfSome result (λ sums. sums ≡ sums_with_entries before entries.now) }
 {
-    let mut sums = ContractSums {
-        gained: contract.signed.units() as u128,
-        lost: contract.released.units() as u128,
-        paid: 0,
-    };
+    let mut sums = before;
     for entry in entries {
         sums = with_one(sums, entry)?;
     }
     Some(sums)
+}
+
+/// The sums of a contract with these entries; None if they are 2^100 or more.
+pub fn sums_with(contract: &ContractRow, entries: &[EntryRow]) -> Option<ContractSums>
+    ensures { IfSome result (λ sums. sums ≡ sums_with_entries (bare_sums contract.now) entries.now) }
+{
+    let bare = ContractSums {
+        gained: contract.signed.units() as u128,
+        lost: contract.released.units() as u128,
+        paid: 0,
+    };
+    sums_after(bare, entries)
+}
+
+/// The sums of the entries of one contract, without its row.
+#[derive(Clone, Copy)]
+pub struct EntrySums {
+    pub contract: AskedNumber,
+    pub sums: ContractSums,
+}
+
+impl EntrySums {
+    /// Those of this contract's entries; None if they are 2^100 or more.
+    pub fn of(contract: AskedNumber, entries: &[EntryRow]) -> Option<EntrySums>
+        ensures { (t : Tables) → entries.now ≡ entries_of_contract contract t → KnowsEntries result t }
+    {
+        let none = ContractSums {
+            gained: 0,
+            lost: 0,
+            paid: 0,
+        };
+        let sums = sums_after(none, entries)?;
+        Some(EntrySums { contract, sums })
+    }
+
+    /// The sums of this contract, which has these entries; None if they are 2^128 or more.
+    pub fn with_contract(self, contract: &ContractRow) -> Option<ContractSums>
+        ensures { (entries : List EntryRowOf) → self.sums ≡ sums_with_entries no_sums entries → IfSome result (λ sums. sums ≡ sums_with_entries (bare_sums contract.now) entries) }
+    {
+        Some(ContractSums {
+            gained: self
+                .sums
+                .gained
+                .checked_add(contract.signed.units() as u128)?,
+            lost: self
+                .sums
+                .lost
+                .checked_add(contract.released.units() as u128)?,
+            paid: self.sums.paid,
+        })
+    }
 }
 
 // The sums of a contract with these entries, and 0 if there is no contract; None if they are 2^100 or more.
@@ -148,18 +198,10 @@ pub fn shift_contract(
     )
 }
 
-/// The sums of a line after one more entry of this contract, which has these entries. None if the contract then lost more than it gained, or if a sum is outside
-/// its range.
-pub fn shift_entry(
-    old: SumsOfLine,
-    contract: &ContractRow,
-    entries: &[EntryRow],
-    entry: &EntryRow,
-) -> Option<SumsOfLine>
-    ensures { IfSome result (λ new. AreShifted old new (sums_with_entries (bare_sums contract.now) entries.now)
-        (sums_with_entry entry.now.kind entry.now.amount (sums_with_entries (bare_sums contract.now) entries.now))) }
+/// The sums of a line after one more entry of a contract that had these sums. None if the contract then lost more than it gained, or if a sum is outside its range.
+pub fn shift_entry(old: SumsOfLine, before: ContractSums, entry: &EntryRow) -> Option<SumsOfLine>
+    ensures { IfSome result (λ new. AreShifted old new before (sums_with_entry entry.now.kind entry.now.amount before)) }
 {
-    let before = sums_with(contract, entries)?;
     let after = with_one(before, entry)?;
     shift(old, before, after)
 }

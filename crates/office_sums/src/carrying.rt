@@ -2,19 +2,23 @@
 ghost use Rattle.std.specs.Prelude.{◌≡◌, option_map, IfSome};
 ghost use Rattle.std.specs.List.{list_all};
 ghost use Rattle.std.specs.Ordering.{eq_by_cmp};
+ghost use Rattle.office_base.specs.EntrySums.{bare_sums, sums_with_entries};
 ghost use Rattle.office_base.specs.Shelves.{LooksUp};
-ghost use Rattle.office_base.specs.Tables.{after_puts, lot_at, lot_cmp, lot_key};
+ghost use Rattle.office_base.specs.Tables.{after_puts, entries_of_contract, lot_at, lot_cmp, lot_key};
 ghost use Rattle.office_base.specs.declared.puts.Put.TheVariants.{Contract, Entry, Lot};
-ghost use Rattle.office_sums.specs.Carried.{keeps_lot, last_lot, leaves_contracts, reservation_of, Follows, FollowsOne, FromNewEntry, FromNewLot, FromNewRow, FromReserved, IsTouch};
+ghost use Rattle.office_sums.specs.Carried.{keeps_lot, last_lot, leaves_contracts, reservation_of, Follows, FollowsOne, FromNewEntry, FromNewLot, FromNewRow, FromReserved, IsTouch, KnowsEntries};
 
-use crate::carried::{Carried, Reservation, Touch, shift_contract, shift_entry, shift_reserved};
+use crate::carried::{
+    Carried, EntrySums, Reservation, Touch, shift_contract, shift_entry, shift_reserved, sums_with,
+};
 use crate::laws::nothing_remembered;
 use crate::remembered::RememberedSums;
 use crate::sums::SumsOfLine;
+use office_base::ledger::ContractSums;
 use office_base::puts::Put;
 use office_base::records::{ContractRow, EntryRow, LotRow};
 use office_base::shelf::{Lookups, ShelfFault};
-use office_values::given::asked;
+use office_values::given::{AskedNumber, asked};
 use office_values::id::Id;
 use office_values::money::Amount;
 
@@ -182,15 +186,34 @@ fn touch_of_contract<H: Lookups>(
     }
 }
 
+// The sums of a contract with this number. Those of its entries are the remembered ones, or else the entries are looked up.
+fn contract_sums<H: Lookups>(
+    shelf: &mut H,
+    listed: &Option<EntrySums>,
+    contract: &ContractRow,
+    number: AskedNumber,
+) -> Result<Option<ContractSums>, ShelfFault>
+    ensures { LooksUp H.meaning shelf.old shelf.new result (λ t found. KnowsEntries listed.now t → IfSome found (λ sums. sums ≡ sums_with_entries (bare_sums contract.now) (entries_of_contract number t))) }
+{
+    if let Some(entries) = listed {
+        if entries.contract == number {
+            return Ok(entries.with_contract(contract));
+        }
+    }
+    let entries = shelf.list_entries_of_contract(number)?;
+    Ok(sums_with(contract, &entries))
+}
+
 // The sums of this line, if they are remembered, after one more entry of this contract, if the entry is new.
 fn with_entry<H: Lookups>(
     shelf: &mut H,
     known: &RememberedSums,
+    listed: &Option<EntrySums>,
     line: &Id,
     contract: &ContractRow,
     entry: &EntryRow,
 ) -> Result<Option<SumsOfLine>, ShelfFault>
-    ensures { LooksUp H.meaning shelf.old shelf.new result (λ t sums. IfSome sums (FromNewEntry known.now line.now contract.now entry.now t)) }
+    ensures { LooksUp H.meaning shelf.old shelf.new result (λ t sums. KnowsEntries listed.now t → IfSome sums (FromNewEntry known.now line.now contract.now entry.now t)) }
 {
     let Some(sums) = known.get(line) else {
         return Ok(None);
@@ -199,18 +222,21 @@ fn with_entry<H: Lookups>(
     if shelf.get_entry(number, &entry.entry)?.is_some() {
         return Ok(None);
     }
-    let entries = shelf.list_entries_of_contract(number)?;
-    Ok(shift_entry(sums, contract, &entries, entry))
+    match contract_sums(shelf, listed, contract, number)? {
+        Some(before) => Ok(shift_entry(sums, before, entry)),
+        None => Ok(None),
+    }
 }
 
 // The lines that an entry touches.
 fn touch_of_entry<H: Lookups>(
     shelf: &mut H,
     known: &RememberedSums,
+    listed: &Option<EntrySums>,
     before: &[Put],
     entry: &EntryRow,
 ) -> Result<Touch, ShelfFault>
-    ensures { LooksUp H.meaning shelf.old shelf.new result (λ t touch. IsTouch known.now (Entry entry.now) (after_puts before.now t) touch) }
+    ensures { LooksUp H.meaning shelf.old shelf.new result (λ t touch. KnowsEntries listed.now t → IsTouch known.now (Entry entry.now) (after_puts before.now t) touch) }
 {
     if !leave_contracts(before) {
         return Ok(Touch::Any);
@@ -221,7 +247,7 @@ fn touch_of_entry<H: Lookups>(
     match get_reservation(shelf, before, &contract.notice, &contract.lot)? {
         Some(lot) => {
             let line = lot.line;
-            let sums = with_entry(shelf, known, &line, &contract, entry)?;
+            let sums = with_entry(shelf, known, listed, &line, &contract, entry)?;
             Ok(Touch::Line(Carried { line, sums }))
         }
         None => Ok(Touch::Nothing),
@@ -232,15 +258,16 @@ fn touch_of_entry<H: Lookups>(
 fn touch_of<H: Lookups>(
     shelf: &mut H,
     known: &RememberedSums,
+    listed: &Option<EntrySums>,
     before: &[Put],
     put: &Put,
 ) -> Result<Touch, ShelfFault>
-    ensures { LooksUp H.meaning shelf.old shelf.new result (λ t touch. IsTouch known.now put.now (after_puts before.now t) touch) }
+    ensures { LooksUp H.meaning shelf.old shelf.new result (λ t touch. KnowsEntries listed.now t → IsTouch known.now put.now (after_puts before.now t) touch) }
 {
     match put {
         Put::Lot(row) => touch_of_lot(shelf, known, before, row),
         Put::Contract(row) => touch_of_contract(shelf, known, before, row),
-        Put::Entry(row) => touch_of_entry(shelf, known, before, row),
+        Put::Entry(row) => touch_of_entry(shelf, known, listed, before, row),
         _ => Ok(Touch::Nothing),
     }
 }
@@ -249,30 +276,33 @@ fn touch_of<H: Lookups>(
 fn follow_one<H: Lookups>(
     shelf: &mut H,
     known: &mut RememberedSums,
+    listed: &Option<EntrySums>,
     before: &[Put],
     put: &Put,
 ) -> Result<(), ShelfFault>
-    ensures { LooksUp H.meaning shelf.old shelf.new result (λ t _. FollowsOne known.old known.new before.now put.now t) }
+    ensures { LooksUp H.meaning shelf.old shelf.new result (λ t _. KnowsEntries listed.now t → FollowsOne known.old known.new before.now put.now t) }
 {
-    let touch = touch_of(shelf, known, before, put)?;
+    let touch = touch_of(shelf, known, listed, before, put)?;
     known.take_over(&touch);
     Ok(())
 }
 
-/// Carries the sums over these changes, before the changes are made. If no line is remembered, nothing is looked up.
+/// Carries the sums over these changes, before the changes are made. The sums of the entries that were listed last save a look-up. If no line is remembered,
+/// nothing is looked up.
 pub fn follow<H: Lookups>(
     shelf: &mut H,
     known: &mut RememberedSums,
+    listed: &Option<EntrySums>,
     puts: &[Put],
 ) -> Result<(), ShelfFault>
-    ensures { LooksUp H.meaning shelf.old shelf.new result (λ t _. Follows known.old known.new puts.now t) }
+    ensures { LooksUp H.meaning shelf.old shelf.new result (λ t _. KnowsEntries listed.now t → Follows known.old known.new puts.now t) }
 {
     nothing_remembered();
     if known.is_empty() {
         return Ok(());
     }
     for at in 0..puts.len() {
-        follow_one(shelf, known, &puts[..at], &puts[at])?;
+        follow_one(shelf, known, listed, &puts[..at], &puts[at])?;
     }
     Ok(())
 }

@@ -6,6 +6,7 @@ pub mod carried;
 pub mod carrying;
 pub mod laws;
 pub mod lookups;
+pub mod numbered;
 pub mod remembered;
 pub mod shelf;
 pub mod sums;

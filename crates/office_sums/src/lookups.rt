@@ -1,7 +1,8 @@
-//! The look-ups of a store that remembers sums: those of the store inside, but for balances.
+//! The look-ups of a store that remembers sums: those of the store inside, but for balances and the numbers of releases.
 ghost use Rattle.office_sums.specs.RememberingMeaning.{remembering};
 
 use crate::asking::{self, sum_row};
+use crate::carried::EntrySums;
 use crate::shelf::RememberingShelf;
 use office_base::counts::Sequence;
 use office_base::ledger::{LedgerRow, LineAmounts, Pots};
@@ -177,7 +178,11 @@ impl<H: Lookups> Lookups for RememberingShelf<H> {
         &mut self,
         contract: AskedNumber,
     ) -> Result<Vec<EntryRow>, ShelfFault> {
-        counted!(self, self.shelf.list_entries_of_contract(contract))
+        let answer = self.shelf.list_entries_of_contract(contract);
+        if let Ok(entries) = &answer {
+            self.listed = EntrySums::of(contract, entries);
+        }
+        self.told(answer)
     }
 
     fn list_releases_of_notice(&mut self, notice: &Id) -> Result<Vec<ReleaseRow>, ShelfFault> {
@@ -185,7 +190,14 @@ impl<H: Lookups> Lookups for RememberingShelf<H> {
     }
 
     fn list_release_numbers(&mut self, notice: &Id) -> Result<Vec<Sequence>, ShelfFault> {
-        counted!(self, self.shelf.list_release_numbers(notice))
+        if let Some(numbers) = self.counts.numbers(self.alloc, notice) {
+            return Ok(numbers);
+        }
+        let answer = self.shelf.list_release_numbers(notice);
+        if let Ok(numbers) = &answer {
+            self.counts.remember(notice, numbers);
+        }
+        self.told(answer)
     }
 
     fn list_amounts_of_line(&mut self, line: &Id) -> Result<LineAmounts, ShelfFault> {

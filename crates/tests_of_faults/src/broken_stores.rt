@@ -20,7 +20,8 @@ at 2026-01-05T09:00:00Z clerk POST /budget/B1
 = 503 {"name":"Unavailable","refusal":32}
 "#;
 
-/// Whether a store remembers the sums of budget lines. It then also fails at look-ups that only serve to carry them, which no request may notice.
+/// Whether a store remembers the sums of budget lines and the numbers of releases. It then also fails at look-ups that only serve to carry sums, which no request may
+/// notice.
 #[derive(Clone, Copy)]
 pub(crate) enum Sums {
     Remembered,

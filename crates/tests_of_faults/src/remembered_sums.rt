@@ -1,4 +1,5 @@
-//! No command makes a store forget the sums of a budget line. The next query of the line makes as many calls to the store inside as one that is repeated.
+//! No command makes a store forget the sums of a budget line. The next query of the line makes as many calls to the store inside as one that is repeated. And how
+//! many calls a publication and a payment make, compared with a store that remembers nothing.
 use crate::broken_stores::{Sums, breaks};
 use crate::life::{
     AWARDED, AWARDED_AGAIN, AWARDED_AGAIN_LINE, AWARDED_LINE, CANCELLED, CANCELLED_LINE, ENDED,
@@ -6,16 +7,17 @@ use crate::life::{
     UNUSED_LINE,
 };
 use std::alloc::Global;
+use tests_transcripts::published::AMENDED;
 use tests_transcripts::setup::{MONEY, NOTICE, TENDERERS};
 
 // The number of calls to the store while the transcripts are played, at most 1023. None if an answer isn't as written. A store that fails after fewer calls
 // fails, and one that fails after as many doesn't.
-fn calls_made(alloc: Global, transcripts: &[&str]) -> Option<u64> {
+fn calls_made(alloc: Global, sums: Sums, transcripts: &[&str]) -> Option<u64> {
     let mut made = 0u64;
     let mut step = 512u64;
     for _ in 0..10 {
         let more = made.saturating_add(step);
-        if breaks(alloc, more.saturating_sub(1), Sums::Remembered, transcripts)? {
+        if breaks(alloc, more.saturating_sub(1), sums, transcripts)? {
             made = more;
         }
         step /= 2;
@@ -25,10 +27,24 @@ fn calls_made(alloc: Global, transcripts: &[&str]) -> Option<u64> {
 
 // Whether a query after the first `at` transcripts makes as many calls as the next transcript, which repeats it.
 fn asks_alike(alloc: Global, life: &[&str], at: usize) -> Option<bool> {
-    let before = calls_made(alloc, life.get(..at)?)?;
-    let asked = calls_made(alloc, life.get(..at.saturating_add(1))?)?;
-    let again = calls_made(alloc, life.get(..at.saturating_add(2))?)?;
+    let before = calls_made(alloc, Sums::Remembered, life.get(..at)?)?;
+    let asked = calls_made(alloc, Sums::Remembered, life.get(..at.saturating_add(1))?)?;
+    let again = calls_made(alloc, Sums::Remembered, life.get(..at.saturating_add(2))?)?;
     Some(before < asked && asked.saturating_sub(before) == again.saturating_sub(asked))
+}
+
+// The number of calls that the last of these transcripts makes to the store.
+fn last_calls(alloc: Global, sums: Sums, transcripts: &[&str]) -> Option<u64> {
+    let (_, before) = transcripts.split_last()?;
+    let begun = calls_made(alloc, sums, before)?;
+    calls_made(alloc, sums, transcripts)?.checked_sub(begun)
+}
+
+// Whether the last of these transcripts makes so many calls less and so many more to a store that remembers.
+fn saves_calls(alloc: Global, transcripts: &[&str], less: u64, more: u64) -> Option<bool> {
+    let remembered = last_calls(alloc, Sums::Remembered, transcripts)?;
+    let plain = last_calls(alloc, Sums::AddedUp, transcripts)?;
+    Some(remembered.saturating_add(less) == plain.saturating_add(more))
 }
 
 #[test]
@@ -60,16 +76,10 @@ fn no_command_forgets_sums(rt: HostRuntime) {
         ENDED_LINE,
         ENDED_LINE,
     ];
-    assert!(rt; asks_alike(alloc, &life, 4) == Some(true), "a publication");
-    assert!(rt; asks_alike(alloc, &life, 7) == Some(true), "an award");
-    assert!(rt;
-        asks_alike(alloc, &life, 10) == Some(true),
-        "an award after one that failed"
-    );
-    assert!(rt; asks_alike(alloc, &life, 13) == Some(true), "a signing");
-    assert!(rt; asks_alike(alloc, &life, 16) == Some(true), "a raise");
-    assert!(rt; asks_alike(alloc, &life, 19) == Some(true), "a payment");
-    assert!(rt; asks_alike(alloc, &life, 22) == Some(true), "an end");
+    // The first query after each command.
+    for turn in 0..7 {
+        assert!(rt; asks_alike(alloc, &life, turn * 3 + 4) == Some(true));
+    }
 }
 
 #[test]
@@ -84,4 +94,25 @@ fn a_cancellation_forgets_no_sums(rt: HostRuntime) {
         CANCELLED_LINE,
     ];
     assert!(rt; asks_alike(rt.alloc(), &life, 5) == Some(true));
+}
+
+#[test]
+fn a_publication_asks_for_no_numbers(rt: HostRuntime) {
+    assert!(rt; saves_calls(rt.alloc(), &[MONEY, NOTICE, AMENDED], 1, 0) == Some(true));
+}
+
+// It saves the numbers and the sums of the line. The sums are carried by its contract, its lot and its entry, but not by all entries of the contract.
+#[test]
+fn a_payment_lists_the_entries_once(rt: HostRuntime) {
+    let life = [
+        MONEY,
+        TENDERERS,
+        NOTICE,
+        AWARDED,
+        AWARDED_AGAIN,
+        SIGNED,
+        RAISED,
+        PAID,
+    ];
+    assert!(rt; saves_calls(rt.alloc(), &life, 2, 3) == Some(true));
 }

@@ -13,10 +13,10 @@ loop-at-preserved g c =
     let step = c.in_ok-follow_one.ensures in (
       (
         keeps_then g.H.Lookups.meaning _ _ _ passed.0.0 step.0.0,
-        λ honest t held.
+        λ honest t held knows.
             let middle = step.0.0.before honest in
-            let done = passed.0.1 middle t held in
-            let now = step.0.1 honest t (passed.0.0.same middle t held) in record {
+            let done = passed.0.1 middle t held knows in
+            let now = step.0.1 honest t (passed.0.0.same middle t held) knows in record {
               right = λ sorted h. subst (Remembers c.follow_one.new.known) (sym (after_more t puts at put _ c.index-puts-at.is c.loop-at-test.true)) (now.right sorted (done.right sorted h));
             },
       ),

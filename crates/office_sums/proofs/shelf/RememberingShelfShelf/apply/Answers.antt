@@ -5,8 +5,10 @@ use Rattle.office_base.specs.Tables.{after_puts}
 use Rattle.office_base.specs.declared.puts.Put.{Put}
 use Rattle.office_sums.proofs.AfterLooks.{fails_after, leaves_after}
 use Rattle.office_sums.proofs.Known.{none_known}
+use Rattle.office_sums.proofs.NumbersOn.{none_counted}
 use Rattle.office_sums.proofs.shelf.RememberingShelfShelf.apply.Goals as goal
-use Rattle.office_sums.specs.Carried.{Follows}
+use Rattle.office_sums.specs.Carried.{Follows, KnowsEntries}
+use Rattle.office_sums.specs.Numbered.{CountsOn, CountsReleases}
 use Rattle.office_sums.specs.Remembered.{Remembers}
 
 pub returns-in-Ok : goal.returns-in-Ok
@@ -19,8 +21,11 @@ returns-in-Ok g c =
         all = λ honest t held.
             let then = made.before honest in (
               made.all honest t (looked.same then t held.0),
-              (subst (λ (ps : List Put). Follows c.args.self.now.known c.follow.new.self.known ps t) c.deref.ensures.value (follow.right then t held.0)).right
+              (subst (λ (ps : List Put). Follows c.args.self.now.known c.follow.new.self.known ps t) c.deref.ensures.value (follow.right then t held.0 held.3)).right
                   (g.met.H.Lookups.held_sorted _ t held.0) held.1,
+              (subst (λ (ps : List Put). CountsOn c.follow.new.self.counts c.follow-2.new.self ps t) c.deref-2.ensures.value (c.follow-2.ensures t)).right
+                  (g.met.H.Lookups.held_sorted _ t held.0) (subst (λ k. CountsReleases k t) (sym follow.counts) held.2),
+              record { are = tt },
             );
         none = λ honest t held. tt;
         stop_all = λ honest t held. made.stop_all honest t (looked.same (made.before honest) t held.0);
@@ -44,9 +49,11 @@ returns-in-Err g c =
         none = λ honest t held. (
           made.none honest t (looked.same (made.before honest) t held.0),
           subst (λ k. Remembers k t) (sym c.forget_all.ensures) (record { each = λ line sums found. none_known line sums found }),
+          subst (λ k. CountsReleases k t) (sym c.forget_all-in-Err.ensures) (none_counted t),
+          record { are = tt },
         );
         stop_all = λ honest t held. tt;
-        stop_none = λ honest u left. leaves_after M _ _ c.apply.new.self looked (Remembers c.args.self.now.known) (after_puts puts) u (made.before honest) (made.stop_none honest u left);
+        stop_none = λ honest u left. leaves_after M _ _ c.apply.new.self looked (Remembers c.args.self.now.known) (CountsReleases c.args.self.now.counts) (KnowsEntries c.args.self.now.listed) (after_puts puts) u (made.before honest) (made.stop_none honest u left);
         sound = λ honest was. made.sound honest (looked.sound (made.before honest) was);
       },
       c.saturating_add-self.ensures ∙ ap one_fault_more follow.counted,

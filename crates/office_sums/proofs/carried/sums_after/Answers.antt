@@ -3,12 +3,7 @@ use Rattle.std.proofs.lemmas.List.{at_drop_all, drop_more}
 use Rattle.office_base.specs.EntrySums.{sums_with_entries}
 use Rattle.office_base.specs.declared.ledger.ContractSums.{ContractSums}
 use Rattle.office_base.specs.declared.records.EntryRow.{EntryRow}
-use Rattle.office_sums.proofs.carried.sums_with.Goals as goal
-
-pub loop-entry-init : goal.loop-entry-init
-loop-entry-init c =
-    let same : ContractSums → ContractSums → Type 0 = λ a b. a ≡ b in
-    ap (λ (s : ContractSums). sums_with_entries s c.args.entries.now) (λ i. record { gained = c.units.ensures.value i; lost = c.units-2.ensures.value i; paid = 0 })
+use Rattle.office_sums.proofs.carried.sums_after.Goals as goal
 
 pub loop-entry-preserved : goal.loop-entry-preserved
 loop-entry-preserved c =

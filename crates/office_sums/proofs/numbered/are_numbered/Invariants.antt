@@ -1,0 +1,7 @@
+use Rattle.std.proofs.Common.{◌≡◌, take}
+use Rattle.office_sums.specs.Numbered.{numbers_to}
+use Rattle.office_sums.proofs.numbered.are_numbered.Given as goal
+
+-- the numbers that were passed are those from 1 on
+abbrev pub invariant-loop-at : goal.invariant-loop-at
+invariant-loop-at l = take l.at l.numbers ≡ numbers_to l.at
