@@ -32,7 +32,7 @@ nothing_before (Some bytes) = refl
 
 -- A new buffer has exactly the bytes of its reader.
 pub buffers : {R A : Type 0} (remaining : R → Option (List ℕ)) (reader : R) (buffered : BufReader R A) → reader_inner buffered ≡ reader → reader_buffer buffered ≡ []
-    → reader_capacity buffered ≡ 8192 → reader_remaining remaining buffered ≡ remaining reader
+    → reader_capacity buffered ≡ 4096 → reader_remaining remaining buffered ≡ remaining reader
 buffers remaining reader buffered inner empty capacity =
     ap (λ (n : ℕ). if n == 0 then None else prepend_known (reader_buffer buffered) (remaining (reader_inner buffered))) capacity
     ∙ ap (λ (bytes : List ℕ). prepend_known bytes (remaining (reader_inner buffered))) empty

@@ -43,6 +43,9 @@ impl Ended {
     }
 }
 
+// The capacity of a reader's buffer, in bytes. It is cleared for each connection. Most requests fit; a larger one takes another read.
+const READ_ROOM: usize = 4096;
+
 // Sends and flushes the response if there is no memory to read the request.
 fn refuse<W: Write>(writer: &mut WatchedWriter<W>) -> Result<(), RunFault>
     ensures told { OnOk result (Appends writer.old.contents writer.new.contents (fault_text Unavailable)) }
@@ -69,7 +72,7 @@ pub fn serve_connection<H: Shelf + Drop, R: Read + Drop, W: Write>(
     ensures ended { EndsConnection result.1 result.0 writer.new }
 {
     laws::accounts_and_fates();
-    match BufReader::new(alloc, reader) {
+    match BufReader::with_capacity(alloc, READ_ROOM, reader) {
         Ok(buffered) => {
             let mut counted = CountedReader::new(buffered);
             let result = serve_one(alloc, office, moment, &mut counted, writer);
