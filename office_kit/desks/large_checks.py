@@ -135,6 +135,7 @@ def away(large: Scene) -> None:
         assert text in page.text(), place
         # (Views of the tables alone are the same as always, and nginx keeps the ledger for a minute.)
         if place not in ("firms", "figures", "ledger"):
+            page.wait("document.querySelector('.look time')")
             told = page.run("[document.querySelector('.look')?.innerText, document.querySelector('.look time')?.getAttribute('datetime')]")
             assert str(told[0]).startswith("The office isn't answering at the moment.") and told[1] == moment, place
     timed(page, "notice/NONE", "document.querySelector('main .bad')")
